@@ -1,0 +1,24 @@
+-- Texts as lists of lines.
+use Rattle.std.specs.Prelude.{◌≡◌, ℕ, Bool, false, List, [], ◌∷◌, map, if◌then◌else◌, ◌==◌}
+use Rattle.std.specs.List.{AllByRecursion, onto_first}
+
+-- the byte 0x0A
+abbrev pub is_newline : ℕ → Bool
+is_newline byte = byte == 10
+
+abbrev pub HasNoNewline : List ℕ → Type 0
+HasNoNewline bytes = AllByRecursion (λ byte. is_newline byte ≡ false) bytes
+
+-- The text cut behind each newline. Each piece is a line with its newline, which the last may lack.
+abbrev pub pieces_of : List ℕ → List (List ℕ)
+pieces_of [] = []
+pieces_of (byte ∷ bytes) = if is_newline byte then (byte ∷ []) ∷ pieces_of bytes else onto_first byte (pieces_of bytes)
+
+-- the line in a piece, without its newline
+abbrev pub line_of : List ℕ → List ℕ
+line_of [] = []
+line_of (byte ∷ bytes) = if is_newline byte then [] else byte ∷ line_of bytes
+
+-- The lines of a text. A text that ends with a newline has no line behind it.
+abbrev pub lines_of : List ℕ → List (List ℕ)
+lines_of text = map line_of (pieces_of text)
