@@ -1,0 +1,17 @@
+//! What the product asks of the outside: traits of sources and sinks, and their forms in memory.
+//!
+//! Each object of the outside has a count of faults that never falls. A call fails only where that count rose in it.
+//! An object may tell its content; the clauses on content hold where it does.
+#![tactic(auto)]
+
+mod byte_list;
+mod fail_list;
+mod mem_sink;
+mod mem_source;
+mod streams;
+
+pub use byte_list::Bytes;
+pub use fail_list::FailList;
+pub use mem_sink::MemSink;
+pub use mem_source::MemSource;
+pub use streams::{Failed, Sink, Source, write_all};

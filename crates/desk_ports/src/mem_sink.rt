@@ -1,0 +1,68 @@
+ghost use Rattle.std.specs.Prelude.{◌≡◌, ◌<◌, ◌≤◌, length, take, Some, IfOk, OnErr};
+ghost use Rattle.std.specs.List.{Contains};
+ghost use Rattle.desk_ports.specs.Faults.{NeverFalls, Rose};
+ghost use Rattle.desk_ports.specs.Content.{Appended};
+
+use crate::{Bytes, FailList, Failed, Sink};
+use std::alloc::AllocError;
+use std::marker::Model;
+
+/// A sink in memory. It takes whole pieces, and fails at the listed calls and where it finds no memory.
+#[derive(Debug, Drop)]
+pub struct MemSink {
+    bytes: Bytes,
+    calls: u64,
+    fails: FailList,
+    faults: u64,
+}
+
+impl Model for MemSink {
+    ghost use Rattle.desk_ports.specs.Memory.{Stream};
+
+    ghost Value = { Stream };
+
+    ghost view = { λ sink. record { bytes = sink.bytes; calls = sink.calls; fails = sink.fails; faults = sink.faults } };
+}
+
+impl MemSink {
+    /// A sink that has taken these bytes.
+    pub fn new(taken: Bytes, fails: FailList) -> Result<MemSink, AllocError>
+        ensures { IfOk result (λ sink. sink ≡ record { bytes = taken; calls = 0; fails = fails; faults = 0 }) }
+    {
+        Ok(MemSink {
+            bytes: taken,
+            calls: 0,
+            fails,
+            faults: 0,
+        })
+    }
+
+    /// The bytes taken so far.
+    pub fn taken(&self) -> &[u8]
+        ensures { result.now ≡ self.now.bytes }
+    {
+        self.bytes.as_slice()
+    }
+
+    /// How often it has failed.
+    pub fn faults(&self) -> u64
+        ensures { result ≡ self.now.faults }
+    {
+        self.faults
+    }
+}
+
+impl Sink for MemSink {
+    ghost faults = { λ sink. sink.faults };
+
+    ghost taken = { λ sink. Some sink.bytes };
+
+    fn write(&mut self, from: &[u8]) -> Result<usize, Failed> {
+        self.calls = self.calls.saturating_add(1);
+        if self.fails.fails(self.calls) || self.bytes.append(from).is_err() {
+            self.faults = self.faults.saturating_add(1);
+            return Err(Failed);
+        }
+        Ok(from.len())
+    }
+}

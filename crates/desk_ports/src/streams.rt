@@ -1,0 +1,59 @@
+ghost use Rattle.std.specs.Prelude.{◌≡◌, ◌<◌, ◌≤◌, ℕ, List, length, take, Option, IfOk, OnOk, OnErr};
+ghost use Rattle.desk_ports.specs.Faults.{NeverFalls, Rose};
+ghost use Rattle.desk_ports.specs.Content.{Took, AtEnd, Appended, AppendedPart};
+
+/// A call of an object of the outside failed. The object's count of faults rose in that call.
+#[derive(Clone, Copy, Debug, PartialEq, Eq)]
+pub struct Failed;
+
+/// Where bytes come from.
+pub trait Source {
+    /// How often it has failed.
+    ghost faults: { Self → ℕ };
+
+    /// The bytes that are left, where it tells them.
+    ghost left: { Self → Option (List ℕ) };
+
+    /// Gives the next bytes, at most as many as there is room for, and says how many. It gives none to a slice with
+    /// room only at the end. A call that fails takes nothing.
+    fn read(&mut self, into: &mut [u8]) -> Result<usize, Failed>
+        ensures within { IfOk result (λ count. count ≤ length into.old) }
+        ensures given { IfOk result (λ count. Took (left self.old) (take count into.new) (left self.new)) }
+        ensures ended { 0 < length into.old → IfOk result (λ count. count ≡ 0 → AtEnd (left self.old)) }
+        ensures kept { OnErr result (left self.new ≡ left self.old) }
+        ensures count { NeverFalls (faults self.old) (faults self.new) }
+        ensures cause { OnErr result (Rose (faults self.old) (faults self.new)) };
+}
+
+/// Where bytes go.
+pub trait Sink {
+    /// How often it has failed.
+    ghost faults: { Self → ℕ };
+
+    /// The bytes taken so far, where it tells them.
+    ghost taken: { Self → Option (List ℕ) };
+
+    /// Takes bytes from the front of the piece, at least one where there is one, and says how many. A call that fails
+    /// takes nothing.
+    fn write(&mut self, from: &[u8]) -> Result<usize, Failed>
+        ensures within { IfOk result (λ count. count ≤ length from.now) }
+        ensures some { 0 < length from.now → IfOk result (λ count. 0 < count) }
+        ensures taken { IfOk result (λ count. Appended (taken self.old) (take count from.now) (taken self.new)) }
+        ensures kept { OnErr result (taken self.new ≡ taken self.old) }
+        ensures count { NeverFalls (faults self.old) (faults self.new) }
+        ensures cause { OnErr result (Rose (faults self.old) (faults self.new)) };
+}
+
+/// Has the sink take all bytes, in as many calls as it needs. After `Failed` it has taken a part of them.
+pub fn write_all<K: Sink>(sink: &mut K, bytes: &[u8]) -> Result<(), Failed>
+    ensures ok { OnOk result (Appended (K.taken sink.old) bytes.now (K.taken sink.new)) }
+    ensures err { OnErr result (AppendedPart (K.taken sink.old) bytes.now (K.taken sink.new)) }
+    ensures count { NeverFalls (K.faults sink.old) (K.faults sink.new) }
+    ensures cause { OnErr result (Rose (K.faults sink.old) (K.faults sink.new)) }
+{
+    let mut done = 0;
+    while done < bytes.len() {
+        done += sink.write(&bytes[done..])?;
+    }
+    Ok(())
+}
