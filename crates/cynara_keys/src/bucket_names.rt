@@ -1,0 +1,75 @@
+ghost use Rattle.std.specs.Prelude.{◌≡◌, IfOk, IfErr, OnOk};
+ghost use Rattle.cynara_keys.specs.BucketName.{bucket_name_fault, Refuses};
+
+use crate::bytes::is_word_byte;
+use std::alloc::{AllocError, Global};
+use std::marker::Model;
+use thiserror::Error;
+
+const MOST_BYTES: usize = 64;
+
+/// Why a text is no bucket's name: the first rule that it breaks.
+#[derive(Clone, Copy, Debug, PartialEq, Eq, Error)]
+pub enum BucketNameRefusal {
+    #[error("a bucket's name has at most 64 bytes")]
+    TooLong,
+    /// The place of the first such byte, from 0.
+    #[error("byte {0} of a bucket's name is no letter, digit, `_` or `-`")]
+    BadByte(usize),
+    #[error("out of memory")]
+    Memory(AllocError),
+}
+
+/// The name of a bucket: 0 to 64 letters, digits, `_` or `-`. The empty one names the root bucket.
+#[derive(Debug, Drop)]
+pub struct BucketName {
+    bytes: Vec<u8>,
+}
+
+impl Model for BucketName {
+    ghost use Rattle.std.specs.Prelude.{◌≡◌, List, ℕ, None};
+    ghost use Rattle.cynara_keys.specs.BucketName.{bucket_name_fault};
+
+    ghost Value = { List ℕ };
+
+    ghost view = { λ text. text.bytes.items };
+
+    ghost invariant = { λ text. bucket_name_fault text.bytes.items ≡ None };
+}
+
+impl BucketName {
+    /// Reads a bucket's name. Refuses, in this order, `TooLong` and `BadByte`.
+    pub fn read(alloc: Global, bytes: &[u8]) -> Result<BucketName, BucketNameRefusal>
+        ensures text { IfOk result (λ text. text ≡ bytes.now) }
+        ensures accepted { OnOk result (bucket_name_fault bytes.now ≡ None) }
+        ensures refused { IfErr result (λ refusal. Refuses refusal (bucket_name_fault bytes.now)) }
+    {
+        if bytes.len() > MOST_BYTES {
+            return Err(BucketNameRefusal::TooLong);
+        }
+        if let Some(at) = bytes.iter().position(|byte| !is_word_byte(*byte)) {
+            return Err(BucketNameRefusal::BadByte(at));
+        }
+        match bytes.to_vec(alloc) {
+            Ok(bytes) => Ok(BucketName { bytes }),
+            Err(error) => Err(BucketNameRefusal::Memory(error)),
+        }
+    }
+
+    /// The bytes of the bucket's name.
+    pub fn as_slice(&self) -> &[u8]
+        ensures bytes { result.now ≡ self.now }
+        ensures text { bucket_name_fault self.now ≡ None }
+    {
+        &self.bytes
+    }
+
+    /// An equal value.
+    pub fn copy(&self) -> Result<BucketName, AllocError>
+        ensures { IfOk result (λ copy. copy ≡ self.now) }
+    {
+        Ok(BucketName {
+            bytes: self.bytes.clone()?,
+        })
+    }
+}
