@@ -1,7 +1,7 @@
 ghost use Rattle.std.specs.Prelude.{◌≡◌, IfOk, IfErr, OnOk};
 ghost use Rattle.cynara_keys.specs.BucketName.{bucket_name_fault, Refuses};
 
-use crate::bytes::is_word_byte;
+use crate::bytes::first_no_word_byte;
 use std::alloc::{AllocError, Global};
 use std::marker::Model;
 use thiserror::Error;
@@ -47,7 +47,7 @@ impl BucketName {
         if bytes.len() > MOST_BYTES {
             return Err(BucketNameRefusal::TooLong);
         }
-        if let Some(at) = bytes.iter().position(|byte| !is_word_byte(*byte)) {
+        if let Some(at) = first_no_word_byte(bytes) {
             return Err(BucketNameRefusal::BadByte(at));
         }
         match bytes.to_vec(alloc) {

@@ -1,7 +1,7 @@
 ghost use Rattle.std.specs.Prelude.{◌≡◌, IfOk, IfErr, OnOk};
 ghost use Rattle.cynara_keys.specs.Metadata.{metadata_fault, Refuses};
 
-use crate::bytes::is_visible;
+use crate::bytes::first_not_visible;
 use std::alloc::{AllocError, Global};
 use std::marker::Model;
 use thiserror::Error;
@@ -47,7 +47,7 @@ impl Metadata {
         if bytes.len() > MOST_BYTES {
             return Err(MetadataRefusal::TooLong);
         }
-        if let Some(at) = bytes.iter().position(|byte| !is_visible(*byte)) {
+        if let Some(at) = first_not_visible(bytes) {
             return Err(MetadataRefusal::BadByte(at));
         }
         match bytes.to_vec(alloc) {

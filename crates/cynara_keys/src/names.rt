@@ -1,7 +1,7 @@
 ghost use Rattle.std.specs.Prelude.{◌≡◌, IfOk, IfErr, OnOk};
 ghost use Rattle.cynara_keys.specs.Name.{name_fault, Refuses};
 
-use crate::bytes::is_visible;
+use crate::bytes::first_not_visible;
 use std::alloc::{AllocError, Global};
 use std::marker::Model;
 use thiserror::Error;
@@ -55,7 +55,7 @@ impl Name {
         if bytes.len() > MOST_BYTES {
             return Err(NameRefusal::TooLong);
         }
-        if let Some(at) = bytes.iter().position(|byte| !is_visible(*byte)) {
+        if let Some(at) = first_not_visible(bytes) {
             return Err(NameRefusal::BadByte(at));
         }
         if matches!(bytes, b"*" | b"#") {

@@ -4,7 +4,7 @@ ghost use Rattle.cynara_keys.specs.PolicyResult.{may_carry};
 ghost use Rattle.cynara_keys.specs.BucketName.{is_bucket_name};
 
 use crate::Metadata;
-use crate::bytes::is_word_byte;
+use crate::bytes::first_no_word_byte;
 use std::alloc::AllocError;
 use std::marker::Model;
 
@@ -94,5 +94,5 @@ impl PolicyResult {
 fn is_bucket_name(bytes: &[u8]) -> bool
     ensures { result ≡ is_bucket_name bytes.now }
 {
-    bytes.len() <= 64 && bytes.iter().all(|byte| is_word_byte(*byte))
+    bytes.len() <= 64 && first_no_word_byte(bytes).is_none()
 }
