@@ -1,8 +1,15 @@
 ghost use Rattle.std.specs.Prelude.{◌≡◌, IfOk, IfErr, OnOk};
 ghost use Rattle.cynara_keys.specs.BucketName.{bucket_name_fault, Refuses};
+ghost use Rattle.cynara_keys.specs.Text.{same_text, text_cmp};
+ghost use Rattle.std.specs.Prelude.{refl};
+ghost use Rattle.std.specs.Ordering.{as_partial_cmp};
+ghost use Rattle.std.specs.Cmp.{partial_equiv_from_equiv};
+ghost use Rattle.std.specs.Cmp.Lexicographic.{texts_ties, texts_po};
+ghost use Rattle.std.proofs.lemmas.Cmp.{nat_list_cmp_total, nat_list_eq_equiv};
 
 use crate::bytes::first_no_word_byte;
 use std::alloc::{AllocError, Global};
+use std::cmp::Ordering;
 use std::marker::Model;
 use thiserror::Error;
 
@@ -71,5 +78,43 @@ impl BucketName {
         Ok(BucketName {
             bytes: self.bytes.clone()?,
         })
+    }
+}
+
+impl PartialEq for BucketName {
+    ghost eq = { same_text };
+
+    ghost laws = { partial_equiv_from_equiv nat_list_eq_equiv };
+
+    fn eq(&self, other: &BucketName) -> bool {
+        self.as_slice() == other.as_slice()
+    }
+}
+
+impl Eq for BucketName {
+    ghost laws = { nat_list_eq_equiv };
+}
+
+impl PartialOrd for BucketName {
+    ghost partial_cmp = { as_partial_cmp text_cmp };
+
+    ghost laws = { texts_po };
+
+    fn partial_cmp(&self, other: &BucketName) -> Option<Ordering> {
+        Some(self.cmp(other))
+    }
+}
+
+impl Ord for BucketName {
+    ghost cmp = { text_cmp };
+
+    ghost total = { nat_list_cmp_total };
+
+    ghost matches_partial_cmp = { λ x y. refl };
+
+    ghost matches_eq = { texts_ties };
+
+    fn cmp(&self, other: &BucketName) -> Ordering {
+        self.as_slice().cmp(other.as_slice())
     }
 }

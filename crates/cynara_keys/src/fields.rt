@@ -1,9 +1,15 @@
 ghost use Rattle.std.specs.Prelude.{◌≡◌, IfOk, IfErr, OnOk, None};
 ghost use Rattle.cynara_keys.specs.Name.{Refuses};
 ghost use Rattle.cynara_keys.specs.Field.{field_text, field_of, field_fault, field_matches, field_admits, filter_field_text, filter_field_of, filter_field_fault};
+ghost use Rattle.cynara_keys.specs.Field.{field_cmp, same_field};
+ghost use Rattle.std.proofs.Common.{rules};
+ghost use Rattle.std.specs.Ordering.{as_partial_cmp};
+ghost use Rattle.std.specs.Cmp.{partial_order_from_own_ties};
+ghost use Rattle.std.specs.Cmp.Rules.{comparing};
 
 use crate::{Name, NameRefusal};
 use std::alloc::{AllocError, Global};
+use std::cmp::Ordering;
 
 /// One field of a key: the wildcard `*`, or one name.
 #[derive(Debug, Drop)]
@@ -56,6 +62,44 @@ impl Field {
             Field::Any => Ok(Field::Any),
             Field::Exact(name) => Ok(Field::Exact(name.copy()?)),
         }
+    }
+}
+
+impl PartialEq for Field {
+    ghost eq = { same_field };
+
+    ghost laws = { Prim.search (comparing, rules) };
+
+    fn eq(&self, other: &Field) -> bool {
+        self.as_slice() == other.as_slice()
+    }
+}
+
+impl Eq for Field {
+    ghost laws = { Prim.search (comparing, rules) };
+}
+
+impl PartialOrd for Field {
+    ghost partial_cmp = { as_partial_cmp field_cmp };
+
+    ghost laws = { partial_order_from_own_ties (Prim.search (comparing, rules)) (Prim.search (comparing, rules)) };
+
+    fn partial_cmp(&self, other: &Field) -> Option<Ordering> {
+        Some(self.cmp(other))
+    }
+}
+
+impl Ord for Field {
+    ghost cmp = { field_cmp };
+
+    ghost total = { Prim.search (comparing, rules) };
+
+    ghost matches_partial_cmp = { Prim.search (comparing, rules) };
+
+    ghost matches_eq = { Prim.search (comparing, rules) };
+
+    fn cmp(&self, other: &Field) -> Ordering {
+        self.as_slice().cmp(other.as_slice())
     }
 }
 

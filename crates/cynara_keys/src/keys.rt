@@ -1,8 +1,14 @@
 ghost use Rattle.std.specs.Prelude.{◌≡◌, IfOk};
 ghost use Rattle.cynara_keys.specs.Key.{key_matches, filter_admits};
+ghost use Rattle.cynara_keys.specs.Key.{key_cmp, same_key};
+ghost use Rattle.std.proofs.Common.{rules};
+ghost use Rattle.std.specs.Ordering.{as_partial_cmp};
+ghost use Rattle.std.specs.Cmp.{partial_order_from_own_ties, both_tied};
+ghost use Rattle.std.specs.Cmp.Rules.{comparing};
 
 use crate::{Field, FilterField, Name, PolicyResult};
 use std::alloc::AllocError;
+use std::cmp::Ordering;
 
 /// What a policy is kept under: a client, a user and a privilege, each a name or the wildcard.
 #[derive(Debug, Drop)]
@@ -54,6 +60,46 @@ impl Key {
             user: self.user.copy()?,
             privilege: self.privilege.copy()?,
         })
+    }
+}
+
+impl PartialEq for Key {
+    ghost eq = { same_key };
+
+    ghost laws = { Prim.search (comparing, rules) };
+
+    fn eq(&self, other: &Key) -> bool {
+        self.client == other.client && self.user == other.user && self.privilege == other.privilege
+    }
+}
+
+impl Eq for Key {
+    ghost laws = { Prim.search (comparing, rules) };
+}
+
+impl PartialOrd for Key {
+    ghost partial_cmp = { as_partial_cmp key_cmp };
+
+    ghost laws = { partial_order_from_own_ties (Prim.search (comparing, rules)) (Prim.search (both_tied, comparing, rules)) };
+
+    fn partial_cmp(&self, other: &Key) -> Option<Ordering> {
+        Some(self.cmp(other))
+    }
+}
+
+impl Ord for Key {
+    ghost cmp = { key_cmp };
+
+    ghost total = { Prim.search (comparing, rules) };
+
+    ghost matches_partial_cmp = { Prim.search (comparing, rules) };
+
+    ghost matches_eq = { Prim.search (both_tied, comparing, rules) };
+
+    fn cmp(&self, other: &Key) -> Ordering {
+        self.client
+            .cmp(&other.client)
+            .then_with(|| self.user.cmp(&other.user).then_with(|| self.privilege.cmp(&other.privilege)))
     }
 }
 

@@ -1,5 +1,8 @@
 ghost use Rattle.std.specs.Prelude.{◌≡◌, IfOk, IfErr, OnOk};
 ghost use Rattle.cynara_keys.specs.Name.{name_fault, Refuses};
+ghost use Rattle.cynara_keys.specs.Text.{same_text};
+ghost use Rattle.std.specs.Cmp.{partial_equiv_from_equiv};
+ghost use Rattle.std.proofs.lemmas.Cmp.{nat_list_eq_equiv};
 
 use crate::bytes::first_not_visible;
 use std::alloc::{AllocError, Global};
@@ -83,4 +86,18 @@ impl Name {
             bytes: self.bytes.clone()?,
         })
     }
+}
+
+impl PartialEq for Name {
+    ghost eq = { same_text };
+
+    ghost laws = { partial_equiv_from_equiv nat_list_eq_equiv };
+
+    fn eq(&self, other: &Name) -> bool {
+        self.as_slice() == other.as_slice()
+    }
+}
+
+impl Eq for Name {
+    ghost laws = { nat_list_eq_equiv };
 }

@@ -2,10 +2,16 @@ ghost use Rattle.std.specs.Prelude.{◌≡◌, ◌↔◌, IfOk, IfErr, IsOk, IsT
 ghost use Rattle.cynara_keys.specs.PolicyResult as spec;
 ghost use Rattle.cynara_keys.specs.PolicyResult.{may_carry};
 ghost use Rattle.cynara_keys.specs.BucketName.{is_bucket_name};
+ghost use Rattle.cynara_keys.specs.PolicyResult.{result_cmp, same_result};
+ghost use Rattle.std.proofs.Common.{rules};
+ghost use Rattle.std.specs.Ordering.{as_partial_cmp};
+ghost use Rattle.std.specs.Cmp.{partial_order_from_own_ties};
+ghost use Rattle.std.specs.Cmp.Rules.{comparing};
 
 use crate::Metadata;
 use crate::bytes::first_no_word_byte;
 use std::alloc::AllocError;
+use std::cmp::Ordering;
 use std::marker::Model;
 
 /// What a result says: DENY, NONE, BUCKET, ALLOW, or a number from 2 to 65533, which is an agent's.
@@ -88,6 +94,44 @@ impl PolicyResult {
             kind: self.kind,
             metadata: self.metadata.copy()?,
         })
+    }
+}
+
+impl PartialEq for PolicyResult {
+    ghost eq = { same_result };
+
+    ghost laws = { Prim.search (comparing, rules) };
+
+    fn eq(&self, other: &PolicyResult) -> bool {
+        self.kind == other.kind && self.metadata == other.metadata
+    }
+}
+
+impl Eq for PolicyResult {
+    ghost laws = { Prim.search (comparing, rules) };
+}
+
+impl PartialOrd for PolicyResult {
+    ghost partial_cmp = { as_partial_cmp result_cmp };
+
+    ghost laws = { partial_order_from_own_ties (Prim.search (comparing, rules)) (Prim.search (comparing, rules)) };
+
+    fn partial_cmp(&self, other: &PolicyResult) -> Option<Ordering> {
+        Some(self.cmp(other))
+    }
+}
+
+impl Ord for PolicyResult {
+    ghost cmp = { result_cmp };
+
+    ghost total = { Prim.search (comparing, rules) };
+
+    ghost matches_partial_cmp = { Prim.search (comparing, rules) };
+
+    ghost matches_eq = { Prim.search (comparing, rules) };
+
+    fn cmp(&self, other: &PolicyResult) -> Ordering {
+        self.kind.cmp(&other.kind).then_with(|| self.metadata.as_slice().cmp(other.metadata.as_slice()))
     }
 }
 
