@@ -1,0 +1,92 @@
+-- The laws of how texts, fields, keys and results compare, for this crate's comparisons and for searches in the crates above.
+use Rattle.std.proofs.Common.{◌≡◌, ℕ, ◌==◌, Bool, true, ◌&&◌, List, refl, sym, ap, ◌∙◌, arith}
+use Rattle.std.specs.declared.cmp.Ordering.{Ordering}
+use Rattle.std.specs.declared.cmp.Ordering.TheVariants.{Equal}
+use Rattle.std.specs.Cmp.{IsTotalOrder, IsEquivalence, IsPartialOrder, po, both_tied, Equal-is, unsigned_ties, first_so, second_so}
+use Rattle.std.specs.Cmp.Lexicographic.{texts_ties, bytes_decides}
+use Rattle.std.specs.Ordering.{on, nat_cmp, is_eq, as_partial_cmp}
+use Rattle.std.proofs.lemmas.Cmp.{nat_cmp_total, nat_eq_equiv, nat_list_cmp_total, nat_list_eq_equiv, on_total, on_equiv, then_total, and_equiv}
+use borrow.Author.Tests.{eqb-true}
+use Rattle.cynara_keys.specs.Text.{same_text, text_cmp}
+use Rattle.cynara_keys.specs.Field.{field_text, field_cmp, same_field}
+use Rattle.cynara_keys.specs.Key.{key_cmp, same_key}
+use Rattle.cynara_keys.specs.PolicyResult.{Ruling, result_cmp, same_result}
+use Rattle.cynara_keys.specs.declared.fields.Field.{Field}
+use Rattle.cynara_keys.specs.declared.keys.Key.{Key}
+
+-- ---- texts
+
+pub same_text-≡ : (a b : List ℕ) → same_text a b ≡ true → a ≡ b
+same_text-≡ a b = (bytes_decides a b).0
+
+pub ≡-same_text : (a b : List ℕ) → a ≡ b → same_text a b ≡ true
+≡-same_text a b = (bytes_decides a b).1
+
+pub text_total : IsTotalOrder text_cmp
+text_total = nat_list_cmp_total
+
+pub text_cmp-equal : (a b : List ℕ) → is_eq (text_cmp a b) ≡ same_text a b
+text_cmp-equal a b = sym (texts_ties a b)
+
+-- ---- fields
+
+pub field_total : IsTotalOrder field_cmp
+field_total = on_total field_text text_total
+
+pub same_field_equiv : IsEquivalence same_field
+same_field_equiv = on_equiv field_text nat_list_eq_equiv
+
+pub field_cmp-equal : (a b : Field) → is_eq (field_cmp a b) ≡ same_field a b
+field_cmp-equal a b = text_cmp-equal (field_text a) (field_text b)
+
+pub field_partial_order : IsPartialOrder same_field (as_partial_cmp field_cmp)
+field_partial_order = po field_total (λ a b. sym (field_cmp-equal a b))
+
+-- ---- keys
+
+pub key_total : IsTotalOrder key_cmp
+key_total =
+    then_total (on_total (λ (key : Key). key.client) field_total)
+    (then_total (on_total (λ (key : Key). key.user) field_total) (on_total (λ (key : Key). key.privilege) field_total))
+
+pub same_key_equiv : IsEquivalence same_key
+same_key_equiv =
+    and_equiv (on_equiv (λ (key : Key). key.client) same_field_equiv)
+    (and_equiv (on_equiv (λ (key : Key). key.user) same_field_equiv) (on_equiv (λ (key : Key). key.privilege) same_field_equiv))
+
+pub key_cmp-equal : (a b : Key) → is_eq (key_cmp a b) ≡ same_key a b
+key_cmp-equal a b =
+    let clients = sym (field_cmp-equal a.client b.client) in
+    let users = sym (field_cmp-equal a.user b.user) in
+    let privileges = sym (field_cmp-equal a.privilege b.privilege) in
+    sym (both_tied _ _ _ _ clients (both_tied _ _ _ _ users privileges))
+
+pub key_partial_order : IsPartialOrder same_key (as_partial_cmp key_cmp)
+key_partial_order = po key_total (λ a b. sym (key_cmp-equal a b))
+
+-- ---- results
+
+pub result_total : IsTotalOrder result_cmp
+result_total = then_total (on_total (λ (result : Ruling). result.kind) nat_cmp_total) (on_total (λ (result : Ruling). result.metadata) text_total)
+
+pub same_result_equiv : IsEquivalence same_result
+same_result_equiv = and_equiv (on_equiv (λ (result : Ruling). result.kind) nat_eq_equiv) (on_equiv (λ (result : Ruling). result.metadata) nat_list_eq_equiv)
+
+pub result_cmp-equal : (a b : Ruling) → is_eq (result_cmp a b) ≡ same_result a b
+result_cmp-equal a b =
+    sym (both_tied _ _ _ _ (unsigned_ties a.kind b.kind) (texts_ties a.metadata b.metadata))
+
+pub result_partial_order : IsPartialOrder same_result (as_partial_cmp result_cmp)
+result_partial_order = po result_total (λ a b. sym (result_cmp-equal a b))
+
+pub same_result-≡ : (a b : Ruling) → same_result a b ≡ true → a ≡ b
+same_result-≡ a b h =
+    let kinds : a.kind ≡ b.kind = eqb-true a.kind b.kind (first_so _ _ h) in
+    let metadata : a.metadata ≡ b.metadata = same_text-≡ a.metadata b.metadata (second_so _ _ h) in
+    λ i. record { kind = kinds i; metadata = metadata i }
+
+pub ≡-same_result : (a b : Ruling) → a ≡ b → same_result a b ≡ true
+≡-same_result a b h = ap (same_result a) (sym h) ∙ same_result_equiv.refl a
+
+pub result_cmp-≡ : (a b : Ruling) → result_cmp a b ≡ Equal → a ≡ b
+result_cmp-≡ a b h = same_result-≡ a b (sym (result_cmp-equal a b) ∙ ap is_eq h)

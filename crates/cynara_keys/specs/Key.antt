@@ -1,0 +1,26 @@
+-- Keys of policies, the questions that they match, and the filters that admit them, as in the Cynara wiki.
+use Rattle.std.specs.Prelude.{Bool, ◌&&◌}
+use Rattle.std.specs.declared.cmp.Ordering.{Ordering}
+use Rattle.std.specs.Ordering.{on, then_cmp, eq_of_both}
+use Rattle.cynara_keys.specs.Field.{field_matches, field_admits, field_cmp, same_field}
+use Rattle.cynara_keys.specs.declared.keys.Key.{Key}
+use Rattle.cynara_keys.specs.declared.keys.Filter.{Filter}
+use Rattle.cynara_keys.specs.declared.keys.Question.{Question}
+
+-- a key matches a question where each field is `*` or the question's
+abbrev pub key_matches : Key → Question → Bool
+key_matches key question =
+    field_matches key.client question.client && (field_matches key.user question.user && field_matches key.privilege question.privilege)
+
+-- a filter admits a key where each of its fields does
+abbrev pub filter_admits : Filter → Key → Bool
+filter_admits filter key =
+    field_admits filter.client key.client && (field_admits filter.user key.user && field_admits filter.privilege key.privilege)
+
+-- keys are in the order of client, user and privilege in turn
+abbrev pub key_cmp : Key → Key → Ordering
+key_cmp = then_cmp (on (λ key. key.client) field_cmp) (then_cmp (on (λ key. key.user) field_cmp) (on (λ key. key.privilege) field_cmp))
+
+-- the same texts in each field
+abbrev pub same_key : Key → Key → Bool
+same_key = eq_of_both (on (λ key. key.client) same_field) (eq_of_both (on (λ key. key.user) same_field) (on (λ key. key.privilege) same_field))

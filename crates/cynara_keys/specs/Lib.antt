@@ -1,0 +1,7 @@
+pub mod Text
+pub mod Name
+pub mod BucketName
+pub mod Metadata
+pub mod Field
+pub mod Key
+pub mod PolicyResult

@@ -1,0 +1,120 @@
+ghost use Rattle.std.specs.Prelude.{◌≡◌, IfOk, IfErr, OnOk};
+ghost use Rattle.cynara_keys.specs.BucketName.{bucket_name_fault, Refuses};
+ghost use Rattle.cynara_keys.specs.Text.{same_text, text_cmp};
+ghost use Rattle.std.specs.Prelude.{refl};
+ghost use Rattle.std.specs.Ordering.{as_partial_cmp};
+ghost use Rattle.std.specs.Cmp.{partial_equiv_from_equiv};
+ghost use Rattle.std.specs.Cmp.Lexicographic.{texts_ties, texts_po};
+ghost use Rattle.std.proofs.lemmas.Cmp.{nat_list_cmp_total, nat_list_eq_equiv};
+
+use crate::bytes::first_no_word_byte;
+use std::alloc::{AllocError, Global};
+use std::cmp::Ordering;
+use std::marker::Model;
+use thiserror::Error;
+
+const MOST_BYTES: usize = 64;
+
+/// Why a text is no bucket's name: the first rule that it breaks.
+#[derive(Clone, Copy, Debug, PartialEq, Eq, Error)]
+pub enum BucketNameRefusal {
+    #[error("a bucket's name has at most 64 bytes")]
+    TooLong,
+    /// The place of the first such byte, from 0.
+    #[error("byte {0} of a bucket's name is no letter, digit, `_` or `-`")]
+    BadByte(usize),
+    #[error("out of memory")]
+    Memory(AllocError),
+}
+
+/// The name of a bucket: 0 to 64 letters, digits, `_` or `-`. The empty one names the root bucket.
+#[derive(Debug, Drop)]
+pub struct BucketName {
+    bytes: Vec<u8>,
+}
+
+impl Model for BucketName {
+    ghost use Rattle.std.specs.Prelude.{◌≡◌, List, ℕ, None};
+    ghost use Rattle.cynara_keys.specs.BucketName.{bucket_name_fault};
+
+    ghost Value = { List ℕ };
+
+    ghost view = { λ text. text.bytes.items };
+
+    ghost invariant = { λ text. bucket_name_fault text.bytes.items ≡ None };
+}
+
+impl BucketName {
+    /// Reads a bucket's name. Refuses, in this order, `TooLong` and `BadByte`.
+    pub fn read(alloc: Global, bytes: &[u8]) -> Result<BucketName, BucketNameRefusal>
+        ensures text { IfOk result (λ text. text ≡ bytes.now) }
+        ensures accepted { OnOk result (bucket_name_fault bytes.now ≡ None) }
+        ensures refused { IfErr result (λ refusal. Refuses refusal (bucket_name_fault bytes.now)) }
+    {
+        if bytes.len() > MOST_BYTES {
+            return Err(BucketNameRefusal::TooLong);
+        }
+        if let Some(at) = first_no_word_byte(bytes) {
+            return Err(BucketNameRefusal::BadByte(at));
+        }
+        match bytes.to_vec(alloc) {
+            Ok(bytes) => Ok(BucketName { bytes }),
+            Err(error) => Err(BucketNameRefusal::Memory(error)),
+        }
+    }
+
+    /// The bytes of the bucket's name.
+    pub fn as_slice(&self) -> &[u8]
+        ensures bytes { result.now ≡ self.now }
+        ensures text { bucket_name_fault self.now ≡ None }
+    {
+        &self.bytes
+    }
+
+    /// An equal value.
+    pub fn copy(&self) -> Result<BucketName, AllocError>
+        ensures { IfOk result (λ copy. copy ≡ self.now) }
+    {
+        Ok(BucketName {
+            bytes: self.bytes.clone()?,
+        })
+    }
+}
+
+impl PartialEq for BucketName {
+    ghost eq = { same_text };
+
+    ghost laws = { partial_equiv_from_equiv nat_list_eq_equiv };
+
+    fn eq(&self, other: &BucketName) -> bool {
+        self.as_slice() == other.as_slice()
+    }
+}
+
+impl Eq for BucketName {
+    ghost laws = { nat_list_eq_equiv };
+}
+
+impl PartialOrd for BucketName {
+    ghost partial_cmp = { as_partial_cmp text_cmp };
+
+    ghost laws = { texts_po };
+
+    fn partial_cmp(&self, other: &BucketName) -> Option<Ordering> {
+        Some(self.cmp(other))
+    }
+}
+
+impl Ord for BucketName {
+    ghost cmp = { text_cmp };
+
+    ghost total = { nat_list_cmp_total };
+
+    ghost matches_partial_cmp = { λ x y. refl };
+
+    ghost matches_eq = { texts_ties };
+
+    fn cmp(&self, other: &BucketName) -> Ordering {
+        self.as_slice().cmp(other.as_slice())
+    }
+}

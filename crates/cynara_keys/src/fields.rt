@@ -1,0 +1,166 @@
+ghost use Rattle.std.specs.Prelude.{◌≡◌, IfOk, IfErr, OnOk, None};
+ghost use Rattle.cynara_keys.specs.Name.{Refuses};
+ghost use Rattle.cynara_keys.specs.Field.{field_text, field_of, field_fault, field_matches, field_admits, filter_field_text, filter_field_of, filter_field_fault};
+ghost use Rattle.cynara_keys.specs.Field.{field_cmp, same_field};
+ghost use Rattle.std.proofs.Common.{rules};
+ghost use Rattle.std.specs.Ordering.{as_partial_cmp};
+ghost use Rattle.std.specs.Cmp.{partial_order_from_own_ties};
+ghost use Rattle.std.specs.Cmp.Rules.{comparing};
+
+use crate::{Name, NameRefusal};
+use std::alloc::{AllocError, Global};
+use std::cmp::Ordering;
+
+/// One field of a key: the wildcard `*`, or one name.
+#[derive(Debug, Drop)]
+pub enum Field {
+    Any,
+    Exact(Name),
+}
+
+impl Field {
+    /// Reads `*` or a name, which is refused as by `Name::read`.
+    pub fn read(alloc: Global, text: &[u8]) -> Result<Field, NameRefusal>
+        ensures field { IfOk result (λ field. field ≡ field_of text.now) }
+        ensures accepted { OnOk result (field_fault text.now ≡ None) }
+        ensures refused { IfErr result (λ refusal. Refuses refusal (field_fault text.now)) }
+    {
+        if text == b"*".as_slice() {
+            return Ok(Field::Any);
+        }
+        match Name::read(alloc, text) {
+            Ok(name) => Ok(Field::Exact(name)),
+            Err(refusal) => Err(refusal),
+        }
+    }
+
+    /// The text: `*` for the wildcard.
+    pub fn as_slice(&self) -> &[u8]
+        ensures { result.now ≡ field_text self.now }
+    {
+        match self {
+            Field::Any => b"*",
+            Field::Exact(name) => name.as_slice(),
+        }
+    }
+
+    /// Whether the field is the wildcard or this name.
+    pub fn matches(&self, name: &Name) -> bool
+        ensures { result ≡ field_matches self.now name.now }
+    {
+        match self {
+            Field::Any => true,
+            Field::Exact(own) => own.as_slice() == name.as_slice(),
+        }
+    }
+
+    /// An equal field.
+    pub fn copy(&self) -> Result<Field, AllocError>
+        ensures { IfOk result (λ copy. copy ≡ self.now) }
+    {
+        match self {
+            Field::Any => Ok(Field::Any),
+            Field::Exact(name) => Ok(Field::Exact(name.copy()?)),
+        }
+    }
+}
+
+impl PartialEq for Field {
+    ghost eq = { same_field };
+
+    ghost laws = { Prim.search (comparing, rules) };
+
+    fn eq(&self, other: &Field) -> bool {
+        self.as_slice() == other.as_slice()
+    }
+}
+
+impl Eq for Field {
+    ghost laws = { Prim.search (comparing, rules) };
+}
+
+impl PartialOrd for Field {
+    ghost partial_cmp = { as_partial_cmp field_cmp };
+
+    ghost laws = { partial_order_from_own_ties (Prim.search (comparing, rules)) (Prim.search (comparing, rules)) };
+
+    fn partial_cmp(&self, other: &Field) -> Option<Ordering> {
+        Some(self.cmp(other))
+    }
+}
+
+impl Ord for Field {
+    ghost cmp = { field_cmp };
+
+    ghost total = { Prim.search (comparing, rules) };
+
+    ghost matches_partial_cmp = { Prim.search (comparing, rules) };
+
+    ghost matches_eq = { Prim.search (comparing, rules) };
+
+    fn cmp(&self, other: &Field) -> Ordering {
+        self.as_slice().cmp(other.as_slice())
+    }
+}
+
+/// One field of a filter: `#` for every field, `*` for the stored wildcard alone, or one name.
+#[derive(Debug, Drop)]
+pub enum FilterField {
+    Every,
+    Any,
+    Exact(Name),
+}
+
+impl FilterField {
+    /// Reads `#`, `*` or a name, which is refused as by `Name::read`.
+    pub fn read(alloc: Global, text: &[u8]) -> Result<FilterField, NameRefusal>
+        ensures field { IfOk result (λ field. field ≡ filter_field_of text.now) }
+        ensures accepted { OnOk result (filter_field_fault text.now ≡ None) }
+        ensures refused { IfErr result (λ refusal. Refuses refusal (filter_field_fault text.now)) }
+    {
+        if text == b"#".as_slice() {
+            return Ok(FilterField::Every);
+        }
+        if text == b"*".as_slice() {
+            return Ok(FilterField::Any);
+        }
+        match Name::read(alloc, text) {
+            Ok(name) => Ok(FilterField::Exact(name)),
+            Err(refusal) => Err(refusal),
+        }
+    }
+
+    /// The text: `#` for every field, `*` for the stored wildcard.
+    pub fn as_slice(&self) -> &[u8]
+        ensures { result.now ≡ filter_field_text self.now }
+    {
+        match self {
+            FilterField::Every => b"#",
+            FilterField::Any => b"*",
+            FilterField::Exact(name) => name.as_slice(),
+        }
+    }
+
+    /// Whether a key's field passes: any field at `#`, and else the same one.
+    pub fn admits(&self, field: &Field) -> bool
+        ensures { result ≡ field_admits self.now field.now }
+    {
+        match (self, field) {
+            (FilterField::Every, _) => true,
+            (FilterField::Any, Field::Any) => true,
+            (FilterField::Exact(own), Field::Exact(name)) => own.as_slice() == name.as_slice(),
+            _ => false,
+        }
+    }
+
+    /// An equal field.
+    pub fn copy(&self) -> Result<FilterField, AllocError>
+        ensures { IfOk result (λ copy. copy ≡ self.now) }
+    {
+        match self {
+            FilterField::Every => Ok(FilterField::Every),
+            FilterField::Any => Ok(FilterField::Any),
+            FilterField::Exact(name) => Ok(FilterField::Exact(name.copy()?)),
+        }
+    }
+}

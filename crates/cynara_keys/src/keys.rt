@@ -1,0 +1,151 @@
+ghost use Rattle.std.specs.Prelude.{◌≡◌, IfOk};
+ghost use Rattle.cynara_keys.specs.Key.{key_matches, filter_admits};
+ghost use Rattle.cynara_keys.specs.Key.{key_cmp, same_key};
+ghost use Rattle.std.proofs.Common.{rules};
+ghost use Rattle.std.specs.Ordering.{as_partial_cmp};
+ghost use Rattle.std.specs.Cmp.{partial_order_from_own_ties, both_tied};
+ghost use Rattle.std.specs.Cmp.Rules.{comparing};
+
+use crate::{Field, FilterField, Name, PolicyResult};
+use std::alloc::AllocError;
+use std::cmp::Ordering;
+
+/// What a policy is kept under: a client, a user and a privilege, each a name or the wildcard.
+#[derive(Debug, Drop)]
+pub struct Key {
+    pub client: Field,
+    pub user: Field,
+    pub privilege: Field,
+}
+
+/// Which keys a listing or an erasing concerns.
+#[derive(Debug, Drop)]
+pub struct Filter {
+    pub client: FilterField,
+    pub user: FilterField,
+    pub privilege: FilterField,
+}
+
+/// Whether this client may use this privilege for this user.
+#[derive(Debug, Drop)]
+pub struct Question {
+    pub client: Name,
+    pub user: Name,
+    pub privilege: Name,
+}
+
+/// A result under its key.
+#[derive(Debug, Drop)]
+pub struct Policy {
+    pub key: Key,
+    pub result: PolicyResult,
+}
+
+impl Key {
+    /// Whether each field is the wildcard or the question's.
+    pub fn matches(&self, question: &Question) -> bool
+        ensures { result ≡ key_matches self.now question.now }
+    {
+        self.client.matches(&question.client)
+            && self.user.matches(&question.user)
+            && self.privilege.matches(&question.privilege)
+    }
+
+    /// An equal key.
+    pub fn copy(&self) -> Result<Key, AllocError>
+        ensures { IfOk result (λ copy. copy ≡ self.now) }
+    {
+        Ok(Key {
+            client: self.client.copy()?,
+            user: self.user.copy()?,
+            privilege: self.privilege.copy()?,
+        })
+    }
+}
+
+impl PartialEq for Key {
+    ghost eq = { same_key };
+
+    ghost laws = { Prim.search (comparing, rules) };
+
+    fn eq(&self, other: &Key) -> bool {
+        self.client == other.client && self.user == other.user && self.privilege == other.privilege
+    }
+}
+
+impl Eq for Key {
+    ghost laws = { Prim.search (comparing, rules) };
+}
+
+impl PartialOrd for Key {
+    ghost partial_cmp = { as_partial_cmp key_cmp };
+
+    ghost laws = { partial_order_from_own_ties (Prim.search (comparing, rules)) (Prim.search (both_tied, comparing, rules)) };
+
+    fn partial_cmp(&self, other: &Key) -> Option<Ordering> {
+        Some(self.cmp(other))
+    }
+}
+
+impl Ord for Key {
+    ghost cmp = { key_cmp };
+
+    ghost total = { Prim.search (comparing, rules) };
+
+    ghost matches_partial_cmp = { Prim.search (comparing, rules) };
+
+    ghost matches_eq = { Prim.search (both_tied, comparing, rules) };
+
+    fn cmp(&self, other: &Key) -> Ordering {
+        self.client
+            .cmp(&other.client)
+            .then_with(|| self.user.cmp(&other.user).then_with(|| self.privilege.cmp(&other.privilege)))
+    }
+}
+
+impl Filter {
+    /// Whether each field of the filter admits the key's.
+    pub fn admits(&self, key: &Key) -> bool
+        ensures { result ≡ filter_admits self.now key.now }
+    {
+        self.client.admits(&key.client)
+            && self.user.admits(&key.user)
+            && self.privilege.admits(&key.privilege)
+    }
+
+    /// An equal filter.
+    pub fn copy(&self) -> Result<Filter, AllocError>
+        ensures { IfOk result (λ copy. copy ≡ self.now) }
+    {
+        Ok(Filter {
+            client: self.client.copy()?,
+            user: self.user.copy()?,
+            privilege: self.privilege.copy()?,
+        })
+    }
+}
+
+impl Question {
+    /// An equal question.
+    pub fn copy(&self) -> Result<Question, AllocError>
+        ensures { IfOk result (λ copy. copy ≡ self.now) }
+    {
+        Ok(Question {
+            client: self.client.copy()?,
+            user: self.user.copy()?,
+            privilege: self.privilege.copy()?,
+        })
+    }
+}
+
+impl Policy {
+    /// An equal policy.
+    pub fn copy(&self) -> Result<Policy, AllocError>
+        ensures { IfOk result (λ copy. copy ≡ self.now) }
+    {
+        Ok(Policy {
+            key: self.key.copy()?,
+            result: self.result.copy()?,
+        })
+    }
+}

@@ -1,0 +1,24 @@
+//! The vocabulary of the policy service: names, keys, filters, questions and results.
+//!
+//! Keys of client, user and privilege, buckets and the kinds of results are those of the Cynara wiki. The limits on
+//! texts, the numbers of the kinds and the order of keys are this project's profile.
+#![tactic(auto)]
+
+mod bucket_names;
+mod bytes;
+mod fields;
+mod keys;
+mod limits;
+mod metadata_texts;
+mod names;
+mod results;
+mod short_texts;
+
+pub use bucket_names::{BucketName, BucketNameRefusal};
+pub use fields::{Field, FilterField};
+pub use keys::{Filter, Key, Policy, Question};
+pub use limits::Counted;
+pub use metadata_texts::{Metadata, MetadataRefusal};
+pub use names::{Name, NameRefusal};
+pub use results::{Kind, PolicyResult};
+pub use short_texts::Short;

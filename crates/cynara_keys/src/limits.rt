@@ -1,0 +1,11 @@
+/// What a limit counts. Limits are tested in this order.
+#[derive(Clone, Copy, Debug, PartialEq, Eq, PartialOrd, Ord)]
+pub enum Counted {
+    Commits,
+    Users,
+    Packages,
+    Installs,
+    Grants,
+    Buckets,
+    Policies,
+}

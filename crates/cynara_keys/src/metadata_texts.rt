@@ -1,0 +1,92 @@
+ghost use Rattle.std.specs.Prelude.{◌≡◌, IfOk, IfErr, OnOk};
+ghost use Rattle.cynara_keys.specs.Metadata.{metadata_fault, Refuses};
+ghost use Rattle.cynara_keys.specs.Text.{same_text};
+ghost use Rattle.std.specs.Cmp.{partial_equiv_from_equiv};
+ghost use Rattle.std.proofs.lemmas.Cmp.{nat_list_eq_equiv};
+
+use crate::bytes::first_not_visible;
+use std::alloc::{AllocError, Global};
+use std::marker::Model;
+use thiserror::Error;
+
+const MOST_BYTES: usize = 255;
+
+/// Why a text is no metadata: the first rule that it breaks.
+#[derive(Clone, Copy, Debug, PartialEq, Eq, Error)]
+pub enum MetadataRefusal {
+    #[error("metadata has at most 255 bytes")]
+    TooLong,
+    /// The place of the first such byte, from 0.
+    #[error("byte {0} of the metadata is no printable ASCII character, or is a semicolon")]
+    BadByte(usize),
+    #[error("out of memory")]
+    Memory(AllocError),
+}
+
+/// What a result carries beside its kind: 0 to 255 bytes of printable ASCII without the space and the semicolon.
+#[derive(Debug, Drop)]
+pub struct Metadata {
+    bytes: Vec<u8>,
+}
+
+impl Model for Metadata {
+    ghost use Rattle.std.specs.Prelude.{◌≡◌, List, ℕ, None};
+    ghost use Rattle.cynara_keys.specs.Metadata.{metadata_fault};
+
+    ghost Value = { List ℕ };
+
+    ghost view = { λ text. text.bytes.items };
+
+    ghost invariant = { λ text. metadata_fault text.bytes.items ≡ None };
+}
+
+impl Metadata {
+    /// Reads metadata. Refuses, in this order, `TooLong` and `BadByte`.
+    pub fn read(alloc: Global, bytes: &[u8]) -> Result<Metadata, MetadataRefusal>
+        ensures text { IfOk result (λ text. text ≡ bytes.now) }
+        ensures accepted { OnOk result (metadata_fault bytes.now ≡ None) }
+        ensures refused { IfErr result (λ refusal. Refuses refusal (metadata_fault bytes.now)) }
+    {
+        if bytes.len() > MOST_BYTES {
+            return Err(MetadataRefusal::TooLong);
+        }
+        if let Some(at) = first_not_visible(bytes) {
+            return Err(MetadataRefusal::BadByte(at));
+        }
+        match bytes.to_vec(alloc) {
+            Ok(bytes) => Ok(Metadata { bytes }),
+            Err(error) => Err(MetadataRefusal::Memory(error)),
+        }
+    }
+
+    /// The bytes of the metadata.
+    pub fn as_slice(&self) -> &[u8]
+        ensures bytes { result.now ≡ self.now }
+        ensures text { metadata_fault self.now ≡ None }
+    {
+        &self.bytes
+    }
+
+    /// An equal value.
+    pub fn copy(&self) -> Result<Metadata, AllocError>
+        ensures { IfOk result (λ copy. copy ≡ self.now) }
+    {
+        Ok(Metadata {
+            bytes: self.bytes.clone()?,
+        })
+    }
+}
+
+impl PartialEq for Metadata {
+    ghost eq = { same_text };
+
+    ghost laws = { partial_equiv_from_equiv nat_list_eq_equiv };
+
+    fn eq(&self, other: &Metadata) -> bool {
+        self.as_slice() == other.as_slice()
+    }
+}
+
+impl Eq for Metadata {
+    ghost laws = { nat_list_eq_equiv };
+}

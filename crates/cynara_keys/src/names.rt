@@ -1,0 +1,103 @@
+ghost use Rattle.std.specs.Prelude.{◌≡◌, IfOk, IfErr, OnOk};
+ghost use Rattle.cynara_keys.specs.Name.{name_fault, Refuses};
+ghost use Rattle.cynara_keys.specs.Text.{same_text};
+ghost use Rattle.std.specs.Cmp.{partial_equiv_from_equiv};
+ghost use Rattle.std.proofs.lemmas.Cmp.{nat_list_eq_equiv};
+
+use crate::bytes::first_not_visible;
+use std::alloc::{AllocError, Global};
+use std::marker::Model;
+use thiserror::Error;
+
+const MOST_BYTES: usize = 255;
+
+/// Why a text is no name: the first rule that it breaks.
+#[derive(Clone, Copy, Debug, PartialEq, Eq, Error)]
+pub enum NameRefusal {
+    #[error("a name has at least one byte")]
+    Empty,
+    #[error("a name has at most 255 bytes")]
+    TooLong,
+    /// The place of the first such byte, from 0.
+    #[error("byte {0} of a name is no printable ASCII character, or is a semicolon")]
+    BadByte(usize),
+    #[error("`*` and `#` alone are no names")]
+    Reserved,
+    #[error("out of memory")]
+    Memory(AllocError),
+}
+
+/// The name of a client, a user or a privilege: 1 to 255 bytes of printable ASCII without the space and the
+/// semicolon, and not `*` or `#` alone.
+#[derive(Debug, Drop)]
+pub struct Name {
+    bytes: Vec<u8>,
+}
+
+impl Model for Name {
+    ghost use Rattle.std.specs.Prelude.{◌≡◌, List, ℕ, None};
+    ghost use Rattle.cynara_keys.specs.Name.{name_fault};
+
+    ghost Value = { List ℕ };
+
+    ghost view = { λ name. name.bytes.items };
+
+    ghost invariant = { λ name. name_fault name.bytes.items ≡ None };
+}
+
+impl Name {
+    /// Reads a name. Refuses, in this order, `Empty`, `TooLong`, `BadByte` and `Reserved`.
+    pub fn read(alloc: Global, bytes: &[u8]) -> Result<Name, NameRefusal>
+        ensures name { IfOk result (λ name. name ≡ bytes.now) }
+        ensures accepted { OnOk result (name_fault bytes.now ≡ None) }
+        ensures refused { IfErr result (λ refusal. Refuses refusal (name_fault bytes.now)) }
+    {
+        if bytes.is_empty() {
+            return Err(NameRefusal::Empty);
+        }
+        if bytes.len() > MOST_BYTES {
+            return Err(NameRefusal::TooLong);
+        }
+        if let Some(at) = first_not_visible(bytes) {
+            return Err(NameRefusal::BadByte(at));
+        }
+        if matches!(bytes, b"*" | b"#") {
+            return Err(NameRefusal::Reserved);
+        }
+        match bytes.to_vec(alloc) {
+            Ok(bytes) => Ok(Name { bytes }),
+            Err(error) => Err(NameRefusal::Memory(error)),
+        }
+    }
+
+    /// The bytes of the name.
+    pub fn as_slice(&self) -> &[u8]
+        ensures bytes { result.now ≡ self.now }
+        ensures name { name_fault self.now ≡ None }
+    {
+        &self.bytes
+    }
+
+    /// An equal name.
+    pub fn copy(&self) -> Result<Name, AllocError>
+        ensures { IfOk result (λ copy. copy ≡ self.now) }
+    {
+        Ok(Name {
+            bytes: self.bytes.clone()?,
+        })
+    }
+}
+
+impl PartialEq for Name {
+    ghost eq = { same_text };
+
+    ghost laws = { partial_equiv_from_equiv nat_list_eq_equiv };
+
+    fn eq(&self, other: &Name) -> bool {
+        self.as_slice() == other.as_slice()
+    }
+}
+
+impl Eq for Name {
+    ghost laws = { nat_list_eq_equiv };
+}

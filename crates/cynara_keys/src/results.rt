@@ -1,0 +1,142 @@
+ghost use Rattle.std.specs.Prelude.{◌≡◌, ◌↔◌, IfOk, IfErr, IsOk, IsTrue};
+ghost use Rattle.cynara_keys.specs.PolicyResult as spec;
+ghost use Rattle.cynara_keys.specs.PolicyResult.{may_carry};
+ghost use Rattle.cynara_keys.specs.BucketName.{is_bucket_name};
+ghost use Rattle.cynara_keys.specs.PolicyResult.{result_cmp, same_result};
+ghost use Rattle.std.proofs.Common.{rules};
+ghost use Rattle.std.specs.Ordering.{as_partial_cmp};
+ghost use Rattle.std.specs.Cmp.{partial_order_from_own_ties};
+ghost use Rattle.std.specs.Cmp.Rules.{comparing};
+
+use crate::Metadata;
+use crate::bytes::first_no_word_byte;
+use std::alloc::AllocError;
+use std::cmp::Ordering;
+use std::marker::Model;
+
+/// What a result says: DENY, NONE, BUCKET, ALLOW, or a number from 2 to 65533, which is an agent's.
+#[derive(Clone, Copy, Debug, PartialEq, Eq, PartialOrd, Ord)]
+pub struct Kind(pub u16);
+
+impl Kind {
+    pub const DENY: Kind = Kind(0);
+
+    pub const NONE: Kind = Kind(1);
+
+    pub const BUCKET: Kind = Kind(65534);
+
+    pub const ALLOW: Kind = Kind(65535);
+
+    /// Whether an agent decides.
+    pub fn is_agent(self) -> bool
+        ensures { result ≡ spec.is_agent self.0 }
+    {
+        2 <= self.0 && self.0 <= 65533
+    }
+}
+
+/// What a policy decides: a kind, and metadata where the kind may have some.
+#[derive(Debug, Drop)]
+pub struct PolicyResult {
+    kind: Kind,
+    metadata: Metadata,
+}
+
+impl Model for PolicyResult {
+    ghost use Rattle.std.specs.Prelude.{◌≡◌, true};
+    ghost use Rattle.cynara_keys.specs.PolicyResult.{Ruling, may_carry};
+
+    ghost Value = { Ruling };
+
+    ghost view = { λ result. record { kind = result.kind.0; metadata = result.metadata } };
+
+    ghost invariant = { λ result. may_carry result.kind.0 result.metadata ≡ true };
+}
+
+impl PolicyResult {
+    /// A result of this kind. Hands the metadata back exactly where the kind is DENY, NONE or ALLOW and there is
+    /// metadata, or where the kind is BUCKET and the metadata is no bucket's name.
+    pub fn of(kind: Kind, metadata: Metadata) -> Result<PolicyResult, Metadata>
+        ensures result { IfOk result (λ made. made ≡ record { kind = kind.0; metadata = metadata }) }
+        ensures accepted { IsOk result ↔ IsTrue (may_carry kind.0 metadata) }
+        ensures handed_back { IfErr result (λ back. back ≡ metadata) }
+    {
+        let fits = match kind {
+            Kind::DENY | Kind::NONE | Kind::ALLOW => metadata.as_slice().is_empty(),
+            Kind::BUCKET => is_bucket_name(metadata.as_slice()),
+            _ => true,
+        };
+        if fits {
+            Ok(PolicyResult { kind, metadata })
+        } else {
+            Err(metadata)
+        }
+    }
+
+    pub fn kind(&self) -> Kind
+        ensures { result.0 ≡ self.now.kind }
+    {
+        self.kind
+    }
+
+    pub fn metadata(&self) -> &Metadata
+        ensures metadata { result.now ≡ self.now.metadata }
+        ensures carried { IsTrue (may_carry self.now.kind self.now.metadata) }
+    {
+        &self.metadata
+    }
+
+    /// An equal result.
+    pub fn copy(&self) -> Result<PolicyResult, AllocError>
+        ensures { IfOk result (λ copy. copy ≡ self.now) }
+    {
+        Ok(PolicyResult {
+            kind: self.kind,
+            metadata: self.metadata.copy()?,
+        })
+    }
+}
+
+impl PartialEq for PolicyResult {
+    ghost eq = { same_result };
+
+    ghost laws = { Prim.search (comparing, rules) };
+
+    fn eq(&self, other: &PolicyResult) -> bool {
+        self.kind == other.kind && self.metadata == other.metadata
+    }
+}
+
+impl Eq for PolicyResult {
+    ghost laws = { Prim.search (comparing, rules) };
+}
+
+impl PartialOrd for PolicyResult {
+    ghost partial_cmp = { as_partial_cmp result_cmp };
+
+    ghost laws = { partial_order_from_own_ties (Prim.search (comparing, rules)) (Prim.search (comparing, rules)) };
+
+    fn partial_cmp(&self, other: &PolicyResult) -> Option<Ordering> {
+        Some(self.cmp(other))
+    }
+}
+
+impl Ord for PolicyResult {
+    ghost cmp = { result_cmp };
+
+    ghost total = { Prim.search (comparing, rules) };
+
+    ghost matches_partial_cmp = { Prim.search (comparing, rules) };
+
+    ghost matches_eq = { Prim.search (comparing, rules) };
+
+    fn cmp(&self, other: &PolicyResult) -> Ordering {
+        self.kind.cmp(&other.kind).then_with(|| self.metadata.as_slice().cmp(other.metadata.as_slice()))
+    }
+}
+
+fn is_bucket_name(bytes: &[u8]) -> bool
+    ensures { result ≡ is_bucket_name bytes.now }
+{
+    bytes.len() <= 64 && first_no_word_byte(bytes).is_none()
+}
