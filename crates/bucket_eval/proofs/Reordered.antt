@@ -1,5 +1,5 @@
 -- What holds alike of lists with the same elements.
-use Rattle.std.proofs.Common.{◌≡◌, ℕ, Bool, true, false, not, cond, List, [], ◌∷◌, ◌++◌, suc, length, Option, None, Some, refl, sym, ap, ◌∙◌}
+use Rattle.std.proofs.Common.{◌≡◌, Bool, true, false, not, cond, List, [], ◌∷◌, ◌++◌, suc, length, Option, refl, ap, ◌∙◌}
 use Rattle.std.specs.List.{AllByRecursion, filter}
 use Rattle.cynara_keys.specs.Key.{same_key}
 use Rattle.cynara_keys.specs.declared.keys.Key.{Key}
@@ -26,6 +26,10 @@ Reordered-append zs nothing = Reordered-refl zs
 Reordered-append zs (kept h) = kept (Reordered-append zs h)
 Reordered-append zs exchanged = exchanged
 Reordered-append zs (joined h k) = joined (Reordered-append zs h) (Reordered-append zs k)
+
+pub Reordered-append_right : {X : Type 0} {xs ys : List X} (zs : List X) → Reordered xs ys → Reordered (zs ++ xs) (zs ++ ys)
+Reordered-append_right [] h = h
+Reordered-append_right (z ∷ zs) h = kept (Reordered-append_right zs h)
 
 -- an element goes from the end to the front
 pub Reordered-to_front : {X : Type 0} (ys : List X) (x : X) → Reordered (ys ++ x ∷ []) (x ∷ ys)
@@ -89,7 +93,6 @@ least_policy-Reordered question own (exchanged {x} {y} {xs}) =
     least-exchanged (counts question x) (counts question y) x y (least_policy question xs) own.0.0
 least_policy-Reordered question own (joined h k) =
     least_policy-Reordered question own h ∙ least_policy-Reordered question (HaveOwnKeys-Reordered h own) k
-
 
 -- ---- lists that a policy is put into
 

@@ -4,29 +4,45 @@
 //! results are ordered by their keys, is this project's profile.
 #![tactic(auto)]
 
-ghost use Rattle.std.specs.Prelude.{◌≡◌, ◌≢◌, ℕ, ◌<◌, None, IfSome, MatchOption, slice_get};
+ghost use Rattle.std.specs.Prelude.{◌≡◌, ◌≢◌, ℕ, ◌<◌, ◌≤◌, length, None, IfSome, IfOk, IfErr, MatchOption, MatchResult, slice_get};
 ghost use Rattle.std.specs.List.{All};
 ghost use Rattle.std.specs.Ordering.{is_gt};
 ghost use Rattle.cynara_keys.specs.PolicyResult.{bucket};
 ghost use Rattle.bucket_eval.specs.Least.{counts, decision_cmp, least_policy};
+ghost use Rattle.bucket_eval.specs.Rising.{IsRising, HasKeyAt, BelongsAt};
 
-use cynara_keys::{Kind, Policy, Question};
+use cynara_keys::{Key, Kind, Policy, Question};
 
 /// The place of the policy that decides the question: the least by result and then by key of those that match it and
 /// whose result isn't NONE. `None` where there is none. No result may be BUCKET.
 pub fn least(policies: &[Policy], question: &Question) -> Option<usize>
     requires { All (λ policy. policy.result.kind ≢ bucket) policies.now }
-    ensures none { MatchOption result (least_policy question.now policies.now ≡ None) (λ place. slice_get policies.now place ≡ least_policy question.now policies.now) }
+    ensures decides { MatchOption result (least_policy question.now policies.now ≡ None) (λ place. slice_get policies.now place ≡ least_policy question.now policies.now) }
+    ensures in_range { IfSome result (λ place. place < length policies.now) }
     ensures first { IfSome result (λ place. (k : ℕ) → k < place → slice_get policies.now k ≢ least_policy question.now policies.now) }
 {
     let mut best: Option<usize> = None;
     for place in (0..policies.len()).rev() {
         let policy = &policies[place];
-        if counts(policy, question) && best.is_none_or(|other| !is_after(policy, &policies[other])) {
-            best = Some(place);
+        if counts(policy, question) {
+            best = match best {
+                Some(other) if is_after(policy, &policies[other]) => Some(other),
+                _ => Some(place),
+            };
         }
     }
     best
+}
+
+/// Where the key stands in policies whose keys rise: `Ok` of the place of the policy that has it, or `Err` of the place
+/// at which a policy with this key would go.
+pub fn place_of(policies: &[Policy], key: &Key) -> Result<usize, usize>
+    requires { IsRising policies.now }
+    ensures found { IfOk result (HasKeyAt policies.now key.now) }
+    ensures absent { IfErr result (BelongsAt policies.now key.now) }
+    ensures in_range { MatchResult result (λ place. place < length policies.now) (λ place. place ≤ length policies.now) }
+{
+    policies.binary_search_by(|policy| policy.key.cmp(key))
 }
 
 // Whether a policy has a say in the answer.
