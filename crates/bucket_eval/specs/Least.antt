@@ -1,0 +1,27 @@
+-- Which policy of a bucket decides a question.
+use Rattle.std.specs.Prelude.{Bool, not, ◌&&◌, ◌==◌, if◌then◌else◌, List, [], ◌∷◌, Option, Some, None}
+use Rattle.std.specs.declared.cmp.Ordering.{Ordering}
+use Rattle.std.specs.Ordering.{on, then_cmp, is_gt}
+use Rattle.cynara_keys.specs.Key.{key_matches, key_cmp}
+use Rattle.cynara_keys.specs.PolicyResult.{none, result_cmp}
+use Rattle.cynara_keys.specs.declared.keys.Policy.{Policy}
+use Rattle.cynara_keys.specs.declared.keys.Question.{Question}
+
+-- whether a policy has a say: it matches the question, and its result isn't NONE
+abbrev pub counts : Question → Policy → Bool
+counts question policy = key_matches policy.key question && not (policy.result.kind == none)
+
+-- policies decide in the order of their results, and then of their keys
+abbrev pub decision_cmp : Policy → Policy → Ordering
+decision_cmp = then_cmp (on (λ policy. policy.result) result_cmp) (on (λ policy. policy.key) key_cmp)
+
+-- the lesser of a policy and another, if there is another
+abbrev pub lesser : Policy → Option Policy → Option Policy
+lesser policy None = Some policy
+lesser policy (Some other) = if is_gt (decision_cmp policy other) then Some other else Some policy
+
+-- the least of the policies that have a say
+abbrev pub least_policy : Question → List Policy → Option Policy
+least_policy question [] = None
+least_policy question (policy ∷ policies) =
+    if counts question policy then lesser policy (least_policy question policies) else least_policy question policies

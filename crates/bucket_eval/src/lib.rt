@@ -1,0 +1,64 @@
+//! Which policy of a bucket decides a question.
+//!
+//! That the least result of the matching policies decides is Cynara's rule. That NONE is left out, and that equal
+//! results are ordered by their keys, is this project's profile.
+#![tactic(auto)]
+
+ghost use Rattle.std.specs.Prelude.{◌≡◌, ◌≢◌, ℕ, ◌<◌, ◌≤◌, length, None, IfSome, IfOk, IfErr, MatchOption, MatchResult, slice_get};
+ghost use Rattle.std.specs.List.{All};
+ghost use Rattle.std.specs.Ordering.{is_gt};
+ghost use Rattle.cynara_keys.specs.PolicyResult.{bucket};
+ghost use Rattle.bucket_eval.specs.Least.{counts, decision_cmp, least_policy};
+ghost use Rattle.bucket_eval.specs.Rising.{IsRising, HasKeyAt, BelongsAt};
+
+use cynara_keys::{Key, Kind, Policy, Question};
+
+/// The place of the policy that decides the question: the least by result and then by key of those that match it and
+/// whose result isn't NONE. `None` where there is none. No result may be BUCKET.
+pub fn least(policies: &[Policy], question: &Question) -> Option<usize>
+    requires { All (λ policy. policy.result.kind ≢ bucket) policies.now }
+    ensures decides { MatchOption result (least_policy question.now policies.now ≡ None) (λ place. slice_get policies.now place ≡ least_policy question.now policies.now) }
+    ensures in_range { IfSome result (λ place. place < length policies.now) }
+    ensures first { IfSome result (λ place. (k : ℕ) → k < place → slice_get policies.now k ≢ least_policy question.now policies.now) }
+{
+    let mut best: Option<usize> = None;
+    for place in (0..policies.len()).rev() {
+        let policy = &policies[place];
+        if counts(policy, question) {
+            best = match best {
+                Some(other) if is_after(policy, &policies[other]) => Some(other),
+                _ => Some(place),
+            };
+        }
+    }
+    best
+}
+
+/// Where the key stands in policies whose keys rise: `Ok` of the place of the policy that has it, or `Err` of the place
+/// at which a policy with this key would go.
+pub fn place_of(policies: &[Policy], key: &Key) -> Result<usize, usize>
+    requires { IsRising policies.now }
+    ensures found { IfOk result (HasKeyAt policies.now key.now) }
+    ensures absent { IfErr result (BelongsAt policies.now key.now) }
+    ensures in_range { MatchResult result (λ place. place < length policies.now) (λ place. place ≤ length policies.now) }
+{
+    policies.binary_search_by(|policy| policy.key.cmp(key))
+}
+
+// Whether a policy has a say in the answer.
+fn counts(policy: &Policy, question: &Question) -> bool
+    ensures { result ≡ counts question.now policy.now }
+{
+    policy.result.kind() != Kind::NONE && policy.key.matches(question)
+}
+
+// Whether the other policy decides before this one.
+fn is_after(policy: &Policy, other: &Policy) -> bool
+    ensures { result ≡ is_gt (decision_cmp policy.now other.now) }
+{
+    policy
+        .result
+        .cmp(&other.result)
+        .then_with(|| policy.key.cmp(&other.key))
+        .is_gt()
+}
