@@ -1,4 +1,0 @@
-pub mod Words
-pub mod Grammar
-pub mod Answers
-pub mod Appending

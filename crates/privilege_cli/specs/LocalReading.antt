@@ -1,0 +1,76 @@
+-- One reading from the source, and all of them, as their contracts see them.
+use Rattle.std.specs.Prelude.{◌≡◌, ◌≤◌, ◌<◌, ◌+◌, ℕ, List, [], ◌++◌, length, Option}
+use Rattle.desk_ports.specs.Content.{Took, AtEnd, Appended, AppendedPart}
+use Rattle.text_lines.specs.Lines.{HasNoNewline}
+use Rattle.privilege_cli.specs.Script.{Outcome, start, script, answered, stopped_at}
+use Rattle.privilege_cli.specs.LocalRun.{Passed, IsDone, AreAnswered, IsUnfinished, AreWholeLines, Advances}
+use Rattle.privilege_cli.specs.LocalScript.{position_of}
+use Rattle.privilege_cli.specs.Stop.{StopsWithin}
+use Rattle.privilege_cli.specs.declared.local_script.Stop.{Stop}
+use Rattle.privilege_cli.specs.declared.local_script.Stop.TheVariants.{Memory, Line, Source, Sink}
+use Rattle.privilege_cli.specs.declared.local_script.LocalScript.{LocalScript}
+
+module _ (left left_after taken taken_after : Option (List ℕ)) (old new : LocalScript) (kept : List ℕ) where
+  -- The sink took the answers so far, the source gave more bytes, and the whole lines in what was kept and given are
+  -- answered. The rest is kept.
+  pub record ReadsLines (rest : List ℕ) : Type 0 where
+    pub given : List ℕ
+    pub lines : List ℕ
+    pub took : Took left given left_after
+    pub flushed : Appended taken old.answers taken_after
+    pub parts : kept ++ given ≡ lines ++ rest
+    pub whole : AreWholeLines lines
+    pub unfinished : HasNoNewline rest
+    pub advanced : Advances (position_of old) lines new.answers (position_of new)
+    pub short : length rest ≤ 65535
+    pub within : length rest ≤ new.room
+    pub nearer : new.room + length kept < old.room + length rest
+
+  -- The sink took the answers so far, and the source is at its end.
+  pub record ReadsEnd (rest : List ℕ) : Type 0 where
+    pub took : Took left [] left_after
+    pub end : AtEnd left_after
+    pub flushed : Appended taken old.answers taken_after
+    pub same : rest ≡ kept
+    pub position : position_of new ≡ position_of old
+    pub answers : new.answers ≡ []
+
+  pub record StopsInGiven (stop : Stop) : Type 0 where
+    pub given : List ℕ
+    pub took : Took left given left_after
+    pub flushed : Appended taken old.answers taken_after
+    pub stopped : StopsWithin stop (position_of old) (kept ++ given) new.answers
+
+  pub record FailsToRead : Type 0 where
+    pub took : Took left [] left_after
+    pub flushed : Appended taken old.answers taken_after
+
+  pub record FailsToWrite : Type 0 where
+    pub took : Took left [] left_after
+    pub part : AppendedPart taken old.answers taken_after
+
+  -- how one reading may stop
+  abbrev pub StopsReading : Stop → Type 0
+  StopsReading Memory = StopsInGiven Memory
+  StopsReading (Line number) = StopsInGiven (Line number)
+  StopsReading Source = FailsToRead
+  StopsReading Sink = FailsToWrite
+
+-- The whole lines given so far are answered, and the bytes behind them are kept.
+pub record IsUnderWay (left left_now taken taken_now : Option (List ℕ)) (now : LocalScript) (kept : List ℕ) : Type 0 where
+  pub lines : List ℕ
+  pub written : List ℕ
+  pub took : Took left (lines ++ kept) left_now
+  pub appended : Appended taken written taken_now
+  pub whole : AreWholeLines lines
+  pub unfinished : HasNoNewline kept
+  pub advanced : Advances start lines (written ++ now.answers) (position_of now)
+
+-- how a whole run may stop before the end of its script; the answers that wait are not written yet
+abbrev pub StopsRun : Option (List ℕ) → Option (List ℕ) → Option (List ℕ) → Option (List ℕ) → List ℕ → Stop → Type 0
+StopsRun left left_after taken taken_after waiting Memory =
+    Passed left left_after taken taken_after (λ given written. (more : List ℕ) → (later : Outcome) × (script (given ++ more) ≡ answered (written ++ waiting) later))
+StopsRun left left_after taken taken_after waiting (Line number) =
+    Passed left left_after taken taken_after (λ given written. (more : List ℕ) → script (given ++ more) ≡ answered (written ++ waiting) (stopped_at number))
+StopsRun left left_after taken taken_after waiting Source = Passed left left_after taken taken_after AreAnswered
+StopsRun left left_after taken taken_after waiting Sink = Passed left left_after taken taken_after IsUnfinished

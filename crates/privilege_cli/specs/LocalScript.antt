@@ -1,0 +1,37 @@
+-- A running script, as its contracts see it.
+use Rattle.std.specs.Prelude.{◌≡◌, ◌≤◌, ◌<◌, ◌+◌, ℕ, List, ◌∷◌, ◌++◌, length}
+use Rattle.text_lines.specs.Lines.{HasNoNewline}
+use Rattle.privilege_cli.specs.Script.{Position, script_from, answered}
+use Rattle.privilege_cli.specs.LocalRun.{Advances, AreWholeLines}
+use Rattle.privilege_cli.specs.Stop.{StopsWithin}
+use Rattle.privilege_cli.specs.declared.local_script.Stop.{Stop}
+use Rattle.privilege_cli.specs.declared.local_script.LocalScript.{LocalScript}
+
+abbrev pub position_of : LocalScript → Position
+position_of script = record { state = script.root; line = script.line; room = script.room }
+
+-- one piece of the script was answered
+pub record AnswersPiece (old new : LocalScript) (piece : List ℕ) : Type 0 where
+  pub text : List ℕ
+  pub answers : new.answers ≡ old.answers ++ text
+  pub room : new.room + length piece ≡ old.room
+  pub advanced : (pieces : List (List ℕ)) → script_from (position_of old) (piece ∷ pieces) ≡ answered text (script_from (position_of new) pieces)
+
+-- the whole lines of these bytes were answered, and the bytes behind them are left
+pub record AnswersLines (old new : LocalScript) (bytes : List ℕ) (left : ℕ) : Type 0 where
+  pub lines : List ℕ
+  pub rest : List ℕ
+  pub text : List ℕ
+  pub parts : bytes ≡ lines ++ rest
+  pub whole : AreWholeLines lines
+  pub unfinished : HasNoNewline rest
+  pub length_rest : length rest ≡ left
+  pub room : new.room + length lines ≡ old.room
+  pub answers : new.answers ≡ old.answers ++ text
+  pub advanced : Advances (position_of old) lines text (position_of new)
+
+-- Within these bytes the script stops, with the answers before that.
+pub record StopsInLines (stop : Stop) (old new : LocalScript) (bytes : List ℕ) : Type 0 where
+  pub text : List ℕ
+  pub answers : new.answers ≡ old.answers ++ text
+  pub stopped : StopsWithin stop (position_of old) bytes text

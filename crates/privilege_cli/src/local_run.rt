@@ -1,0 +1,117 @@
+// `local`: reads a script from the source, and has the sink take its answers.
+ghost use Rattle.std.specs.Prelude.{◌≡◌, ◌≢◌, ◌≤◌, ◌<◌, ◌↔◌, [], ℕ, List, length, take, MatchResult, MatchOption, IfErr, OnOk, OnErr, IsErrOf};
+ghost use Rattle.desk_ports.specs.Faults.{NeverFalls, Rose};
+ghost use Rattle.desk_ports.specs.Content.{AtEnd, Appended, AppendedPart};
+ghost use Rattle.privilege_cli.specs.LocalRun.{Passed, IsDone, IsCutShort, IsStoppedAtLine, AreAnswered, IsUnfinished};
+ghost use Rattle.privilege_cli.specs.LocalReading.{ReadsLines, ReadsEnd, StopsReading, StopsRun};
+
+use crate::local_script::{LocalScript, MOST_IN_LINE, Stop};
+use desk_ports::{Bytes, Sink, Source, write_all};
+use line_script::{LineAnswer, print};
+use std::alloc::Global;
+
+/// How many bytes are read at most in one call. A whole line has room beside what is left of the last one.
+const WINDOW: usize = 262_144;
+
+/// Answers the script of the source. The status is 0 where each line was answered, 1 for want of memory, 3 at a line
+/// outside the grammar, 4 where the source failed and 5 where the sink did.
+pub fn run_local<S: Source, K: Sink>(alloc: Global, source: &mut S, sink: &mut K) -> u8
+    ensures known { (result ≤ 5) × (result ≢ 2) }
+    ensures done { result ≡ 0 → Passed (S.left source.old) (S.left source.new) (K.taken sink.old) (K.taken sink.new) IsDone }
+    ensures at_end { result ≡ 0 → AtEnd (S.left source.new) }
+    ensures memory { result ≡ 1 → Passed (S.left source.old) (S.left source.new) (K.taken sink.old) (K.taken sink.new) IsCutShort }
+    ensures line { result ≡ 3 → Passed (S.left source.old) (S.left source.new) (K.taken sink.old) (K.taken sink.new)
+        (IsStoppedAtLine (Rose (K.faults sink.old) (K.faults sink.new))) }
+    ensures source { result ≡ 4 → Passed (S.left source.old) (S.left source.new) (K.taken sink.old) (K.taken sink.new) AreAnswered }
+    ensures source_failed { result ≡ 4 → Rose (S.faults source.old) (S.faults source.new) }
+    ensures sink { result ≡ 5 → Passed (S.left source.old) (S.left source.new) (K.taken sink.old) (K.taken sink.new) IsUnfinished }
+    ensures sink_failed { result ≡ 5 → Rose (K.faults sink.old) (K.faults sink.new) }
+{
+    let mut script = LocalScript::new(alloc);
+    match answer_source(&mut script, alloc, source, sink) {
+        Ok(()) => 0,
+        Err(Stop::Memory) => {
+            // What is answered is written all the same, where that is possible.
+            let _ = flush(&mut script.answers, sink);
+            1
+        }
+        Err(Stop::Line(line)) => end_at_line(&mut script.answers, line, sink),
+        Err(Stop::Source) => 4,
+        Err(Stop::Sink) => 5,
+    }
+}
+
+// Writes the answers that wait, and then which line is outside the grammar.
+fn end_at_line<K: Sink>(answers: &mut Bytes, line: u32, sink: &mut K) -> u8
+{
+    if flush(answers, sink).is_err() {
+        return 5;
+    }
+    if print(&LineAnswer::LineFault { line }, answers).is_err() {
+        return 1;
+    }
+    let _ = flush(answers, sink);
+    3
+}
+
+// Answers the whole script of the source.
+fn answer_source<S: Source, K: Sink>(
+    script: &mut LocalScript,
+    alloc: Global,
+    source: &mut S,
+    sink: &mut K,
+) -> Result<(), Stop>
+{
+    let mut window = vec![in alloc; 0; WINDOW]?;
+    let mut kept = 0;
+    while let Some(rest) = read_lines(script, &mut window, kept, source, sink)? {
+        kept = rest;
+    }
+    if kept > 0 {
+        script.answer_line(&window[..kept], kept)?;
+    }
+    flush(&mut script.answers, sink)
+}
+
+// Has the sink take the answers so far, reads behind the bytes that are kept, and answers the whole lines. How many
+// bytes are kept then, at the front of the window; `None` where the source is at its end.
+fn read_lines<S: Source, K: Sink>(
+    script: &mut LocalScript,
+    window: &mut [u8],
+    kept: usize,
+    source: &mut S,
+    sink: &mut K,
+) -> Result<Option<usize>, Stop>
+{
+    flush(&mut script.answers, sink)?;
+    let end = window.len().min(script.room + 1);
+    let Ok(count) = source.read(&mut window[kept..end]) else {
+        return Err(Stop::Source);
+    };
+    if count == 0 {
+        return Ok(None);
+    }
+    let filled = kept + count;
+    let rest = script.answer_lines(&window[..filled])?;
+    if rest > MOST_IN_LINE || rest > script.room {
+        return Err(Stop::Line(script.line));
+    }
+    window.copy_within(filled - rest..filled, 0);
+    Ok(Some(rest))
+}
+
+// Has the sink take the answers, and forgets them.
+fn flush<K: Sink>(answers: &mut Bytes, sink: &mut K) -> Result<(), Stop>
+    ensures ok { OnOk result (Appended (K.taken sink.old) answers.old (K.taken sink.new)) }
+    ensures cleared { OnOk result (answers.new ≡ []) }
+    ensures err { OnErr result (AppendedPart (K.taken sink.old) answers.old (K.taken sink.new)) }
+    ensures sink { IfErr result (λ stop. stop ≡ Stop.Sink) }
+    ensures count { NeverFalls (K.faults sink.old) (K.faults sink.new) }
+    ensures cause { OnErr result (Rose (K.faults sink.old) (K.faults sink.new)) }
+{
+    if write_all(sink, answers.as_slice()).is_err() {
+        return Err(Stop::Sink);
+    }
+    answers.clear();
+    Ok(())
+}

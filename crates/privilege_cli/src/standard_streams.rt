@@ -1,0 +1,51 @@
+//! Standard input and output as a source and a sink. They tell nothing of their content.
+ghost use Rattle.std.specs.Prelude.{None};
+
+use desk_ports::{Failed, Sink, Source};
+use std::io::{Read, Write};
+
+/// A source over a reader. It counts each error of the reader.
+#[derive(Drop)]
+pub struct InputSource<R: Read + Drop> {
+    pub reader: R,
+    pub faults: u64,
+}
+
+impl<R: Read + Drop> Source for InputSource<R> {
+    ghost faults = { λ source. source.faults };
+
+    ghost left = { λ _. None };
+
+    fn read(&mut self, into: &mut [u8]) -> Result<usize, Failed> {
+        match self.reader.read(into) {
+            Ok(count) => Ok(count),
+            Err(_) => {
+                self.faults = self.faults.saturating_add(1);
+                Err(Failed)
+            }
+        }
+    }
+}
+
+/// A sink over a writer. It counts each error of the writer, and each call in which it took nothing.
+#[derive(Drop)]
+pub struct OutputSink<W: Write + Drop> {
+    pub writer: W,
+    pub faults: u64,
+}
+
+impl<W: Write + Drop> Sink for OutputSink<W> {
+    ghost faults = { λ sink. sink.faults };
+
+    ghost taken = { λ _. None };
+
+    fn write(&mut self, from: &[u8]) -> Result<usize, Failed> {
+        match self.writer.write(from) {
+            Ok(count) if count > 0 || from.is_empty() => Ok(count),
+            _ => {
+                self.faults = self.faults.saturating_add(1);
+                Err(Failed)
+            }
+        }
+    }
+}
