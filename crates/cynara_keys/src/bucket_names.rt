@@ -1,4 +1,4 @@
-ghost use Rattle.std.specs.Prelude.{◌≡◌, IfOk, IfErr, OnOk};
+ghost use Rattle.std.specs.Prelude.{◌≡◌, [], IfOk, IfErr, OnOk};
 ghost use Rattle.cynara_keys.specs.BucketName.{bucket_name_fault, Refuses};
 ghost use Rattle.cynara_keys.specs.Text.{same_text, text_cmp};
 ghost use Rattle.std.specs.Prelude.{refl};
@@ -45,6 +45,15 @@ impl Model for BucketName {
 }
 
 impl BucketName {
+    /// The name of the root bucket, which is empty.
+    pub fn root(alloc: Global) -> BucketName
+        ensures { result ≡ [] }
+    {
+        BucketName {
+            bytes: Vec::new(alloc),
+        }
+    }
+
     /// Reads a bucket's name. Refuses, in this order, `TooLong` and `BadByte`.
     pub fn read(alloc: Global, bytes: &[u8]) -> Result<BucketName, BucketNameRefusal>
         ensures text { IfOk result (λ text. text ≡ bytes.now) }

@@ -1,4 +1,4 @@
-ghost use Rattle.std.specs.Prelude.{◌≡◌, IfOk, IfErr, OnOk};
+ghost use Rattle.std.specs.Prelude.{◌≡◌, [], IfOk, IfErr, OnOk};
 ghost use Rattle.cynara_keys.specs.Metadata.{metadata_fault, Refuses};
 ghost use Rattle.cynara_keys.specs.Text.{same_text};
 ghost use Rattle.std.specs.Cmp.{partial_equiv_from_equiv};
@@ -41,6 +41,15 @@ impl Model for Metadata {
 }
 
 impl Metadata {
+    /// No metadata.
+    pub fn empty(alloc: Global) -> Metadata
+        ensures { result ≡ [] }
+    {
+        Metadata {
+            bytes: Vec::new(alloc),
+        }
+    }
+
     /// Reads metadata. Refuses, in this order, `TooLong` and `BadByte`.
     pub fn read(alloc: Global, bytes: &[u8]) -> Result<Metadata, MetadataRefusal>
         ensures text { IfOk result (λ text. text ≡ bytes.now) }

@@ -1,4 +1,4 @@
-ghost use Rattle.std.specs.Prelude.{◌≡◌, ◌↔◌, IfOk, IfErr, IsOk, IsTrue};
+ghost use Rattle.std.specs.Prelude.{◌≡◌, [], ◌↔◌, IfOk, IfErr, IsOk, IsTrue};
 ghost use Rattle.cynara_keys.specs.PolicyResult as spec;
 ghost use Rattle.cynara_keys.specs.PolicyResult.{may_carry};
 ghost use Rattle.cynara_keys.specs.BucketName.{is_bucket_name};
@@ -10,7 +10,7 @@ ghost use Rattle.std.specs.Cmp.Rules.{comparing};
 
 use crate::Metadata;
 use crate::bytes::first_no_word_byte;
-use std::alloc::AllocError;
+use std::alloc::{AllocError, Global};
 use std::cmp::Ordering;
 use std::marker::Model;
 
@@ -70,6 +70,16 @@ impl PolicyResult {
             Ok(PolicyResult { kind, metadata })
         } else {
             Err(metadata)
+        }
+    }
+
+    /// A result of this kind without metadata. At BUCKET it points to the root bucket.
+    pub fn without_metadata(alloc: Global, kind: Kind) -> PolicyResult
+        ensures { result ≡ record { kind = kind.0; metadata = [] } }
+    {
+        PolicyResult {
+            kind,
+            metadata: Metadata::empty(alloc),
         }
     }
 
