@@ -1,0 +1,47 @@
+ghost use Rattle.std.specs.Prelude.{◌≡◌, ◌++◌, OnOk, OnErr};
+ghost use Rattle.line_script.specs.Answers.{answer_text};
+
+use crate::print_parts::append_answer;
+use cynara_keys::{BucketName, Counted, Policy, PolicyResult};
+use desk_ports::Bytes;
+use std::alloc::AllocError;
+
+/// What a line is answered, or the last line of a run.
+#[derive(Clone, Copy)]
+pub enum LineAnswer<'a> {
+    /// `ok COMMIT`: a command was accepted.
+    Accepted { commit: u64 },
+    /// `RESULT COMMIT BUCKET CLIENT USER PRIVILEGE`: an evaluation that a policy decided.
+    ByPolicy {
+        commit: u64,
+        bucket: &'a BucketName,
+        policy: &'a Policy,
+    },
+    /// `RESULT COMMIT BUCKET default`: an evaluation that a bucket's fallback decided.
+    ByFallback {
+        commit: u64,
+        bucket: &'a BucketName,
+        fallback: &'a PolicyResult,
+    },
+    /// `refused 11 limit WHICH MOST`: the command would go past a limit.
+    LimitReached { counted: Counted, most: u64 },
+    /// `access allow RULE` or `access deny RULE`: a decision of Smack, with the number of the case that decided.
+    Access { allowed: bool, rule: u8 },
+    /// `fault command line`: the words of the command line are no command.
+    CommandLineFault,
+    /// `syntax LINE`: the line with this number is outside its grammar.
+    LineFault { line: u32 },
+}
+
+/// Appends the text of the answer, a line with its newline, or leaves the bytes as they were.
+pub fn print(answer: &LineAnswer, out: &mut Bytes) -> Result<(), AllocError>
+    ensures ok { OnOk result (out.new ≡ out.old ++ answer_text answer.now) }
+    ensures err { OnErr result (out.new ≡ out.old) }
+{
+    let start = out.len();
+    let printed = append_answer(answer, out);
+    if printed.is_err() {
+        out.truncate(start);
+    }
+    printed
+}

@@ -1,0 +1,12 @@
+//! Scripts: the lines that are known, and the texts of the answers.
+//!
+//! The grammar and the texts are this project's profile; docs/FORMATS.md has them as tables.
+#![tactic(auto)]
+
+mod answers;
+mod line_words;
+mod print_parts;
+mod steps;
+
+pub use answers::{LineAnswer, print};
+pub use steps::{LineRefusal, Reader, Step};
