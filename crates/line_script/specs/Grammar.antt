@@ -1,9 +1,9 @@
 -- The lines of a script, as one function from the bytes of a line to its step.
-use Rattle.std.specs.Prelude.{◌≡◌, ℕ, if◌then◌else◌, List, [], Option, Some, None, Result, Ok, Err, is_none, codes}
+use Rattle.std.specs.Prelude.{◌≡◌, ◌≢◌, ℕ, if◌then◌else◌, List, [], Option, Some, None, Result, Ok, Err, is_none, codes}
 use Rattle.cynara_keys.specs.Text.{same_text}
 use Rattle.cynara_keys.specs.Name.{is_name}
 use Rattle.cynara_keys.specs.Field.{field_of, field_fault}
-use Rattle.cynara_keys.specs.PolicyResult.{Ruling, deny, none, allow}
+use Rattle.cynara_keys.specs.PolicyResult.{Ruling, deny, none, bucket, allow}
 use Rattle.cynara_keys.specs.declared.fields.Field.{Field}
 use Rattle.line_script.specs.Words.{words_of, word, end_of, ◌>>=◌}
 use Rattle.line_script.specs.declared.steps.Step.{Step}
@@ -61,6 +61,11 @@ unfoldable pub step_of : List ℕ → Option Step
 step_of line = do
   verb ← word Some (words_of line)
   line_at verb.0 verb.1
+
+-- a change whose result points to no bucket
+abbrev pub PointsToNoBucket : Step → Type 0
+PointsToNoBucket (Set key result) = result.kind ≢ bucket
+PointsToNoBucket (Check question) = Unit {0}
 
 -- a call gives what the definition reads, unless memory runs out
 abbrev pub Refuses : {A : Type 0} → LineRefusal → Option A → Type 0

@@ -1,6 +1,7 @@
-ghost use Rattle.std.specs.Prelude.{◌≡◌, Some};
+ghost use Rattle.std.specs.Prelude.{◌≡◌, ◌≢◌, Some, IfOk};
 ghost use Rattle.line_script.specs.Words.{word, end_of};
-ghost use Rattle.line_script.specs.Grammar.{root_at, name_at, field_at, result_at, set_at, check_at, step_of, Gives, GivesWord};
+ghost use Rattle.cynara_keys.specs.PolicyResult.{bucket};
+ghost use Rattle.line_script.specs.Grammar.{PointsToNoBucket, root_at, name_at, field_at, result_at, set_at, check_at, step_of, Gives, GivesWord};
 
 use crate::line_words::Words;
 use cynara_keys::{Field, Key, Kind, Name, NameRefusal, PolicyResult, Question};
@@ -39,7 +40,8 @@ impl Reader {
     /// Reads one line, without its newline. Refuses `Syntax` exactly where the line is outside the grammar.
     #[tactic(auto, unfolding(crate::specs::Grammar::step_of))]
     pub fn line(&mut self, line: &[u8]) -> Result<Step, LineRefusal>
-        ensures { Gives result (step_of line.now) }
+        ensures step { Gives result (step_of line.now) }
+        ensures no_bucket { IfOk result PointsToNoBucket }
     {
         let mut words = Words::of(line);
         let Some(verb) = words.next() else {
@@ -58,7 +60,8 @@ impl Reader {
 // `set . CLIENT USER PRIVILEGE RESULT`, behind the first word
 #[tactic(auto, unfolding(crate::specs::Grammar::set_at))]
 fn set_line(alloc: Global, words: &mut Words) -> Result<Step, LineRefusal>
-    ensures { Gives result (set_at words.old) }
+    ensures step { Gives result (set_at words.old) }
+    ensures no_bucket { IfOk result PointsToNoBucket }
 {
     root_word(words)?;
     let client = field_word(alloc, words)?;
@@ -79,7 +82,8 @@ fn set_line(alloc: Global, words: &mut Words) -> Result<Step, LineRefusal>
 // `check CLIENT USER PRIVILEGE`, behind the first word
 #[tactic(auto, unfolding(crate::specs::Grammar::check_at))]
 fn check_line(alloc: Global, words: &mut Words) -> Result<Step, LineRefusal>
-    ensures { Gives result (check_at words.old) }
+    ensures step { Gives result (check_at words.old) }
+    ensures no_bucket { IfOk result PointsToNoBucket }
 {
     let client = name_word(alloc, words)?;
     let user = name_word(alloc, words)?;
@@ -137,7 +141,8 @@ fn field_word(alloc: Global, words: &mut Words) -> Result<Field, LineRefusal>
 }
 
 fn result_word(alloc: Global, words: &mut Words) -> Result<PolicyResult, LineRefusal>
-    ensures { GivesWord result words.new (word result_at words.old) }
+    ensures word { GivesWord result words.new (word result_at words.old) }
+    ensures no_bucket { IfOk result (λ ruling. ruling.kind ≢ bucket) }
 {
     let Some(text) = words.next() else {
         return Err(LineRefusal::Syntax);
