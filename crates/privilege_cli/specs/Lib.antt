@@ -1,7 +1,9 @@
 pub mod State
+pub mod InOrder
 pub mod RootPolicies
 pub mod Script
 pub mod LocalRun
 pub mod Stop
 pub mod LocalScript
 pub mod LocalReading
+pub mod Words

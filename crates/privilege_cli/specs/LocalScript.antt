@@ -1,7 +1,7 @@
 -- A running script, as its contracts see it.
 use Rattle.std.specs.Prelude.{◌≡◌, ◌≤◌, ◌<◌, ◌+◌, ℕ, List, ◌∷◌, ◌++◌, length}
 use Rattle.text_lines.specs.Lines.{HasNoNewline}
-use Rattle.privilege_cli.specs.Script.{Position, script_from, answered}
+use Rattle.privilege_cli.specs.Script.{Position, script_from, answered as answered_with}
 use Rattle.privilege_cli.specs.LocalRun.{Advances, AreWholeLines}
 use Rattle.privilege_cli.specs.Stop.{StopsWithin}
 use Rattle.privilege_cli.specs.declared.local_script.Stop.{Stop}
@@ -15,20 +15,24 @@ pub record AnswersPiece (old new : LocalScript) (piece : List ℕ) : Type 0 wher
   pub text : List ℕ
   pub answers : new.answers ≡ old.answers ++ text
   pub room : new.room + length piece ≡ old.room
-  pub advanced : (pieces : List (List ℕ)) → script_from (position_of old) (piece ∷ pieces) ≡ answered text (script_from (position_of new) pieces)
+  pub advanced : (pieces : List (List ℕ)) → script_from (position_of old) (piece ∷ pieces) ≡ answered_with text (script_from (position_of new) pieces)
 
--- the whole lines of these bytes were answered, and the bytes behind them are left
-pub record AnswersLines (old new : LocalScript) (bytes : List ℕ) (left : ℕ) : Type 0 where
+-- the lines of these bytes before the rest were answered
+pub record HasAnswered (old new : LocalScript) (bytes rest : List ℕ) : Type 0 where
   pub lines : List ℕ
-  pub rest : List ℕ
   pub text : List ℕ
   pub parts : bytes ≡ lines ++ rest
   pub whole : AreWholeLines lines
-  pub unfinished : HasNoNewline rest
-  pub length_rest : length rest ≡ left
   pub room : new.room + length lines ≡ old.room
   pub answers : new.answers ≡ old.answers ++ text
   pub advanced : Advances (position_of old) lines text (position_of new)
+
+-- the whole lines of these bytes were answered, and so many bytes are left behind them
+pub record AnswersLines (old new : LocalScript) (bytes : List ℕ) (left : ℕ) : Type 0 where
+  pub rest : List ℕ
+  pub answered : HasAnswered old new bytes rest
+  pub unfinished : HasNoNewline rest
+  pub length_rest : length rest ≡ left
 
 -- Within these bytes the script stops, with the answers before that.
 pub record StopsInLines (stop : Stop) (old new : LocalScript) (bytes : List ℕ) : Type 0 where

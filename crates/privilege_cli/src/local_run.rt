@@ -8,6 +8,7 @@ ghost use Rattle.privilege_cli.specs.LocalReading.{ReadsLines, ReadsEnd, StopsRe
 use crate::local_script::{LocalScript, MOST_IN_LINE, Stop};
 use desk_ports::{Bytes, Sink, Source, write_all};
 use line_script::{LineAnswer, print};
+use crate::zeros::zeros;
 use std::alloc::Global;
 
 /// How many bytes are read at most in one call. A whole line has room beside what is left of the last one.
@@ -62,7 +63,7 @@ fn answer_source<S: Source, K: Sink>(
     sink: &mut K,
 ) -> Result<(), Stop>
 {
-    let mut window = vec![in alloc; 0; WINDOW]?;
+    let mut window = zeros(alloc, WINDOW)?;
     let mut kept = 0;
     while let Some(rest) = read_lines(script, &mut window, kept, source, sink)? {
         kept = rest;

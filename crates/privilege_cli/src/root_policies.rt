@@ -1,18 +1,18 @@
 // What `local` keeps: the number of accepted commands, and the root bucket's policies in order of key.
-ghost use Rattle.std.specs.Prelude.{◌≡◌, ◌≢◌, ◌+◌, ◌<◌, ◌≤◌, ◌^◌, ◌++◌, IfOk, OnOk, OnErr};
+ghost use Rattle.std.specs.Prelude.{◌≡◌, ◌≢◌, ◌+◌, ◌<◌, ◌^◌, ◌++◌, OnOk, OnErr};
 ghost use Rattle.cynara_keys.specs.PolicyResult as ruling;
 ghost use Rattle.bucket_eval.specs.Reordered.{HaveOwnKeys};
 ghost use Rattle.line_script.specs.Grammar.{PointsToNoBucket};
-ghost use Rattle.privilege_cli.specs.State.{fresh, reply, after, put, has_room, put_text, verdict_of, IsSameState};
+ghost use Rattle.line_script.specs.Answers.{limit_text};
+ghost use Rattle.privilege_cli.specs.State.{fresh, reply, after, put, has_room, put_text, verdict_of, most_policies, IsSameState};
 
-use bucket_eval::{least, place_of};
+use crate::ordered_policies::{MOST_POLICIES, put_in_order};
+use bucket_eval::least;
 use cynara_keys::{BucketName, Counted, Kind, Policy, PolicyResult, Question};
 use desk_ports::Bytes;
 use line_script::{LineAnswer, Step, print};
 use std::alloc::{AllocError, Global};
 use std::marker::Model;
-
-const MOST_POLICIES: usize = 65536;
 
 /// The root bucket's policies and the commit number. A change is made in place, where a binary search finds its key.
 #[derive(Drop)]
@@ -54,62 +54,42 @@ impl RootPolicies {
         requires no_bucket { PointsToNoBucket step }
         ensures answer { OnOk result (out.new ≡ out.old ++ reply self.old step) }
         ensures state { OnOk result (IsSameState (after self.old step) self.new) }
-        ensures commit { self.new.commit ≤ self.old.commit + 1 }
+        ensures own_keys { HaveOwnKeys self.old.policies }
         ensures err { OnErr result (out.new ≡ out.old) }
+        ensures commit { OnErr result (self.new.commit ≡ self.old.commit) }
     {
         match step {
-            Step::Set { key, result } => {
-                let accepted = self.put(Policy { key, result })?;
-                self.print_put(accepted, out)
+            Step::Set { key, result } => self.put(Policy { key, result }, out),
+            Step::Check(question) => {
+                self.print_verdict(&question, out)?;
+                Ok(())
             }
-            Step::Check(question) => self.print_verdict(&question, out),
         }
     }
 
-    /// Whether no two policies have the same key, which always holds.
-    pub fn own_keys(&self)
-        ensures { HaveOwnKeys self.now.policies }
-    {
-        let _ = &self.policies;
-    }
-
-    // Puts a policy in the place of one of its key, or where its key belongs. Whether there was room for it.
-    fn put(&mut self, policy: Policy) -> Result<bool, AllocError>
+    // Puts a policy, and appends the answer. The commit number rises only once the answer is there.
+    fn put(&mut self, policy: Policy, out: &mut Bytes) -> Result<(), AllocError>
         requires commit { self.old.commit + 1 < 2 ^ 64 }
         requires no_bucket { policy.result.kind ≢ ruling.bucket }
-        ensures room { IfOk result (λ accepted. accepted ≡ has_room policy self.old) }
+        ensures answer { OnOk result (out.new ≡ out.old ++ put_text (has_room policy self.old) (put policy self.old).commit) }
         ensures state { OnOk result (IsSameState (put policy self.old) self.new) }
-        ensures err { OnErr result (self.new ≡ self.old) }
-    {
-        match place_of(&self.policies, &policy.key) {
-            Ok(at) => self.policies[at] = policy,
-            Err(at) => {
-                if self.policies.len() == MOST_POLICIES {
-                    return Ok(false);
-                }
-                self.policies.insert(at, policy)?;
-            }
-        }
-        self.commit += 1;
-        Ok(true)
-    }
-
-    fn print_put(&self, accepted: bool, out: &mut Bytes) -> Result<(), AllocError>
-        ensures ok { OnOk result (out.new ≡ out.old ++ put_text accepted self.now.commit) }
+        ensures own_keys { HaveOwnKeys self.old.policies }
         ensures err { OnErr result (out.new ≡ out.old) }
+        ensures commit { OnErr result (self.new.commit ≡ self.old.commit) }
     {
-        let commit = self.commit;
-        let counted = Counted::Policies;
-        let most = MOST_POLICIES as u64;
-        if accepted {
-            print(&LineAnswer::Accepted { commit }, out)
+        if put_in_order(&mut self.policies, policy)? {
+            let commit = self.commit + 1;
+            print(&LineAnswer::Accepted { commit }, out)?;
+            self.commit = commit;
         } else {
-            print(&LineAnswer::LimitReached { counted, most }, out)
+            print_full(out)?;
         }
+        Ok(())
     }
 
     fn print_verdict(&self, question: &Question, out: &mut Bytes) -> Result<(), AllocError>
         ensures ok { OnOk result (out.new ≡ out.old ++ verdict_of question.now self.now) }
+        ensures own_keys { HaveOwnKeys self.now.policies }
         ensures err { OnErr result (out.new ≡ out.old) }
     {
         let commit = self.commit;
@@ -128,4 +108,13 @@ impl RootPolicies {
         };
         print(&answer, out)
     }
+}
+
+fn print_full(out: &mut Bytes) -> Result<(), AllocError>
+    ensures ok { OnOk result (out.new ≡ out.old ++ limit_text Counted.Policies most_policies) }
+    ensures err { OnErr result (out.new ≡ out.old) }
+{
+    let counted = Counted::Policies;
+    let most = MOST_POLICIES as u64;
+    print(&LineAnswer::LimitReached { counted, most }, out)
 }

@@ -1,0 +1,4 @@
+pub mod Putting
+pub mod Positions
+pub mod Advancing
+pub mod AnsweringLines
