@@ -9,6 +9,10 @@ last_count = 2 ^ 64 - 1
 abbrev pub NeverFalls : ℕ → ℕ → Type 0
 NeverFalls before after = before ≤ after
 
+-- the count one higher, or at its last value
+abbrev pub next_count : ℕ → ℕ
+next_count count = min (count + 1) last_count
+
 -- the count rose, or stands at its last value
 abbrev pub Rose : ℕ → ℕ → Type 0
-Rose before after = min (before + 1) last_count ≤ after
+Rose before after = next_count before ≤ after

@@ -1,6 +1,6 @@
 -- Sources and sinks in memory, as contracts see them.
-use Rattle.std.specs.Prelude.{ℕ, ◌+◌, min, List}
-use Rattle.desk_ports.specs.Faults.{last_count}
+use Rattle.std.specs.Prelude.{ℕ, List}
+use Rattle.desk_ports.specs.Faults.{next_count}
 
 -- the bytes that are left, or those taken; how many calls were made, which calls are to fail, and how often one has failed
 pub record Stream : Type 0 where
@@ -11,4 +11,4 @@ pub record Stream : Type 0 where
 
 -- the number of the next call, which stands still at its type's end
 abbrev pub next_call : Stream → ℕ
-next_call stream = min (stream.calls + 1) last_count
+next_call stream = next_count stream.calls

@@ -1,7 +1,8 @@
-ghost use Rattle.std.specs.Prelude.{◌≡◌, ◌<◌, ◌≤◌, length, take, Some, IfOk, OnErr};
+ghost use Rattle.std.specs.Prelude.{◌≡◌, ◌<◌, ◌≤◌, length, take, Some, IfOk, OnOk, OnErr, IsErr};
 ghost use Rattle.std.specs.List.{Contains};
-ghost use Rattle.desk_ports.specs.Faults.{NeverFalls, Rose};
+ghost use Rattle.desk_ports.specs.Faults.{NeverFalls, Rose, next_count};
 ghost use Rattle.desk_ports.specs.Content.{Appended};
+ghost use Rattle.desk_ports.specs.Memory.{next_call};
 
 use crate::{Bytes, FailList, Failed, Sink};
 use std::alloc::AllocError;
@@ -57,7 +58,22 @@ impl Sink for MemSink {
 
     ghost taken = { λ sink. Some sink.bytes };
 
-    fn write(&mut self, from: &[u8]) -> Result<usize, Failed> {
+    fn write(&mut self, from: &[u8]) -> Result<usize, Failed>
+        ensures within { IfOk result (λ count. count ≤ length from.now) }
+        ensures some { 0 < length from.now → IfOk result (λ count. 0 < count) }
+        ensures taken { IfOk result (λ count. Appended (Some self.old.bytes) (take count from.now) (Some self.new.bytes)) }
+        ensures kept { OnErr result (Some self.new.bytes ≡ Some self.old.bytes) }
+        ensures count { NeverFalls self.old.faults self.new.faults }
+        ensures cause { OnErr result (Rose self.old.faults self.new.faults) }
+
+        // More than any sink promises: which calls fail, that one takes the whole piece, and what stays.
+        ensures listed { Contains self.old.fails (next_call self.old) → IsErr result }
+        ensures whole { IfOk result (λ count. count ≡ length from.now) }
+        ensures calls { self.new.calls ≡ next_call self.old }
+        ensures fails { self.new.fails ≡ self.old.fails }
+        ensures faultless { OnOk result (self.new.faults ≡ self.old.faults) }
+        ensures faulted { OnErr result (self.new.faults ≡ next_count self.old.faults) }
+    {
         self.calls = self.calls.saturating_add(1);
         if self.fails.fails(self.calls) || self.bytes.append(from).is_err() {
             self.faults = self.faults.saturating_add(1);

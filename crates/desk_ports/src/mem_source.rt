@@ -1,6 +1,6 @@
-ghost use Rattle.std.specs.Prelude.{◌≡◌, ◌<◌, ◌≤◌, ◌↔◌, length, take, Some, IfOk, OnOk, OnErr, IsErr};
+ghost use Rattle.std.specs.Prelude.{◌≡◌, ◌<◌, ◌≤◌, ◌↔◌, min, length, take, drop, Some, IfOk, OnOk, OnErr, IsErr};
 ghost use Rattle.std.specs.List.{Contains};
-ghost use Rattle.desk_ports.specs.Faults.{NeverFalls, Rose};
+ghost use Rattle.desk_ports.specs.Faults.{NeverFalls, Rose, next_count};
 ghost use Rattle.desk_ports.specs.Content.{Took, AtEnd};
 ghost use Rattle.desk_ports.specs.Memory.{next_call};
 
@@ -70,7 +70,16 @@ impl Source for MemSource {
         ensures kept { OnErr result (Some self.new.bytes ≡ Some self.old.bytes) }
         ensures count { NeverFalls self.old.faults self.new.faults }
         ensures cause { OnErr result (Rose self.old.faults self.new.faults) }
+
+        // More than any source promises: which calls fail, how many bytes one gives, and what stays.
         ensures listed { IsErr result ↔ Contains self.old.fails (next_call self.old) }
+        ensures amount { IfOk result (λ count. count ≡ min (length self.old.bytes) (length into.old)) }
+        ensures behind { IfOk result (λ count. drop count into.new ≡ drop count into.old) }
+        ensures untouched { OnErr result (into.new ≡ into.old) }
+        ensures calls { self.new.calls ≡ next_call self.old }
+        ensures fails { self.new.fails ≡ self.old.fails }
+        ensures faultless { OnOk result (self.new.faults ≡ self.old.faults) }
+        ensures faulted { OnErr result (self.new.faults ≡ next_count self.old.faults) }
     {
         self.calls = self.calls.saturating_add(1);
         if self.fails.fails(self.calls) {
