@@ -2,7 +2,7 @@
 #![tactic(auto)]
 
 ghost use Rattle.std.specs.Prelude.{◌≡◌, ◌+◌, ◌<◌, [], ◌∷◌, ◌++◌, length, IfSome, IfNone, MatchOption};
-ghost use Rattle.text_lines.specs.Lines.{lines_of, HasNoNewline};
+ghost use Rattle.text_lines.specs.Lines.{lines_of, HasNoNewline, IsFirstLine};
 ghost use Rattle.text_lines.specs.declared.TheConstants.{NEWLINE};
 
 /// The byte that ends a line.
@@ -23,6 +23,7 @@ pub fn split_at_newline(text: &[u8]) -> Option<(&[u8], &[u8])>
 /// The last line may lack its newline. `None` where the text has no byte.
 pub fn split_line(text: &[u8]) -> Option<(&[u8], &[u8])>
     ensures line { MatchOption result (text.now ≡ []) (λ cut. lines_of text.now ≡ cut.0.now ∷ lines_of cut.1.now) }
+    ensures cut { IfSome result (λ cut. IsFirstLine text.now cut.0.now cut.1.now) }
     ensures shorter { IfSome result (λ cut. length cut.1.now < length text.now) }
 {
     if text.is_empty() {
