@@ -8,7 +8,8 @@ use crate::{Bytes, FailList, Failed, Sink};
 use std::alloc::AllocError;
 use std::marker::Model;
 
-/// A sink in memory. It takes whole pieces, and fails at the listed calls and where it finds no memory.
+/// A sink in memory, for tests and for text that is kept. It tells the bytes taken. It takes whole pieces, and fails
+/// at the listed calls and where it finds no memory.
 #[derive(Debug, Drop)]
 pub struct MemSink {
     bytes: Bytes,
@@ -26,7 +27,7 @@ impl Model for MemSink {
 }
 
 impl MemSink {
-    /// A sink that has taken these bytes.
+    /// A sink that has taken these bytes already, with no call made yet.
     pub fn new(taken: Bytes, fails: FailList) -> Result<MemSink, AllocError>
         ensures { IfOk result (λ sink. sink ≡ record { bytes = taken; calls = 0; fails = fails; faults = 0 }) }
     {
@@ -38,14 +39,14 @@ impl MemSink {
         })
     }
 
-    /// The bytes taken so far.
+    /// The bytes taken so far, in order.
     pub fn taken(&self) -> &[u8]
         ensures { result.now ≡ self.now.bytes }
     {
         self.bytes.as_slice()
     }
 
-    /// How often it has failed.
+    /// How many calls of it have failed. The count stands still at its last value.
     pub fn faults(&self) -> u64
         ensures { result ≡ self.now.faults }
     {

@@ -8,7 +8,8 @@ use crate::{Bytes, FailList, Failed, Source};
 use std::alloc::AllocError;
 use std::marker::Model;
 
-/// A source in memory. It gives as many bytes as there is room for, and fails at the listed calls alone.
+/// A source in memory, for tests and for text that is at hand. It tells the bytes left. It gives as many bytes as
+/// there is room for, and fails at the listed calls alone.
 #[derive(Debug, Drop)]
 pub struct MemSource {
     bytes: Bytes,
@@ -30,7 +31,7 @@ impl Model for MemSource {
 }
 
 impl MemSource {
-    /// A source of these bytes.
+    /// A source of these bytes, with no call made yet.
     pub fn new(left: Bytes, fails: FailList) -> Result<MemSource, AllocError>
         ensures { IfOk result (λ source. source ≡ record { bytes = left; calls = 0; fails = fails; faults = 0 }) }
     {
@@ -43,14 +44,14 @@ impl MemSource {
         })
     }
 
-    /// The bytes that are left.
+    /// The bytes that are left to read, in order.
     pub fn left(&self) -> &[u8]
         ensures { result.now ≡ self.now.bytes }
     {
         &self.bytes.as_slice()[self.given..]
     }
 
-    /// How often it has failed.
+    /// How many calls of it have failed. The count stands still at its last value.
     pub fn faults(&self) -> u64
         ensures { result ≡ self.now.faults }
     {
