@@ -1,7 +1,8 @@
--- The count of faults that each object of the outside has.
+-- Each object of the outside, as a source or a sink, counts its failed calls. The count is a `u64`.
+-- It never falls. A call that fails raises it, except at the last value, where it stands still.
 use Rattle.std.specs.Prelude.{ℕ, ◌+◌, ◌-◌, ◌^◌, ◌≤◌, min}
 
--- a count stands still at its last value
+-- the last value of a count, the greatest `u64`
 abbrev pub last_count : ℕ
 last_count = 2 ^ 64 - 1
 
@@ -9,6 +10,10 @@ last_count = 2 ^ 64 - 1
 abbrev pub NeverFalls : ℕ → ℕ → Type 0
 NeverFalls before after = before ≤ after
 
--- the count rose, or stands at its last value
+-- the next value of a count: one higher, or still the last value
+abbrev pub next_count : ℕ → ℕ
+next_count count = min (count + 1) last_count
+
+-- the count rose in the call, or stands at its last value
 abbrev pub Rose : ℕ → ℕ → Type 0
-Rose before after = min (before + 1) last_count ≤ after
+Rose before after = next_count before ≤ after

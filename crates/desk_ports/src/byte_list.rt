@@ -3,7 +3,7 @@ ghost use Rattle.std.specs.Prelude.{◌≡◌, ◌≤◌, [], ◌++◌, length, 
 use std::alloc::{AllocError, Global};
 use std::marker::Model;
 
-/// A list of bytes.
+/// A list of bytes that owns its memory. Contracts see it as the list.
 #[derive(Debug, Drop)]
 pub struct Bytes {
     bytes: Vec<u8>,
@@ -18,7 +18,7 @@ impl Model for Bytes {
 }
 
 impl Bytes {
-    /// No bytes.
+    /// No bytes. Takes no memory yet.
     pub fn new(alloc: Global) -> Bytes
         ensures { result ≡ [] }
     {
@@ -27,26 +27,28 @@ impl Bytes {
         }
     }
 
-    /// These bytes.
+    /// These bytes. Takes no memory.
     pub fn of(bytes: Vec<u8>) -> Bytes
         ensures { result ≡ bytes.items }
     {
         Bytes { bytes }
     }
 
+    /// The bytes, in order.
     pub fn as_slice(&self) -> &[u8]
         ensures { result.now ≡ self.now }
     {
         &self.bytes
     }
 
+    /// How many bytes there are.
     pub fn len(&self) -> usize
         ensures { result ≡ length self.now }
     {
         self.bytes.len()
     }
 
-    /// Appends, or leaves the list as it was.
+    /// Appends these bytes. Where it finds no memory, the list stays as it was.
     pub fn append(&mut self, from: &[u8]) -> Result<(), AllocError>
         ensures ok { OnOk result (self.new ≡ self.old ++ from.now) }
         ensures err { OnErr result (self.new ≡ self.old) }
@@ -54,7 +56,7 @@ impl Bytes {
         self.bytes.extend_from_slice(from)
     }
 
-    /// Keeps the first bytes, at most so many.
+    /// Keeps the first `most` bytes, or all where there are fewer.
     pub fn truncate(&mut self, most: usize)
         ensures { self.new ≡ take most self.old }
     {
@@ -68,7 +70,7 @@ impl Bytes {
         self.bytes.clear();
     }
 
-    /// An equal list.
+    /// An equal list with memory of its own.
     pub fn copy(&self) -> Result<Bytes, AllocError>
         ensures { IfOk result (λ copy. copy ≡ self.now) }
     {

@@ -3,7 +3,7 @@ ghost use Rattle.std.specs.List.{Contains};
 
 use std::marker::Model;
 
-/// The numbers, from 1, of an object's calls that are to fail.
+/// The numbers of an object's calls that are to fail. The first call has the number 1.
 #[derive(Debug, Drop)]
 pub struct FailList {
     calls: Vec<u64>,
@@ -18,6 +18,7 @@ impl Model for FailList {
 }
 
 impl FailList {
+    /// These numbers, in any order; one may stand twice. Takes no memory.
     pub fn of(calls: Vec<u64>) -> FailList
         ensures { result ≡ calls.items }
     {

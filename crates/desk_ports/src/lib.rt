@@ -9,6 +9,8 @@ mod fail_list;
 mod mem_sink;
 mod mem_source;
 mod streams;
+#[cfg(test)]
+mod tests;
 
 pub use byte_list::Bytes;
 pub use fail_list::FailList;

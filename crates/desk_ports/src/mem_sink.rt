@@ -1,13 +1,15 @@
-ghost use Rattle.std.specs.Prelude.{◌≡◌, ◌<◌, ◌≤◌, length, take, Some, IfOk, OnErr};
+ghost use Rattle.std.specs.Prelude.{◌≡◌, ◌<◌, ◌≤◌, length, take, Some, IfOk, OnOk, OnErr, IsErr};
 ghost use Rattle.std.specs.List.{Contains};
-ghost use Rattle.desk_ports.specs.Faults.{NeverFalls, Rose};
+ghost use Rattle.desk_ports.specs.Faults.{NeverFalls, Rose, next_count};
 ghost use Rattle.desk_ports.specs.Content.{Appended};
+ghost use Rattle.desk_ports.specs.Memory.{next_call};
 
 use crate::{Bytes, FailList, Failed, Sink};
 use std::alloc::AllocError;
 use std::marker::Model;
 
-/// A sink in memory. It takes whole pieces, and fails at the listed calls and where it finds no memory.
+/// A sink in memory, for tests and for text that is kept. It tells the bytes taken. It takes whole pieces, and fails
+/// at the listed calls and where it finds no memory.
 #[derive(Debug, Drop)]
 pub struct MemSink {
     bytes: Bytes,
@@ -25,7 +27,7 @@ impl Model for MemSink {
 }
 
 impl MemSink {
-    /// A sink that has taken these bytes.
+    /// A sink that has taken these bytes already, with no call made yet.
     pub fn new(taken: Bytes, fails: FailList) -> Result<MemSink, AllocError>
         ensures { IfOk result (λ sink. sink ≡ record { bytes = taken; calls = 0; fails = fails; faults = 0 }) }
     {
@@ -37,14 +39,14 @@ impl MemSink {
         })
     }
 
-    /// The bytes taken so far.
+    /// The bytes taken so far, in order.
     pub fn taken(&self) -> &[u8]
         ensures { result.now ≡ self.now.bytes }
     {
         self.bytes.as_slice()
     }
 
-    /// How often it has failed.
+    /// How many calls of it have failed. The count stands still at its last value.
     pub fn faults(&self) -> u64
         ensures { result ≡ self.now.faults }
     {
@@ -57,7 +59,22 @@ impl Sink for MemSink {
 
     ghost taken = { λ sink. Some sink.bytes };
 
-    fn write(&mut self, from: &[u8]) -> Result<usize, Failed> {
+    fn write(&mut self, from: &[u8]) -> Result<usize, Failed>
+        ensures within { IfOk result (λ count. count ≤ length from.now) }
+        ensures some { 0 < length from.now → IfOk result (λ count. 0 < count) }
+        ensures taken { IfOk result (λ count. Appended (Some self.old.bytes) (take count from.now) (Some self.new.bytes)) }
+        ensures kept { OnErr result (Some self.new.bytes ≡ Some self.old.bytes) }
+        ensures count { NeverFalls self.old.faults self.new.faults }
+        ensures cause { OnErr result (Rose self.old.faults self.new.faults) }
+
+        // More than any sink promises: which calls fail, that one takes the whole piece, and what stays.
+        ensures listed { Contains self.old.fails (next_call self.old) → IsErr result }
+        ensures whole { IfOk result (λ count. count ≡ length from.now) }
+        ensures calls { self.new.calls ≡ next_call self.old }
+        ensures fails { self.new.fails ≡ self.old.fails }
+        ensures faultless { OnOk result (self.new.faults ≡ self.old.faults) }
+        ensures faulted { OnErr result (self.new.faults ≡ next_count self.old.faults) }
+    {
         self.calls = self.calls.saturating_add(1);
         if self.fails.fails(self.calls) || self.bytes.append(from).is_err() {
             self.faults = self.faults.saturating_add(1);

@@ -1,6 +1,6 @@
-ghost use Rattle.std.specs.Prelude.{◌≡◌, ◌<◌, ◌≤◌, ◌↔◌, length, take, Some, IfOk, OnOk, OnErr, IsErr};
+ghost use Rattle.std.specs.Prelude.{◌≡◌, ◌<◌, ◌≤◌, ◌↔◌, min, length, take, drop, Some, IfOk, OnOk, OnErr, IsErr};
 ghost use Rattle.std.specs.List.{Contains};
-ghost use Rattle.desk_ports.specs.Faults.{NeverFalls, Rose};
+ghost use Rattle.desk_ports.specs.Faults.{NeverFalls, Rose, next_count};
 ghost use Rattle.desk_ports.specs.Content.{Took, AtEnd};
 ghost use Rattle.desk_ports.specs.Memory.{next_call};
 
@@ -8,7 +8,8 @@ use crate::{Bytes, FailList, Failed, Source};
 use std::alloc::AllocError;
 use std::marker::Model;
 
-/// A source in memory. It gives as many bytes as there is room for, and fails at the listed calls alone.
+/// A source in memory, for tests and for text that is at hand. It tells the bytes left. It gives as many bytes as
+/// there is room for, and fails at the listed calls alone.
 #[derive(Debug, Drop)]
 pub struct MemSource {
     bytes: Bytes,
@@ -30,7 +31,7 @@ impl Model for MemSource {
 }
 
 impl MemSource {
-    /// A source of these bytes.
+    /// A source of these bytes, with no call made yet.
     pub fn new(left: Bytes, fails: FailList) -> Result<MemSource, AllocError>
         ensures { IfOk result (λ source. source ≡ record { bytes = left; calls = 0; fails = fails; faults = 0 }) }
     {
@@ -43,14 +44,14 @@ impl MemSource {
         })
     }
 
-    /// The bytes that are left.
+    /// The bytes that are left to read, in order.
     pub fn left(&self) -> &[u8]
         ensures { result.now ≡ self.now.bytes }
     {
         &self.bytes.as_slice()[self.given..]
     }
 
-    /// How often it has failed.
+    /// How many calls of it have failed. The count stands still at its last value.
     pub fn faults(&self) -> u64
         ensures { result ≡ self.now.faults }
     {
@@ -70,7 +71,16 @@ impl Source for MemSource {
         ensures kept { OnErr result (Some self.new.bytes ≡ Some self.old.bytes) }
         ensures count { NeverFalls self.old.faults self.new.faults }
         ensures cause { OnErr result (Rose self.old.faults self.new.faults) }
+
+        // More than any source promises: which calls fail, how many bytes one gives, and what stays.
         ensures listed { IsErr result ↔ Contains self.old.fails (next_call self.old) }
+        ensures amount { IfOk result (λ count. count ≡ min (length self.old.bytes) (length into.old)) }
+        ensures behind { IfOk result (λ count. drop count into.new ≡ drop count into.old) }
+        ensures untouched { OnErr result (into.new ≡ into.old) }
+        ensures calls { self.new.calls ≡ next_call self.old }
+        ensures fails { self.new.fails ≡ self.old.fails }
+        ensures faultless { OnOk result (self.new.faults ≡ self.old.faults) }
+        ensures faulted { OnErr result (self.new.faults ≡ next_count self.old.faults) }
     {
         self.calls = self.calls.saturating_add(1);
         if self.fails.fails(self.calls) {

@@ -6,7 +6,7 @@ ghost use Rattle.desk_ports.specs.Content.{Took, AtEnd, Appended, AppendedPart};
 #[derive(Clone, Copy, Debug, PartialEq, Eq)]
 pub struct Failed;
 
-/// Where bytes come from.
+/// Where bytes come from. A source may tell the bytes that are left.
 pub trait Source {
     /// How often it has failed.
     ghost faults: { Self → ℕ };
@@ -14,8 +14,8 @@ pub trait Source {
     /// The bytes that are left, where it tells them.
     ghost left: { Self → Option (List ℕ) };
 
-    /// Gives the next bytes, at most as many as there is room for, and says how many. It gives none to a slice with
-    /// room only at the end. A call that fails takes nothing.
+    /// Puts the next bytes at the front of the slice, at most as many as it has room for, and says how many. Into a
+    /// slice with room it gives 0 bytes only at the end of the input. A call that fails takes nothing from the source.
     fn read(&mut self, into: &mut [u8]) -> Result<usize, Failed>
         ensures within { IfOk result (λ count. count ≤ length into.old) }
         ensures given { IfOk result (λ count. Took (left self.old) (take count into.new) (left self.new)) }
@@ -25,7 +25,7 @@ pub trait Source {
         ensures cause { OnErr result (Rose (faults self.old) (faults self.new)) };
 }
 
-/// Where bytes go.
+/// Where bytes go. A sink may tell the bytes taken.
 pub trait Sink {
     /// How often it has failed.
     ghost faults: { Self → ℕ };
@@ -44,7 +44,8 @@ pub trait Sink {
         ensures cause { OnErr result (Rose (faults self.old) (faults self.new)) };
 }
 
-/// Has the sink take all bytes, in as many calls as it needs. After `Failed` it has taken a part of them.
+/// Has the sink take all bytes, in as many calls as it needs. After `Failed`, which comes only where the sink's count of
+/// faults rose, it has taken some bytes from the front of them, or none, but not all.
 pub fn write_all<K: Sink>(sink: &mut K, bytes: &[u8]) -> Result<(), Failed>
     ensures ok { OnOk result (Appended (K.taken sink.old) bytes.now (K.taken sink.new)) }
     ensures err { OnErr result (AppendedPart (K.taken sink.old) bytes.now (K.taken sink.new)) }

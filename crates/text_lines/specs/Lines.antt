@@ -1,6 +1,7 @@
 -- Texts as lists of lines.
-use Rattle.std.specs.Prelude.{◌≡◌, ℕ, Bool, false, List, [], ◌∷◌, map, if◌then◌else◌, ◌==◌}
+use Rattle.std.specs.Prelude.{◌≡◌, ℕ, Bool, false, List, [], ◌∷◌, ◌++◌, map, if◌then◌else◌, ◌==◌, ◌⊎◌}
 use Rattle.std.specs.List.{AllByRecursion, onto_first}
+use Rattle.text_lines.specs.declared.TheConstants.{NEWLINE}
 
 -- the byte 0x0A
 abbrev pub is_newline : ℕ → Bool
@@ -22,3 +23,7 @@ line_of (byte ∷ bytes) = if is_newline byte then [] else byte ∷ line_of byte
 -- The lines of a text. A text that ends with a newline has no line behind it.
 abbrev pub lines_of : List ℕ → List (List ℕ)
 lines_of text = map line_of (pieces_of text)
+
+-- The text is this line, and behind it a newline and these bytes. The last line may lack its newline, with no bytes behind.
+abbrev pub IsFirstLine : List ℕ → List ℕ → List ℕ → Type 0
+IsFirstLine text line rest = HasNoNewline line × ((text ≡ line ++ NEWLINE ∷ rest) ⊎ ((text ≡ line) × (rest ≡ [])))
