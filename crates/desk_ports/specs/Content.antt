@@ -19,5 +19,4 @@ Appended (Some before) more after = after ≡ Some (before ++ more)
 
 -- a sink took the first `n` of these bytes, which are not all, behind those that it had taken before
 abbrev pub AppendedPart : Option (List ℕ) → List ℕ → Option (List ℕ) → Type 0
-AppendedPart None more after = Unit {0}
-AppendedPart (Some before) more after = (n : ℕ) × (n < length more) × (after ≡ Some (before ++ take n more))
+AppendedPart before more after = (n : ℕ) × (n < length more) × Appended before (take n more) after
