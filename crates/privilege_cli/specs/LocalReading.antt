@@ -1,9 +1,10 @@
 -- One reading from the source, and all of them, as their contracts see them.
-use Rattle.std.specs.Prelude.{◌≡◌, ◌≤◌, ◌<◌, ◌+◌, ℕ, List, [], ◌++◌, length, Option}
+use Rattle.std.specs.Prelude.{◌≡◌, ◌≤◌, ◌<◌, ◌+◌, ℕ, List, [], ◌++◌, length, take, Option, Some, None}
 use Rattle.desk_ports.specs.Content.{Took, AtEnd, Appended, AppendedPart}
 use Rattle.text_lines.specs.Lines.{HasNoNewline}
+use Rattle.line_script.specs.Answers.{line_fault_text}
 use Rattle.privilege_cli.specs.Script.{Outcome, start, script, answered, stopped_at}
-use Rattle.privilege_cli.specs.LocalRun.{Passed, IsDone, AreAnswered, IsUnfinished, AreWholeLines, Advances}
+use Rattle.privilege_cli.specs.LocalRun.{Passed, AreAnswered, IsUnfinished, AreWholeLines, AreWritten, Advances}
 use Rattle.privilege_cli.specs.LocalScript.{position_of}
 use Rattle.privilege_cli.specs.Stop.{StopsWithin}
 use Rattle.privilege_cli.specs.declared.local_script.Stop.{Stop}
@@ -34,6 +35,11 @@ module _ (left left_after taken taken_after : Option (List ℕ)) (old new : Loca
     pub same : rest ≡ kept
     pub position : position_of new ≡ position_of old
     pub answers : new.answers ≡ []
+
+  -- One reading gave a number of bytes that are kept, or the end.
+  abbrev pub MatchRead : List ℕ → Option ℕ → Type 0
+  MatchRead window None = ReadsEnd (take (length kept) window)
+  MatchRead window (Some rest) = ReadsLines (take rest window) × (rest ≤ 65535)
 
   pub record StopsInGiven (stop : Stop) : Type 0 where
     pub given : List ℕ
@@ -74,3 +80,8 @@ StopsRun left left_after taken taken_after waiting (Line number) =
     Passed left left_after taken taken_after (λ given written. (more : List ℕ) → script (given ++ more) ≡ answered (written ++ waiting) (stopped_at number))
 StopsRun left left_after taken taken_after waiting Source = Passed left left_after taken taken_after AreAnswered
 StopsRun left left_after taken taken_after waiting Sink = Passed left left_after taken taken_after IsUnfinished
+
+-- the answers that waited are written, and then that line's number, which is cut only where the sink failed
+abbrev pub EndsAtLine : Option (List ℕ) → Option (List ℕ) → List ℕ → ℕ → Type 0 → Type 0
+EndsAtLine taken taken_after waiting line Failed =
+    (last : List ℕ) × Appended taken (waiting ++ last) taken_after × AreWritten Failed (line_fault_text line) last

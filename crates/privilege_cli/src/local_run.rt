@@ -1,9 +1,11 @@
 // `local`: reads a script from the source, and has the sink take its answers.
-ghost use Rattle.std.specs.Prelude.{◌≡◌, ◌≢◌, ◌≤◌, ◌<◌, ◌↔◌, [], ℕ, List, length, take, MatchResult, MatchOption, IfErr, OnOk, OnErr, IsErrOf};
+ghost use Rattle.std.specs.Prelude.{◌≡◌, ◌≢◌, ◌⊎◌, ◌≤◌, [], length, take, MatchResult, IfErr, OnOk, OnErr, IsErrOf};
 ghost use Rattle.desk_ports.specs.Faults.{NeverFalls, Rose};
 ghost use Rattle.desk_ports.specs.Content.{AtEnd, Appended, AppendedPart};
+ghost use Rattle.privilege_cli.specs.LocalScript.{position_of};
+ghost use Rattle.privilege_cli.specs.Script.{start};
 ghost use Rattle.privilege_cli.specs.LocalRun.{Passed, IsDone, IsCutShort, IsStoppedAtLine, AreAnswered, IsUnfinished};
-ghost use Rattle.privilege_cli.specs.LocalReading.{ReadsLines, ReadsEnd, StopsReading, StopsRun};
+ghost use Rattle.privilege_cli.specs.LocalReading.{MatchRead, StopsReading, StopsRun, EndsAtLine};
 
 use crate::local_script::{LocalScript, MOST_IN_LINE, Stop};
 use desk_ports::{Bytes, Sink, Source, write_all};
@@ -44,6 +46,11 @@ pub fn run_local<S: Source, K: Sink>(alloc: Global, source: &mut S, sink: &mut K
 
 // Writes the answers that wait, and then which line is outside the grammar.
 fn end_at_line<K: Sink>(answers: &mut Bytes, line: u32, sink: &mut K) -> u8
+    ensures known { (result ≡ 1) ⊎ ((result ≡ 3) ⊎ (result ≡ 5)) }
+    ensures memory { result ≡ 1 → Appended (K.taken sink.old) answers.old (K.taken sink.new) }
+    ensures line { result ≡ 3 → EndsAtLine (K.taken sink.old) (K.taken sink.new) answers.old line (Rose (K.faults sink.old) (K.faults sink.new)) }
+    ensures sink { result ≡ 5 → AppendedPart (K.taken sink.old) answers.old (K.taken sink.new) }
+    ensures sink_failed { result ≡ 5 → Rose (K.faults sink.old) (K.faults sink.new) }
 {
     if flush(answers, sink).is_err() {
         return 5;
@@ -62,6 +69,14 @@ fn answer_source<S: Source, K: Sink>(
     source: &mut S,
     sink: &mut K,
 ) -> Result<(), Stop>
+    requires start { position_of script.old ≡ start }
+    requires answers { script.old.answers ≡ [] }
+    ensures read { MatchResult result
+        (λ _. Passed (S.left source.old) (S.left source.new) (K.taken sink.old) (K.taken sink.new) IsDone × AtEnd (S.left source.new))
+        (StopsRun (S.left source.old) (S.left source.new) (K.taken sink.old) (K.taken sink.new) script.new.answers) }
+    ensures source_failed { IsErrOf result Stop.Source → Rose (S.faults source.old) (S.faults source.new) }
+    ensures sink_count { NeverFalls (K.faults sink.old) (K.faults sink.new) }
+    ensures sink_failed { IsErrOf result Stop.Sink → Rose (K.faults sink.old) (K.faults sink.new) }
 {
     let mut window = zeros(alloc, WINDOW)?;
     let mut kept = 0;
@@ -83,6 +98,16 @@ fn read_lines<S: Source, K: Sink>(
     source: &mut S,
     sink: &mut K,
 ) -> Result<Option<usize>, Stop>
+    requires window { length window.old ≡ 262144 }
+    requires kept { kept ≤ 65535 }
+    requires within { kept ≤ script.old.room }
+    ensures read { MatchResult result
+        (MatchRead (S.left source.old) (S.left source.new) (K.taken sink.old) (K.taken sink.new) script.old script.new (take kept window.old) window.new)
+        (StopsReading (S.left source.old) (S.left source.new) (K.taken sink.old) (K.taken sink.new) script.old script.new (take kept window.old)) }
+    ensures source_count { NeverFalls (S.faults source.old) (S.faults source.new) }
+    ensures source_failed { IsErrOf result Stop.Source → Rose (S.faults source.old) (S.faults source.new) }
+    ensures sink_count { NeverFalls (K.faults sink.old) (K.faults sink.new) }
+    ensures sink_failed { IsErrOf result Stop.Sink → Rose (K.faults sink.old) (K.faults sink.new) }
 {
     flush(&mut script.answers, sink)?;
     let end = window.len().min(script.room + 1);
