@@ -3,3 +3,8 @@ pub mod Positions
 pub mod Advancing
 pub mod AnsweringLines
 pub mod Passing
+pub mod Windows
+pub mod Reading
+pub mod LastLine
+pub mod Runs
+pub mod Endings

@@ -1,11 +1,11 @@
 -- Bytes that pass from a source and to a sink, one call after another, and counts that rise.
-use Rattle.std.proofs.Common.{◌≡◌, ◌≤◌, ◌<◌, ◌+◌, ◌∷◌, ◌++◌, [], ℕ, List, length, take, drop, Option, Some, None, Result, Ok, Err, OnOk, OnErr, inl, inr, refl, sym, ap, ◌∙◌, subst, append_assoc, arith, get_or}
+use Rattle.std.proofs.Common.{◌≡◌, ◌≤◌, ◌<◌, ◌+◌, ◌∷◌, ◌++◌, [], ℕ, List, length, take, drop, Option, Some, None, Result, Ok, Err, OnOk, OnErr, inl, inr, refl, sym, ap, ◌∙◌, subst, append_assoc, arith}
 use Rattle.desk_ports.specs.Faults.{NeverFalls, Rose}
 use Rattle.desk_ports.specs.Content.{Took, AtEnd, Appended, AppendedPart}
 use Rattle.desk_ports.proofs.Appends.{Appended-then}
 use Rattle.line_script.specs.Answers.{line_fault_text}
 use Rattle.privilege_cli.specs.LocalRun.{AreWritten}
-use Rattle.privilege_cli.specs.LocalReading.{EndsAtLine}
+use Rattle.privilege_cli.specs.LocalReading.{EndsAtLine, IsAtEnd}
 
 pub Rose-before : (first second third : ℕ) → Rose first second → NeverFalls second third → Rose first third
 Rose-before first second third rose later = omega arith
@@ -25,17 +25,22 @@ pub Took-nothing : (left after : Option (List ℕ)) → after ≡ left → Took 
 Took-nothing None after same = tt
 Took-nothing (Some bytes) after same = (bytes, refl, same)
 
--- where a source is at its end, and gave nothing, it is at its end
-pub AtEnd-after : (left after : Option (List ℕ)) → AtEnd left → Took left [] after → AtEnd after
-AtEnd-after None None end took = tt
-AtEnd-after None (Some bytes) end took = ?
-AtEnd-after (Some left) after end took = subst AtEnd (sym took.2) (sym took.1 ∙ end)
+-- a source that is at its end, and gave nothing more, is at its end
+pub IsAtEnd-end : (first second third : Option (List ℕ)) (xs : List ℕ) → Took first xs second → AtEnd second → Took second [] third → IsAtEnd first third
+IsAtEnd-end None second third xs a end b = tt
+IsAtEnd-end (Some bytes) second third xs a end b =
+    let end' = subst AtEnd a.2 end in
+    let b' = subst (λ (left : Option (List ℕ)). Took left [] third) a.2 b in
+    b'.2 ∙ ap Some (sym b'.1 ∙ end')
 
 -- the last line is written, or cut where the sink failed
-pub EndsAtLine-either : {E F : Type 0} (r : Result E F) (first second third : Option (List ℕ)) (waiting : List ℕ) (line : ℕ) (Failed : Type 0) → Appended first waiting second →
-    OnOk r (Appended second (line_fault_text line) third) → OnErr r (AppendedPart second (line_fault_text line) third) → OnErr r Failed →
-    EndsAtLine first third waiting line Failed
-EndsAtLine-either (Ok value) first second third waiting line Failed before all part failed =
-    (line_fault_text line, Appended-then first second third waiting (line_fault_text line) before all, inl refl)
-EndsAtLine-either (Err error) first second third waiting line Failed before all part failed =
-    (take part.0 (line_fault_text line), Appended-then first second third waiting (take part.0 (line_fault_text line)) before part.2, inr (failed, part.0, part.1, refl))
+pub EndsAtLine-either : {E F : Type 0} (r : Result E F) (first second third : Option (List ℕ)) (waiting text : List ℕ) (line faults_0 faults_1 faults_2 : ℕ) →
+    text ≡ line_fault_text line → Appended first waiting second → NeverFalls faults_0 faults_1 →
+    OnOk r (Appended second text third) → OnErr r (AppendedPart second text third) → OnErr r (Rose faults_1 faults_2) →
+    EndsAtLine first third waiting line (Rose faults_0 faults_2)
+EndsAtLine-either (Ok value) first second third waiting text line f0 f1 f2 is before count all part failed =
+    (text, Appended-then first second third waiting text before all, inl is)
+EndsAtLine-either (Err error) first second third waiting text line f0 f1 f2 is before count all part failed =
+    ( take part.0 text
+    , Appended-then first second third waiting (take part.0 text) before part.2
+    , inr (Rose-behind f0 f1 f2 count failed, part.0, subst (λ text. part.0 < length text) is part.1, ap (take part.0) is))

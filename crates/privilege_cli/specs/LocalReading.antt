@@ -1,10 +1,10 @@
 -- One reading from the source, and all of them, as their contracts see them.
 use Rattle.std.specs.Prelude.{◌≡◌, ◌≤◌, ◌<◌, ◌+◌, ℕ, List, [], ◌++◌, length, take, Option, Some, None}
 use Rattle.desk_ports.specs.Content.{Took, AtEnd, Appended, AppendedPart}
-use Rattle.text_lines.specs.Lines.{HasNoNewline}
+use Rattle.text_lines.specs.Lines.{HasNoNewline, pieces_of}
 use Rattle.line_script.specs.Answers.{line_fault_text}
-use Rattle.privilege_cli.specs.Script.{Outcome, start, script, answered, stopped_at}
-use Rattle.privilege_cli.specs.LocalRun.{Passed, AreAnswered, IsUnfinished, AreWholeLines, AreWritten, Advances}
+use Rattle.privilege_cli.specs.Script.{Outcome, start, script, script_from, answered as answered_by, stopped_at, ended}
+use Rattle.privilege_cli.specs.LocalRun.{AreAnswered, IsUnfinished, AreWholeLines, AreWritten, Advances}
 use Rattle.privilege_cli.specs.LocalScript.{position_of}
 use Rattle.privilege_cli.specs.Stop.{StopsWithin}
 use Rattle.privilege_cli.specs.declared.local_script.Stop.{Stop}
@@ -30,7 +30,7 @@ module _ (left left_after taken taken_after : Option (List ℕ)) (old new : Loca
   -- The sink took the answers so far, and the source is at its end.
   pub record ReadsEnd (rest : List ℕ) : Type 0 where
     pub took : Took left [] left_after
-    pub end : AtEnd left_after
+    pub end : AtEnd left
     pub flushed : Appended taken old.answers taken_after
     pub same : rest ≡ kept
     pub position : position_of new ≡ position_of old
@@ -72,14 +72,40 @@ pub record IsUnderWay (left left_now taken taken_now : Option (List ℕ)) (now :
   pub unfinished : HasNoNewline kept
   pub advanced : Advances start lines (written ++ now.answers) (position_of now)
 
--- how a whole run may stop before the end of its script; the answers that wait are not written yet
-abbrev pub StopsRun : Option (List ℕ) → Option (List ℕ) → Option (List ℕ) → Option (List ℕ) → List ℕ → Stop → Type 0
-StopsRun left left_after taken taken_after waiting Memory =
-    Passed left left_after taken taken_after (λ given written. (more : List ℕ) → (later : Outcome) × (script (given ++ more) ≡ answered (written ++ waiting) later))
-StopsRun left left_after taken taken_after waiting (Line number) =
-    Passed left left_after taken taken_after (λ given written. (more : List ℕ) → script (given ++ more) ≡ answered (written ++ waiting) (stopped_at number))
-StopsRun left left_after taken taken_after waiting Source = Passed left left_after taken taken_after AreAnswered
-StopsRun left left_after taken taken_after waiting Sink = Passed left left_after taken taken_after IsUnfinished
+-- a source that tells its content is at its end
+abbrev pub IsAtEnd : Option (List ℕ) → Option (List ℕ) → Type 0
+IsAtEnd None after = Unit {0}
+IsAtEnd (Some before) after = after ≡ Some []
+
+-- P holds of what the source gave with what it has left, and of what the sink took
+abbrev pub Passes : Option (List ℕ) → Option (List ℕ) → Option (List ℕ) → Option (List ℕ) → (List ℕ → List ℕ → List ℕ → Type 0) → Type 0
+Passes left left_after taken taken_after P =
+    (given : List ℕ) × (written : List ℕ) × Took left given left_after × Appended taken written taken_after ×
+    ((more : List ℕ) → left ≡ Some (given ++ more) → left_after ≡ Some more → P (given ++ more) more written)
+
+module _ (left left_after taken taken_after : Option (List ℕ)) (waiting : List ℕ) where
+  -- how a whole run may stop before the end of its script; the answers that wait are not written yet
+  abbrev pub StopsRun : Stop → Type 0
+  StopsRun Memory =
+      Passes left left_after taken taken_after (λ input more written. (later : Outcome) × (script input ≡ answered_by (written ++ waiting) later))
+  StopsRun (Line number) = Passes left left_after taken taken_after (λ input more written. script input ≡ answered_by (written ++ waiting) (stopped_at number))
+  StopsRun Source = Passes left left_after taken taken_after AreAnswered
+  StopsRun Sink = Passes left left_after taken taken_after IsUnfinished
+
+-- a last line without a newline was answered, and the sink took all answers that waited
+pub record AnswersLast (old : LocalScript) (taken taken_after : Option (List ℕ)) (last : List ℕ) : Type 0 where
+  pub text : List ℕ
+  pub answered : script_from (position_of old) (pieces_of last) ≡ answered_by text ended
+  pub flushed : Appended taken (old.answers ++ text) taken_after
+
+-- how the last line may stop the run, with the answers that wait then
+abbrev pub StopsLast : LocalScript → List ℕ → Option (List ℕ) → Option (List ℕ) → List ℕ → Stop → Type 0
+StopsLast old waiting taken taken_after last Memory = (taken_after ≡ taken) × (waiting ≡ old.answers)
+StopsLast old waiting taken taken_after last (Line number) =
+    (taken_after ≡ taken) × (waiting ≡ old.answers) × (script_from (position_of old) (pieces_of last) ≡ stopped_at number)
+StopsLast old waiting taken taken_after last Source = ⊥
+StopsLast old waiting taken taken_after last Sink =
+    (text : List ℕ) × (script_from (position_of old) (pieces_of last) ≡ answered_by text ended) × AppendedPart taken (old.answers ++ text) taken_after
 
 -- the answers that waited are written, and then that line's number, which is cut only where the sink failed
 abbrev pub EndsAtLine : Option (List ℕ) → Option (List ℕ) → List ℕ → ℕ → Type 0 → Type 0

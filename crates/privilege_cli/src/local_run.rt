@@ -1,11 +1,12 @@
 // `local`: reads a script from the source, and has the sink take its answers.
-ghost use Rattle.std.specs.Prelude.{◌≡◌, ◌≢◌, ◌⊎◌, ◌≤◌, [], length, take, MatchResult, IfErr, OnOk, OnErr, IsErrOf};
+ghost use Rattle.std.specs.Prelude.{◌≡◌, ◌≢◌, ◌⊎◌, ◌≤◌, [], length, take, MatchResult, IfOk, IfErr, OnOk, OnErr, IsErrOf};
 ghost use Rattle.desk_ports.specs.Faults.{NeverFalls, Rose};
-ghost use Rattle.desk_ports.specs.Content.{AtEnd, Appended, AppendedPart};
+ghost use Rattle.desk_ports.specs.Content.{Appended, AppendedPart};
+ghost use Rattle.text_lines.specs.Lines.{HasNoNewline};
 ghost use Rattle.privilege_cli.specs.LocalScript.{position_of};
 ghost use Rattle.privilege_cli.specs.Script.{start};
-ghost use Rattle.privilege_cli.specs.LocalRun.{Passed, IsDone, IsCutShort, IsStoppedAtLine, AreAnswered, IsUnfinished};
-ghost use Rattle.privilege_cli.specs.LocalReading.{MatchRead, StopsReading, StopsRun, EndsAtLine};
+ghost use Rattle.privilege_cli.specs.LocalRun.{Told, IsDone, IsCutShort, IsStoppedAtLine, AreAnswered, IsUnfinished};
+ghost use Rattle.privilege_cli.specs.LocalReading.{MatchRead, StopsReading, IsUnderWay, IsAtEnd, Passes, StopsRun, AnswersLast, StopsLast, EndsAtLine};
 
 use crate::local_script::{LocalScript, MOST_IN_LINE, Stop};
 use desk_ports::{Bytes, Sink, Source, write_all};
@@ -20,14 +21,13 @@ const WINDOW: usize = 262_144;
 /// outside the grammar, 4 where the source failed and 5 where the sink did.
 pub fn run_local<S: Source, K: Sink>(alloc: Global, source: &mut S, sink: &mut K) -> u8
     ensures known { (result ≤ 5) × (result ≢ 2) }
-    ensures done { result ≡ 0 → Passed (S.left source.old) (S.left source.new) (K.taken sink.old) (K.taken sink.new) IsDone }
-    ensures at_end { result ≡ 0 → AtEnd (S.left source.new) }
-    ensures memory { result ≡ 1 → Passed (S.left source.old) (S.left source.new) (K.taken sink.old) (K.taken sink.new) IsCutShort }
-    ensures line { result ≡ 3 → Passed (S.left source.old) (S.left source.new) (K.taken sink.old) (K.taken sink.new)
+    ensures done { result ≡ 0 → Told (S.left source.old) (S.left source.new) (K.taken sink.old) (K.taken sink.new) IsDone }
+    ensures memory { result ≡ 1 → Told (S.left source.old) (S.left source.new) (K.taken sink.old) (K.taken sink.new) IsCutShort }
+    ensures line { result ≡ 3 → Told (S.left source.old) (S.left source.new) (K.taken sink.old) (K.taken sink.new)
         (IsStoppedAtLine (Rose (K.faults sink.old) (K.faults sink.new))) }
-    ensures source { result ≡ 4 → Passed (S.left source.old) (S.left source.new) (K.taken sink.old) (K.taken sink.new) AreAnswered }
+    ensures source { result ≡ 4 → Told (S.left source.old) (S.left source.new) (K.taken sink.old) (K.taken sink.new) AreAnswered }
+    ensures sink { result ≡ 5 → Told (S.left source.old) (S.left source.new) (K.taken sink.old) (K.taken sink.new) IsUnfinished }
     ensures source_failed { result ≡ 4 → Rose (S.faults source.old) (S.faults source.new) }
-    ensures sink { result ≡ 5 → Passed (S.left source.old) (S.left source.new) (K.taken sink.old) (K.taken sink.new) IsUnfinished }
     ensures sink_failed { result ≡ 5 → Rose (K.faults sink.old) (K.faults sink.new) }
 {
     let mut script = LocalScript::new(alloc);
@@ -52,12 +52,12 @@ fn end_at_line<K: Sink>(answers: &mut Bytes, line: u32, sink: &mut K) -> u8
     ensures sink { result ≡ 5 → AppendedPart (K.taken sink.old) answers.old (K.taken sink.new) }
     ensures sink_failed { result ≡ 5 → Rose (K.faults sink.old) (K.faults sink.new) }
 {
-    if flush(answers, sink).is_err() {
+    let Ok(()) = flush(answers, sink) else {
         return 5;
-    }
-    if print(&LineAnswer::LineFault { line }, answers).is_err() {
+    };
+    let Ok(()) = print(&LineAnswer::LineFault { line }, answers) else {
         return 1;
-    }
+    };
     let _ = flush(answers, sink);
     3
 }
@@ -72,20 +72,57 @@ fn answer_source<S: Source, K: Sink>(
     requires start { position_of script.old ≡ start }
     requires answers { script.old.answers ≡ [] }
     ensures read { MatchResult result
-        (λ _. Passed (S.left source.old) (S.left source.new) (K.taken sink.old) (K.taken sink.new) IsDone × AtEnd (S.left source.new))
+        (λ _. Passes (S.left source.old) (S.left source.new) (K.taken sink.old) (K.taken sink.new) IsDone)
         (StopsRun (S.left source.old) (S.left source.new) (K.taken sink.old) (K.taken sink.new) script.new.answers) }
     ensures source_failed { IsErrOf result Stop.Source → Rose (S.faults source.old) (S.faults source.new) }
     ensures sink_count { NeverFalls (K.faults sink.old) (K.faults sink.new) }
     ensures sink_failed { IsErrOf result Stop.Sink → Rose (K.faults sink.old) (K.faults sink.new) }
 {
-    let mut window = zeros(alloc, WINDOW)?;
+    let mut buffer = zeros(alloc, WINDOW)?;
+    let window = buffer.as_mut_slice();
+    let kept = read_script(script, window, source, sink)?;
+    answer_last(script, &window[..kept], sink)
+}
+
+// Answers all lines that end with a newline. How many bytes are left behind them, at the front of the window.
+fn read_script<S: Source, K: Sink>(
+    script: &mut LocalScript,
+    window: &mut [u8],
+    source: &mut S,
+    sink: &mut K,
+) -> Result<usize, Stop>
+    requires start { position_of script.old ≡ start }
+    requires answers { script.old.answers ≡ [] }
+    requires window { length window.old ≡ 262144 }
+    ensures read { MatchResult result
+        (λ kept. IsUnderWay (S.left source.old) (S.left source.new) (K.taken sink.old) (K.taken sink.new) script.new (take kept window.new))
+        (StopsRun (S.left source.old) (S.left source.new) (K.taken sink.old) (K.taken sink.new) script.new.answers) }
+    ensures at_end { OnOk result (IsAtEnd (S.left source.old) (S.left source.new)) }
+    ensures kept { IfOk result (λ kept. kept ≤ length window.new) }
+    ensures source_failed { IsErrOf result Stop.Source → Rose (S.faults source.old) (S.faults source.new) }
+    ensures sink_count { NeverFalls (K.faults sink.old) (K.faults sink.new) }
+    ensures sink_failed { IsErrOf result Stop.Sink → Rose (K.faults sink.old) (K.faults sink.new) }
+{
     let mut kept = 0;
-    while let Some(rest) = read_lines(script, &mut window, kept, source, sink)? {
+    while let Some(rest) = read_lines(script, window, kept, source, sink)? {
         kept = rest;
     }
-    if kept > 0 {
-        script.answer_line(&window[..kept], kept)?;
+    Ok(kept)
+}
+
+// Answers the last line, which has no newline, if there is one, and has the sink take the answers.
+fn answer_last<K: Sink>(script: &mut LocalScript, last: &[u8], sink: &mut K) -> Result<(), Stop>
+    requires { HasNoNewline last.now }
+    ensures last { MatchResult result
+        (λ _. AnswersLast script.old (K.taken sink.old) (K.taken sink.new) last.now)
+        (StopsLast script.old script.new.answers (K.taken sink.old) (K.taken sink.new) last.now) }
+    ensures sink_count { NeverFalls (K.faults sink.old) (K.faults sink.new) }
+    ensures sink_failed { IsErrOf result Stop.Sink → Rose (K.faults sink.old) (K.faults sink.new) }
+{
+    if last.is_empty() {
+        return flush(&mut script.answers, sink);
     }
+    script.answer_line(last, last.len())?;
     flush(&mut script.answers, sink)
 }
 
