@@ -104,7 +104,7 @@ impl Ord for Field {
 }
 
 /// One field of a filter: `#` for every field, `*` for the stored wildcard alone, or one name.
-#[derive(Debug, Drop)]
+#[derive(Debug, Drop, PartialEq, Eq)]
 pub enum FilterField {
     Every,
     Any,

@@ -19,7 +19,7 @@ pub struct Key {
 }
 
 /// Which keys a listing or an erasing concerns.
-#[derive(Debug, Drop)]
+#[derive(Debug, Drop, PartialEq, Eq)]
 pub struct Filter {
     pub client: FilterField,
     pub user: FilterField,
@@ -27,7 +27,7 @@ pub struct Filter {
 }
 
 /// Whether this client may use this privilege for this user.
-#[derive(Debug, Drop)]
+#[derive(Debug, Drop, PartialEq, Eq)]
 pub struct Question {
     pub client: Name,
     pub user: Name,
@@ -35,7 +35,7 @@ pub struct Question {
 }
 
 /// A result under its key.
-#[derive(Debug, Drop)]
+#[derive(Debug, Drop, PartialEq, Eq)]
 pub struct Policy {
     pub key: Key,
     pub result: PolicyResult,
