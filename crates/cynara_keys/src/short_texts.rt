@@ -7,7 +7,7 @@ use std::marker::Model;
 
 const MOST_BYTES: usize = 255;
 
-/// A list of at most 255 bytes in a fixed array, for values that are made where no memory may be taken.
+/// A list of at most 255 bytes in a fixed array, as a record of a name or of metadata where no memory may be taken.
 #[derive(Clone, Copy, Debug)]
 pub struct Short {
     count: usize,
@@ -32,7 +32,7 @@ impl Model for Short {
 }
 
 impl Short {
-    /// The bytes, of which there are at most 255.
+    /// A copy of the bytes, of which there are at most 255. Takes no memory.
     pub fn of(bytes: &[u8]) -> Short
         requires { length bytes.now ≤ 255 }
         ensures { result ≡ bytes.now }
@@ -45,7 +45,7 @@ impl Short {
         }
     }
 
-    /// The bytes.
+    /// The bytes, as they were given.
     pub fn as_slice(&self) -> &[u8]
         ensures bytes { result.now ≡ self.now }
         ensures short { length self.now ≤ 255 }
