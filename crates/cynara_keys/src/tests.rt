@@ -1,103 +1,187 @@
 use crate::*;
-use std::alloc::Global;
+use std::alloc::{AllocError, Global};
 use std::cmp::Ordering;
+use std::process::Abort;
 use std::test::Fail;
 
-const BAD_BYTES: [u8; 5] = [0x20, 0x7F, b';', 0x00, 0xFF];
+// What is wrong with a text as a name, as a bucket's name and as metadata. What is read has the same text.
+fn faults_of<R: Abort>(rt: &R, alloc: Global, text: &[u8]) -> Faults {
+    Faults {
+        name: name_fault(rt, alloc, text),
+        bucket: bucket_name_fault(rt, alloc, text),
+        metadata: metadata_fault(rt, alloc, text),
+    }
+}
 
-fn put(bytes: &mut [u8], place: usize, byte: u8) {
-    if let Some(slot) = bytes.get_mut(place) {
+#[derive(Debug, Drop, PartialEq, Eq)]
+struct Faults {
+    name: Option<NameRefusal>,
+    bucket: Option<BucketNameRefusal>,
+    metadata: Option<MetadataRefusal>,
+}
+
+fn name_fault<R: Abort>(rt: &R, alloc: Global, text: &[u8]) -> Option<NameRefusal> {
+    match Name::read(alloc, text) {
+        Ok(name) => {
+            assert_eq!(rt; name.as_slice(), text);
+            None
+        }
+        Err(refusal) => Some(refusal),
+    }
+}
+
+fn bucket_name_fault<R: Abort>(rt: &R, alloc: Global, text: &[u8]) -> Option<BucketNameRefusal> {
+    match BucketName::read(alloc, text) {
+        Ok(name) => {
+            assert_eq!(rt; name.as_slice(), text);
+            None
+        }
+        Err(refusal) => Some(refusal),
+    }
+}
+
+fn metadata_fault<R: Abort>(rt: &R, alloc: Global, text: &[u8]) -> Option<MetadataRefusal> {
+    match Metadata::read(alloc, text) {
+        Ok(metadata) => {
+            assert_eq!(rt; metadata.as_slice(), text);
+            None
+        }
+        Err(refusal) => Some(refusal),
+    }
+}
+
+#[test]
+fn reads_texts_or_names_the_first_fault(rt: HostRuntime) {
+    use BucketNameRefusal as Bucket;
+    use MetadataRefusal as Meta;
+    use NameRefusal as Bad;
+    for (text, name, bucket, metadata) in [
+        (b"".as_slice(), Some(Bad::Empty), None, None),
+        (b"!~".as_slice(), None, Some(Bucket::BadByte(0)), None),
+        (b"azAZ09_-".as_slice(), None, None, None),
+        (b"a.b".as_slice(), None, Some(Bucket::BadByte(1)), None),
+        (
+            b"*".as_slice(),
+            Some(Bad::Reserved),
+            Some(Bucket::BadByte(0)),
+            None,
+        ),
+        (
+            b"#".as_slice(),
+            Some(Bad::Reserved),
+            Some(Bucket::BadByte(0)),
+            None,
+        ),
+        (b"**".as_slice(), None, Some(Bucket::BadByte(0)), None),
+        (b"#*".as_slice(), None, Some(Bucket::BadByte(0)), None),
+        (
+            b";".as_slice(),
+            Some(Bad::BadByte(0)),
+            Some(Bucket::BadByte(0)),
+            Some(Meta::BadByte(0)),
+        ),
+        (
+            b"a b".as_slice(),
+            Some(Bad::BadByte(1)),
+            Some(Bucket::BadByte(1)),
+            Some(Meta::BadByte(1)),
+        ),
+    ] {
+        assert_eq!(rt;
+            faults_of(&rt, rt.alloc(), text),
+            Faults {
+                name,
+                bucket,
+                metadata
+            },
+            "{text:?}"
+        );
+    }
+}
+
+#[test]
+fn reads_texts_up_to_their_most_bytes(rt: HostRuntime) -> Result<(), Fail> {
+    use BucketNameRefusal as Bucket;
+    use MetadataRefusal as Meta;
+    use NameRefusal as Bad;
+    for (byte, count, name, bucket, metadata) in [
+        (b'a', 64, None, None, None),
+        (b'a', 65, None, Some(Bucket::TooLong), None),
+        (b'a', 255, None, Some(Bucket::TooLong), None),
+        (
+            b'a',
+            256,
+            Some(Bad::TooLong),
+            Some(Bucket::TooLong),
+            Some(Meta::TooLong),
+        ),
+        (
+            b' ',
+            64,
+            Some(Bad::BadByte(0)),
+            Some(Bucket::BadByte(0)),
+            Some(Meta::BadByte(0)),
+        ),
+        (
+            b' ',
+            256,
+            Some(Bad::TooLong),
+            Some(Bucket::TooLong),
+            Some(Meta::TooLong),
+        ),
+    ] {
+        let text = filled(rt.alloc(), byte, count)?;
+        assert_eq!(rt;
+            faults_of(&rt, rt.alloc(), &text),
+            Faults {
+                name,
+                bucket,
+                metadata
+            },
+            "{count}"
+        );
+    }
+    Ok(())
+}
+
+fn filled(alloc: Global, byte: u8, count: usize) -> Result<Vec<u8>, AllocError> {
+    vec![in alloc; byte; count]
+}
+
+// Letters alone, but for this byte at the place.
+fn letters_but(alloc: Global, count: usize, place: usize, byte: u8) -> Result<Vec<u8>, AllocError> {
+    let mut text = filled(alloc, b'a', count)?;
+    if let Some(slot) = text.get_mut(place) {
         *slot = byte;
     }
+    Ok(text)
 }
 
 #[test]
-fn reads_names_or_names_the_first_fault(rt: HostRuntime) {
-    for (bytes, want) in [
-        (b"".as_slice(), Some(NameRefusal::Empty)),
-        (b"!".as_slice(), None),
-        (b"~".as_slice(), None),
-        (b"**".as_slice(), None),
-        (b"#*".as_slice(), None),
-        (b"*".as_slice(), Some(NameRefusal::Reserved)),
-        (b"#".as_slice(), Some(NameRefusal::Reserved)),
-        (b";".as_slice(), Some(NameRefusal::BadByte(0))),
-        (b"* ".as_slice(), Some(NameRefusal::BadByte(1))),
-        ([b'a'; 255].as_slice(), None),
-        ([b'a'; 256].as_slice(), Some(NameRefusal::TooLong)),
-        ([b' '; 256].as_slice(), Some(NameRefusal::TooLong)),
-    ] {
-        match Name::read(rt.alloc(), bytes) {
-            Ok(name) => {
-                assert!(rt; want.is_none(), "{bytes:?}");
-                assert_eq!(rt; name.as_slice(), bytes);
-            }
-            Err(refusal) => assert_eq!(rt; Some(refusal), want, "{bytes:?}"),
-        }
-    }
-}
-
-#[test]
-fn reads_bucket_names_or_names_the_first_fault(rt: HostRuntime) {
-    for (bytes, want) in [
-        (b"".as_slice(), None),
-        (b"azAZ09_-".as_slice(), None),
-        (b"a.b".as_slice(), Some(BucketNameRefusal::BadByte(1))),
-        (b"*".as_slice(), Some(BucketNameRefusal::BadByte(0))),
-        ([b'a'; 64].as_slice(), None),
-        ([b'a'; 65].as_slice(), Some(BucketNameRefusal::TooLong)),
-        ([b' '; 65].as_slice(), Some(BucketNameRefusal::TooLong)),
-    ] {
-        match BucketName::read(rt.alloc(), bytes) {
-            Ok(name) => {
-                assert!(rt; want.is_none(), "{bytes:?}");
-                assert_eq!(rt; name.as_slice(), bytes);
-            }
-            Err(refusal) => assert_eq!(rt; Some(refusal), want, "{bytes:?}"),
-        }
-    }
-}
-
-#[test]
-fn reads_metadata_or_names_the_first_fault(rt: HostRuntime) {
-    for (bytes, want) in [
-        (b"".as_slice(), None),
-        (b"!".as_slice(), None),
-        (b"*".as_slice(), None),
-        (b"a;b".as_slice(), Some(MetadataRefusal::BadByte(1))),
-        ([b'~'; 255].as_slice(), None),
-        ([b'~'; 256].as_slice(), Some(MetadataRefusal::TooLong)),
-        ([b' '; 256].as_slice(), Some(MetadataRefusal::TooLong)),
-    ] {
-        match Metadata::read(rt.alloc(), bytes) {
-            Ok(metadata) => {
-                assert!(rt; want.is_none(), "{bytes:?}");
-                assert_eq!(rt; metadata.as_slice(), bytes);
-            }
-            Err(refusal) => assert_eq!(rt; Some(refusal), want, "{bytes:?}"),
-        }
-    }
-}
-
-#[test]
-fn names_the_place_of_the_first_bad_byte(rt: HostRuntime) {
-    for byte in BAD_BYTES {
-        for place in [0, 127, 254] {
-            let mut bytes = [b'a'; 255];
-            put(&mut bytes, 254, b';');
-            put(&mut bytes, place, byte);
-            let name = Name::read(rt.alloc(), &bytes).err();
-            assert_eq!(rt; name, Some(NameRefusal::BadByte(place)), "{byte}");
-            let metadata = Metadata::read(rt.alloc(), &bytes).err();
-            assert_eq!(rt; metadata, Some(MetadataRefusal::BadByte(place)), "{byte}");
-        }
+fn names_the_place_of_the_bad_byte(rt: HostRuntime) -> Result<(), Fail> {
+    for byte in [0x20, 0x7F, b';', 0x00, 0xFF] {
         for place in [0, 31, 63] {
-            let mut bytes = [b'a'; 64];
-            put(&mut bytes, place, byte);
-            let bucket = BucketName::read(rt.alloc(), &bytes).err();
-            assert_eq!(rt; bucket, Some(BucketNameRefusal::BadByte(place)), "{byte}");
+            let text = letters_but(rt.alloc(), 64, place, byte)?;
+            let want = Faults {
+                name: Some(NameRefusal::BadByte(place)),
+                bucket: Some(BucketNameRefusal::BadByte(place)),
+                metadata: Some(MetadataRefusal::BadByte(place)),
+            };
+            assert_eq!(rt; faults_of(&rt, rt.alloc(), &text), want, "{byte}");
         }
+        let text = letters_but(rt.alloc(), 255, 254, byte)?;
+        assert_eq!(rt;
+            name_fault(&rt, rt.alloc(), &text),
+            Some(NameRefusal::BadByte(254)),
+            "{byte}"
+        );
+        assert_eq!(rt;
+            metadata_fault(&rt, rt.alloc(), &text),
+            Some(MetadataRefusal::BadByte(254)),
+            "{byte}"
+        );
     }
+    Ok(())
 }
 
 #[test]
@@ -261,23 +345,23 @@ fn filters_admit_every_field_or_the_same(rt: HostRuntime) -> Result<(), Fail> {
 #[test]
 fn keys_are_in_the_order_of_their_texts(rt: HostRuntime) -> Result<(), Fail> {
     let alloc = rt.alloc();
-    let rising = [
-        key(alloc, b"!", b"~", b"~")?,
-        key(alloc, b"*", b"!", b"~")?,
-        key(alloc, b"*", b"*", b"!")?,
-        key(alloc, b"*", b"*", b"*")?,
-        key(alloc, b"*", b"*", b"**")?,
-        key(alloc, b"*", b"A", b"*")?,
-        key(alloc, b"A", b"*", b"*")?,
-        key(alloc, b"AA", b"*", b"*")?,
-        key(alloc, b"a", b"!", b"!")?,
-    ];
-    for (place, low) in rising.iter().enumerate() {
-        for (other, high) in rising.iter().enumerate() {
-            assert_eq!(rt; low.cmp(high), place.cmp(&other), "{place} {other}");
-            assert_eq!(rt; low == high, place == other, "{place} {other}");
-        }
-        assert!(rt; low.copy()? == *low);
+    let mut below = key(alloc, b"!", b"~", b"~")?;
+    for (client, user, privilege) in [
+        (b"*".as_slice(), b"!".as_slice(), b"~".as_slice()),
+        (b"*".as_slice(), b"*".as_slice(), b"!".as_slice()),
+        (b"*".as_slice(), b"*".as_slice(), b"*".as_slice()),
+        (b"*".as_slice(), b"*".as_slice(), b"**".as_slice()),
+        (b"*".as_slice(), b"A".as_slice(), b"*".as_slice()),
+        (b"A".as_slice(), b"*".as_slice(), b"*".as_slice()),
+        (b"AA".as_slice(), b"*".as_slice(), b"*".as_slice()),
+        (b"a".as_slice(), b"!".as_slice(), b"!".as_slice()),
+    ] {
+        let above = key(alloc, client, user, privilege)?;
+        assert_eq!(rt; below.cmp(&above), Ordering::Less, "{above:?}");
+        assert_eq!(rt; above.cmp(&below), Ordering::Greater, "{above:?}");
+        assert!(rt; above != below, "{above:?}");
+        assert!(rt; above.copy()? == above, "{above:?}");
+        below = above;
     }
     Ok(())
 }
@@ -303,7 +387,6 @@ fn results_are_in_the_order_of_kind_and_metadata(rt: HostRuntime) -> Result<(), 
             .ok_or("above")?;
         assert_eq!(rt; below.cmp(&above), Ordering::Less, "{kind:?} {text:?}");
         assert_eq!(rt; above.cmp(&below), Ordering::Greater, "{kind:?} {text:?}");
-        assert_eq!(rt; above.cmp(&above), Ordering::Equal, "{kind:?} {text:?}");
         below = above;
     }
     Ok(())
@@ -322,12 +405,15 @@ fn copies_and_short_texts_are_equal(rt: HostRuntime) -> Result<(), Fail> {
     let bucket = BucketName::read(alloc, b"b")?;
     assert!(rt; bucket.copy()? == bucket);
     assert!(rt; BucketName::read(alloc, b"")? < bucket);
-    for text in [b"".as_slice(), b"a b".as_slice(), [0xFF; 255].as_slice()] {
+    for text in [b"".as_slice(), b"a b".as_slice(), b"a b;".as_slice()] {
         let short = Short::of(text);
         assert_eq!(rt; short.as_slice(), text);
         assert!(rt; short == Short::of(text));
         assert!(rt; short != Short::of(b"other"));
     }
+    let most = filled(alloc, 0xFF, 255)?;
+    assert_eq!(rt; most.len(), 255);
+    assert_eq!(rt; Short::of(&most).as_slice(), most.as_slice());
     Ok(())
 }
 
