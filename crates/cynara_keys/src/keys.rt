@@ -98,10 +98,10 @@ impl Ord for Key {
     ghost matches_eq = { Prim.search (both_tied, comparing, rules) };
 
     fn cmp(&self, other: &Key) -> Ordering {
-        self.client.cmp(&other.client).then_with(|| self
-            .user
-            .cmp(&other.user)
-            .then_with(|| self.privilege.cmp(&other.privilege)))
+        self.client
+            .cmp(&other.client)
+            .then_with(|| self.user.cmp(&other.user))
+            .then_with(|| self.privilege.cmp(&other.privilege))
     }
 }
 

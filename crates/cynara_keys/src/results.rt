@@ -138,9 +138,8 @@ impl Ord for PolicyResult {
     ghost matches_eq = { Prim.search (comparing, rules) };
 
     fn cmp(&self, other: &PolicyResult) -> Ordering {
-        self.kind
-            .cmp(&other.kind)
-            .then_with(|| self.metadata.as_slice().cmp(other.metadata.as_slice()))
+        let by_kind = self.kind.cmp(&other.kind);
+        by_kind.then_with(|| self.metadata.as_slice().cmp(other.metadata.as_slice()))
     }
 }
 
