@@ -1,11 +1,13 @@
 -- What a binary search by an order needs: along a sorted list, the answers of the elements to one key rise.
-use Rattle.std.proofs.Common.{◌≡◌, ℕ, ◌≤◌, Bool, true, false, List, sym, ap, ◌∙◌, arith, refl}
+use Rattle.std.proofs.Common.{◌≡◌, ℕ, ◌<◌, ◌≤◌, false, List, length, get_or, sym, ap, ◌∙◌, arith, refl}
+use mathlib.Core.Logic.{⊎_elim}
+use Rattle.std.proofs.lemmas.Bool.{cases_lt}
 use mathlib.Core.Bool.{true≢false}
 use Rattle.std.specs.declared.cmp.Ordering.{Ordering}
 use Rattle.std.specs.declared.cmp.Ordering.TheVariants.{Less, Equal, Greater}
 use Rattle.std.specs.Cmp.{IsTotalOrder}
-use Rattle.std.specs.List.Sorted.{IsSortedByKey, IsNonDecreasingBy}
-use Rattle.std.specs.Ordering.{is_lt, is_gt, ordering_index, ordering_reverse}
+use Rattle.std.specs.List.Sorted.{IsSortedByKey, IsNonDecreasingBy, IsPartitionPoint}
+use Rattle.std.specs.Ordering.{is_eq, is_lt, is_gt, ordering_index, ordering_reverse}
 use Rattle.std.proofs.lemmas.Cmp.{upto, alike_right}
 use Rattle.std.proofs.lemmas.List.Sorted.{IsNonDecreasingBy-from_all_adjacent}
 
@@ -29,3 +31,8 @@ module _ {K : Type 0} {R : K → K → Ordering} (order : IsTotalOrder R) where
   answers_rise f xs sorted key =
       IsNonDecreasingBy-from_all_adjacent (λ x. ordering_index (R (f x) key)) xs
       (λ k d below. rises _ _ key _ _ refl refl (sorted k d (omega arith) below))
+
+-- between the lesser and the greater elements none is equal
+pub none_equal : {X : Type 0} (answer : X → Ordering) (xs : List X) (at : ℕ) → IsPartitionPoint (λ x. answer x ≡ Less) (λ x. answer x ≡ Greater) xs at → (k : ℕ) (d : X) → k < length xs → is_eq (answer (get_or xs k d)) ≡ false
+none_equal answer xs at split k d within =
+    ⊎_elim (λ below. ap is_eq (split.0 k d (omega arith) below)) (λ from. ap is_eq (split.1 k d from within)) (cases_lt k at)

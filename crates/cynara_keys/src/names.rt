@@ -21,7 +21,7 @@ pub enum NameRefusal {
     /// The place of the first such byte, from 0.
     #[error("byte {0} of the name, counted from 0, is a space, a semicolon or no printable ASCII")]
     BadByte(usize),
-    #[error("`*` and `#` alone stand for other things than a name")]
+    #[error("`*` and `#` alone are no names, but stand for any name and for every field")]
     Reserved,
     #[error("out of memory")]
     Memory(AllocError),

@@ -429,7 +429,7 @@ fn refusals_say_what_is_wrong(rt: HostRuntime) -> Result<(), Fail> {
         ),
         (
             NameRefusal::Reserved,
-            "`*` and `#` alone stand for other things than a name",
+            "`*` and `#` alone are no names, but stand for any name and for every field",
         ),
     ] {
         assert_eq!(rt; format!(in alloc; "{refusal}")?.as_str(), want);
