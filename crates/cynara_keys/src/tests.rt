@@ -1,26 +1,16 @@
 use crate::*;
+use BucketNameRefusal as Bucket;
+use MetadataRefusal as Meta;
+use NameRefusal as Bad;
 use std::alloc::{AllocError, Global};
 use std::cmp::Ordering;
+use std::fmt::Display;
 use std::process::Abort;
 use std::test::Fail;
 
-// What is wrong with a text as a name, as a bucket's name and as metadata. What is read has the same text.
-fn faults_of<R: Abort>(rt: &R, alloc: Global, text: &[u8]) -> Faults {
-    Faults {
-        name: name_fault(rt, alloc, text),
-        bucket: bucket_name_fault(rt, alloc, text),
-        metadata: metadata_fault(rt, alloc, text),
-    }
-}
+// The three faults of a text: as a name, as a bucket's name and as metadata. What is read has the same text.
 
-#[derive(Debug, Drop, PartialEq, Eq)]
-struct Faults {
-    name: Option<NameRefusal>,
-    bucket: Option<BucketNameRefusal>,
-    metadata: Option<MetadataRefusal>,
-}
-
-fn name_fault<R: Abort>(rt: &R, alloc: Global, text: &[u8]) -> Option<NameRefusal> {
+fn name_fault<R: Abort>(rt: &R, alloc: Global, text: &[u8]) -> Option<Bad> {
     match Name::read(alloc, text) {
         Ok(name) => {
             assert_eq!(rt; name.as_slice(), text);
@@ -30,7 +20,7 @@ fn name_fault<R: Abort>(rt: &R, alloc: Global, text: &[u8]) -> Option<NameRefusa
     }
 }
 
-fn bucket_name_fault<R: Abort>(rt: &R, alloc: Global, text: &[u8]) -> Option<BucketNameRefusal> {
+fn bucket_fault<R: Abort>(rt: &R, alloc: Global, text: &[u8]) -> Option<Bucket> {
     match BucketName::read(alloc, text) {
         Ok(name) => {
             assert_eq!(rt; name.as_slice(), text);
@@ -40,7 +30,7 @@ fn bucket_name_fault<R: Abort>(rt: &R, alloc: Global, text: &[u8]) -> Option<Buc
     }
 }
 
-fn metadata_fault<R: Abort>(rt: &R, alloc: Global, text: &[u8]) -> Option<MetadataRefusal> {
+fn metadata_fault<R: Abort>(rt: &R, alloc: Global, text: &[u8]) -> Option<Meta> {
     match Metadata::read(alloc, text) {
         Ok(metadata) => {
             assert_eq!(rt; metadata.as_slice(), text);
@@ -50,96 +40,72 @@ fn metadata_fault<R: Abort>(rt: &R, alloc: Global, text: &[u8]) -> Option<Metada
     }
 }
 
+const TEXTS: [(&[u8], Option<Bad>, Option<Bucket>, Option<Meta>); 10] = [
+    (b"", Some(Bad::Empty), None, None),
+    (b"!~", None, Some(Bucket::BadByte(0)), None),
+    (b"azAZ09_-", None, None, None),
+    (b"a.b", None, Some(Bucket::BadByte(1)), None),
+    (b"*", Some(Bad::Reserved), Some(Bucket::BadByte(0)), None),
+    (b"#", Some(Bad::Reserved), Some(Bucket::BadByte(0)), None),
+    (b"**", None, Some(Bucket::BadByte(0)), None),
+    (b"#*", None, Some(Bucket::BadByte(0)), None),
+    (
+        b";",
+        Some(Bad::BadByte(0)),
+        Some(Bucket::BadByte(0)),
+        Some(Meta::BadByte(0)),
+    ),
+    (
+        b"a b",
+        Some(Bad::BadByte(1)),
+        Some(Bucket::BadByte(1)),
+        Some(Meta::BadByte(1)),
+    ),
+];
+
 #[test]
 fn reads_texts_or_names_the_first_fault(rt: HostRuntime) {
-    use BucketNameRefusal as Bucket;
-    use MetadataRefusal as Meta;
-    use NameRefusal as Bad;
-    for (text, name, bucket, metadata) in [
-        (b"".as_slice(), Some(Bad::Empty), None, None),
-        (b"!~".as_slice(), None, Some(Bucket::BadByte(0)), None),
-        (b"azAZ09_-".as_slice(), None, None, None),
-        (b"a.b".as_slice(), None, Some(Bucket::BadByte(1)), None),
-        (
-            b"*".as_slice(),
-            Some(Bad::Reserved),
-            Some(Bucket::BadByte(0)),
-            None,
-        ),
-        (
-            b"#".as_slice(),
-            Some(Bad::Reserved),
-            Some(Bucket::BadByte(0)),
-            None,
-        ),
-        (b"**".as_slice(), None, Some(Bucket::BadByte(0)), None),
-        (b"#*".as_slice(), None, Some(Bucket::BadByte(0)), None),
-        (
-            b";".as_slice(),
-            Some(Bad::BadByte(0)),
-            Some(Bucket::BadByte(0)),
-            Some(Meta::BadByte(0)),
-        ),
-        (
-            b"a b".as_slice(),
-            Some(Bad::BadByte(1)),
-            Some(Bucket::BadByte(1)),
-            Some(Meta::BadByte(1)),
-        ),
-    ] {
-        assert_eq!(rt;
-            faults_of(&rt, rt.alloc(), text),
-            Faults {
-                name,
-                bucket,
-                metadata
-            },
-            "{text:?}"
-        );
+    for (text, name, bucket, metadata) in TEXTS {
+        assert_eq!(rt; name_fault(&rt, rt.alloc(), text), name, "{text:?}");
+        assert_eq!(rt; bucket_fault(&rt, rt.alloc(), text), bucket, "{text:?}");
+        assert_eq!(rt; metadata_fault(&rt, rt.alloc(), text), metadata, "{text:?}");
     }
 }
 
+const LENGTHS: [(u8, usize, Option<Bad>, Option<Bucket>, Option<Meta>); 6] = [
+    (b'a', 64, None, None, None),
+    (b'a', 65, None, Some(Bucket::TooLong), None),
+    (b'a', 255, None, Some(Bucket::TooLong), None),
+    (
+        b'a',
+        256,
+        Some(Bad::TooLong),
+        Some(Bucket::TooLong),
+        Some(Meta::TooLong),
+    ),
+    (
+        b' ',
+        64,
+        Some(Bad::BadByte(0)),
+        Some(Bucket::BadByte(0)),
+        Some(Meta::BadByte(0)),
+    ),
+    (
+        b' ',
+        256,
+        Some(Bad::TooLong),
+        Some(Bucket::TooLong),
+        Some(Meta::TooLong),
+    ),
+];
+
 #[test]
 fn reads_texts_up_to_their_most_bytes(rt: HostRuntime) -> Result<(), Fail> {
-    use BucketNameRefusal as Bucket;
-    use MetadataRefusal as Meta;
-    use NameRefusal as Bad;
-    for (byte, count, name, bucket, metadata) in [
-        (b'a', 64, None, None, None),
-        (b'a', 65, None, Some(Bucket::TooLong), None),
-        (b'a', 255, None, Some(Bucket::TooLong), None),
-        (
-            b'a',
-            256,
-            Some(Bad::TooLong),
-            Some(Bucket::TooLong),
-            Some(Meta::TooLong),
-        ),
-        (
-            b' ',
-            64,
-            Some(Bad::BadByte(0)),
-            Some(Bucket::BadByte(0)),
-            Some(Meta::BadByte(0)),
-        ),
-        (
-            b' ',
-            256,
-            Some(Bad::TooLong),
-            Some(Bucket::TooLong),
-            Some(Meta::TooLong),
-        ),
-    ] {
+    for (byte, count, name, bucket, metadata) in LENGTHS {
         let text = filled(rt.alloc(), byte, count)?;
-        assert_eq!(rt;
-            faults_of(&rt, rt.alloc(), &text),
-            Faults {
-                name,
-                bucket,
-                metadata
-            },
-            "{count}"
-        );
+        assert_eq!(rt; name_fault(&rt, rt.alloc(), &text), name, "{count}");
+        assert_eq!(rt; bucket_fault(&rt, rt.alloc(), &text), bucket, "{count}");
+        assert_eq!(rt; metadata_fault(&rt, rt.alloc(), &text), metadata, "{count}");
     }
     Ok(())
 }
@@ -157,107 +123,116 @@ fn letters_but(alloc: Global, count: usize, place: usize, byte: u8) -> Result<Ve
     Ok(text)
 }
 
+const BAD_BYTES: [u8; 5] = [0x20, 0x7F, b';', 0x00, 0xFF];
+
 #[test]
 fn names_the_place_of_the_bad_byte(rt: HostRuntime) -> Result<(), Fail> {
-    for byte in [0x20, 0x7F, b';', 0x00, 0xFF] {
+    for byte in BAD_BYTES {
         for place in [0, 31, 63] {
             let text = letters_but(rt.alloc(), 64, place, byte)?;
-            let want = Faults {
-                name: Some(NameRefusal::BadByte(place)),
-                bucket: Some(BucketNameRefusal::BadByte(place)),
-                metadata: Some(MetadataRefusal::BadByte(place)),
-            };
-            assert_eq!(rt; faults_of(&rt, rt.alloc(), &text), want, "{byte}");
+            assert_eq!(rt;
+                name_fault(&rt, rt.alloc(), &text),
+                Some(Bad::BadByte(place)),
+                "{byte}"
+            );
+            assert_eq!(rt;
+                bucket_fault(&rt, rt.alloc(), &text),
+                Some(Bucket::BadByte(place)),
+                "{byte}"
+            );
+            assert_eq!(rt;
+                metadata_fault(&rt, rt.alloc(), &text),
+                Some(Meta::BadByte(place)),
+                "{byte}"
+            );
         }
         let text = letters_but(rt.alloc(), 255, 254, byte)?;
         assert_eq!(rt;
             name_fault(&rt, rt.alloc(), &text),
-            Some(NameRefusal::BadByte(254)),
-            "{byte}"
-        );
-        assert_eq!(rt;
-            metadata_fault(&rt, rt.alloc(), &text),
-            Some(MetadataRefusal::BadByte(254)),
+            Some(Bad::BadByte(254)),
             "{byte}"
         );
     }
     Ok(())
 }
+
+fn field_fault<R: Abort>(rt: &R, alloc: Global, text: &[u8]) -> Option<Bad> {
+    match Field::read(alloc, text) {
+        Ok(field) => {
+            assert_eq!(rt; field.as_slice(), text);
+            None
+        }
+        Err(refusal) => Some(refusal),
+    }
+}
+
+fn filter_field_fault<R: Abort>(rt: &R, alloc: Global, text: &[u8]) -> Option<Bad> {
+    match FilterField::read(alloc, text) {
+        Ok(field) => {
+            assert_eq!(rt; field.as_slice(), text);
+            None
+        }
+        Err(refusal) => Some(refusal),
+    }
+}
+
+const FIELDS: [(&[u8], Option<Bad>, Option<Bad>); 5] = [
+    (b"*", None, None),
+    (b"#", Some(Bad::Reserved), None),
+    (b"**", None, None),
+    (b"", Some(Bad::Empty), Some(Bad::Empty)),
+    (b"a b", Some(Bad::BadByte(1)), Some(Bad::BadByte(1))),
+];
 
 #[test]
 fn fields_have_one_text(rt: HostRuntime) {
-    for (text, field_fault, filter_fault) in [
-        (b"*".as_slice(), None, None),
-        (b"#".as_slice(), Some(NameRefusal::Reserved), None),
-        (b"n".as_slice(), None, None),
-        (b"**".as_slice(), None, None),
-        (
-            b"".as_slice(),
-            Some(NameRefusal::Empty),
-            Some(NameRefusal::Empty),
-        ),
-        (
-            b"a b".as_slice(),
-            Some(NameRefusal::BadByte(1)),
-            Some(NameRefusal::BadByte(1)),
-        ),
-    ] {
-        match Field::read(rt.alloc(), text) {
-            Ok(field) => {
-                assert!(rt; field_fault.is_none(), "{text:?}");
-                assert_eq!(rt; field.as_slice(), text);
-                assert_eq!(rt; matches!(field, Field::Any), text == b"*".as_slice());
-            }
-            Err(refusal) => assert_eq!(rt; Some(refusal), field_fault, "{text:?}"),
+    for (text, field, filter_field) in FIELDS {
+        assert_eq!(rt; field_fault(&rt, rt.alloc(), text), field, "{text:?}");
+        assert_eq!(rt;
+            filter_field_fault(&rt, rt.alloc(), text),
+            filter_field,
+            "{text:?}"
+        );
+    }
+}
+
+// Whether a result of the kind carries the text. One that does not hands the text back.
+fn carries<R: Abort>(rt: &R, alloc: Global, kind: Kind, text: &[u8]) -> Result<bool, Meta> {
+    match PolicyResult::of(kind, Metadata::read(alloc, text)?) {
+        Ok(result) => {
+            assert_eq!(rt; result.kind(), kind);
+            assert_eq!(rt; result.metadata().as_slice(), text);
+            Ok(true)
         }
-        match FilterField::read(rt.alloc(), text) {
-            Ok(field) => {
-                assert!(rt; filter_fault.is_none(), "{text:?}");
-                assert_eq!(rt; field.as_slice(), text);
-                assert_eq!(rt; matches!(field, FilterField::Any), text == b"*".as_slice());
-                assert_eq!(rt;
-                    matches!(field, FilterField::Every),
-                    text == b"#".as_slice()
-                );
-            }
-            Err(refusal) => assert_eq!(rt; Some(refusal), filter_fault, "{text:?}"),
+        Err(metadata) => {
+            assert_eq!(rt; metadata.as_slice(), text);
+            Ok(false)
         }
     }
 }
 
+const KINDS: [(u16, bool, bool, bool, bool); 6] = [
+    (0, false, true, false, false),
+    (1, false, true, false, false),
+    (2, true, true, true, true),
+    (65533, true, true, true, true),
+    (65534, false, true, true, false),
+    (65535, false, true, false, false),
+];
+
 #[test]
 fn results_carry_what_their_kind_allows(rt: HostRuntime) -> Result<(), Fail> {
-    for (kind, is_agent, fits) in [
-        (Kind(0), false, [true, false, false]),
-        (Kind(1), false, [true, false, false]),
-        (Kind(2), true, [true, true, true]),
-        (Kind(65533), true, [true, true, true]),
-        (Kind(65534), false, [true, true, false]),
-        (Kind(65535), false, [true, false, false]),
-    ] {
-        assert_eq!(rt; kind.is_agent(), is_agent, "{kind:?}");
-        for (text, fits) in [b"".as_slice(), b"b".as_slice(), b"a.b".as_slice()]
-            .into_iter()
-            .zip(fits)
-        {
-            match PolicyResult::of(kind, Metadata::read(rt.alloc(), text)?) {
-                Ok(result) => {
-                    assert!(rt; fits, "{kind:?} {text:?}");
-                    assert_eq!(rt; result.kind(), kind);
-                    assert_eq!(rt; result.metadata().as_slice(), text);
-                    assert!(rt; result.copy()? == result);
-                }
-                Err(metadata) => {
-                    assert!(rt; !fits, "{kind:?} {text:?}");
-                    assert_eq!(rt; metadata.as_slice(), text);
-                }
-            }
-        }
+    for (number, is_agent, empty, word, dotted) in KINDS {
+        let kind = Kind(number);
+        assert_eq!(rt; kind.is_agent(), is_agent, "{number}");
+        assert_eq!(rt; carries(&rt, rt.alloc(), kind, b"")?, empty, "{number}");
+        assert_eq!(rt; carries(&rt, rt.alloc(), kind, b"b")?, word, "{number}");
+        assert_eq!(rt; carries(&rt, rt.alloc(), kind, b"a.b")?, dotted, "{number}");
     }
     Ok(())
 }
 
-fn key(alloc: Global, client: &[u8], user: &[u8], privilege: &[u8]) -> Result<Key, NameRefusal> {
+fn key(alloc: Global, client: &[u8], user: &[u8], privilege: &[u8]) -> Result<Key, Bad> {
     Ok(Key {
         client: Field::read(alloc, client)?,
         user: Field::read(alloc, user)?,
@@ -265,12 +240,7 @@ fn key(alloc: Global, client: &[u8], user: &[u8], privilege: &[u8]) -> Result<Ke
     })
 }
 
-fn filter(
-    alloc: Global,
-    client: &[u8],
-    user: &[u8],
-    privilege: &[u8],
-) -> Result<Filter, NameRefusal> {
+fn filter(alloc: Global, client: &[u8], user: &[u8], privilege: &[u8]) -> Result<Filter, Bad> {
     Ok(Filter {
         client: FilterField::read(alloc, client)?,
         user: FilterField::read(alloc, user)?,
@@ -278,38 +248,41 @@ fn filter(
     })
 }
 
+fn question(alloc: Global, name: &[u8]) -> Result<Question, Bad> {
+    Ok(Question {
+        client: Name::read(alloc, name)?,
+        user: Name::read(alloc, name)?,
+        privilege: Name::read(alloc, name)?,
+    })
+}
+
+// Whether a key with these fields matches the question of the name `n` in each field.
+fn matches_n(alloc: Global, client: &[u8], user: &[u8], privilege: &[u8]) -> Result<bool, Bad> {
+    let key = key(alloc, client, user, privilege)?;
+    Ok(key.matches(&question(alloc, b"n")?))
+}
+
 #[test]
 fn keys_match_where_each_field_is_the_wildcard_or_the_name(rt: HostRuntime) -> Result<(), Fail> {
-    let alloc = rt.alloc();
-    let question = Question {
-        client: Name::read(alloc, b"n")?,
-        user: Name::read(alloc, b"n")?,
-        privilege: Name::read(alloc, b"n")?,
-    };
     for (text, want) in [(b"*", true), (b"n", true), (b"m", false)] {
-        assert_eq!(rt;
-            key(alloc, text, b"*", b"n")?.matches(&question),
-            want,
-            "{text:?}"
-        );
-        assert_eq!(rt;
-            key(alloc, b"n", text, b"*")?.matches(&question),
-            want,
-            "{text:?}"
-        );
-        assert_eq!(rt;
-            key(alloc, b"*", b"n", text)?.matches(&question),
-            want,
-            "{text:?}"
-        );
+        assert_eq!(rt; matches_n(rt.alloc(), text, b"*", b"n")?, want, "{text:?}");
+        assert_eq!(rt; matches_n(rt.alloc(), b"n", text, b"*")?, want, "{text:?}");
+        assert_eq!(rt; matches_n(rt.alloc(), b"*", b"n", text)?, want, "{text:?}");
     }
-    assert!(rt; question.copy()? == question);
     Ok(())
+}
+
+// Whether the filter field admits the key's as client, as user and as privilege, beside fields that it admits.
+fn admits(alloc: Global, asked: &[u8], text: &[u8]) -> Result<[bool; 3], Bad> {
+    Ok([
+        filter(alloc, asked, b"*", b"n")?.admits(&key(alloc, text, b"*", b"n")?),
+        filter(alloc, b"n", asked, b"*")?.admits(&key(alloc, b"n", text, b"*")?),
+        filter(alloc, b"#", b"#", asked)?.admits(&key(alloc, b"m", b"*", text)?),
+    ])
 }
 
 #[test]
 fn filters_admit_every_field_or_the_same(rt: HostRuntime) -> Result<(), Fail> {
-    let alloc = rt.alloc();
     for (asked, text, want) in [
         (b"#", b"*", true),
         (b"#", b"n", true),
@@ -319,141 +292,151 @@ fn filters_admit_every_field_or_the_same(rt: HostRuntime) -> Result<(), Fail> {
         (b"n", b"n", true),
         (b"n", b"m", false),
     ] {
-        let at_client = filter(alloc, asked, b"*", b"n")?;
         assert_eq!(rt;
-            at_client.admits(&key(alloc, text, b"*", b"n")?),
-            want,
+            admits(rt.alloc(), asked, text)?,
+            [want, want, want],
             "{asked:?} {text:?}"
         );
-        let at_user = filter(alloc, b"n", asked, b"*")?;
-        assert_eq!(rt;
-            at_user.admits(&key(alloc, b"n", text, b"*")?),
-            want,
-            "{asked:?} {text:?}"
-        );
-        let at_privilege = filter(alloc, b"#", b"#", asked)?;
-        assert_eq!(rt;
-            at_privilege.admits(&key(alloc, b"m", b"*", text)?),
-            want,
-            "{asked:?} {text:?}"
-        );
-        assert!(rt; at_user.copy()? == at_user);
     }
     Ok(())
 }
+
+// In their order: `*` stands between `!` and the letters, and a text before those that it begins.
+const KEYS: [(&[u8], &[u8], &[u8]); 8] = [
+    (b"!", b"~", b"~"),
+    (b"*", b"!", b"~"),
+    (b"*", b"*", b"!"),
+    (b"*", b"*", b"*"),
+    (b"*", b"*", b"**"),
+    (b"*", b"A", b"*"),
+    (b"A", b"*", b"*"),
+    (b"AA", b"!", b"!"),
+];
 
 #[test]
 fn keys_are_in_the_order_of_their_texts(rt: HostRuntime) -> Result<(), Fail> {
-    let alloc = rt.alloc();
-    let mut below = key(alloc, b"!", b"~", b"~")?;
-    for (client, user, privilege) in [
-        (b"*".as_slice(), b"!".as_slice(), b"~".as_slice()),
-        (b"*".as_slice(), b"*".as_slice(), b"!".as_slice()),
-        (b"*".as_slice(), b"*".as_slice(), b"*".as_slice()),
-        (b"*".as_slice(), b"*".as_slice(), b"**".as_slice()),
-        (b"*".as_slice(), b"A".as_slice(), b"*".as_slice()),
-        (b"A".as_slice(), b"*".as_slice(), b"*".as_slice()),
-        (b"AA".as_slice(), b"*".as_slice(), b"*".as_slice()),
-        (b"a".as_slice(), b"!".as_slice(), b"!".as_slice()),
-    ] {
-        let above = key(alloc, client, user, privilege)?;
-        assert_eq!(rt; below.cmp(&above), Ordering::Less, "{above:?}");
-        assert_eq!(rt; above.cmp(&below), Ordering::Greater, "{above:?}");
-        assert!(rt; above != below, "{above:?}");
-        assert!(rt; above.copy()? == above, "{above:?}");
-        below = above;
+    for (place, low) in KEYS.iter().enumerate() {
+        let low = key(rt.alloc(), low.0, low.1, low.2)?;
+        for (other, high) in KEYS.iter().enumerate() {
+            let high = key(rt.alloc(), high.0, high.1, high.2)?;
+            assert_eq!(rt; low.cmp(&high), place.cmp(&other), "{low:?} {high:?}");
+            assert_eq!(rt; low == high, place == other, "{low:?} {high:?}");
+        }
     }
     Ok(())
 }
+
+// None where the kind does not carry the metadata.
+fn result(alloc: Global, kind: u16, text: &[u8]) -> Result<Option<PolicyResult>, Meta> {
+    Ok(PolicyResult::of(Kind(kind), Metadata::read(alloc, text)?).ok())
+}
+
+// In their order.
+const RESULTS: [(u16, &[u8]); 8] = [
+    (0, b""),
+    (1, b""),
+    (2, b"b"),
+    (3, b"a"),
+    (3, b"aa"),
+    (3, b"b"),
+    (65534, b""),
+    (65535, b""),
+];
 
 #[test]
 fn results_are_in_the_order_of_kind_and_metadata(rt: HostRuntime) -> Result<(), Fail> {
-    let alloc = rt.alloc();
-    let mut below = PolicyResult::of(Kind::DENY, Metadata::read(alloc, b"")?)
-        .ok()
-        .ok_or("deny")?;
-    for (kind, text) in [
-        (Kind::NONE, b"".as_slice()),
-        (Kind(2), b"b".as_slice()),
-        (Kind(3), b"a".as_slice()),
-        (Kind(3), b"aa".as_slice()),
-        (Kind(3), b"b".as_slice()),
-        (Kind::BUCKET, b"".as_slice()),
-        (Kind::BUCKET, b"b".as_slice()),
-        (Kind::ALLOW, b"".as_slice()),
-    ] {
-        let above = PolicyResult::of(kind, Metadata::read(alloc, text)?)
-            .ok()
-            .ok_or("above")?;
-        assert_eq!(rt; below.cmp(&above), Ordering::Less, "{kind:?} {text:?}");
-        assert_eq!(rt; above.cmp(&below), Ordering::Greater, "{kind:?} {text:?}");
-        below = above;
+    for (place, low) in RESULTS.iter().enumerate() {
+        let low = result(rt.alloc(), low.0, low.1)?.ok_or("low")?;
+        for (other, high) in RESULTS.iter().enumerate() {
+            let high = result(rt.alloc(), high.0, high.1)?.ok_or("high")?;
+            assert_eq!(rt; low.cmp(&high), place.cmp(&other), "{low:?} {high:?}");
+            assert_eq!(rt; low == high, place == other, "{low:?} {high:?}");
+        }
     }
     Ok(())
 }
 
-#[test]
-fn copies_and_short_texts_are_equal(rt: HostRuntime) -> Result<(), Fail> {
-    let alloc = rt.alloc();
+fn copies_policy(alloc: Global) -> Result<bool, Fail> {
     let policy = Policy {
         key: key(alloc, b"c", b"*", b"p")?,
-        result: PolicyResult::of(Kind::ALLOW, Metadata::read(alloc, b"")?)
-            .ok()
-            .ok_or("allow")?,
+        result: result(alloc, 65535, b"")?.ok_or("allow")?,
     };
-    assert!(rt; policy.copy()? == policy);
-    let bucket = BucketName::read(alloc, b"b")?;
+    Ok(policy.copy()? == policy)
+}
+
+#[test]
+fn copies_are_equal(rt: HostRuntime) -> Result<(), Fail> {
+    assert!(rt; copies_policy(rt.alloc())?);
+    let filter = filter(rt.alloc(), b"#", b"*", b"n")?;
+    assert!(rt; filter.copy()? == filter);
+    let question = question(rt.alloc(), b"n")?;
+    assert!(rt; question.copy()? == question);
+    let bucket = BucketName::read(rt.alloc(), b"b")?;
     assert!(rt; bucket.copy()? == bucket);
-    assert!(rt; BucketName::read(alloc, b"")? < bucket);
-    for text in [b"".as_slice(), b"a b".as_slice(), b"a b;".as_slice()] {
-        let short = Short::of(text);
-        assert_eq!(rt; short.as_slice(), text);
-        assert!(rt; short == Short::of(text));
-        assert!(rt; short != Short::of(b"other"));
-    }
-    let most = filled(alloc, 0xFF, 255)?;
-    assert_eq!(rt; most.len(), 255);
-    assert_eq!(rt; Short::of(&most).as_slice(), most.as_slice());
+    assert_eq!(rt;
+        bucket.cmp(&BucketName::read(rt.alloc(), b"")?),
+        Ordering::Greater
+    );
     Ok(())
 }
+
+#[test]
+fn short_texts_keep_their_bytes(rt: HostRuntime) -> Result<(), Fail> {
+    for count in [0, 1, 254, 255] {
+        let text = filled(rt.alloc(), 0xFF, count)?;
+        assert!(rt; text.len() <= 255);
+        let short = Short::of(&text);
+        let again = short;
+        assert_eq!(rt; again.as_slice(), text.as_slice());
+        assert!(rt; again == short);
+        assert!(rt; again != Short::of(b"other"));
+    }
+    Ok(())
+}
+
+fn says<E: Display>(alloc: Global, refusal: &E, want: &str) -> Result<bool, AllocError> {
+    Ok(format!(in alloc; "{refusal}")?.as_str() == want)
+}
+
+const NAME_REFUSALS: [(Bad, &str); 4] = [
+    (Bad::Empty, "a name has at least one byte"),
+    (Bad::TooLong, "a name has at most 255 bytes"),
+    (
+        Bad::BadByte(3),
+        "byte 3 of the name, counted from 0, is a space, a semicolon or no printable ASCII",
+    ),
+    (
+        Bad::Reserved,
+        "`*` and `#` alone are no names, but stand for any name and for every field",
+    ),
+];
+
+const BUCKET_NAME_REFUSALS: [(Bucket, &str); 2] = [
+    (Bucket::TooLong, "a bucket's name has at most 64 bytes"),
+    (
+        Bucket::BadByte(0),
+        "byte 0 of the bucket's name, counted from 0, is no letter, digit, `_` or `-`",
+    ),
+];
+
+const METADATA_REFUSALS: [(Meta, &str); 2] = [
+    (Meta::TooLong, "metadata has at most 255 bytes"),
+    (
+        Meta::BadByte(254),
+        "byte 254 of the metadata, counted from 0, is a space, a semicolon or no printable ASCII",
+    ),
+];
 
 #[test]
 fn refusals_say_what_is_wrong(rt: HostRuntime) -> Result<(), Fail> {
-    let alloc = rt.alloc();
-    for (refusal, want) in [
-        (NameRefusal::Empty, "a name has at least one byte"),
-        (NameRefusal::TooLong, "a name has at most 255 bytes"),
-        (
-            NameRefusal::BadByte(3),
-            "byte 3 of the name, counted from 0, is a space, a semicolon or no printable ASCII",
-        ),
-        (
-            NameRefusal::Reserved,
-            "`*` and `#` alone are no names, but stand for any name and for every field",
-        ),
-    ] {
-        assert_eq!(rt; format!(in alloc; "{refusal}")?.as_str(), want);
+    for (refusal, want) in NAME_REFUSALS {
+        assert!(rt; says(rt.alloc(), &refusal, want)?, "{want}");
     }
-    for (refusal, want) in [
-        (
-            BucketNameRefusal::TooLong,
-            "a bucket's name has at most 64 bytes",
-        ),
-        (
-            BucketNameRefusal::BadByte(0),
-            "byte 0 of the bucket's name, counted from 0, is no letter, digit, `_` or `-`",
-        ),
-    ] {
-        assert_eq!(rt; format!(in alloc; "{refusal}")?.as_str(), want);
+    for (refusal, want) in BUCKET_NAME_REFUSALS {
+        assert!(rt; says(rt.alloc(), &refusal, want)?, "{want}");
     }
-    for (refusal, want) in [
-        (MetadataRefusal::TooLong, "metadata has at most 255 bytes"),
-        (
-            MetadataRefusal::BadByte(254),
-            "byte 254 of the metadata, counted from 0, is a space, a semicolon or no printable ASCII",
-        ),
-    ] {
-        assert_eq!(rt; format!(in alloc; "{refusal}")?.as_str(), want);
+    for (refusal, want) in METADATA_REFUSALS {
+        assert!(rt; says(rt.alloc(), &refusal, want)?, "{want}");
     }
     Ok(())
 }
