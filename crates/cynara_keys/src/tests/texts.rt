@@ -55,7 +55,7 @@ const TEXTS: [(&[u8], Option<Bad>, Option<Bucket>, Option<Meta>); 10] = [
         Some(Meta::BadByte(0)),
     ),
     (
-        b"a b",
+        b"a b;",
         Some(Bad::BadByte(1)),
         Some(Bucket::BadByte(1)),
         Some(Meta::BadByte(1)),
@@ -213,7 +213,8 @@ fn says<E: Display>(alloc: Global, refusal: &E, want: &str) -> Result<bool, Allo
     Ok(format!(in alloc; "{refusal}")?.as_str() == want)
 }
 
-const NAME_REFUSALS: [(Bad, &str); 4] = [
+const NAME_REFUSALS: [(Bad, &str); 5] = [
+    (Bad::Memory(AllocError), "out of memory"),
     (Bad::Empty, "a name has at least one byte"),
     (Bad::TooLong, "a name has at most 255 bytes"),
     (
@@ -226,7 +227,8 @@ const NAME_REFUSALS: [(Bad, &str); 4] = [
     ),
 ];
 
-const BUCKET_NAME_REFUSALS: [(Bucket, &str); 2] = [
+const BUCKET_NAME_REFUSALS: [(Bucket, &str); 3] = [
+    (Bucket::Memory(AllocError), "out of memory"),
     (Bucket::TooLong, "a bucket's name has at most 64 bytes"),
     (
         Bucket::BadByte(0),
@@ -234,7 +236,8 @@ const BUCKET_NAME_REFUSALS: [(Bucket, &str); 2] = [
     ),
 ];
 
-const METADATA_REFUSALS: [(Meta, &str); 2] = [
+const METADATA_REFUSALS: [(Meta, &str); 3] = [
+    (Meta::Memory(AllocError), "out of memory"),
     (Meta::TooLong, "metadata has at most 255 bytes"),
     (
         Meta::BadByte(254),
