@@ -1,10 +1,9 @@
 -- The laws of how texts, fields, keys and results compare, for this crate's comparisons and for searches in the crates above.
-use Rattle.std.proofs.Common.{◌≡◌, ℕ, ◌==◌, Bool, true, ◌&&◌, List, refl, sym, ap, ◌∙◌, arith}
-use Rattle.std.specs.declared.cmp.Ordering.{Ordering}
+use Rattle.std.proofs.Common.{◌≡◌, ℕ, true, List, sym, ap, ◌∙◌}
 use Rattle.std.specs.declared.cmp.Ordering.TheVariants.{Equal}
-use Rattle.std.specs.Cmp.{IsTotalOrder, IsEquivalence, IsPartialOrder, po, both_tied, Equal-is, unsigned_ties, first_so, second_so}
+use Rattle.std.specs.Cmp.{IsTotalOrder, IsEquivalence, IsPartialOrder, po, both_tied, unsigned_ties, first_so, second_so}
 use Rattle.std.specs.Cmp.Lexicographic.{texts_ties, bytes_decides}
-use Rattle.std.specs.Ordering.{on, nat_cmp, is_eq, as_partial_cmp}
+use Rattle.std.specs.Ordering.{is_eq, as_partial_cmp}
 use Rattle.std.proofs.lemmas.Cmp.{nat_cmp_total, nat_eq_equiv, nat_list_cmp_total, nat_list_eq_equiv, on_total, on_equiv, then_total, and_equiv}
 use borrow.Author.Tests.{eqb-true}
 use Rattle.cynara_keys.specs.Text.{same_text, text_cmp}

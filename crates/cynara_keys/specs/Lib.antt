@@ -3,5 +3,6 @@ pub mod Name
 pub mod BucketName
 pub mod Metadata
 pub mod Field
+pub mod Short
 pub mod Key
 pub mod PolicyResult

@@ -21,7 +21,7 @@ pub enum BucketNameRefusal {
     #[error("a bucket's name has at most 64 bytes")]
     TooLong,
     /// The place of the first such byte, from 0.
-    #[error("byte {0} of a bucket's name is no letter, digit, `_` or `-`")]
+    #[error("byte {0} of the bucket's name, counted from 0, is no letter, digit, `_` or `-`")]
     BadByte(usize),
     #[error("out of memory")]
     Memory(AllocError),
@@ -54,7 +54,7 @@ impl BucketName {
         }
     }
 
-    /// Reads a bucket's name. Refuses, in this order, `TooLong` and `BadByte`.
+    /// Reads a bucket's name from its bytes, all of them. Refuses, in this order, `TooLong` and `BadByte`.
     pub fn read(alloc: Global, bytes: &[u8]) -> Result<BucketName, BucketNameRefusal>
         ensures text { IfOk result (λ text. text ≡ bytes.now) }
         ensures accepted { OnOk result (bucket_name_fault bytes.now ≡ None) }
@@ -66,13 +66,11 @@ impl BucketName {
         if let Some(at) = first_no_word_byte(bytes) {
             return Err(BucketNameRefusal::BadByte(at));
         }
-        match bytes.to_vec(alloc) {
-            Ok(bytes) => Ok(BucketName { bytes }),
-            Err(error) => Err(BucketNameRefusal::Memory(error)),
-        }
+        let bytes = bytes.to_vec(alloc).map_err(BucketNameRefusal::Memory)?;
+        Ok(BucketName { bytes })
     }
 
-    /// The bytes of the bucket's name.
+    /// The bytes of the bucket's name, as they were read.
     pub fn as_slice(&self) -> &[u8]
         ensures bytes { result.now ≡ self.now }
         ensures text { bucket_name_fault self.now ≡ None }
@@ -80,7 +78,7 @@ impl BucketName {
         &self.bytes
     }
 
-    /// An equal value.
+    /// An equal name in memory of its own.
     pub fn copy(&self) -> Result<BucketName, AllocError>
         ensures { IfOk result (λ copy. copy ≡ self.now) }
     {

@@ -11,7 +11,7 @@ use crate::{Name, NameRefusal};
 use std::alloc::{AllocError, Global};
 use std::cmp::Ordering;
 
-/// One field of a key: the wildcard `*`, or one name.
+/// One field of a key: the wildcard `*`, which matches each name, or one name. Fields are ordered by their texts.
 #[derive(Debug, Drop)]
 pub enum Field {
     Any,
@@ -28,13 +28,10 @@ impl Field {
         if text == b"*".as_slice() {
             return Ok(Field::Any);
         }
-        match Name::read(alloc, text) {
-            Ok(name) => Ok(Field::Exact(name)),
-            Err(refusal) => Err(refusal),
-        }
+        Ok(Field::Exact(Name::read(alloc, text)?))
     }
 
-    /// The text: `*` for the wildcard.
+    /// The one text of the field: `*` for the wildcard, and else the name.
     pub fn as_slice(&self) -> &[u8]
         ensures { result.now ≡ field_text self.now }
     {
@@ -54,7 +51,7 @@ impl Field {
         }
     }
 
-    /// An equal field.
+    /// An equal field in memory of its own.
     pub fn copy(&self) -> Result<Field, AllocError>
         ensures { IfOk result (λ copy. copy ≡ self.now) }
     {
@@ -104,7 +101,7 @@ impl Ord for Field {
 }
 
 /// One field of a filter: `#` for every field, `*` for the stored wildcard alone, or one name.
-#[derive(Debug, Drop)]
+#[derive(Debug, Drop, PartialEq, Eq)]
 pub enum FilterField {
     Every,
     Any,
@@ -124,13 +121,10 @@ impl FilterField {
         if text == b"*".as_slice() {
             return Ok(FilterField::Any);
         }
-        match Name::read(alloc, text) {
-            Ok(name) => Ok(FilterField::Exact(name)),
-            Err(refusal) => Err(refusal),
-        }
+        Ok(FilterField::Exact(Name::read(alloc, text)?))
     }
 
-    /// The text: `#` for every field, `*` for the stored wildcard.
+    /// The one text of the field: `#` for every field, `*` for the stored wildcard, and else the name.
     pub fn as_slice(&self) -> &[u8]
         ensures { result.now ≡ filter_field_text self.now }
     {
@@ -153,7 +147,7 @@ impl FilterField {
         }
     }
 
-    /// An equal field.
+    /// An equal field in memory of its own.
     pub fn copy(&self) -> Result<FilterField, AllocError>
         ensures { IfOk result (λ copy. copy ≡ self.now) }
     {

@@ -10,7 +10,8 @@ use crate::{Field, FilterField, Name, PolicyResult};
 use std::alloc::AllocError;
 use std::cmp::Ordering;
 
-/// What a policy is kept under: a client, a user and a privilege, each a name or the wildcard.
+/// What a policy is kept under: a client, a user and a privilege, each a name or the wildcard. Keys are ordered by the
+/// texts of client, user and privilege in turn.
 #[derive(Debug, Drop)]
 pub struct Key {
     pub client: Field,
@@ -18,31 +19,31 @@ pub struct Key {
     pub privilege: Field,
 }
 
-/// Which keys a listing or an erasing concerns.
-#[derive(Debug, Drop)]
+/// Which keys a listing or an erasing of policies concerns.
+#[derive(Debug, Drop, PartialEq, Eq)]
 pub struct Filter {
     pub client: FilterField,
     pub user: FilterField,
     pub privilege: FilterField,
 }
 
-/// Whether this client may use this privilege for this user.
-#[derive(Debug, Drop)]
+/// What a check asks: whether this client may use this privilege for this user.
+#[derive(Debug, Drop, PartialEq, Eq)]
 pub struct Question {
     pub client: Name,
     pub user: Name,
     pub privilege: Name,
 }
 
-/// A result under its key.
-#[derive(Debug, Drop)]
+/// A policy: the result that stands under a key.
+#[derive(Debug, Drop, PartialEq, Eq)]
 pub struct Policy {
     pub key: Key,
     pub result: PolicyResult,
 }
 
 impl Key {
-    /// Whether each field is the wildcard or the question's.
+    /// Whether the policy under this key speaks of the question: each field is the wildcard or the question's name.
     pub fn matches(&self, question: &Question) -> bool
         ensures { result ≡ key_matches self.now question.now }
     {
@@ -51,7 +52,7 @@ impl Key {
             && self.privilege.matches(&question.privilege)
     }
 
-    /// An equal key.
+    /// An equal key in memory of its own.
     pub fn copy(&self) -> Result<Key, AllocError>
         ensures { IfOk result (λ copy. copy ≡ self.now) }
     {
@@ -99,12 +100,13 @@ impl Ord for Key {
     fn cmp(&self, other: &Key) -> Ordering {
         self.client
             .cmp(&other.client)
-            .then_with(|| self.user.cmp(&other.user).then_with(|| self.privilege.cmp(&other.privilege)))
+            .then_with(|| self.user.cmp(&other.user))
+            .then_with(|| self.privilege.cmp(&other.privilege))
     }
 }
 
 impl Filter {
-    /// Whether each field of the filter admits the key's.
+    /// Whether the filter takes the key: each field is `#`, or both are `*`, or both are the same name.
     pub fn admits(&self, key: &Key) -> bool
         ensures { result ≡ filter_admits self.now key.now }
     {
@@ -113,7 +115,7 @@ impl Filter {
             && self.privilege.admits(&key.privilege)
     }
 
-    /// An equal filter.
+    /// An equal filter in memory of its own.
     pub fn copy(&self) -> Result<Filter, AllocError>
         ensures { IfOk result (λ copy. copy ≡ self.now) }
     {
@@ -126,7 +128,7 @@ impl Filter {
 }
 
 impl Question {
-    /// An equal question.
+    /// An equal question in memory of its own.
     pub fn copy(&self) -> Result<Question, AllocError>
         ensures { IfOk result (λ copy. copy ≡ self.now) }
     {
@@ -139,7 +141,7 @@ impl Question {
 }
 
 impl Policy {
-    /// An equal policy.
+    /// An equal policy in memory of its own.
     pub fn copy(&self) -> Result<Policy, AllocError>
         ensures { IfOk result (λ copy. copy ≡ self.now) }
     {

@@ -22,3 +22,6 @@ pub use metadata_texts::{Metadata, MetadataRefusal};
 pub use names::{Name, NameRefusal};
 pub use results::{Kind, PolicyResult};
 pub use short_texts::Short;
+
+#[cfg(test)]
+mod tests;

@@ -1,4 +1,4 @@
-/// What a limit counts. Limits are tested in this order.
+/// What a limit of the policy state counts. Limits are tested in this order.
 #[derive(Clone, Copy, Debug, PartialEq, Eq, PartialOrd, Ord)]
 pub enum Counted {
     Commits,

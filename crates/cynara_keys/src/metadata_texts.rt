@@ -17,13 +17,14 @@ pub enum MetadataRefusal {
     #[error("metadata has at most 255 bytes")]
     TooLong,
     /// The place of the first such byte, from 0.
-    #[error("byte {0} of the metadata is no printable ASCII character, or is a semicolon")]
+    #[error("byte {0} of the metadata, counted from 0, is a space, a semicolon or no printable ASCII")]
     BadByte(usize),
     #[error("out of memory")]
     Memory(AllocError),
 }
 
-/// What a result carries beside its kind: 0 to 255 bytes of printable ASCII without the space and the semicolon.
+/// What a result carries beside its kind, as the name of a bucket or words for an agent: 0 to 255 bytes of printable
+/// ASCII without the space and the semicolon.
 #[derive(Debug, Drop)]
 pub struct Metadata {
     bytes: Vec<u8>,
@@ -50,7 +51,7 @@ impl Metadata {
         }
     }
 
-    /// Reads metadata. Refuses, in this order, `TooLong` and `BadByte`.
+    /// Reads metadata from its bytes, all of them. Refuses, in this order, `TooLong` and `BadByte`.
     pub fn read(alloc: Global, bytes: &[u8]) -> Result<Metadata, MetadataRefusal>
         ensures text { IfOk result (λ text. text ≡ bytes.now) }
         ensures accepted { OnOk result (metadata_fault bytes.now ≡ None) }
@@ -62,13 +63,11 @@ impl Metadata {
         if let Some(at) = first_not_visible(bytes) {
             return Err(MetadataRefusal::BadByte(at));
         }
-        match bytes.to_vec(alloc) {
-            Ok(bytes) => Ok(Metadata { bytes }),
-            Err(error) => Err(MetadataRefusal::Memory(error)),
-        }
+        let bytes = bytes.to_vec(alloc).map_err(MetadataRefusal::Memory)?;
+        Ok(Metadata { bytes })
     }
 
-    /// The bytes of the metadata.
+    /// The bytes of the metadata, as they were read.
     pub fn as_slice(&self) -> &[u8]
         ensures bytes { result.now ≡ self.now }
         ensures text { metadata_fault self.now ≡ None }
@@ -76,7 +75,7 @@ impl Metadata {
         &self.bytes
     }
 
-    /// An equal value.
+    /// Equal metadata in memory of its own.
     pub fn copy(&self) -> Result<Metadata, AllocError>
         ensures { IfOk result (λ copy. copy ≡ self.now) }
     {

@@ -19,9 +19,9 @@ pub enum NameRefusal {
     #[error("a name has at most 255 bytes")]
     TooLong,
     /// The place of the first such byte, from 0.
-    #[error("byte {0} of a name is no printable ASCII character, or is a semicolon")]
+    #[error("byte {0} of the name, counted from 0, is a space, a semicolon or no printable ASCII")]
     BadByte(usize),
-    #[error("`*` and `#` alone are no names")]
+    #[error("`*` and `#` alone are no names, but stand for any name and for every field")]
     Reserved,
     #[error("out of memory")]
     Memory(AllocError),
@@ -46,7 +46,7 @@ impl Model for Name {
 }
 
 impl Name {
-    /// Reads a name. Refuses, in this order, `Empty`, `TooLong`, `BadByte` and `Reserved`.
+    /// Reads a name from its bytes, all of them. Refuses, in this order, `Empty`, `TooLong`, `BadByte` and `Reserved`.
     pub fn read(alloc: Global, bytes: &[u8]) -> Result<Name, NameRefusal>
         ensures name { IfOk result (λ name. name ≡ bytes.now) }
         ensures accepted { OnOk result (name_fault bytes.now ≡ None) }
@@ -64,13 +64,11 @@ impl Name {
         if matches!(bytes, b"*" | b"#") {
             return Err(NameRefusal::Reserved);
         }
-        match bytes.to_vec(alloc) {
-            Ok(bytes) => Ok(Name { bytes }),
-            Err(error) => Err(NameRefusal::Memory(error)),
-        }
+        let bytes = bytes.to_vec(alloc).map_err(NameRefusal::Memory)?;
+        Ok(Name { bytes })
     }
 
-    /// The bytes of the name.
+    /// The bytes of the name, as they were read.
     pub fn as_slice(&self) -> &[u8]
         ensures bytes { result.now ≡ self.now }
         ensures name { name_fault self.now ≡ None }
@@ -78,7 +76,7 @@ impl Name {
         &self.bytes
     }
 
-    /// An equal name.
+    /// An equal name in memory of its own.
     pub fn copy(&self) -> Result<Name, AllocError>
         ensures { IfOk result (λ copy. copy ≡ self.now) }
     {

@@ -19,15 +19,19 @@ use std::marker::Model;
 pub struct Kind(pub u16);
 
 impl Kind {
+    /// The use of the privilege is refused.
     pub const DENY: Kind = Kind(0);
 
+    /// Nothing is decided: such a result is left out where results are weighed.
     pub const NONE: Kind = Kind(1);
 
+    /// The bucket that the metadata names decides.
     pub const BUCKET: Kind = Kind(65534);
 
+    /// The use of the privilege is granted.
     pub const ALLOW: Kind = Kind(65535);
 
-    /// Whether an agent decides.
+    /// Whether an agent decides, which is so from 2 to 65533.
     pub fn is_agent(self) -> bool
         ensures { result ≡ spec.is_agent self.0 }
     {
@@ -35,7 +39,8 @@ impl Kind {
     }
 }
 
-/// What a policy decides: a kind, and metadata where the kind may have some.
+/// What a policy decides: a kind, and metadata where the kind may have some. Results are ordered by kind, and then by
+/// the bytes of the metadata.
 #[derive(Debug, Drop)]
 pub struct PolicyResult {
     kind: Kind,
@@ -54,8 +59,8 @@ impl Model for PolicyResult {
 }
 
 impl PolicyResult {
-    /// A result of this kind. Hands the metadata back exactly where the kind is DENY, NONE or ALLOW and there is
-    /// metadata, or where the kind is BUCKET and the metadata is no bucket's name.
+    /// A result of this kind with this metadata. Hands the metadata back exactly where the kind is DENY, NONE or ALLOW
+    /// and the metadata is not empty, or where the kind is BUCKET and the metadata is no bucket's name.
     pub fn of(kind: Kind, metadata: Metadata) -> Result<PolicyResult, Metadata>
         ensures result { IfOk result (λ made. made ≡ record { kind = kind.0; metadata = metadata }) }
         ensures accepted { IsOk result ↔ IsTrue (may_carry kind.0 metadata) }
@@ -83,12 +88,14 @@ impl PolicyResult {
         }
     }
 
+    /// The kind of the result.
     pub fn kind(&self) -> Kind
         ensures { result.0 ≡ self.now.kind }
     {
         self.kind
     }
 
+    /// The metadata of the result, empty where the kind has none.
     pub fn metadata(&self) -> &Metadata
         ensures metadata { result.now ≡ self.now.metadata }
         ensures carried { IsTrue (may_carry self.now.kind self.now.metadata) }
@@ -96,7 +103,7 @@ impl PolicyResult {
         &self.metadata
     }
 
-    /// An equal result.
+    /// An equal result in memory of its own.
     pub fn copy(&self) -> Result<PolicyResult, AllocError>
         ensures { IfOk result (λ copy. copy ≡ self.now) }
     {
@@ -141,10 +148,12 @@ impl Ord for PolicyResult {
     ghost matches_eq = { Prim.search (comparing, rules) };
 
     fn cmp(&self, other: &PolicyResult) -> Ordering {
-        self.kind.cmp(&other.kind).then_with(|| self.metadata.as_slice().cmp(other.metadata.as_slice()))
+        let by_kind = self.kind.cmp(&other.kind);
+        by_kind.then_with(|| self.metadata.as_slice().cmp(other.metadata.as_slice()))
     }
 }
 
+// Metadata keeps no `BucketName`, so the rule is tested on its bytes.
 fn is_bucket_name(bytes: &[u8]) -> bool
     ensures { result ≡ is_bucket_name bytes.now }
 {

@@ -1,28 +1,38 @@
 ghost use Rattle.std.specs.Prelude.{◌≡◌, ◌≤◌, length};
+ghost use Rattle.cynara_keys.specs.Text.{same_text};
+ghost use Rattle.std.specs.Cmp.{partial_equiv_from_equiv};
+ghost use Rattle.std.proofs.lemmas.Cmp.{nat_list_eq_equiv};
 
 use std::marker::Model;
 
 const MOST_BYTES: usize = 255;
 
-/// A list of at most 255 bytes in a fixed array, for values that are made where no memory may be taken.
-#[derive(Debug, Drop)]
+/// A list of at most 255 bytes in a fixed array, as a record of a name or of metadata where no memory may be taken.
+#[derive(Clone, Copy, Debug)]
 pub struct Short {
-    length: usize,
+    count: usize,
     bytes: [u8; MOST_BYTES],
 }
 
 impl Model for Short {
-    ghost use Rattle.std.specs.Prelude.{◌≤◌, List, ℕ, take};
+    ghost use Rattle.std.specs.Prelude.{List, ℕ, take, length};
+    ghost use Rattle.std.proofs.Common.{sym};
+    ghost use Rattle.cynara_keys.specs.Short.{padded, HoldsText};
 
     ghost Value = { List ℕ };
 
-    ghost view = { λ short. take short.length short.bytes };
+    ghost view = { λ short. take short.count short.bytes };
 
-    ghost invariant = { λ short. short.length ≤ 255 };
+    // Zeros behind the text make the array a function of the text.
+    ghost invariant = { λ short. HoldsText short.count short.bytes };
+
+    ghost inverse = { λ text. record { count = length text; bytes = padded text } };
+
+    ghost inverse_ok = { λ short h i. record { count = h.counted i; bytes = sym h.zeros i } };
 }
 
 impl Short {
-    /// The bytes, of which there are at most 255.
+    /// A copy of the bytes, of which there are at most 255. Takes no memory.
     pub fn of(bytes: &[u8]) -> Short
         requires { length bytes.now ≤ 255 }
         ensures { result ≡ bytes.now }
@@ -30,16 +40,30 @@ impl Short {
         let mut array = [0; MOST_BYTES];
         array[..bytes.len()].copy_from_slice(bytes);
         Short {
-            length: bytes.len(),
+            count: bytes.len(),
             bytes: array,
         }
     }
 
-    /// The bytes.
+    /// The bytes, as they were given.
     pub fn as_slice(&self) -> &[u8]
         ensures bytes { result.now ≡ self.now }
         ensures short { length self.now ≤ 255 }
     {
-        &self.bytes[..self.length]
+        &self.bytes[..self.count]
     }
+}
+
+impl PartialEq for Short {
+    ghost eq = { same_text };
+
+    ghost laws = { partial_equiv_from_equiv nat_list_eq_equiv };
+
+    fn eq(&self, other: &Short) -> bool {
+        self.as_slice() == other.as_slice()
+    }
+}
+
+impl Eq for Short {
+    ghost laws = { nat_list_eq_equiv };
 }
