@@ -4,11 +4,11 @@
 //! results are ordered by their keys, is this project's profile.
 #![tactic(auto)]
 
-ghost use Rattle.std.specs.Prelude.{◌≡◌, ◌≢◌, ℕ, ◌<◌, ◌≤◌, length, None, IfSome, IfOk, IfErr, MatchOption, MatchResult, slice_get};
+ghost use Rattle.std.specs.Prelude.{◌≡◌, ◌≢◌, ℕ, ◌<◌, ◌≤◌, length, None, IfSome, IfNone, IfOk, IfErr, MatchOption, MatchResult, slice_get};
 ghost use Rattle.std.specs.List.{All};
 ghost use Rattle.std.specs.Ordering.{is_gt};
 ghost use Rattle.cynara_keys.specs.PolicyResult.{bucket};
-ghost use Rattle.bucket_eval.specs.Least.{counts, decision_cmp, least_policy};
+ghost use Rattle.bucket_eval.specs.Least.{counts, decision_cmp, least_policy, DecidesAmong, NoneCounts};
 ghost use Rattle.bucket_eval.specs.Rising.{IsRising, HasKeyAt, BelongsAt};
 
 use cynara_keys::{Key, Kind, Policy, Question};
@@ -18,6 +18,8 @@ use cynara_keys::{Key, Kind, Policy, Question};
 pub fn least(policies: &[Policy], question: &Question) -> Option<usize>
     requires { All (λ policy. policy.result.kind ≢ bucket) policies.now }
     ensures decides { MatchOption result (least_policy question.now policies.now ≡ None) (λ place. slice_get policies.now place ≡ least_policy question.now policies.now) }
+    ensures least { IfSome result (λ place. IfSome (slice_get policies.now place) (DecidesAmong question.now policies.now)) }
+    ensures none { IfNone result (NoneCounts question.now policies.now) }
     ensures in_range { IfSome result (λ place. place < length policies.now) }
     ensures first { IfSome result (λ place. (k : ℕ) → k < place → slice_get policies.now k ≢ least_policy question.now policies.now) }
 {
