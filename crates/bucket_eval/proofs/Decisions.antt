@@ -101,10 +101,11 @@ first-before : (question : Question) (policy : Policy) (policies : List Policy) 
 first-before question policy policies chosen false rest has none before is = (λ h. absurd (false≢true (sym has ∙ h)), before chosen is)
 first-before question policy policies chosen true None has none before is =
     let same : policy ≡ chosen = cc in
-    subst (NoneBefore question (policy ∷ policies)) same
-    (λ _. ap is_gt (tied_itself decision_total policy),
-     AllByRecursion-weaker (λ other. counts question other ≡ false) (λ other. counts question other ≡ true → is_gt (decision_cmp policy other) ≡ false)
-        (λ other silent h. absurd (false≢true (sym silent ∙ h))) policies (none refl))
+    subst (NoneBefore question (policy ∷ policies)) same (
+      λ _. ap is_gt (tied_itself decision_total policy),
+      AllByRecursion-weaker (λ other. counts question other ≡ false) (λ other. counts question other ≡ true → is_gt (decision_cmp policy other) ≡ false)
+          (λ other silent h. absurd (false≢true (sym silent ∙ h))) policies (none refl),
+    )
 first-before question policy policies chosen true (Some other) has none before is =
     between (is_gt (decision_cmp policy other)) refl is
   where
@@ -112,6 +113,7 @@ first-before question policy policies chosen true (Some other) has none before i
     after-before there Less turned h = absurd (false≢true h)
     after-before there Equal turned h = absurd (false≢true h)
     after-before there Greater turned h = ap is_gt turned
+
     between : (after : Bool) → is_gt (decision_cmp policy other) ≡ after → cond after (Some other) (Some policy) ≡ Some chosen →
         NoneBefore question (policy ∷ policies) chosen
     between true after e =
@@ -120,11 +122,12 @@ first-before question policy policies chosen true (Some other) has none before i
         (λ _. after-before (decision_cmp other policy) (decision_cmp policy other) (decision_total.antisymm other policy) after, before other refl)
     between false after e =
         let same : policy ≡ chosen = cc in
-        subst (NoneBefore question (policy ∷ policies)) same
-        (λ _. ap is_gt (tied_itself decision_total policy),
-         AllByRecursion-weaker (λ later. counts question later ≡ true → is_gt (decision_cmp other later) ≡ false)
-            (λ later. counts question later ≡ true → is_gt (decision_cmp policy later) ≡ false)
-            (λ later behind h. upto decision_total policy other later after (behind h)) policies (before other refl))
+        subst (NoneBefore question (policy ∷ policies)) same (
+          λ _. ap is_gt (tied_itself decision_total policy),
+          AllByRecursion-weaker (λ later. counts question later ≡ true → is_gt (decision_cmp other later) ≡ false)
+              (λ later. counts question later ≡ true → is_gt (decision_cmp policy later) ≡ false)
+              (λ later behind h. upto decision_total policy other later after (behind h)) policies (before other refl),
+        )
 
 least_policy-before : (question : Question) (policies : List Policy) (chosen : Policy) → least_policy question policies ≡ Some chosen → NoneBefore question policies chosen
 least_policy-before question [] chosen is = tt

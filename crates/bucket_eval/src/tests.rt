@@ -7,8 +7,11 @@ use std::alloc::Global;
 use std::test::Fail;
 
 const ALLOW: u16 = 65535;
+
 const AGENT: u16 = 7;
+
 const NONE: u16 = 1;
+
 const DENY: u16 = 0;
 
 // A policy's client, user and privilege, its kind and its metadata.
@@ -38,19 +41,31 @@ fn the_least_result_decides(rt: HostRuntime) -> Result<(), Fail> {
     let cases: [(&[Row<'static>], Option<usize>); 11] = [
         // The least kind, and not the first policy or the most specific one. An agent stands between.
         (&[(own, ALLOW, ""), (all, DENY, "")], Some(1)),
-        (&[(own, ALLOW, ""), (all, AGENT, "x"), (user, ALLOW, "")], Some(1)),
-        (&[(own, AGENT, "x"), (user, DENY, ""), (all, ALLOW, "")], Some(1)),
+        (
+            &[(own, ALLOW, ""), (all, AGENT, "x"), (user, ALLOW, "")],
+            Some(1),
+        ),
+        (
+            &[(own, AGENT, "x"), (user, DENY, ""), (all, ALLOW, "")],
+            Some(1),
+        ),
         // NONE is left out.
         (&[(own, NONE, ""), (all, ALLOW, "")], Some(1)),
         (&[(own, NONE, "")], None),
         // Nothing matches.
-        (&[(["d", "u", "p"], DENY, ""), (["c", "u", "q"], DENY, "")], None),
+        (
+            &[(["d", "u", "p"], DENY, ""), (["c", "u", "q"], DENY, "")],
+            None,
+        ),
         (&[], None),
         // Equal kinds by metadata.
         (&[(all, AGENT, "b"), (own, AGENT, "a")], Some(1)),
         (&[(own, AGENT, "a"), (all, AGENT, "ab")], Some(0)),
         // Equal results by key.
-        (&[(own, DENY, ""), (user, DENY, ""), (all, DENY, "")], Some(2)),
+        (
+            &[(own, DENY, ""), (user, DENY, ""), (all, DENY, "")],
+            Some(2),
+        ),
         (&[(user, DENY, ""), (own, DENY, "")], Some(0)),
     ];
     let question = Question {
@@ -63,7 +78,11 @@ fn the_least_result_decides(rt: HostRuntime) -> Result<(), Fail> {
         for row in *rows {
             policies.push(policy(rt.alloc(), *row)?)?;
         }
-        assert!(rt; policies.iter().all(|policy| policy.result.kind() != Kind::BUCKET));
+        assert!(rt;
+            policies
+                .iter()
+                .all(|policy| policy.result.kind() != Kind::BUCKET)
+        );
         assert_eq!(rt; least(&policies, &question), *want, "case {at}");
     }
     Ok(())
