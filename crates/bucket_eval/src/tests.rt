@@ -33,51 +33,64 @@ fn policy(alloc: Global, (fields, kind, metadata): Row<'_>) -> Result<Policy, Fa
     })
 }
 
+fn policies(alloc: Global, rows: &[Row<'_>]) -> Result<Vec<Policy>, Fail> {
+    let mut policies = Vec::new(alloc);
+    for row in rows {
+        policies.push(policy(alloc, *row)?)?;
+    }
+    Ok(policies)
+}
+
+fn question(alloc: Global) -> Result<Question, Fail> {
+    Ok(Question {
+        client: Name::read(alloc, b"c")?,
+        user: Name::read(alloc, b"u")?,
+        privilege: Name::read(alloc, b"p")?,
+    })
+}
+
+const OWN: [&str; 3] = ["c", "u", "p"];
+
+const USER: [&str; 3] = ["*", "u", "*"];
+
+const ALL: [&str; 3] = ["*", "*", "*"];
+
+const CASES: [(&[Row<'static>], Option<usize>); 11] = [
+    // The least kind, and not the first policy or the most specific one. An agent stands between.
+    (&[(OWN, ALLOW, ""), (ALL, DENY, "")], Some(1)),
+    (
+        &[(OWN, ALLOW, ""), (ALL, AGENT, "x"), (USER, ALLOW, "")],
+        Some(1),
+    ),
+    (
+        &[(OWN, AGENT, "x"), (USER, DENY, ""), (ALL, ALLOW, "")],
+        Some(1),
+    ),
+    // NONE is left out.
+    (&[(OWN, NONE, ""), (ALL, ALLOW, "")], Some(1)),
+    (&[(OWN, NONE, "")], None),
+    // Nothing matches.
+    (
+        &[(["d", "u", "p"], DENY, ""), (["c", "u", "q"], DENY, "")],
+        None,
+    ),
+    (&[], None),
+    // Equal kinds by metadata.
+    (&[(ALL, AGENT, "b"), (OWN, AGENT, "a")], Some(1)),
+    (&[(OWN, AGENT, "a"), (ALL, AGENT, "ab")], Some(0)),
+    // Equal results by key.
+    (
+        &[(OWN, DENY, ""), (USER, DENY, ""), (ALL, DENY, "")],
+        Some(2),
+    ),
+    (&[(USER, DENY, ""), (OWN, DENY, "")], Some(0)),
+];
+
 #[test]
 fn the_least_result_decides(rt: HostRuntime) -> Result<(), Fail> {
-    let own = ["c", "u", "p"];
-    let all = ["*", "*", "*"];
-    let user = ["*", "u", "*"];
-    let cases: [(&[Row<'static>], Option<usize>); 11] = [
-        // The least kind, and not the first policy or the most specific one. An agent stands between.
-        (&[(own, ALLOW, ""), (all, DENY, "")], Some(1)),
-        (
-            &[(own, ALLOW, ""), (all, AGENT, "x"), (user, ALLOW, "")],
-            Some(1),
-        ),
-        (
-            &[(own, AGENT, "x"), (user, DENY, ""), (all, ALLOW, "")],
-            Some(1),
-        ),
-        // NONE is left out.
-        (&[(own, NONE, ""), (all, ALLOW, "")], Some(1)),
-        (&[(own, NONE, "")], None),
-        // Nothing matches.
-        (
-            &[(["d", "u", "p"], DENY, ""), (["c", "u", "q"], DENY, "")],
-            None,
-        ),
-        (&[], None),
-        // Equal kinds by metadata.
-        (&[(all, AGENT, "b"), (own, AGENT, "a")], Some(1)),
-        (&[(own, AGENT, "a"), (all, AGENT, "ab")], Some(0)),
-        // Equal results by key.
-        (
-            &[(own, DENY, ""), (user, DENY, ""), (all, DENY, "")],
-            Some(2),
-        ),
-        (&[(user, DENY, ""), (own, DENY, "")], Some(0)),
-    ];
-    let question = Question {
-        client: Name::read(rt.alloc(), b"c")?,
-        user: Name::read(rt.alloc(), b"u")?,
-        privilege: Name::read(rt.alloc(), b"p")?,
-    };
-    for (at, (rows, want)) in cases.iter().enumerate() {
-        let mut policies = Vec::new(rt.alloc());
-        for row in *rows {
-            policies.push(policy(rt.alloc(), *row)?)?;
-        }
+    let question = question(rt.alloc())?;
+    for (at, (rows, want)) in CASES.iter().enumerate() {
+        let policies = policies(rt.alloc(), rows)?;
         assert!(rt;
             policies
                 .iter()
