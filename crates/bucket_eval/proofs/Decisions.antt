@@ -1,8 +1,10 @@
 -- The laws of how policies decide.
-use Rattle.std.proofs.Common.{◌≡◌, ◌≢◌, ℕ, ◌+◌, ◌-◌, ◌<◌, ◌≤◌, Bool, true, false, cond, List, [], ◌∷◌, zero, suc, length, drop, get_or, slice_get, Option, None, Some, IfSome, MatchOption, refl, sym, ap, ◌∙◌, subst, inl, inr, arith}
+use Rattle.std.proofs.Common.{◌≡◌, ◌≢◌, ℕ, ◌+◌, ◌-◌, ◌<◌, ◌≤◌, Bool, true, false, cond, List, [], ◌∷◌, zero, suc, length, drop, get_or, slice_get, Option, None, Some, IfSome, IfNone, MatchOption, refl, sym, ap, ◌∙◌, subst, inl, inr, arith}
 use Rattle.std.specs.declared.cmp.Ordering.{Ordering}
 use Rattle.std.specs.declared.cmp.Ordering.TheVariants.{Less, Equal, Greater}
 use Rattle.std.specs.Cmp.{IsTotalOrder}
+use Rattle.std.specs.List.{AllByRecursion}
+use Rattle.bucket_eval.proofs.Elements.{AllByRecursion-weaker}
 use Rattle.std.specs.Ordering.{is_gt, is_eq, ordering_then, ordering_reverse}
 use Rattle.std.proofs.lemmas.Cmp.{on_total, then_total, upto, tied_itself}
 use Rattle.std.proofs.lemmas.Bool.{true_from_ne_false, false≢true, cases_lt}
@@ -12,7 +14,7 @@ use Rattle.cynara_keys.specs.PolicyResult.{result_cmp}
 use Rattle.cynara_keys.specs.declared.keys.Policy.{Policy}
 use Rattle.cynara_keys.specs.declared.keys.Question.{Question}
 use Rattle.cynara_keys.proofs.Order.{result_total, key_total, key_cmp-equal}
-use Rattle.bucket_eval.specs.Least.{counts, decision_cmp, lesser, least_policy}
+use Rattle.bucket_eval.specs.Least.{counts, decision_cmp, lesser, least_policy, DecidesAmong, NoneCounts}
 
 pub decision_total : IsTotalOrder decision_cmp
 decision_total = then_total (on_total (λ (policy : Policy). policy.result) result_total) (on_total (λ (policy : Policy). policy.key) key_total)
@@ -69,6 +71,76 @@ least-counts : (question : Question) (policies : List Policy) (chosen : Policy) 
 least-counts question [] chosen is = cc
 least-counts question (policy ∷ policies) chosen is =
     chosen-counts question policy chosen (counts question policy) (least_policy question policies) refl (least-counts question policies chosen) is
+
+none-counts : (question : Question) (policy : Policy) (says : Bool) (rest : Option Policy) → counts question policy ≡ says →
+    cond says (lesser policy rest) rest ≡ None → (counts question policy ≡ false) × (rest ≡ None)
+none-counts question policy false rest has is = (has, is)
+none-counts question policy true None has is = cc
+none-counts question policy true (Some other) has is =
+    absurd (some_of (is_gt (decision_cmp policy other)) is)
+  where
+    some_of : (after : Bool) → cond after (Some other) (Some policy) ≡ None → ⊥
+    some_of true e = cc
+    some_of false e = cc
+
+-- where nothing decides, no policy has a say
+pub least_policy-none : (question : Question) (policies : List Policy) → least_policy question policies ≡ None → NoneCounts question policies
+least_policy-none question [] is = tt
+least_policy-none question (policy ∷ policies) is =
+    let parts = none-counts question policy (counts question policy) (least_policy question policies) refl is in
+    (parts.0, least_policy-none question policies parts.1)
+
+-- no policy that has a say decides before the one
+abbrev NoneBefore : Question → List Policy → Policy → Type 0
+NoneBefore question policies chosen = AllByRecursion (λ other. counts question other ≡ true → is_gt (decision_cmp chosen other) ≡ false) policies
+
+first-before : (question : Question) (policy : Policy) (policies : List Policy) (chosen : Policy) (says : Bool) (rest : Option Policy) →
+    counts question policy ≡ says → (rest ≡ None → NoneCounts question policies) →
+    ((other : Policy) → rest ≡ Some other → NoneBefore question policies other) →
+    cond says (lesser policy rest) rest ≡ Some chosen → NoneBefore question (policy ∷ policies) chosen
+first-before question policy policies chosen false rest has none before is = (λ h. absurd (false≢true (sym has ∙ h)), before chosen is)
+first-before question policy policies chosen true None has none before is =
+    let same : policy ≡ chosen = cc in
+    subst (NoneBefore question (policy ∷ policies)) same (
+      λ _. ap is_gt (tied_itself decision_total policy),
+      AllByRecursion-weaker (λ other. counts question other ≡ false) (λ other. counts question other ≡ true → is_gt (decision_cmp policy other) ≡ false)
+          (λ other silent h. absurd (false≢true (sym silent ∙ h))) policies (none refl),
+    )
+first-before question policy policies chosen true (Some other) has none before is =
+    between (is_gt (decision_cmp policy other)) refl is
+  where
+    after-before : (there back : Ordering) → there ≡ ordering_reverse back → is_gt back ≡ true → is_gt there ≡ false
+    after-before there Less turned h = absurd (false≢true h)
+    after-before there Equal turned h = absurd (false≢true h)
+    after-before there Greater turned h = ap is_gt turned
+
+    between : (after : Bool) → is_gt (decision_cmp policy other) ≡ after → cond after (Some other) (Some policy) ≡ Some chosen →
+        NoneBefore question (policy ∷ policies) chosen
+    between true after e =
+        let same : other ≡ chosen = cc in
+        subst (NoneBefore question (policy ∷ policies)) same
+        (λ _. after-before (decision_cmp other policy) (decision_cmp policy other) (decision_total.antisymm other policy) after, before other refl)
+    between false after e =
+        let same : policy ≡ chosen = cc in
+        subst (NoneBefore question (policy ∷ policies)) same (
+          λ _. ap is_gt (tied_itself decision_total policy),
+          AllByRecursion-weaker (λ later. counts question later ≡ true → is_gt (decision_cmp other later) ≡ false)
+              (λ later. counts question later ≡ true → is_gt (decision_cmp policy later) ≡ false)
+              (λ later behind h. upto decision_total policy other later after (behind h)) policies (before other refl),
+        )
+
+least_policy-before : (question : Question) (policies : List Policy) (chosen : Policy) → least_policy question policies ≡ Some chosen → NoneBefore question policies chosen
+least_policy-before question [] chosen is = tt
+least_policy-before question (policy ∷ policies) chosen is =
+    first-before question policy policies chosen (counts question policy) (least_policy question policies) refl
+    (least_policy-none question policies) (least_policy-before question policies) is
+
+-- what decides has a say, and no policy that has a say decides before it
+pub least_policy-decides : (question : Question) (policies : List Policy) (chosen : Option Policy) → chosen ≡ least_policy question policies →
+    IfSome chosen (DecidesAmong question policies)
+least_policy-decides question policies None is = tt
+least_policy-decides question policies (Some chosen) is =
+    (least-counts question policies chosen (sym is), least_policy-before question policies chosen (sym is))
 
 -- the place of the first policy that decides among those from the place on
 pub record IsBest (question : Question) (policies : List Policy) (from : ℕ) (best : Option ℕ) : Type 0 where
@@ -169,3 +241,15 @@ pub IsBest-down : {question : Question} {policies : List Policy} {left : ℕ} {b
 IsBest-down {question} {policies} {left} {best} some is best_is =
     let above : left ≡ left - 1 + 1 = omega arith in
     subst (λ b. IsBest question policies (left - 1 + 1) b) is (subst (λ n. IsBest question policies n best) above best_is)
+
+-- with no place left to look at, the place found is that of the policy that decides among all
+whole-found : (question : Question) (policies : List Policy) (best : Option ℕ) → IsBest question policies 0 best →
+    IfSome best (λ place. IfSome (slice_get policies place) (DecidesAmong question policies)) × IfNone best (NoneCounts question policies)
+whole-found question policies None best_is = (tt, least_policy-none question policies best_is.decides)
+whole-found question policies (Some place) best_is = (least_policy-decides question policies (slice_get policies place) best_is.decides, tt)
+
+pub IsBest-whole : {question : Question} {policies : List Policy} {left : ℕ} {best : Option ℕ} → left ≤ 0 → IsBest question policies left best →
+    IfSome best (λ place. IfSome (slice_get policies place) (DecidesAmong question policies)) × IfNone best (NoneCounts question policies)
+IsBest-whole {question} {policies} {left} {best} end best_is =
+    let start : left ≡ 0 = omega arith in
+    whole-found question policies best (subst (λ n. IsBest question policies n best) start best_is)

@@ -1,3 +1,4 @@
+pub mod Elements
 pub mod Decisions
 pub mod Reordered
 pub mod Rising

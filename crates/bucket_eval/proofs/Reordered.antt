@@ -9,6 +9,7 @@ use Rattle.cynara_keys.proofs.Order.{same_key_equiv}
 use Rattle.bucket_eval.specs.Reordered.{Reordered, nothing, kept, exchanged, joined, HaveOwnKeys}
 use Rattle.bucket_eval.specs.Rising.{HasNoKey}
 use Rattle.bucket_eval.specs.Least.{counts, lesser, least_policy}
+use Rattle.bucket_eval.proofs.Elements.{AllByRecursion-append, AllByRecursion-filter}
 use Rattle.bucket_eval.proofs.Decisions.{lesser-swap}
 
 pub Reordered-refl : {X : Type 0} (xs : List X) → Reordered xs xs
@@ -95,16 +96,6 @@ least_policy-Reordered question own (joined h k) =
     least_policy-Reordered question own h ∙ least_policy-Reordered question (HaveOwnKeys-Reordered h own) k
 
 -- ---- lists that a policy is put into
-
-pub AllByRecursion-filter : {X : Type 0} (P : X → Type 0) (test : X → Bool) (xs : List X) → AllByRecursion P xs → AllByRecursion P (filter test xs)
-AllByRecursion-filter P test [] all = all
-AllByRecursion-filter P test (x ∷ xs) all =
-    let rest = AllByRecursion-filter P test xs all.1 in
-    elim (test x) as (λ passes. AllByRecursion P (cond passes (x ∷ filter test xs) (filter test xs))) [ true ↦ (all.0, rest) | false ↦ rest ]
-
-pub AllByRecursion-append : {X : Type 0} (P : X → Type 0) (xs ys : List X) → AllByRecursion P xs → AllByRecursion P ys → AllByRecursion P (xs ++ ys)
-AllByRecursion-append P [] ys front back = back
-AllByRecursion-append P (x ∷ xs) ys front back = (front.0, AllByRecursion-append P xs ys front.1 back)
 
 put-own : (policy first : Policy) (rest : List Policy) (same : Bool) → same_key first.key policy.key ≡ same →
     AllByRecursion (λ other. same_key first.key other.key ≡ false) rest → HaveOwnKeys (rest ++ policy ∷ []) →

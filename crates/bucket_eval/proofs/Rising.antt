@@ -16,7 +16,8 @@ use Rattle.cynara_keys.specs.declared.keys.Policy.{Policy}
 use Rattle.cynara_keys.proofs.Order.{key_total, key_cmp-equal, same_key_equiv}
 use Rattle.bucket_eval.specs.Reordered.{Reordered, HaveOwnKeys}
 use Rattle.bucket_eval.specs.Rising.{ComesBefore, IsRising, HasNoKey, HasKeyAt, BelongsAt}
-use Rattle.bucket_eval.proofs.Reordered.{AllByRecursion-append, filter-none, filter-one, Reordered-middle}
+use Rattle.bucket_eval.proofs.Elements.{AllByRecursion-append, AllByRecursion-weaker, AllByRecursion-middle, AllByRecursion-front, AllByRecursion-back}
+use Rattle.bucket_eval.proofs.Reordered.{filter-none, filter-one, Reordered-middle}
 
 -- ---- keys
 
@@ -37,15 +38,7 @@ key_cmp-same key other same = equal-same _ (key_cmp-equal key other ∙ same)
 ComesBefore-flip : (key other : Key) → key_cmp key other ≡ Greater → ComesBefore other key
 ComesBefore-flip key other after = key_total.antisymm other key ∙ ap ordering_reverse after
 
--- ---- what holds of each policy
-
-pub AllByRecursion-weaker : {X : Type 0} (P Q : X → Type 0) → ((x : X) → P x → Q x) → (xs : List X) → AllByRecursion P xs → AllByRecursion Q xs
-AllByRecursion-weaker P Q weaker [] all = tt
-AllByRecursion-weaker P Q weaker (x ∷ xs) all = (weaker x all.0, AllByRecursion-weaker P Q weaker xs all.1)
-
-pub AllByRecursion-middle : {X : Type 0} (P : X → Type 0) (front : List X) (x : X) (back : List X) → AllByRecursion P (front ++ x ∷ back) → P x
-AllByRecursion-middle P [] x back all = all.0
-AllByRecursion-middle P (first ∷ front) x back all = AllByRecursion-middle P front x back all.1
+-- ---- lists
 
 pub HaveOwnKeys-IsRising : (policies : List Policy) → IsRising policies → HaveOwnKeys policies
 HaveOwnKeys-IsRising [] rising = tt
@@ -128,14 +121,6 @@ searched key policies rising (Err place) range parted =
 
 -- ---- what keeps the order
 
-AllByRecursion-front : {X : Type 0} (P : X → Type 0) (front back : List X) → AllByRecursion P (front ++ back) → AllByRecursion P front
-AllByRecursion-front P [] back all = tt
-AllByRecursion-front P (first ∷ front) back all = (all.0, AllByRecursion-front P front back all.1)
-
-AllByRecursion-back : {X : Type 0} (P : X → Type 0) (front back : List X) → AllByRecursion P (front ++ back) → AllByRecursion P back
-AllByRecursion-back P [] back all = all
-AllByRecursion-back P (first ∷ front) back all = AllByRecursion-back P front back all.1
-
 -- a policy between those whose keys come before its own and those whose keys come behind it
 pub IsRising-between : (front : List Policy) (policy : Policy) (back : List Policy) → IsRising (front ++ back) →
     AllByRecursion (λ other. ComesBefore other.key policy.key) front → AllByRecursion (λ other. ComesBefore policy.key other.key) back →
@@ -194,6 +179,14 @@ module _ {policies : List Policy} {key : Key} {place : ℕ} (at : HasKeyAt polic
   IsRising-HasKeyAt policy is rising =
       IsRising-instead at.front at.policy policy at.back (ap (same_key at.policy.key) is ∙ at.same) (subst IsRising at.parts rising)
 
+  pub IsRising-set : (policy : Policy) → policy.key ≡ key → IsRising policies → IsRising (set policies place policy)
+  IsRising-set policy is rising = subst IsRising (sym (set-HasKeyAt policy)) (IsRising-HasKeyAt policy is rising)
+
+  pub Reordered-set : (policy : Policy) →
+      Reordered (filter (λ other. not (same_key other.key key)) policies ++ policy ∷ []) (set policies place policy)
+  Reordered-set policy =
+      subst (Reordered (filter (λ other. not (same_key other.key key)) policies ++ policy ∷ [])) (sym (set-HasKeyAt policy)) (Reordered-HasKeyAt policy)
+
 module _ {policies : List Policy} {key : Key} {place : ℕ} (at : BelongsAt policies key place) where
   pub HasNoKey-BelongsAt : HasNoKey policies key
   HasNoKey-BelongsAt =
@@ -224,3 +217,11 @@ module _ {policies : List Policy} {key : Key} {place : ℕ} (at : BelongsAt poli
       IsRising-between at.front policy at.back (subst IsRising at.parts rising)
       (subst (λ own. AllByRecursion (λ (other : Policy). ComesBefore other.key own) at.front) (sym is) at.before)
       (subst (λ own. AllByRecursion (λ (other : Policy). ComesBefore own other.key) at.back) (sym is) at.behind)
+
+  pub IsRising-insert : (policy : Policy) → policy.key ≡ key → IsRising policies → IsRising (insert policies place policy)
+  IsRising-insert policy is rising = subst IsRising (sym (insert-BelongsAt policy)) (IsRising-BelongsAt policy is rising)
+
+  pub Reordered-insert : (policy : Policy) →
+      Reordered (filter (λ other. not (same_key other.key key)) policies ++ policy ∷ []) (insert policies place policy)
+  Reordered-insert policy =
+      subst (Reordered (filter (λ other. not (same_key other.key key)) policies ++ policy ∷ [])) (sym (insert-BelongsAt policy)) (Reordered-BelongsAt policy)

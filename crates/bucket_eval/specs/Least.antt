@@ -1,6 +1,7 @@
 -- Which policy of a bucket decides a question.
-use Rattle.std.specs.Prelude.{Bool, not, ◌&&◌, ◌==◌, if◌then◌else◌, List, [], ◌∷◌, Option, Some, None}
+use Rattle.std.specs.Prelude.{◌≡◌, Bool, true, false, not, ◌&&◌, ◌==◌, if◌then◌else◌, List, [], ◌∷◌, Option, Some, None}
 use Rattle.std.specs.declared.cmp.Ordering.{Ordering}
+use Rattle.std.specs.List.{AllByRecursion}
 use Rattle.std.specs.Ordering.{on, then_cmp, is_gt}
 use Rattle.cynara_keys.specs.Key.{key_matches, key_cmp}
 use Rattle.cynara_keys.specs.PolicyResult.{none, result_cmp}
@@ -14,6 +15,15 @@ counts question policy = key_matches policy.key question && not (policy.result.k
 -- policies decide in the order of their results, and then of their keys
 abbrev pub decision_cmp : Policy → Policy → Ordering
 decision_cmp = then_cmp (on (λ policy. policy.result) result_cmp) (on (λ policy. policy.key) key_cmp)
+
+-- the policy has a say, and no policy that has a say decides before it
+abbrev pub DecidesAmong : Question → List Policy → Policy → Type 0
+DecidesAmong question policies policy =
+    (counts question policy ≡ true) × AllByRecursion (λ other. counts question other ≡ true → is_gt (decision_cmp policy other) ≡ false) policies
+
+-- no policy has a say
+abbrev pub NoneCounts : Question → List Policy → Type 0
+NoneCounts question policies = AllByRecursion (λ policy. counts question policy ≡ false) policies
 
 -- the lesser of a policy and another, if there is another
 abbrev pub lesser : Policy → Option Policy → Option Policy

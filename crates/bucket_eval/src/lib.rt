@@ -4,20 +4,23 @@
 //! results are ordered by their keys, is this project's profile.
 #![tactic(auto)]
 
-ghost use Rattle.std.specs.Prelude.{◌≡◌, ◌≢◌, ℕ, ◌<◌, ◌≤◌, length, None, IfSome, IfOk, IfErr, MatchOption, MatchResult, slice_get};
+ghost use Rattle.std.specs.Prelude.{◌≡◌, ◌≢◌, ℕ, ◌<◌, ◌≤◌, length, None, IfSome, IfNone, IfOk, IfErr, MatchOption, MatchResult, slice_get};
 ghost use Rattle.std.specs.List.{All};
 ghost use Rattle.std.specs.Ordering.{is_gt};
 ghost use Rattle.cynara_keys.specs.PolicyResult.{bucket};
-ghost use Rattle.bucket_eval.specs.Least.{counts, decision_cmp, least_policy};
+ghost use Rattle.bucket_eval.specs.Least.{counts, decision_cmp, least_policy, DecidesAmong, NoneCounts};
 ghost use Rattle.bucket_eval.specs.Rising.{IsRising, HasKeyAt, BelongsAt};
 
 use cynara_keys::{Key, Kind, Policy, Question};
 
-/// The place of the policy that decides the question: the least by result and then by key of those that match it and
-/// whose result isn't NONE. `None` where there is none. No result may be BUCKET.
+/// The place of the policy that decides the question, from 0: the least by result (kind, then metadata) and then by key
+/// of the policies that match the question and whose result isn't NONE, and the first of equal ones. `None` where there
+/// is none. No result may be BUCKET, since what it points to isn't here. That the least result decides is Cynara's.
 pub fn least(policies: &[Policy], question: &Question) -> Option<usize>
     requires { All (λ policy. policy.result.kind ≢ bucket) policies.now }
     ensures decides { MatchOption result (least_policy question.now policies.now ≡ None) (λ place. slice_get policies.now place ≡ least_policy question.now policies.now) }
+    ensures least { IfSome result (λ place. IfSome (slice_get policies.now place) (DecidesAmong question.now policies.now)) }
+    ensures none { IfNone result (NoneCounts question.now policies.now) }
     ensures in_range { IfSome result (λ place. place < length policies.now) }
     ensures first { IfSome result (λ place. (k : ℕ) → k < place → slice_get policies.now k ≢ least_policy question.now policies.now) }
 {
@@ -34,8 +37,8 @@ pub fn least(policies: &[Policy], question: &Question) -> Option<usize>
     best
 }
 
-/// Where the key stands in policies whose keys rise: `Ok` of the place of the policy that has it, or `Err` of the place
-/// at which a policy with this key would go.
+/// Where the key stands in policies whose keys rise, from 0: `Ok` of the place of the policy that has it, or `Err` of
+/// the place at which a policy with this key keeps the keys rising.
 pub fn place_of(policies: &[Policy], key: &Key) -> Result<usize, usize>
     requires { IsRising policies.now }
     ensures found { IfOk result (HasKeyAt policies.now key.now) }
@@ -62,3 +65,6 @@ fn is_after(policy: &Policy, other: &Policy) -> bool
         .then_with(|| policy.key.cmp(&other.key))
         .is_gt()
 }
+
+#[cfg(test)]
+mod tests;

@@ -1,5 +1,5 @@
 use Rattle.std.proofs.Common.{refl, sym, ◌∙◌, arith}
-use Rattle.bucket_eval.proofs.Decisions.{IsBest-down, IsBest-no_say, IsBest-after, IsBest-instead, IsBest-only}
+use Rattle.bucket_eval.proofs.Decisions.{IsBest-down, IsBest-no_say, IsBest-after, IsBest-instead, IsBest-only, IsBest-whole}
 use Rattle.bucket_eval.proofs.least.Goals as goal
 
 -- the policy comes after the best of those behind it
@@ -25,3 +25,10 @@ pub loop-place-preserved : goal.loop-place-preserved
 loop-place-preserved c =
     IsBest-no_say _ _ _ _ _ (omega arith) c.index-policies-place.is (sym c.counts.ensures ∙ c.if-counts.false)
     (IsBest-down c.loop-place-test.true refl c.loop-place.invariant)
+
+-- no policy is left
+pub returns-clause-least : goal.returns-clause-least
+returns-clause-least c = (IsBest-whole c.loop-place-test.false c.loop-place.invariant).0
+
+pub returns-clause-none : goal.returns-clause-none
+returns-clause-none c = (IsBest-whole c.loop-place-test.false c.loop-place.invariant).1
