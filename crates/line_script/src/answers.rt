@@ -11,7 +11,9 @@ use std::alloc::AllocError;
 #[derive(Clone, Copy)]
 pub enum LineAnswer<'a> {
     /// `ok COMMIT`: a command was accepted.
-    Accepted { commit: u64 },
+    Accepted {
+        commit: u64,
+    },
     /// `RESULT COMMIT BUCKET CLIENT USER PRIVILEGE`: an evaluation that a policy decided.
     ByPolicy {
         commit: u64,
@@ -25,13 +27,21 @@ pub enum LineAnswer<'a> {
         fallback: &'a PolicyResult,
     },
     /// `refused 11 limit WHICH MOST`: the command would make this count go past the most that is allowed.
-    LimitReached { counted: Counted, most: u64 },
+    LimitReached {
+        counted: Counted,
+        most: u64,
+    },
     /// `access allow RULE` or `access deny RULE`: a decision of Smack, with the number of the case that decided.
-    Access { allowed: bool, rule: u8 },
+    Access {
+        allowed: bool,
+        rule: u8,
+    },
     /// `fault command line`: the words of the command line are no command.
     CommandLineFault,
     /// `syntax LINE`: the line with this number, from 1, is outside its grammar.
-    LineFault { line: u32 },
+    LineFault {
+        line: u32,
+    },
 }
 
 /// Appends the text of the answer, a line with its newline. Where memory runs out, the bytes stay as they were.

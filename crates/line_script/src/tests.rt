@@ -3,8 +3,74 @@
 use crate::{LineAnswer, LineRefusal, Reader, Step, print};
 use cynara_keys::{BucketName, Counted, Field, Key, Kind, Metadata, Policy, PolicyResult};
 use desk_ports::Bytes;
-use std::alloc::{AllocError, Global};
+use std::alloc::Global;
+use std::process::Abort;
 use std::test::Fail;
+
+/// Lines that set, with the fields of the key and the kind of the result.
+const SETTING: [(&[u8], [&[u8]; 3], Kind); 4] = [
+    (b"set . * * p allow", [b"*", b"*", b"p"], Kind::ALLOW),
+    (b"set . c * p deny", [b"c", b"*", b"p"], Kind::DENY),
+    (b"set . c u p none", [b"c", b"u", b"p"], Kind::NONE),
+    (b"set . set . ** allow", [b"set", b".", b"**"], Kind::ALLOW),
+];
+
+/// Lines that check, with the names of the question.
+const CHECKING: [(&[u8], [&[u8]; 3]); 2] = [
+    (b"check c u p", [b"c", b"u", b"p"]),
+    (b"check check ## .", [b"check", b"##", b"."]),
+];
+
+/// Lines outside the grammar.
+const OUTSIDE: [&[u8]; 30] = [
+    b"",
+    b" ",
+    b"#",
+    b"# x",
+    b"set",
+    b"set . c u",
+    b"set . c u p",
+    b"set . c u p ",
+    b"set . c u p allow x",
+    b"set  . c u p allow",
+    b" set . c u p allow",
+    b"set . c u p allow ",
+    b"set\t. c u p allow",
+    b"set . c u p allow\r",
+    b"set . c u \x80 allow",
+    b"set B c u p allow",
+    b"set . # u p allow",
+    b"set . c u p ALLOW",
+    b"set . c u p bucket:B",
+    b"set . c u p agent:7:a",
+    b"SET . c u p allow",
+    b"check",
+    b"check * u p",
+    b"check c u",
+    b"check c u p q",
+    b"check c u p;",
+    b"check  c u p",
+    b"check c u p\n",
+    b"status",
+    b"batch",
+];
+
+/// Answers that are no verdicts, with their texts.
+const ANSWERS: [(LineAnswer, &[u8]); 13] = [
+    (LineAnswer::Accepted { commit: 0 }, b"ok 0\n"),
+    (LineAnswer::Accepted { commit: 18446744073709551615 }, b"ok 18446744073709551615\n"),
+    (LineAnswer::LimitReached { counted: Counted::Commits, most: 18446744073709551615 }, b"refused 11 limit commits 18446744073709551615\n"),
+    (LineAnswer::LimitReached { counted: Counted::Users, most: 64 }, b"refused 11 limit users 64\n"),
+    (LineAnswer::LimitReached { counted: Counted::Packages, most: 1024 }, b"refused 11 limit packages 1024\n"),
+    (LineAnswer::LimitReached { counted: Counted::Installs, most: 8192 }, b"refused 11 limit installs 8192\n"),
+    (LineAnswer::LimitReached { counted: Counted::Grants, most: 65536 }, b"refused 11 limit grants 65536\n"),
+    (LineAnswer::LimitReached { counted: Counted::Buckets, most: 256 }, b"refused 11 limit buckets 256\n"),
+    (LineAnswer::LimitReached { counted: Counted::Policies, most: 65536 }, b"refused 11 limit policies 65536\n"),
+    (LineAnswer::Access { allowed: true, rule: 1 }, b"access allow 1\n"),
+    (LineAnswer::Access { allowed: false, rule: 7 }, b"access deny 7\n"),
+    (LineAnswer::CommandLineFault, b"fault command line\n"),
+    (LineAnswer::LineFault { line: 4294967295 }, b"syntax 4294967295\n"),
+];
 
 /// A verdict, and its text where a policy decided and where the fallback did.
 #[derive(Clone, Copy)]
@@ -84,21 +150,19 @@ const VERDICTS: [Verdict; 7] = [
     },
 ];
 
-/// The bytes after the answer was printed behind a first line.
-fn printed(alloc: Global, answer: &LineAnswer) -> Result<Bytes, AllocError> {
+/// That the answer is printed as this text, behind what stands there.
+fn prints(rt: &impl Abort, alloc: Global, answer: &LineAnswer, text: &[u8]) -> Result<(), Fail> {
     let mut out = Bytes::new(alloc);
     out.append(b"before\n")?;
     print(answer, &mut out)?;
-    Ok(out)
+    let mut wanted = Bytes::new(alloc);
+    wanted.append(b"before\n")?;
+    wanted.append(text)?;
+    assert_eq!(rt; out.as_slice(), wanted.as_slice());
+    Ok(())
 }
 
-fn behind_a_line(alloc: Global, text: &[u8]) -> Result<Bytes, AllocError> {
-    let mut out = Bytes::new(alloc);
-    out.append(b"before\n")?;
-    out.append(text)?;
-    Ok(out)
-}
-
+/// The policy that a verdict speaks of.
 fn policy_of(alloc: Global, verdict: &Verdict) -> Result<Policy, Fail> {
     let [client, user, privilege] = verdict.fields;
     Ok(Policy {
@@ -113,15 +177,11 @@ fn policy_of(alloc: Global, verdict: &Verdict) -> Result<Policy, Fail> {
 
 #[test]
 fn reads_the_lines_that_set(rt: HostRuntime) -> Result<(), Fail> {
-    for (line, client, user, privilege, kind) in [
-        (b"set . * * p allow".as_slice(), b"*".as_slice(), b"*".as_slice(), b"p".as_slice(), Kind::ALLOW),
-        (b"set . c * p deny".as_slice(), b"c".as_slice(), b"*".as_slice(), b"p".as_slice(), Kind::DENY),
-        (b"set . c u p none".as_slice(), b"c".as_slice(), b"u".as_slice(), b"p".as_slice(), Kind::NONE),
-        (b"set . set . ** allow".as_slice(), b"set".as_slice(), b".".as_slice(), b"**".as_slice(), Kind::ALLOW),
-    ] {
+    for (line, fields, kind) in SETTING {
         let Step::Set { key, result } = Reader::new(rt.alloc()).line(line)? else {
             panic!(rt; "a check: {line:?}");
         };
+        let [client, user, privilege] = fields;
         assert_eq!(rt; key.client.as_slice(), client, "{line:?}");
         assert_eq!(rt; key.user.as_slice(), user, "{line:?}");
         assert_eq!(rt; key.privilege.as_slice(), privilege, "{line:?}");
@@ -133,13 +193,11 @@ fn reads_the_lines_that_set(rt: HostRuntime) -> Result<(), Fail> {
 
 #[test]
 fn reads_the_lines_that_check(rt: HostRuntime) -> Result<(), Fail> {
-    for (line, client, user, privilege) in [
-        (b"check c u p".as_slice(), b"c".as_slice(), b"u".as_slice(), b"p".as_slice()),
-        (b"check check ## .".as_slice(), b"check".as_slice(), b"##".as_slice(), b".".as_slice()),
-    ] {
+    for (line, fields) in CHECKING {
         let Step::Check(question) = Reader::new(rt.alloc()).line(line)? else {
             panic!(rt; "a set: {line:?}");
         };
+        let [client, user, privilege] = fields;
         assert_eq!(rt; question.client.as_slice(), client, "{line:?}");
         assert_eq!(rt; question.user.as_slice(), user, "{line:?}");
         assert_eq!(rt; question.privilege.as_slice(), privilege, "{line:?}");
@@ -149,38 +207,7 @@ fn reads_the_lines_that_check(rt: HostRuntime) -> Result<(), Fail> {
 
 #[test]
 fn other_lines_are_outside_the_grammar(rt: HostRuntime) {
-    for line in [
-        b"".as_slice(),
-        b" ".as_slice(),
-        b"#".as_slice(),
-        b"# x".as_slice(),
-        b"set".as_slice(),
-        b"set . c u".as_slice(),
-        b"set . c u p".as_slice(),
-        b"set . c u p ".as_slice(),
-        b"set . c u p allow x".as_slice(),
-        b"set  . c u p allow".as_slice(),
-        b" set . c u p allow".as_slice(),
-        b"set . c u p allow ".as_slice(),
-        b"set\t. c u p allow".as_slice(),
-        b"set . c u p allow\r".as_slice(),
-        b"set . c u \x80 allow".as_slice(),
-        b"set B c u p allow".as_slice(),
-        b"set . # u p allow".as_slice(),
-        b"set . c u p ALLOW".as_slice(),
-        b"set . c u p bucket:B".as_slice(),
-        b"set . c u p agent:7:a".as_slice(),
-        b"SET . c u p allow".as_slice(),
-        b"check".as_slice(),
-        b"check * u p".as_slice(),
-        b"check c u".as_slice(),
-        b"check c u p q".as_slice(),
-        b"check c u p;".as_slice(),
-        b"check  c u p".as_slice(),
-        b"check c u p\n".as_slice(),
-        b"status".as_slice(),
-        b"batch".as_slice(),
-    ] {
+    for line in OUTSIDE {
         let refusal = Reader::new(rt.alloc()).line(line).err();
         assert_eq!(rt; refusal, Some(LineRefusal::Syntax), "{line:?}");
     }
@@ -188,8 +215,8 @@ fn other_lines_are_outside_the_grammar(rt: HostRuntime) {
 
 #[test]
 fn prints_each_verdict(rt: HostRuntime) -> Result<(), Fail> {
+    let alloc = rt.alloc();
     for verdict in VERDICTS {
-        let alloc = rt.alloc();
         let commit = verdict.commit;
         let bucket = BucketName::read(alloc, verdict.bucket)?;
         let policy = policy_of(alloc, &verdict)?;
@@ -198,40 +225,21 @@ fn prints_each_verdict(rt: HostRuntime) -> Result<(), Fail> {
             bucket: &bucket,
             policy: &policy,
         };
+        prints(&rt, alloc, &by_policy, verdict.by_policy)?;
         let by_fallback = LineAnswer::ByFallback {
             commit,
             bucket: &bucket,
             fallback: &policy.result,
         };
-        assert_eq!(rt; printed(alloc, &by_policy)?.as_slice(), behind_a_line(alloc, verdict.by_policy)?.as_slice());
-        assert_eq!(rt; printed(alloc, &by_fallback)?.as_slice(), behind_a_line(alloc, verdict.by_fallback)?.as_slice());
+        prints(&rt, alloc, &by_fallback, verdict.by_fallback)?;
     }
     Ok(())
 }
 
 #[test]
 fn prints_each_other_answer(rt: HostRuntime) -> Result<(), Fail> {
-    for (answer, text) in [
-        (LineAnswer::Accepted { commit: 0 }, b"ok 0\n".as_slice()),
-        (LineAnswer::Accepted { commit: 18446744073709551615 }, b"ok 18446744073709551615\n".as_slice()),
-        (limit(Counted::Commits, 18446744073709551615), b"refused 11 limit commits 18446744073709551615\n".as_slice()),
-        (limit(Counted::Users, 64), b"refused 11 limit users 64\n".as_slice()),
-        (limit(Counted::Packages, 1024), b"refused 11 limit packages 1024\n".as_slice()),
-        (limit(Counted::Installs, 8192), b"refused 11 limit installs 8192\n".as_slice()),
-        (limit(Counted::Grants, 65536), b"refused 11 limit grants 65536\n".as_slice()),
-        (limit(Counted::Buckets, 256), b"refused 11 limit buckets 256\n".as_slice()),
-        (limit(Counted::Policies, 65536), b"refused 11 limit policies 65536\n".as_slice()),
-        (LineAnswer::Access { allowed: true, rule: 1 }, b"access allow 1\n".as_slice()),
-        (LineAnswer::Access { allowed: false, rule: 7 }, b"access deny 7\n".as_slice()),
-        (LineAnswer::CommandLineFault, b"fault command line\n".as_slice()),
-        (LineAnswer::LineFault { line: 4294967295 }, b"syntax 4294967295\n".as_slice()),
-    ] {
-        let alloc = rt.alloc();
-        assert_eq!(rt; printed(alloc, &answer)?.as_slice(), behind_a_line(alloc, text)?.as_slice());
+    for (answer, text) in ANSWERS {
+        prints(&rt, rt.alloc(), &answer, text)?;
     }
     Ok(())
-}
-
-fn limit(counted: Counted, most: u64) -> LineAnswer<'static> {
-    LineAnswer::LimitReached { counted, most }
 }
