@@ -55,21 +55,53 @@ const OUTSIDE: [&[u8]; 30] = [
     b"batch",
 ];
 
-/// Answers that are no verdicts, with their texts.
-const ANSWERS: [(LineAnswer, &[u8]); 13] = [
+/// Refusals by a limit, with their texts.
+const LIMITS: [(Counted, u64, &[u8]); 7] = [
+    (
+        Counted::Commits,
+        18446744073709551615,
+        b"refused 11 limit commits 18446744073709551615\n",
+    ),
+    (Counted::Users, 64, b"refused 11 limit users 64\n"),
+    (Counted::Packages, 1024, b"refused 11 limit packages 1024\n"),
+    (Counted::Installs, 8192, b"refused 11 limit installs 8192\n"),
+    (Counted::Grants, 65536, b"refused 11 limit grants 65536\n"),
+    (Counted::Buckets, 256, b"refused 11 limit buckets 256\n"),
+    (
+        Counted::Policies,
+        65536,
+        b"refused 11 limit policies 65536\n",
+    ),
+];
+
+/// The other answers that are no verdicts, with their texts.
+const ANSWERS: [(LineAnswer, &[u8]); 6] = [
     (LineAnswer::Accepted { commit: 0 }, b"ok 0\n"),
-    (LineAnswer::Accepted { commit: 18446744073709551615 }, b"ok 18446744073709551615\n"),
-    (LineAnswer::LimitReached { counted: Counted::Commits, most: 18446744073709551615 }, b"refused 11 limit commits 18446744073709551615\n"),
-    (LineAnswer::LimitReached { counted: Counted::Users, most: 64 }, b"refused 11 limit users 64\n"),
-    (LineAnswer::LimitReached { counted: Counted::Packages, most: 1024 }, b"refused 11 limit packages 1024\n"),
-    (LineAnswer::LimitReached { counted: Counted::Installs, most: 8192 }, b"refused 11 limit installs 8192\n"),
-    (LineAnswer::LimitReached { counted: Counted::Grants, most: 65536 }, b"refused 11 limit grants 65536\n"),
-    (LineAnswer::LimitReached { counted: Counted::Buckets, most: 256 }, b"refused 11 limit buckets 256\n"),
-    (LineAnswer::LimitReached { counted: Counted::Policies, most: 65536 }, b"refused 11 limit policies 65536\n"),
-    (LineAnswer::Access { allowed: true, rule: 1 }, b"access allow 1\n"),
-    (LineAnswer::Access { allowed: false, rule: 7 }, b"access deny 7\n"),
+    (
+        LineAnswer::Accepted {
+            commit: 18446744073709551615,
+        },
+        b"ok 18446744073709551615\n",
+    ),
+    (
+        LineAnswer::Access {
+            allowed: true,
+            rule: 1,
+        },
+        b"access allow 1\n",
+    ),
+    (
+        LineAnswer::Access {
+            allowed: false,
+            rule: 7,
+        },
+        b"access deny 7\n",
+    ),
     (LineAnswer::CommandLineFault, b"fault command line\n"),
-    (LineAnswer::LineFault { line: 4294967295 }, b"syntax 4294967295\n"),
+    (
+        LineAnswer::LineFault { line: 4294967295 },
+        b"syntax 4294967295\n",
+    ),
 ];
 
 /// A verdict, and its text where a policy decided and where the fallback did.
@@ -240,6 +272,19 @@ fn prints_each_verdict(rt: HostRuntime) -> Result<(), Fail> {
 fn prints_each_other_answer(rt: HostRuntime) -> Result<(), Fail> {
     for (answer, text) in ANSWERS {
         prints(&rt, rt.alloc(), &answer, text)?;
+    }
+    Ok(())
+}
+
+#[test]
+fn prints_each_limit(rt: HostRuntime) -> Result<(), Fail> {
+    for (counted, most, text) in LIMITS {
+        prints(
+            &rt,
+            rt.alloc(),
+            &LineAnswer::LimitReached { counted, most },
+            text,
+        )?;
     }
     Ok(())
 }
