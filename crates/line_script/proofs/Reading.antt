@@ -10,7 +10,7 @@ pub refused_with : {A B : Type 0} (refusal : LineRefusal) (part : Option A) (who
 refused_with Syntax part whole refused outside = outside refused
 refused_with (Memory error) part whole refused outside = tt
 
--- whether a word is left does not depend on what stands before it
+-- whether words are left does not depend on the value that is given where none is
 pub word_left : {A B : Type 0} (value : A) (other : B) (words : List (List ℕ)) → end_of value words ≡ None → end_of other words ≡ None
 word_left value other [] none = cc
 word_left value other (word ∷ words) none = refl
