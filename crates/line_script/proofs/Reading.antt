@@ -1,5 +1,5 @@
 -- What a refusal of one word says of the whole line.
-use Rattle.std.proofs.Common.{◌≡◌, ℕ, List, [], ◌∷◌, Option, None, refl}
+use Rattle.std.proofs.Common.{◌≡◌, ℕ, List, [], ◌∷◌, Option, Some, None, refl}
 use Rattle.line_script.specs.Words.{end_of}
 use Rattle.line_script.specs.Grammar.{Refuses}
 use Rattle.line_script.specs.declared.steps.LineRefusal.{LineRefusal}
@@ -10,7 +10,11 @@ pub refused_with : {A B : Type 0} (refusal : LineRefusal) (part : Option A) (who
 refused_with Syntax part whole refused outside = outside refused
 refused_with (Memory error) part whole refused outside = tt
 
--- whether a word is left does not depend on what stands before it
+-- whether words are left does not depend on the value that is given where none is
 pub word_left : {A B : Type 0} (value : A) (other : B) (words : List (List ℕ)) → end_of value words ≡ None → end_of other words ≡ None
 word_left value other [] none = cc
 word_left value other (word ∷ words) none = refl
+
+pub no_word_left : {A B : Type 0} (value : A) (other : B) (words : List (List ℕ)) → end_of value words ≡ Some value → end_of other words ≡ Some other
+no_word_left value other [] ended = refl
+no_word_left value other (word ∷ words) ended = cc

@@ -6,11 +6,14 @@ use cynara_keys::{BucketName, Counted, Policy, PolicyResult};
 use desk_ports::Bytes;
 use std::alloc::AllocError;
 
-/// What a line is answered, or the last line of a run.
+/// What a line is answered, or the last line of a run. COMMIT is the number of the last accepted command, and RESULT
+/// is `deny`, `none`, `allow`, `bucket:BUCKET` or `agent:KIND:METADATA`. The root bucket is written `.`.
 #[derive(Clone, Copy)]
 pub enum LineAnswer<'a> {
     /// `ok COMMIT`: a command was accepted.
-    Accepted { commit: u64 },
+    Accepted {
+        commit: u64,
+    },
     /// `RESULT COMMIT BUCKET CLIENT USER PRIVILEGE`: an evaluation that a policy decided.
     ByPolicy {
         commit: u64,
@@ -23,17 +26,25 @@ pub enum LineAnswer<'a> {
         bucket: &'a BucketName,
         fallback: &'a PolicyResult,
     },
-    /// `refused 11 limit WHICH MOST`: the command would go past a limit.
-    LimitReached { counted: Counted, most: u64 },
+    /// `refused 11 limit WHICH MOST`: the command would make this count go past the most that is allowed.
+    LimitReached {
+        counted: Counted,
+        most: u64,
+    },
     /// `access allow RULE` or `access deny RULE`: a decision of Smack, with the number of the case that decided.
-    Access { allowed: bool, rule: u8 },
+    Access {
+        allowed: bool,
+        rule: u8,
+    },
     /// `fault command line`: the words of the command line are no command.
     CommandLineFault,
-    /// `syntax LINE`: the line with this number is outside its grammar.
-    LineFault { line: u32 },
+    /// `syntax LINE`: the line with this number, from 1, is outside its grammar.
+    LineFault {
+        line: u32,
+    },
 }
 
-/// Appends the text of the answer, a line with its newline, or leaves the bytes as they were.
+/// Appends the text of the answer, a line with its newline. Where memory runs out, the bytes stay as they were.
 pub fn print(answer: &LineAnswer, out: &mut Bytes) -> Result<(), AllocError>
     ensures ok { OnOk result (out.new ≡ out.old ++ answer_text answer.now) }
     ensures err { OnErr result (out.new ≡ out.old) }

@@ -7,6 +7,8 @@ mod answers;
 mod line_words;
 mod print_parts;
 mod steps;
+#[cfg(test)]
+mod tests;
 
 pub use answers::{LineAnswer, print};
 pub use steps::{LineRefusal, Reader, Step};

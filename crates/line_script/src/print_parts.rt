@@ -45,7 +45,12 @@ fn append_accepted(out: &mut Bytes, commit: u64) -> Result<(), AllocError>
 }
 
 #[tactic(auto, unfolding(crate::specs::Answers::by_policy_text))]
-fn append_by_policy(out: &mut Bytes, commit: u64, bucket: &BucketName, policy: &Policy) -> Result<(), AllocError>
+fn append_by_policy(
+    out: &mut Bytes,
+    commit: u64,
+    bucket: &BucketName,
+    policy: &Policy,
+) -> Result<(), AllocError>
     ensures ok { OnOk result (out.new ≡ out.old ++ by_policy_text commit bucket.now policy.now) }
     ensures err { OnErr result (Lengthens out.old out.new) }
 {
@@ -56,7 +61,12 @@ fn append_by_policy(out: &mut Bytes, commit: u64, bucket: &BucketName, policy: &
 }
 
 #[tactic(auto, unfolding(crate::specs::Answers::by_fallback_text))]
-fn append_by_fallback(out: &mut Bytes, commit: u64, bucket: &BucketName, fallback: &PolicyResult) -> Result<(), AllocError>
+fn append_by_fallback(
+    out: &mut Bytes,
+    commit: u64,
+    bucket: &BucketName,
+    fallback: &PolicyResult,
+) -> Result<(), AllocError>
     ensures ok { OnOk result (out.new ≡ out.old ++ by_fallback_text commit bucket.now fallback.now) }
     ensures err { OnErr result (Lengthens out.old out.new) }
 {
@@ -65,7 +75,12 @@ fn append_by_fallback(out: &mut Bytes, commit: u64, bucket: &BucketName, fallbac
 }
 
 // `RESULT COMMIT BUCKET`, which each verdict begins with
-fn append_verdict(out: &mut Bytes, commit: u64, bucket: &BucketName, ruling: &PolicyResult) -> Result<(), AllocError>
+fn append_verdict(
+    out: &mut Bytes,
+    commit: u64,
+    bucket: &BucketName,
+    ruling: &PolicyResult,
+) -> Result<(), AllocError>
     ensures ok { OnOk result (out.new ≡ out.old ++ verdict_text commit bucket.now ruling.now) }
     ensures err { OnErr result (Lengthens out.old out.new) }
 {
@@ -94,7 +109,11 @@ fn append_access(out: &mut Bytes, allowed: bool, rule: u8) -> Result<(), AllocEr
     ensures err { OnErr result (Lengthens out.old out.new) }
 {
     out.append(b"access ")?;
-    out.append(if allowed { b"allow".as_slice() } else { b"deny".as_slice() })?;
+    out.append(if allowed {
+        b"allow".as_slice()
+    } else {
+        b"deny".as_slice()
+    })?;
     out.append(b" ")?;
     append_number(out, u64::from(rule))?;
     out.append(b"\n")

@@ -20,8 +20,10 @@ pub enum Step {
 /// Why a line gave no step.
 #[derive(Clone, Copy, Debug, PartialEq, Eq, Error)]
 pub enum LineRefusal {
+    /// The line is neither of the known lines.
     #[error("the line is outside the grammar of scripts")]
     Syntax,
+    /// No memory for a name. The line may be in the grammar or outside it.
     #[error("out of memory")]
     Memory(AllocError),
 }
@@ -33,11 +35,13 @@ pub struct Reader {
 }
 
 impl Reader {
+    /// A reader before the first line of a script.
     pub fn new(alloc: Global) -> Reader {
         Reader { alloc }
     }
 
-    /// Reads one line, without its newline. Refuses `Syntax` exactly where the line is outside the grammar.
+    /// Reads one line, given without its newline. Its words are parted by single spaces.
+    /// Refuses `Syntax` exactly where the line is outside the grammar, unless memory runs out first.
     #[tactic(auto, unfolding(crate::specs::Grammar::step_of))]
     pub fn line(&mut self, line: &[u8]) -> Result<Step, LineRefusal>
         ensures step { Gives result (step_of line.now) }
