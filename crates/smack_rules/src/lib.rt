@@ -2,8 +2,15 @@
 //! `Documentation/admin-guide/LSM/Smack`, with the choices of this project's profile marked where they are made.
 #![tactic(auto)]
 
+pub use decision::Decision;
 pub use label::{Label, LabelRefusal};
 pub use modes::Modes;
+pub use rule::{LineRefusal, Rule};
+pub use table::{LoadRefusal, RuleTable};
 
+mod decision;
 mod label;
 mod modes;
+mod rule;
+mod table;
+mod words;
