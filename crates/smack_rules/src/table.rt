@@ -1,6 +1,7 @@
 //! Tables of rules.
 
-ghost use Rattle.std.specs.Prelude.{◌≡◌, ◌≤◌, length, IsTrue, IfOk};
+ghost use Rattle.std.specs.Prelude.{◌≡◌, ◌≤◌, length, IsTrue, IfOk, OnOk};
+ghost use Rattle.smack_rules.specs.Table.{row_of, rows_of, ChangesPair, SetsObject};
 
 use crate::decision::{Decision, decide};
 use crate::label::Label;
@@ -25,19 +26,25 @@ pub enum LoadRefusal {
     Memory(AllocError),
 }
 
+/// A subject's objects, each with the modes of the pair.
+type Row = BTreeMap<Vec<u8>, Modes>;
+
+/// The rows of the subjects.
+type Rows = BTreeMap<Vec<u8>, Row>;
+
 /// What the rules grant each subject and object.
 #[derive(Debug, Drop)]
 pub struct RuleTable {
-    rows: BTreeMap<Vec<u8>, BTreeMap<Vec<u8>, Modes>>,
+    rows: Rows,
 }
 
 impl Model for RuleTable {
-    ghost use Rattle.std.specs.Prelude.{List, ℕ, map};
-    ghost use Rattle.smack_rules.specs.Table.{Row};
+    ghost use Rattle.std.specs.Prelude.{List, ℕ};
+    ghost use Rattle.smack_rules.specs.Table.{Row, rows_of};
 
     ghost Value = { List (List ℕ × Row) };
 
-    ghost view = { λ table. map (λ row. (row.0.items, map (λ entry. (entry.0.items, entry.1)) row.1.entries)) table.rows.entries };
+    ghost view = { λ table. rows_of table.rows.entries };
 }
 
 impl RuleTable {
@@ -55,4 +62,33 @@ impl RuleTable {
             None => Modes::NO_ACCESS,
         }
     }
+}
+
+/// Gives a pair these modes in place of what it had.
+fn put(
+    alloc: Global,
+    rows: &mut Rows,
+    subject: Label,
+    object: Label,
+    modes: Modes,
+) -> Result<(), AllocError>
+    ensures { OnOk result (ChangesPair (rows_of rows.old.entries) (rows_of rows.new.entries) subject object modes) }
+{
+    match rows.get_mut(subject.as_slice()) {
+        Some(row) => put_in_row(row, object, modes),
+        None => {
+            let mut row = BTreeMap::new(alloc);
+            put_in_row(&mut row, object, modes)?;
+            rows.insert(subject.into_bytes(), row)?;
+            Ok(())
+        }
+    }
+}
+
+/// Gives an object these modes in the row of a subject.
+fn put_in_row(row: &mut Row, object: Label, modes: Modes) -> Result<(), AllocError>
+    ensures { OnOk result (SetsObject (row_of row.old) (row_of row.new) object modes) }
+{
+    row.insert(object.into_bytes(), modes)?;
+    Ok(())
 }
