@@ -56,5 +56,5 @@ first_case number [] = record { allowed = false; rule = number }
 first_case number (case ∷ others) = if case.holds then record { allowed = case.allows; rule = number } else first_case (number + 1) others
 
 -- the decision on a request, where the rules grant the pair these modes
-abbrev pub decision : List ℕ → List ℕ → Modes → Modes → Decision
+unfoldable pub decision : List ℕ → List ℕ → Modes → Modes → Decision
 decision subject object asked granted = first_case 1 (cases subject object asked granted)

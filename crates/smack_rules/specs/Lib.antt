@@ -1,5 +1,6 @@
 pub mod Decision
 pub mod Effective
+pub mod Grants
 pub mod Label
 pub mod LabelRead
 pub mod Modes

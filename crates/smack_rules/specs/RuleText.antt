@@ -2,12 +2,12 @@
 use Rattle.std.specs.Prelude.{◌≡◌, ℕ, ◌+◌, List, [], ◌∷◌, ◌++◌, Option, Some, None, Result, Ok, Err, IsOkAnd}
 use Rattle.std.specs.Option.{option_to_list}
 use Rattle.text_lines.specs.Lines.{lines_of}
-use Rattle.smack_rules.specs.declared.modes.Modes.{Modes}
+use Rattle.smack_rules.specs.declared.table.RuleTable.{RuleTable}
 use Rattle.smack_rules.specs.declared.rule.Rule.{Rule}
 use Rattle.smack_rules.specs.declared.rule.LineRefusal.{LineRefusal}
 use Rattle.smack_rules.specs.declared.table.LoadRefusal.{LoadRefusal}
 use Rattle.smack_rules.specs.declared.table.LoadRefusal.TheVariants.{BadLine, Memory}
-use Rattle.smack_rules.specs.Effective.{effective}
+use Rattle.smack_rules.specs.Grants.{GrantsAs}
 use Rattle.smack_rules.specs.Rule.{line_rule}
 
 -- rules, and those of the lines after them
@@ -28,3 +28,13 @@ rules_from number (line ∷ lines) = with_line number (line_rule line) (rules_fr
 -- the rules of a text in its lines' order, or the number from 1 of the first wrong line
 abbrev pub rules_of : List ℕ → Result (List Rule) ℕ
 rules_of text = rules_from 1 (lines_of text)
+
+-- A refusal is the first wrong line. Want of memory may come in place of any answer.
+abbrev pub RefusesText : LoadRefusal → Result (List Rule) ℕ → Type 0
+RefusesText (BadLine number) rules = rules ≡ Err number
+RefusesText (Memory error) rules = Unit {0}
+
+-- What is loaded grants as the rules of the text.
+abbrev pub LoadsAs : Result RuleTable LoadRefusal → Result (List Rule) ℕ → Type 0
+LoadsAs (Ok table) rules = IsOkAnd rules (GrantsAs table)
+LoadsAs (Err refusal) rules = RefusesText refusal rules

@@ -17,6 +17,7 @@ pub struct Decision {
 
 /// Decides a request on a pair that the rules grant these modes. The cases are numbered in the order
 /// of the kernel's Smack document.
+#[tactic(auto, unfolding(crate::specs::Decision::decision))]
 pub fn decide(subject: &Label, object: &Label, asked: Modes, granted: Modes) -> Decision
     requires { IsTrue (is_request asked) }
     ensures { result ≡ decision subject.now object.now asked granted }

@@ -3,12 +3,14 @@
 #![tactic(auto)]
 
 pub use decision::Decision;
+pub use effective::effective_of;
 pub use label::{Label, LabelRefusal};
 pub use modes::Modes;
 pub use rule::{LineRefusal, Rule};
 pub use table::{LoadRefusal, RuleTable};
 
 mod decision;
+mod effective;
 mod label;
 mod modes;
 mod rule;

@@ -1,7 +1,7 @@
 //! Tables of rules.
 
-ghost use Rattle.std.specs.Prelude.{◌≡◌, ◌≤◌, length, IsTrue, IfOk, OnOk};
-ghost use Rattle.smack_rules.specs.Table.{row_of, rows_of, ChangesPair, SetsObject};
+ghost use Rattle.std.specs.Prelude.{◌≡◌, OnOk};
+ghost use Rattle.smack_rules.specs.Table.{granted, row_of, rows_of, ChangesPair, SetsObject};
 
 use crate::decision::{Decision, decide};
 use crate::label::Label;
@@ -32,9 +32,10 @@ type Row = BTreeMap<Vec<u8>, Modes>;
 /// The rows of the subjects.
 type Rows = BTreeMap<Vec<u8>, Row>;
 
-/// What the rules grant each subject and object.
+/// What rules grant each subject and object.
 #[derive(Debug, Drop)]
 pub struct RuleTable {
+    alloc: Global,
     rows: Rows,
 }
 
@@ -48,19 +49,114 @@ impl Model for RuleTable {
 }
 
 impl RuleTable {
+    ghost use Rattle.std.specs.Prelude.{◌≡◌, ◌+◌, ◌≤◌, ℕ, List, [], ◌∷◌, length, Result, IsTrue, IfOk, IfErr, OnOk, IsOkAnd};
+    ghost use Rattle.std.specs.Option.{option_to_list};
+    ghost use Rattle.smack_rules.specs.declared.rule.Rule.{Rule};
+    ghost use Rattle.smack_rules.specs.declared.table.TheConstants.{TEXT_LIMIT};
+    ghost use Rattle.smack_rules.specs.Modes.{is_request};
+    ghost use Rattle.smack_rules.specs.Rule.{line_rule};
     ghost use Rattle.smack_rules.specs.Table.{granted};
+    ghost use Rattle.smack_rules.specs.Decision.{decision};
+    ghost use Rattle.smack_rules.specs.Grants.{FollowsRules, GrantsAs};
+    ghost use Rattle.smack_rules.specs.RuleText.{with_line, rules_of, RefusesText, LoadsAs};
 
-    /// What the rules grant a pair.
-    fn granted(&self, subject: &[u8], object: &[u8]) -> Modes
-        ensures { result ≡ granted self.now subject.now object.now }
+    /// The table of a list of rules. Fails only where memory is wanting.
+    pub fn fold(alloc: Global, rules: &[Rule]) -> Result<RuleTable, AllocError>
+        ensures { IfOk result (λ table. GrantsAs table rules.now) }
     {
-        match self.rows.get(subject) {
-            Some(row) => match row.get(object) {
-                Some(modes) => *modes,
-                None => Modes::NO_ACCESS,
-            },
-            None => Modes::NO_ACCESS,
+        let mut table = RuleTable::empty(alloc);
+        for rule in rules {
+            table.follow(rule.copy()?)?;
         }
+        Ok(table)
+    }
+
+    /// The table of the rules of a text: a rule a line, as [`Rule::read_line`] takes it.
+    /// Refuses, with its number from 1, the first line of another form.
+    pub fn load(alloc: Global, text: &[u8]) -> Result<RuleTable, LoadRefusal>
+        requires { length text.now ≤ TEXT_LIMIT }
+        ensures { LoadsAs result (rules_of text.now) }
+    {
+        let mut table = RuleTable::empty(alloc);
+        let mut rest = text;
+        let mut number = 0u32;
+        while let Some((line, after)) = split_line(rest) {
+            number += 1;
+            table.follow_line(line, number)?;
+            rest = after;
+        }
+        Ok(table)
+    }
+
+    /// Decides a request, in the order of the kernel's Smack document. Takes no memory.
+    pub fn decide(&self, subject: &Label, object: &Label, asked: Modes) -> Decision
+        requires { IsTrue (is_request asked) }
+        ensures { result ≡ decision subject.now object.now asked (granted self.now subject.now object.now) }
+    {
+        let granted = modes_at(&self.rows, subject.as_slice(), object.as_slice());
+        decide(subject, object, asked, granted)
+    }
+
+    /// The table without a rule.
+    fn empty(alloc: Global) -> RuleTable
+        ensures { result ≡ [] }
+    {
+        RuleTable {
+            alloc,
+            rows: BTreeMap::new(alloc),
+        }
+    }
+
+    /// Follows one more rule.
+    fn follow(&mut self, rule: Rule) -> Result<(), AllocError>
+        ensures { OnOk result (FollowsRules self.old self.new (rule ∷ [])) }
+    {
+        match rule {
+            Rule::Set {
+                subject,
+                object,
+                modes,
+            } => put(self.alloc, &mut self.rows, subject, object, modes),
+            Rule::Adjust {
+                subject,
+                object,
+                allow,
+                deny,
+            } => {
+                let standing = modes_at(&self.rows, subject.as_slice(), object.as_slice());
+                let modes = standing.union(allow).without(deny);
+                put(self.alloc, &mut self.rows, subject, object, modes)
+            }
+        }
+    }
+
+    /// Follows the rule of one more line, which has this number.
+    fn follow_line(&mut self, line: &[u8], number: u32) -> Result<(), LoadRefusal>
+        ensures followed { OnOk result (IsOkAnd (line_rule line.now) (λ rule. FollowsRules self.old self.new (option_to_list rule))) }
+        ensures refused { IfErr result (λ refusal. (later : Result (List Rule) ℕ) → RefusesText refusal (with_line number (line_rule line.now) later)) }
+    {
+        match Rule::read_line(self.alloc, line) {
+            Ok(None) => Ok(()),
+            Ok(Some(rule)) => match self.follow(rule) {
+                Ok(()) => Ok(()),
+                Err(error) => Err(LoadRefusal::Memory(error)),
+            },
+            Err(LineRefusal::Form) => Err(LoadRefusal::BadLine(number)),
+            Err(LineRefusal::Memory(error)) => Err(LoadRefusal::Memory(error)),
+        }
+    }
+}
+
+/// What the rows have for a pair.
+fn modes_at(rows: &Rows, subject: &[u8], object: &[u8]) -> Modes
+    ensures { result ≡ granted (rows_of rows.now.entries) subject.now object.now }
+{
+    match rows.get(subject) {
+        Some(row) => match row.get(object) {
+            Some(modes) => *modes,
+            None => Modes::NO_ACCESS,
+        },
+        None => Modes::NO_ACCESS,
     }
 }
 
