@@ -1,11 +1,10 @@
 -- Rules that follow one another: what they make of a pair's modes, and of a table.
-use Rattle.std.proofs.Common.{◌≡◌, ℕ, ◌+◌, ◌<◌, length, take, drop, get_or, Bool, true, false, cond, ◌&&◌, List, [], ◌∷◌, ◌++◌, reverse, Option, Some, None, Result, Ok, Err, OnOk, refl, sym, ap, ◌∙◌}
+use Rattle.std.proofs.Common.{◌≡◌, ℕ, ◌+◌, ◌<◌, length, take, drop, get_or, Bool, true, false, cond, ◌&&◌, List, [], ◌∷◌, ◌++◌, reverse, Option, Some, Result, Ok, Err, OnOk, refl, sym, ap, ◌∙◌}
 use Rattle.std.proofs.lemmas.List.{reverse-append, append_assoc, take-append-drop, drop_more}
 use Rattle.std.proofs.lemmas.Option.{cond_some}
 use Rattle.std.specs.Str.{bytes_eq}
 use Rattle.std.specs.Option.{option_to_list}
 use Rattle.std.specs.Cmp.Lexicographic.{bytes_decides}
-use Rattle.text_lines.specs.Lines.{lines_of}
 use Rattle.smack_rules.specs.declared.modes.Modes.{Modes}
 use Rattle.smack_rules.specs.declared.rule.Rule.{Rule}
 use Rattle.smack_rules.specs.declared.rule.Rule.TheVariants.{Set, Adjust}
@@ -13,11 +12,11 @@ use Rattle.smack_rules.specs.declared.rule.LineRefusal.{LineRefusal}
 use Rattle.smack_rules.specs.declared.table.LoadRefusal.{LoadRefusal}
 use Rattle.smack_rules.specs.declared.table.LoadRefusal.TheVariants.{BadLine, Memory}
 use Rattle.smack_rules.specs.Modes.{no_access, union, without}
-use Rattle.smack_rules.specs.Rule.{is_pair, line_rule}
+use Rattle.smack_rules.specs.Rule.{is_pair}
 use Rattle.smack_rules.specs.Effective.{looking_back, effective_from, effective, modes_set}
 use Rattle.smack_rules.specs.Table.{Row, granted, ChangesPair}
 use Rattle.smack_rules.specs.Grants.{FollowsRules, GrantsAs}
-use Rattle.smack_rules.specs.RuleText.{with_front, with_line, rules_from, RefusesText}
+use Rattle.smack_rules.specs.RuleText.{with_front, with_line, RefusesText}
 
 pub on_ok : {T E P Q : Type 0} (r : Result T E) → (P → Q) → OnOk r P → OnOk r Q
 on_ok (Ok x) f h = f h
@@ -54,8 +53,8 @@ pub follows_adjust : (old new : List (List ℕ × Row)) (subject object : List �
 follows_adjust old new subject object allow deny changed s o =
     changed s o
     ∙ at_pair (is_pair subject object s o) (λ m. without (union m allow) deny) (granted old subject object) (granted old s o)
-        (λ same. let parts = both (bytes_eq subject s) (bytes_eq object o) same in
-            ap (λ l. granted old l object) ((bytes_decides subject s).0 parts.0) ∙ ap (granted old s) ((bytes_decides object o).0 parts.1))
+    (λ same. let parts = both (bytes_eq subject s) (bytes_eq object o) same in
+    ap (λ l. granted old l object) ((bytes_decides subject s).0 parts.0) ∙ ap (granted old s) ((bytes_decides object o).0 parts.1))
 
 pub with_front-append : (front more : List Rule) (later : Result (List Rule) ℕ) → with_front front (with_front more later) ≡ with_front (front ++ more) later
 with_front-append front more (Ok rules) = ap Ok (sym (append_assoc front more rules))
@@ -87,6 +86,6 @@ effective-set rules at rule modes s o below is sets =
     let front = take at rules in
     let rest = drop (at + 1) rules in
     let parts : rules ≡ front ++ (rule ∷ rest) =
-        sym (take-append-drop at rules) ∙ ap (λ l. front ++ l) (drop_more rules at rule below ∙ ap (λ r. r ∷ rest) (sym is)) in
+    sym (take-append-drop at rules) ∙ ap (λ l. front ++ l) (drop_more rules at rule below ∙ ap (λ r. r ∷ rest) (sym is)) in
     sym (ap (λ l. effective l s o) parts ∙ effective_from-append no_access front (rule ∷ rest) s o ∙ effective_from-cons _ rule rest s o
-        ∙ ap (λ m. effective_from m rest s o) (set_to (effective front s o) s o rule modes sets))
+    ∙ ap (λ m. effective_from m rest s o) (set_to (effective front s o) s o rule modes sets))

@@ -4,7 +4,7 @@ use Rattle.std.specs.Map.{lookup}
 use Rattle.std.specs.Ordering.{is_eq, nat_cmp}
 use Rattle.std.specs.Cmp.Lexicographic.{slice_cmp}
 use Rattle.std.specs.Str.{bytes_eq}
-use Rattle.std.specs.BTreeMap.{BTreeMap, UpdatesBy, is_at}
+use Rattle.std.specs.BTreeMap.{BTreeMap, UpdatesBy}
 use Rattle.std.specs.Map.{KeepsOthers, IsKeyTest, AreApart}
 use Rattle.std.specs.Ordering.{eq_by_cmp}
 use Rattle.std.specs.Cmp.{eq_by_cmp_equiv}
@@ -93,5 +93,5 @@ pub changes_pair : (subject object : List ℕ) (modes : Modes) (old new : List (
 changes_pair subject object modes old new was row at_subject rows objects s o =
     ap (λ r. unwrap_or (option_and_then (lookup (bytes_eq o)) r) no_access) (rows s)
     ∙ pair_case (bytes_eq subject s) (bytes_eq object o) modes row was (lookup (bytes_eq s) old) o
-        (λ y. let Was : List ℕ → Type 0 = λ l. lookup (bytes_eq l) old ≡ was in subst Was ((bytes_decides subject s).0 y) at_subject)
-        (objects o)
+    (λ y. let Was : List ℕ → Type 0 = λ l. lookup (bytes_eq l) old ≡ was in subst Was ((bytes_decides subject s).0 y) at_subject)
+    (objects o)

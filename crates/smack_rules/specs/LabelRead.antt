@@ -1,5 +1,5 @@
 -- What reading a label answers.
-use Rattle.std.specs.Prelude.{◌≡◌, ℕ, List, Option, Some, None, Result, Ok, Err}
+use Rattle.std.specs.Prelude.{◌≡◌, ℕ, List, Some, None, Result, Ok, Err}
 use Rattle.smack_rules.specs.declared.label.Label.{Label}
 use Rattle.smack_rules.specs.declared.label.LabelRefusal.{LabelRefusal}
 use Rattle.smack_rules.specs.declared.label.LabelRefusal.TheVariants.{Empty, TooLong, BadByte, Dash, Special, Memory}

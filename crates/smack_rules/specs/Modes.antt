@@ -75,4 +75,4 @@ abbrev pub spelling : Modes → List ℕ
 spelling m =
     if is_no_access m then 45 ∷ []
     else letter_if m.read 114 ++ letter_if m.write 119 ++ letter_if m.execute 120 ++ letter_if m.append 97
-        ++ letter_if m.transmute 116 ++ letter_if m.lock 108 ++ letter_if m.bring_up 98
+    ++ letter_if m.transmute 116 ++ letter_if m.lock 108 ++ letter_if m.bring_up 98

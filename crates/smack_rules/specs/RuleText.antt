@@ -1,5 +1,5 @@
 -- Rule texts: a rule a line.
-use Rattle.std.specs.Prelude.{◌≡◌, ℕ, ◌+◌, List, [], ◌∷◌, ◌++◌, Option, Some, None, Result, Ok, Err, IsOkAnd}
+use Rattle.std.specs.Prelude.{◌≡◌, ℕ, ◌+◌, List, [], ◌∷◌, ◌++◌, Option, Result, Ok, Err, IsOkAnd}
 use Rattle.std.specs.Option.{option_to_list}
 use Rattle.text_lines.specs.Lines.{lines_of}
 use Rattle.smack_rules.specs.declared.table.RuleTable.{RuleTable}

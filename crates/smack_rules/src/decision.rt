@@ -8,6 +8,17 @@ ghost use Rattle.smack_rules.specs.Decision.{is_reading, with_lock, decision};
 use crate::label::Label;
 use crate::modes::Modes;
 
+const READ_AND_EXECUTE: Modes = Modes {
+    read: true,
+    execute: true,
+    ..Modes::NO_ACCESS
+};
+
+const LOCK_ALONE: Modes = Modes {
+    lock: true,
+    ..Modes::NO_ACCESS
+};
+
 /// Whether a request is allowed, and the number from 1 to 7 of the case that decided.
 #[derive(Clone, Copy, Debug, PartialEq, Eq)]
 pub struct Decision {
@@ -53,7 +64,7 @@ fn is_mark(label: &[u8], mark: u8) -> bool
 fn is_reading(asked: Modes) -> bool
     ensures { result ≡ is_reading asked }
 {
-    asked.is_within(Modes::READ_AND_EXECUTE) || asked.is_within(Modes::LOCK_ALONE)
+    asked.is_within(READ_AND_EXECUTE) || asked.is_within(LOCK_ALONE)
 }
 
 /// What a rule grants: its modes, and with `w` also `l`.

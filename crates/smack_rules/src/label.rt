@@ -80,7 +80,7 @@ impl Label {
     }
 
     /// The bytes of the label, which takes no memory.
-    pub fn into_bytes(self) -> Vec<u8>
+    pub(crate) fn into_bytes(self) -> Vec<u8>
         ensures { result.items ≡ self }
     {
         let Label { bytes } = self;

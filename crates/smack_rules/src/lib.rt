@@ -4,10 +4,10 @@
 
 pub use decision::Decision;
 pub use effective::effective_of;
-pub use label::{Label, LabelRefusal};
-pub use modes::Modes;
+pub use label::{LABEL_LIMIT, Label, LabelRefusal};
+pub use modes::{MODE_WORD_LIMIT, Modes};
 pub use rule::{LineRefusal, Rule};
-pub use table::{LoadRefusal, RuleTable};
+pub use table::{LoadRefusal, RuleTable, TEXT_LIMIT};
 
 mod decision;
 mod effective;
@@ -15,4 +15,6 @@ mod label;
 mod modes;
 mod rule;
 mod table;
+#[cfg(test)]
+mod tests;
 mod words;

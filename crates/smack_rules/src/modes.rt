@@ -40,28 +40,6 @@ impl Modes {
         bring_up: false,
     };
 
-    /// The set of `r` and `x`.
-    pub const READ_AND_EXECUTE: Modes = Modes {
-        read: true,
-        write: false,
-        execute: true,
-        append: false,
-        transmute: false,
-        lock: false,
-        bring_up: false,
-    };
-
-    /// The set of `l` alone.
-    pub const LOCK_ALONE: Modes = Modes {
-        read: false,
-        write: false,
-        execute: false,
-        append: false,
-        transmute: false,
-        lock: true,
-        bring_up: false,
-    };
-
     /// Reads a mode word: 1 to 64 bytes, each a letter in either case, or `-`, which adds nothing.
     /// A letter may stand more than once. `None` for every other word.
     pub fn read(word: &[u8]) -> Option<Modes>
@@ -169,7 +147,10 @@ impl fmt::Display for Modes {
         let transmute = letter_if(self.transmute, "t");
         let lock = letter_if(self.lock, "l");
         let bring_up = letter_if(self.bring_up, "b");
-        write!(f, "{read}{write}{execute}{append}{transmute}{lock}{bring_up}")
+        write!(
+            f,
+            "{read}{write}{execute}{append}{transmute}{lock}{bring_up}"
+        )
     }
 }
 

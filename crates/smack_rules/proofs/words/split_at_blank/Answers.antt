@@ -1,4 +1,4 @@
-use Rattle.std.proofs.Common.{sym, ◌∙◌}
+use Rattle.std.proofs.Common.{sym}
 use Rattle.std.proofs.lemmas.List.{take_rest}
 use Rattle.smack_rules.specs.Words.{is_blank}
 use Rattle.smack_rules.proofs.Parts.{slice_split-position, slice_split-no_position}

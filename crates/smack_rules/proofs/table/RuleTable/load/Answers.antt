@@ -19,9 +19,11 @@ loop-line-preserved c =
     let rule = ok_part _ line c.in_ok-follow_line.ensures.followed in
     record {
       counted = omega (arith, c.in-Some.ensures.shorter);
-      taken = (taken.0 ++ option_to_list rule.0,
+      taken = (
+        taken.0 ++ option_to_list rule.0,
         GrantsAs-more c.loop-line.table c.follow_line.new.self taken.0 (option_to_list rule.0) taken.1 rule.2,
         sym (with_line-front taken.0 number line rule.0 later rule.1)
-        ∙ ap (λ lines. with_front taken.0 (rules_from number lines)) (sym c.in-Some.ensures.line)
-        ∙ taken.2);
+            ∙ ap (λ lines. with_front taken.0 (rules_from number lines)) (sym c.in-Some.ensures.line)
+            ∙ taken.2,
+      );
     }
