@@ -62,7 +62,7 @@ fn changed_by(modes: Modes, rule: &Rule, subject: &Label, object: &Label) -> Mod
             object: o,
             allow,
             deny,
-        } if is_pair(s, o, subject, object) => modes.union(*allow).without(*deny),
+        } if is_pair(s, o, subject, object) => modes.adjusted(*allow, *deny),
         _ => modes,
     }
 }

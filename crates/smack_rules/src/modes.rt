@@ -118,6 +118,13 @@ impl Modes {
         }
     }
 
+    /// The set with what is allowed added, and what is denied then taken out.
+    pub fn adjusted(self, allow: Modes, deny: Modes) -> Modes
+        ensures { result ≡ without (union self allow) deny }
+    {
+        self.union(allow).without(deny)
+    }
+
     /// Whether each mode of this set is in the other.
     pub fn is_within(self, other: Modes) -> bool
         ensures { result ≡ is_within self other }

@@ -124,7 +124,7 @@ impl RuleTable {
                 deny,
             } => {
                 let standing = modes_at(&self.rows, subject.as_slice(), object.as_slice());
-                let modes = standing.union(allow).without(deny);
+                let modes = standing.adjusted(allow, deny);
                 put(self.alloc, &mut self.rows, subject, object, modes)
             }
         }
