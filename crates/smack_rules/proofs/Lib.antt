@@ -1,3 +1,5 @@
 pub mod Following
 pub mod Parts
+pub mod Requests
 pub mod Rows
+pub mod Spelling

@@ -2,17 +2,13 @@
 use Rattle.std.specs.Prelude.{◌≡◌, ℕ, List, Some, None, Result, Ok, Err}
 use Rattle.smack_rules.specs.declared.label.Label.{Label}
 use Rattle.smack_rules.specs.declared.label.LabelRefusal.{LabelRefusal}
-use Rattle.smack_rules.specs.declared.label.LabelRefusal.TheVariants.{Empty, TooLong, BadByte, Dash, Special, Memory}
+use Rattle.smack_rules.specs.declared.label.LabelRefusal.TheVariants.{Memory}
 use Rattle.smack_rules.specs.Label.{label_fault}
 
 -- A refusal is the first fault. Want of memory may come in place of any answer.
 abbrev pub RefusesAs : LabelRefusal → List ℕ → Type 0
 RefusesAs (Memory error) bytes = Unit {0}
-RefusesAs Empty bytes = label_fault bytes ≡ Some Empty
-RefusesAs TooLong bytes = label_fault bytes ≡ Some TooLong
-RefusesAs (BadByte at) bytes = label_fault bytes ≡ Some (BadByte at)
-RefusesAs Dash bytes = label_fault bytes ≡ Some Dash
-RefusesAs Special bytes = label_fault bytes ≡ Some Special
+RefusesAs refusal bytes = label_fault bytes ≡ Some refusal
 
 -- What is read has the bytes, and they have no fault.
 abbrev pub ReadsAs : Result Label LabelRefusal → List ℕ → Type 0

@@ -29,6 +29,8 @@ pub struct Modes {
 }
 
 impl Modes {
+    ghost use Rattle.smack_rules.specs.declared.modes.Modes.{Modes};
+
     /// The set without a mode.
     pub const NO_ACCESS: Modes = Modes {
         read: false,
@@ -43,7 +45,9 @@ impl Modes {
     /// Reads a mode word: 1 to 64 bytes, each a letter in either case, or `-`, which adds nothing.
     /// A letter may stand more than once. `None` for every other word.
     pub fn read(word: &[u8]) -> Option<Modes>
-        ensures { result ≡ modes_of word.now }
+        ensures named { result ≡ modes_of word.now }
+        // What a set is printed as is read as that set.
+        ensures again { (modes : Modes) → word.now ≡ spelling modes → result ≡ Some modes }
     {
         if !is_mode_word(word) {
             return None;

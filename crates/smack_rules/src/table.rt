@@ -49,7 +49,7 @@ impl Model for RuleTable {
 }
 
 impl RuleTable {
-    ghost use Rattle.std.specs.Prelude.{◌≡◌, ◌+◌, ◌≤◌, ℕ, List, [], ◌∷◌, length, Result, IsTrue, IfOk, IfErr, OnOk, IsOkAnd};
+    ghost use Rattle.std.specs.Prelude.{◌≡◌, ◌≤◌, ℕ, Bool, List, [], ◌∷◌, length, Result, IsTrue, IfOk, IfErr, OnOk, IsOkAnd};
     ghost use Rattle.std.specs.Option.{option_to_list};
     ghost use Rattle.smack_rules.specs.declared.rule.Rule.{Rule};
     ghost use Rattle.smack_rules.specs.declared.table.TheConstants.{TEXT_LIMIT};
@@ -91,7 +91,10 @@ impl RuleTable {
     /// Decides a request, in the order of the kernel's Smack document. Takes no memory.
     pub fn decide(&self, subject: &Label, object: &Label, asked: Modes) -> Decision
         requires { IsTrue (is_request asked) }
-        ensures { result ≡ decision subject.now object.now asked (granted self.now subject.now object.now) }
+        ensures decided { result ≡ decision subject.now object.now asked (granted self.now subject.now object.now) }
+        // A `b` in a rule never changes a decision.
+        ensures bring_up { (tried : Bool) → result ≡ decision subject.now object.now asked
+            (record (granted self.now subject.now object.now) { bring_up = tried }) }
     {
         let granted = modes_at(&self.rows, subject.as_slice(), object.as_slice());
         decide(subject, object, asked, granted)
@@ -132,8 +135,11 @@ impl RuleTable {
 
     /// Follows the rule of one more line, which has this number.
     fn follow_line(&mut self, line: &[u8], number: u32) -> Result<(), LoadRefusal>
-        ensures followed { OnOk result (IsOkAnd (line_rule line.now) (λ rule. FollowsRules self.old self.new (option_to_list rule))) }
-        ensures refused { IfErr result (λ refusal. (later : Result (List Rule) ℕ) → RefusesText refusal (with_line number (line_rule line.now) later)) }
+        ensures followed { OnOk result
+            (IsOkAnd (line_rule line.now) (λ rule. FollowsRules self.old self.new (option_to_list rule))) }
+        // Whatever lines come later.
+        ensures refused { IfErr result (λ refusal. (later : Result (List Rule) ℕ)
+            → RefusesText refusal (with_line number (line_rule line.now) later)) }
     {
         match Rule::read_line(self.alloc, line) {
             Ok(None) => Ok(()),
