@@ -2,4 +2,3 @@ pub mod Following
 pub mod Parts
 pub mod Requests
 pub mod Rows
-pub mod Spelling

@@ -1,9 +1,9 @@
 -- The access decision, from "Access Rules" in the Linux kernel's Documentation/admin-guide/LSM/Smack.
-use Rattle.std.specs.Prelude.{ℕ, ◌+◌, Bool, true, false, ◌&&◌, ◌||◌, List, [], ◌∷◌, if◌then◌else◌}
+use Rattle.std.specs.Prelude.{ℕ, ◌+◌, ◌==◌, Bool, true, false, ◌&&◌, ◌||◌, List, [], ◌∷◌, if◌then◌else◌}
 use Rattle.std.specs.Str.{bytes_eq}
 use Rattle.smack_rules.specs.declared.modes.Modes.{Modes}
 use Rattle.smack_rules.specs.declared.decision.Decision.{Decision}
-use Rattle.smack_rules.specs.Modes.{read_and_execute, lock_alone, is_within}
+use Rattle.smack_rules.specs.Modes.{letters_that, is_within}
 
 -- the label `*`
 abbrev pub is_star : List ℕ → Bool
@@ -16,6 +16,14 @@ is_hat label = bytes_eq label (94 ∷ [])
 -- the label `_`
 abbrev pub is_floor : List ℕ → Bool
 is_floor label = bytes_eq label (95 ∷ [])
+
+-- the set of `r` and `x`
+abbrev pub read_and_execute : Modes
+read_and_execute = letters_that (λ letter. letter == 114 || letter == 120)
+
+-- the set of `l` alone
+abbrev pub lock_alone : Modes
+lock_alone = letters_that (λ letter. letter == 108)
 
 -- Read or execute access, or (this project's profile) `l` alone: what is asked isn't empty, so within `l` it is `l`.
 abbrev pub is_reading : Modes → Bool

@@ -2,7 +2,7 @@
 
 ghost use Rattle.std.specs.Prelude.{◌≡◌, Some, [], if◌then◌else◌};
 ghost use Rattle.std.specs.List.{list_all};
-ghost use Rattle.smack_rules.specs.Modes.{union, without, is_within, has, is_request, stands_in, is_mode_byte, is_mode_word, modes_of, spelling};
+ghost use Rattle.smack_rules.specs.Modes.{is_empty, union, without, is_within, has, is_request, stands_in, is_mode_byte, is_mode_word, modes_of, spelling};
 
 use std::fmt;
 
@@ -67,13 +67,20 @@ impl Modes {
     pub fn is_request(self) -> bool
         ensures { result ≡ is_request self }
     {
-        let asks = self.read
+        !self.is_empty() && !self.bring_up
+    }
+
+    /// Whether the set has no mode.
+    pub fn is_empty(self) -> bool
+        ensures { result ≡ is_empty self }
+    {
+        !(self.read
             || self.write
             || self.execute
             || self.append
             || self.transmute
-            || self.lock;
-        asks && !self.bring_up
+            || self.lock
+            || self.bring_up)
     }
 
     /// Whether the set has a mode, named by its small letter. No other byte is in a set.
@@ -133,13 +140,7 @@ impl Modes {
     pub fn is_within(self, other: Modes) -> bool
         ensures { result ≡ is_within self other }
     {
-        (!self.read || other.read)
-            && (!self.write || other.write)
-            && (!self.execute || other.execute)
-            && (!self.append || other.append)
-            && (!self.transmute || other.transmute)
-            && (!self.lock || other.lock)
-            && (!self.bring_up || other.bring_up)
+        self.without(other).is_empty()
     }
 }
 
@@ -148,7 +149,7 @@ impl fmt::Display for Modes {
 
     /// Writes the letters in the order `rwxatlb`, and `-` for the set without one.
     fn fmt<W: fmt::Write>(&self, f: &mut fmt::Formatter<W>) -> fmt::Result {
-        if *self == Modes::NO_ACCESS {
+        if self.is_empty() {
             return write!(f, "-");
         }
         let read = letter_if(self.read, "r");
