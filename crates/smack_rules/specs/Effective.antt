@@ -6,6 +6,7 @@ use Rattle.smack_rules.specs.declared.rule.Rule.TheVariants.{Set, Adjust}
 use Rattle.smack_rules.specs.Modes.{no_access, union, without}
 use Rattle.smack_rules.specs.Rule.{is_pair}
 
+-- Here s and o are the subject and the object that are asked about.
 -- Rules that stand newest first, looked through from the newest back to the last `Set` of the pair. Its modes
 -- are what the `Adjust`s after it start from: each adds what it allows, and then takes out what it denies.
 abbrev pub looking_back : Modes → List ℕ → List ℕ → List Rule → Modes

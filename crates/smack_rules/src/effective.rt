@@ -23,7 +23,8 @@ pub fn effective_of(rules: &[Rule], subject: &Label, object: &Label) -> Modes
 
 /// The modes of the pair's last `Set`, and the rules behind it. Where none sets the pair, no access and all rules.
 fn from_last_set<'a>(rules: &'a [Rule], subject: &Label, object: &Label) -> (Modes, &'a [Rule])
-    ensures { effective_from result.0 result.1.now subject.now object.now ≡ effective rules.now subject.now object.now }
+    ensures { effective_from result.0 result.1.now subject.now object.now
+        ≡ effective rules.now subject.now object.now }
 {
     for i in (0..rules.len()).rev() {
         if let Some(modes) = modes_set(&rules[i], subject, object) {
@@ -39,10 +40,10 @@ fn modes_set(rule: &Rule, subject: &Label, object: &Label) -> Option<Modes>
 {
     match rule {
         Rule::Set {
-            subject: s,
-            object: o,
+            subject: rule_subject,
+            object: rule_object,
             modes,
-        } if is_pair(s, o, subject, object) => Some(*modes),
+        } if is_pair(rule_subject, rule_object, subject, object) => Some(*modes),
         _ => None,
     }
 }
@@ -53,23 +54,23 @@ fn changed_by(modes: Modes, rule: &Rule, subject: &Label, object: &Label) -> Mod
 {
     match rule {
         Rule::Set {
-            subject: s,
-            object: o,
+            subject: rule_subject,
+            object: rule_object,
             modes: set,
-        } if is_pair(s, o, subject, object) => *set,
+        } if is_pair(rule_subject, rule_object, subject, object) => *set,
         Rule::Adjust {
-            subject: s,
-            object: o,
+            subject: rule_subject,
+            object: rule_object,
             allow,
             deny,
-        } if is_pair(s, o, subject, object) => modes.adjusted(*allow, *deny),
+        } if is_pair(rule_subject, rule_object, subject, object) => modes.adjusted(*allow, *deny),
         _ => modes,
     }
 }
 
-/// Whether the first two labels are the last two.
-fn is_pair(s: &Label, o: &Label, subject: &Label, object: &Label) -> bool
-    ensures { result ≡ is_pair s.now o.now subject.now object.now }
+/// Whether a rule for these labels is for the pair.
+fn is_pair(rule_subject: &Label, rule_object: &Label, subject: &Label, object: &Label) -> bool
+    ensures { result ≡ is_pair rule_subject.now rule_object.now subject.now object.now }
 {
-    s.as_slice() == subject.as_slice() && o.as_slice() == object.as_slice()
+    rule_subject.as_slice() == subject.as_slice() && rule_object.as_slice() == object.as_slice()
 }

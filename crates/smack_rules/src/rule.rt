@@ -96,7 +96,9 @@ impl Rule {
 
 /// Reads a label of a line.
 fn read_label(alloc: Global, word: &[u8]) -> Result<Label, LineRefusal>
-    ensures { MatchResult result (λ label. (label ≡ word.now) × IsTrue (is_label word.now)) (IsRefused (is_label word.now)) }
+    ensures { MatchResult result
+        (λ label. (label ≡ word.now) × IsTrue (is_label word.now))
+        (IsRefused (is_label word.now)) }
 {
     match Label::read(alloc, word) {
         Ok(label) => Ok(label),
