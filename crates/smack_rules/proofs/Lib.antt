@@ -1,0 +1,4 @@
+pub mod Following
+pub mod Parts
+pub mod Requests
+pub mod Rows

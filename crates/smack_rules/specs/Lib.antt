@@ -1,0 +1,10 @@
+pub mod Decision
+pub mod Effective
+pub mod Grants
+pub mod Label
+pub mod LabelRead
+pub mod Modes
+pub mod Rule
+pub mod RuleText
+pub mod Table
+pub mod Words

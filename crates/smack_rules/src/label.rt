@@ -1,0 +1,130 @@
+//! Labels.
+
+ghost use Rattle.std.specs.Prelude.{◌≡◌, not, IfOk, None, position};
+ghost use Rattle.smack_rules.specs.Label.{is_label_byte, form_fault, label_fault};
+
+use std::alloc::{AllocError, Global};
+use std::marker::Model;
+use thiserror::Error;
+
+/// The most bytes of a label.
+pub const LABEL_LIMIT: usize = 255;
+
+/// Why bytes are no label: the first of these rules that they break.
+#[derive(Clone, Copy, Debug, PartialEq, Eq, Error)]
+pub enum LabelRefusal {
+    #[error("a label has at least one byte")]
+    Empty,
+    #[error("a label has at most 255 bytes")]
+    TooLong,
+    #[error("byte {0} of the label is not printable, or is one of / \\ ' \"")]
+    BadByte(usize),
+    #[error("a label does not begin with -")]
+    Dash,
+    #[error("the labels @ and ? are not known")]
+    Special,
+    #[error("out of memory")]
+    Memory(AllocError),
+}
+
+/// The name of a subject or an object: 1 to 255 printable bytes, as the kernel's Smack document says.
+#[derive(Debug, Drop)]
+pub struct Label {
+    bytes: Vec<u8>,
+}
+
+impl Model for Label {
+    ghost use Rattle.std.specs.Prelude.{◌≡◌, List, ℕ, None};
+    ghost use Rattle.smack_rules.specs.Label.{label_fault};
+
+    ghost Value = { List ℕ };
+
+    ghost view = { λ label. label.bytes.items };
+
+    ghost invariant = { λ label. label_fault label.bytes.items ≡ None };
+}
+
+impl Label {
+    ghost use Rattle.smack_rules.specs.LabelRead.{ReadsAs};
+
+    /// Reads a label. Refuses, in this order: no byte, more than 255 bytes, the first byte that isn't
+    /// printable (0x21 to 0x7E) or is one of `/ \ ' "`, a `-` at the front, and the labels `@` and `?`,
+    /// which this project's profile doesn't know.
+    pub fn read(alloc: Global, bytes: &[u8]) -> Result<Label, LabelRefusal>
+        ensures { ReadsAs result bytes.now }
+    {
+        if let Some(fault) = label_fault(bytes) {
+            return Err(fault);
+        }
+        match Vec::from_slice(alloc, bytes) {
+            Ok(bytes) => Ok(Label { bytes }),
+            Err(error) => Err(LabelRefusal::Memory(error)),
+        }
+    }
+
+    /// The bytes of the label.
+    pub fn as_slice(&self) -> &[u8]
+        ensures value { result.now ≡ self.now }
+        ensures label { label_fault self.now ≡ None }
+    {
+        self.bytes.as_slice()
+    }
+
+    /// An equal label.
+    pub fn copy(&self) -> Result<Label, AllocError>
+        ensures { IfOk result (λ label. label ≡ self.now) }
+    {
+        Ok(Label {
+            bytes: self.bytes.clone()?,
+        })
+    }
+
+    /// The bytes of the label, which takes no memory.
+    pub(crate) fn into_bytes(self) -> Vec<u8>
+        ensures { result.items ≡ self }
+    {
+        let Label { bytes } = self;
+        bytes
+    }
+}
+
+/// The first rule that bytes break, and `None` where they are a label.
+pub(crate) fn label_fault(bytes: &[u8]) -> Option<LabelRefusal>
+    ensures { result ≡ label_fault bytes.now }
+{
+    if bytes.is_empty() {
+        return Some(LabelRefusal::Empty);
+    }
+    if bytes.len() > LABEL_LIMIT {
+        return Some(LabelRefusal::TooLong);
+    }
+    match first_bad_byte(bytes) {
+        Some(at) => Some(LabelRefusal::BadByte(at)),
+        None => form_fault(bytes),
+    }
+}
+
+/// The place of the first byte that may not stand in a label.
+fn first_bad_byte(bytes: &[u8]) -> Option<usize>
+    ensures { result ≡ position (λ byte. not (is_label_byte byte)) bytes.now }
+{
+    bytes.iter().position(|byte| !is_label_byte(*byte))
+}
+
+/// The fault of a form whose bytes are right.
+fn form_fault(bytes: &[u8]) -> Option<LabelRefusal>
+    ensures { result ≡ form_fault bytes.now }
+{
+    match bytes {
+        [b'-', ..] => Some(LabelRefusal::Dash),
+        b"@" | b"?" => Some(LabelRefusal::Special),
+        _ => None,
+    }
+}
+
+/// Whether a byte may stand in a label.
+fn is_label_byte(byte: u8) -> bool
+    ensures { result ≡ is_label_byte byte }
+{
+    matches!(byte, 0x21..=0x7e) && !matches!(byte, b'/' | b'\\' | b'\'' | b'"')
+}
