@@ -6,4 +6,4 @@ pub mod LocalRun
 pub mod Stop
 pub mod LocalScript
 pub mod LocalReading
-pub mod Words
+pub mod Commands

@@ -88,8 +88,9 @@ impl Label {
     }
 }
 
-/// The first rule that bytes break, and `None` where they are a label.
-pub(crate) fn label_fault(bytes: &[u8]) -> Option<LabelRefusal>
+/// The first rule of a label that bytes break, in the order in which `Label::read` refuses, and `None` where they
+/// are a label. Takes no memory.
+pub fn label_fault(bytes: &[u8]) -> Option<LabelRefusal>
     ensures { result ≡ label_fault bytes.now }
 {
     if bytes.is_empty() {

@@ -4,7 +4,7 @@
 
 pub use decision::Decision;
 pub use effective::effective_of;
-pub use label::{LABEL_LIMIT, Label, LabelRefusal};
+pub use label::{LABEL_LIMIT, Label, LabelRefusal, label_fault};
 pub use modes::{MODE_WORD_LIMIT, Modes};
 pub use rule::{LineRefusal, Rule};
 pub use table::{LoadRefusal, RuleTable, TEXT_LIMIT};

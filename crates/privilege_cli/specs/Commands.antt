@@ -1,0 +1,41 @@
+-- The words of the command line.
+use Rattle.std.specs.Prelude.{◌≡◌, Bool, false, ◌&&◌, ◌==◌, if◌then◌else◌, ℕ, List, [], ◌∷◌, Option, Some, None, Result, Ok, Err, codes}
+use Rattle.std.specs.List.{list_any}
+use Rattle.cynara_keys.specs.Text.{same_text}
+use Rattle.smack_rules.specs.Label.{begins_with_dash}
+use Rattle.smack_rules.specs.Rule.{is_label}
+use Rattle.smack_rules.specs.Modes.{modes_of, is_request}
+use Rattle.smack_rules.specs.declared.modes.Modes.{Modes}
+use Rattle.privilege_cli.specs.declared.command_words.Command.{Command}
+use Rattle.privilege_cli.specs.declared.command_words.Command.TheVariants.{Local, SmackAccess}
+use Rattle.privilege_cli.specs.declared.command_words.CommandRefusal.{CommandRefusal}
+use Rattle.privilege_cli.specs.declared.command_words.CommandRefusal.TheVariants.{Unknown, Memory}
+
+-- a request for these modes, where they are one
+abbrev pub access_asked : List ℕ → List ℕ → Option Modes → Option Command
+access_asked subject object None = None
+access_asked subject object (Some asked) = if is_request asked then Some (SmackAccess subject object asked) else None
+
+-- `smack-access SUBJECT OBJECT MODES`, behind the first word
+abbrev pub access_of : List ℕ → List ℕ → List ℕ → Option Command
+access_of subject object modes =
+    if is_label subject && is_label object then access_asked subject object (modes_of modes) else None
+
+-- the command that words name, with one word for each place
+abbrev pub named : List (List ℕ) → Option Command
+named [] = None
+named (word ∷ []) = if same_text word (codes "local") then Some Local else None
+named (word ∷ subject ∷ []) = None
+named (word ∷ subject ∷ object ∷ []) = None
+named (word ∷ subject ∷ object ∷ modes ∷ []) = if same_text word (codes "smack-access") then access_of subject object modes else None
+named (word ∷ subject ∷ object ∷ modes ∷ other ∷ words) = None
+
+-- A word that begins with `-` is outside the grammar, wherever it stands.
+unfoldable pub command_of : List (List ℕ) → Option Command
+command_of words = if list_any begins_with_dash words then None else named words
+
+-- the command of the words, or that they name none; want of memory comes only where they name one
+abbrev pub Reads : Result Command CommandRefusal → Option Command → Type 0
+Reads (Ok command) expected = expected ≡ Some command
+Reads (Err Unknown) expected = expected ≡ None
+Reads (Err (Memory error)) expected = (command : Command) × (expected ≡ Some command)
