@@ -1,6 +1,8 @@
 -- The words of the command line.
-use Rattle.std.specs.Prelude.{◌≡◌, Bool, false, ◌&&◌, ◌==◌, if◌then◌else◌, ℕ, List, [], ◌∷◌, Option, Some, None, Result, Ok, Err, codes}
+use Rattle.std.specs.Prelude.{◌≡◌, Bool, String, false, ◌&&◌, ◌==◌, if◌then◌else◌, ℕ, List, [], ◌∷◌, Option, Some, None, Result, Ok, Err, codes}
 use Rattle.std.specs.List.{list_any}
+use Rattle.std.specs.String.{string_bytes}
+use Rattle.std.specs.declared.alloc.Global.{Global}
 use Rattle.cynara_keys.specs.Text.{same_text}
 use Rattle.smack_rules.specs.Label.{begins_with_dash}
 use Rattle.smack_rules.specs.Rule.{is_label}
@@ -21,18 +23,31 @@ abbrev pub access_of : List ℕ → List ℕ → List ℕ → Option Command
 access_of subject object modes =
     if is_label subject && is_label object then access_asked subject object (modes_of modes) else None
 
--- the command that words name, with one word for each place
-abbrev pub named : List (List ℕ) → Option Command
+-- the one word `local`
+abbrev pub local_of : List ℕ → Option Command
+local_of word = if same_text word (codes "local") then Some Local else None
+
+-- four words, the first of which is `smack-access`
+abbrev pub smack_access_of : List ℕ → List ℕ → List ℕ → List ℕ → Option Command
+smack_access_of word subject object modes = if same_text word (codes "smack-access") then access_of subject object modes else None
+
+-- the command that words name
+abbrev pub named : List (String Global) → Option Command
 named [] = None
-named (word ∷ []) = if same_text word (codes "local") then Some Local else None
+named (word ∷ []) = local_of (string_bytes word)
 named (word ∷ subject ∷ []) = None
 named (word ∷ subject ∷ object ∷ []) = None
-named (word ∷ subject ∷ object ∷ modes ∷ []) = if same_text word (codes "smack-access") then access_of subject object modes else None
+named (word ∷ subject ∷ object ∷ modes ∷ []) =
+    smack_access_of (string_bytes word) (string_bytes subject) (string_bytes object) (string_bytes modes)
 named (word ∷ subject ∷ object ∷ modes ∷ other ∷ words) = None
 
+-- the word begins with `-`
+abbrev pub is_option : String Global → Bool
+is_option word = begins_with_dash (string_bytes word)
+
 -- A word that begins with `-` is outside the grammar, wherever it stands.
-unfoldable pub command_of : List (List ℕ) → Option Command
-command_of words = if list_any begins_with_dash words then None else named words
+abbrev pub command_of : List (String Global) → Option Command
+command_of words = if list_any is_option words then None else named words
 
 -- the command of the words, or that they name none; want of memory comes only where they name one
 abbrev pub Reads : Result Command CommandRefusal → Option Command → Type 0

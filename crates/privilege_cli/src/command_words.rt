@@ -1,9 +1,8 @@
 // The words of the command line.
-ghost use Rattle.std.specs.Prelude.{◌≡◌, map};
+ghost use Rattle.std.specs.Prelude.{◌≡◌, Some};
 ghost use Rattle.std.specs.List.{list_any};
 ghost use Rattle.std.specs.String.{string_bytes};
-ghost use Rattle.smack_rules.specs.Label.{begins_with_dash};
-ghost use Rattle.privilege_cli.specs.Commands.{access_of, named, command_of, Reads};
+ghost use Rattle.privilege_cli.specs.Commands.{is_option, local_of, access_of, smack_access_of, command_of, Reads};
 
 use smack_rules::{Label, Modes, label_fault};
 use std::alloc::{AllocError, Global};
@@ -31,16 +30,20 @@ pub enum CommandRefusal {
 impl Command {
     /// Reads the words behind the program's name. `Unknown` exactly where they name no command.
     pub fn read(alloc: Global, words: &[String]) -> Result<Command, CommandRefusal>
-        ensures { Reads result (command_of (map string_bytes words.now)) }
+        ensures { Reads result (command_of words.now) }
     {
         if has_option(words) {
             return Err(CommandRefusal::Unknown);
         }
         match words {
-            [word] if word.as_bytes() == b"local".as_slice() => Ok(Command::Local),
-            [word, subject, object, modes] if word.as_bytes() == b"smack-access".as_slice() => {
-                read_access(alloc, subject.as_bytes(), object.as_bytes(), modes.as_bytes())
-            }
+            [word] => read_local(word.as_bytes()),
+            [word, subject, object, modes] => read_smack_access(
+                alloc,
+                word.as_bytes(),
+                subject.as_bytes(),
+                object.as_bytes(),
+                modes.as_bytes(),
+            ),
             _ => Err(CommandRefusal::Unknown),
         }
     }
@@ -48,9 +51,41 @@ impl Command {
 
 // Whether a word begins with a dash.
 fn has_option(words: &[String]) -> bool
-    ensures { result ≡ list_any begins_with_dash (map string_bytes words.now) }
+    ensures { result ≡ list_any is_option words.now }
 {
-    words.iter().any(|word| word.as_bytes().first() == Some(&b'-'))
+    words.iter().any(|word| is_option(word))
+}
+
+fn is_option(word: &String) -> bool
+    ensures { result ≡ is_option word.now }
+{
+    word.as_bytes().first() == Some(&b'-')
+}
+
+// The one word `local`.
+fn read_local(word: &[u8]) -> Result<Command, CommandRefusal>
+    ensures { Reads result (local_of word.now) }
+{
+    if word != b"local".as_slice() {
+        return Err(CommandRefusal::Unknown);
+    }
+    Ok(Command::Local)
+}
+
+// Four words, the first of which is `smack-access`.
+fn read_smack_access(
+    alloc: Global,
+    word: &[u8],
+    subject: &[u8],
+    object: &[u8],
+    modes: &[u8],
+) -> Result<Command, CommandRefusal>
+    ensures { Reads result (smack_access_of word.now subject.now object.now modes.now) }
+{
+    if word != b"smack-access".as_slice() {
+        return Err(CommandRefusal::Unknown);
+    }
+    read_access(alloc, subject, object, modes)
 }
 
 // `smack-access`, behind the first word. The words are tested before memory is asked for.
@@ -71,12 +106,27 @@ fn read_access(
     if !asked.is_request() {
         return Err(CommandRefusal::Unknown);
     }
-    match (Label::read(alloc, subject), Label::read(alloc, object)) {
-        (Ok(subject), Ok(object)) => Ok(Command::SmackAccess {
-            subject,
-            object,
-            asked,
-        }),
-        _ => Err(CommandRefusal::Memory(AllocError)),
-    }
+    copy_labels(alloc, subject, object, asked)
+}
+
+// The command with its labels copied from the words.
+fn copy_labels(
+    alloc: Global,
+    subject: &[u8],
+    object: &[u8],
+    asked: Modes,
+) -> Result<Command, CommandRefusal>
+    ensures { Reads result (Some (Command.SmackAccess subject.now object.now asked)) }
+{
+    let Ok(subject) = Label::read(alloc, subject) else {
+        return Err(CommandRefusal::Memory(AllocError));
+    };
+    let Ok(object) = Label::read(alloc, object) else {
+        return Err(CommandRefusal::Memory(AllocError));
+    };
+    Ok(Command::SmackAccess {
+        subject,
+        object,
+        asked,
+    })
 }

@@ -18,7 +18,7 @@ pub fn run<R, S: Source, K: Sink>(
     source: &mut S,
     sink: &mut K,
 ) -> u8
-    ensures words { (result ≡ 2) ↔ (command_of (map string_bytes words.now) ≡ None) }
+    ensures words { (result ≡ 2) ↔ (command_of words.now ≡ None) }
 {
     match Command::read(alloc, words) {
         Ok(Command::Local) => run_local(alloc, source, sink),
