@@ -1,5 +1,5 @@
 ghost use Rattle.std.specs.Prelude.{◌≡◌, ◌++◌, OnOk, OnErr};
-ghost use Rattle.line_script.specs.Answers.{answer_text};
+ghost use Rattle.line_script.specs.Answers.{answer_text, command_line_text};
 
 use crate::print_parts::append_answer;
 use cynara_keys::{BucketName, Counted, Policy, PolicyResult};
@@ -42,6 +42,14 @@ pub enum LineAnswer<'a> {
     LineFault {
         line: u32,
     },
+}
+
+/// The line of words that are no command, for a place where there may be no memory to print it.
+#[tactic(auto, unfolding(crate::specs::Answers::command_line_text))]
+pub fn command_line_fault() -> &'static [u8]
+    ensures { result.now ≡ command_line_text }
+{
+    b"fault command line\n"
 }
 
 /// Appends the text of the answer, a line with its newline. Where memory runs out, the bytes stay as they were.

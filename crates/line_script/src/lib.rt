@@ -10,5 +10,5 @@ mod steps;
 #[cfg(test)]
 mod tests;
 
-pub use answers::{LineAnswer, print};
+pub use answers::{LineAnswer, command_line_fault, print};
 pub use steps::{LineRefusal, Reader, Step};

@@ -3,14 +3,13 @@ ghost use Rattle.std.specs.Prelude.{◌≡◌, ◌++◌, decimal, OnOk, OnErr};
 ghost use Rattle.line_script.specs.Answers.{bucket_text, result_text, verdict_text, key_text, counted_text, answer_text, accepted_text, by_policy_text, by_fallback_text, limit_text, access_text, line_fault_text};
 ghost use Rattle.line_script.specs.Appending.{Lengthens};
 
-use crate::LineAnswer;
+use crate::{LineAnswer, command_line_fault};
 use cynara_keys::{BucketName, Counted, Key, Kind, Policy, PolicyResult};
 use desk_ports::Bytes;
 use itoa::Buffer;
 use std::alloc::AllocError;
 
 /// Appends the text of the answer.
-#[tactic(auto, unfolding(crate::specs::Answers::command_line_text))]
 pub fn append_answer(answer: &LineAnswer, out: &mut Bytes) -> Result<(), AllocError>
     ensures ok { OnOk result (out.new ≡ out.old ++ answer_text answer.now) }
     ensures err { OnErr result (Lengthens out.old out.new) }
@@ -29,7 +28,7 @@ pub fn append_answer(answer: &LineAnswer, out: &mut Bytes) -> Result<(), AllocEr
         } => append_by_fallback(out, *commit, bucket, fallback),
         LineAnswer::LimitReached { counted, most } => append_limit(out, *counted, *most),
         LineAnswer::Access { allowed, rule } => append_access(out, *allowed, *rule),
-        LineAnswer::CommandLineFault => out.append(b"fault command line\n"),
+        LineAnswer::CommandLineFault => out.append(command_line_fault()),
         LineAnswer::LineFault { line } => append_line_fault(out, *line),
     }
 }
