@@ -7,3 +7,5 @@ pub mod Stop
 pub mod LocalScript
 pub mod LocalReading
 pub mod Words
+pub mod AccessRun
+pub mod AccessReading

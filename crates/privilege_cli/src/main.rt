@@ -1,6 +1,7 @@
 //! The program: the words of the command line, and standard input and output.
 #![tactic(auto)]
 
+mod access_run;
 mod command_words;
 mod host_words;
 mod local_run;
