@@ -57,7 +57,7 @@ pub record AreRead (left left_after : Option (List ℕ)) (table : List (List ℕ
 pub record IsWrongSource (left left_after : Option (List ℕ)) (line : ℕ) : Type 0 where
   pub text : List ℕ
   pub took : Took left text left_after
-  pub wrong : (more : List ℕ) → left_after ≡ Some more → rules_read (text ++ more) ≡ Err line
+  pub wrong : (more : List ℕ) → left ≡ Some (text ++ more) → left_after ≡ Some more → rules_read (text ++ more) ≡ Err line
 
 -- how reading the rules may stop
 abbrev pub StopsRules : Option (List ℕ) → Option (List ℕ) → Stop → Type 0

@@ -124,10 +124,8 @@ fn read_text<S: Source>(alloc: Global, source: &mut S) -> Result<Bytes, Stop>
 {
     let mut text = Bytes::new(alloc);
     let mut buffer = zeros(alloc, WINDOW)?;
-    let mut more = true;
-    while more {
-        more = read_more(&mut text, buffer.as_mut_slice(), source)?;
-    }
+    let window = buffer.as_mut_slice();
+    while read_more(&mut text, window, source)? {}
     Ok(text)
 }
 
