@@ -136,7 +136,7 @@ pub NamesLine-written : {A : Type 0} (r : Result A Stop) (taken taken_after : Op
     (IsErrOf r Sink → Failed) → NamesLine taken taken_after line Failed
 NamesLine-written (Ok value) taken taken_after line Failed other all failed = (line_fault_text line, all, inl refl)
 NamesLine-written (Err stop) taken taken_after line Failed other stopped failed =
-    names-stopped taken taken_after line Failed stop (λ is. other (ap Err is)) stopped failed
+    names-stopped taken taken_after line Failed stop (λ is. other (ap Err is)) stopped (λ is. failed (ap Err is))
 
 written-weaker : (Failed Other : Type 0) → (Failed → Other) → (bytes written : List ℕ) → AreWritten Failed bytes written → AreWritten Other bytes written
 written-weaker Failed Other weaker bytes written (inl all) = inl all
