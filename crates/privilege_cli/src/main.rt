@@ -2,6 +2,8 @@
 #![tactic(auto)]
 
 mod access_run;
+#[cfg(test)]
+mod access_tests;
 mod command_words;
 mod host_words;
 mod local_run;
