@@ -8,3 +8,5 @@ pub mod Reading
 pub mod LastLine
 pub mod Runs
 pub mod Endings
+pub mod RuleTexts
+pub mod Accessing

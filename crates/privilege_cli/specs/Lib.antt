@@ -6,4 +6,7 @@ pub mod LocalRun
 pub mod Stop
 pub mod LocalScript
 pub mod LocalReading
+pub mod AccessRun
+pub mod AccessReading
 pub mod Commands
+pub mod Program

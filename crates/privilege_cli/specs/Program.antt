@@ -28,4 +28,4 @@ Ends Failed (Some (SmackAccess subject object asked)) 3 left left_after taken ta
 Ends Failed (Some (SmackAccess subject object asked)) 4 left left_after taken taken_after = taken_after ≡ taken
 Ends Failed (Some (SmackAccess subject object asked)) 5 left left_after taken taken_after =
     Told left left_after taken taken_after (IsPartlyDecided subject object asked)
-Ends Failed command status left left_after taken taken_after = Empty {0}
+Ends Failed command status left left_after taken taken_after = ⊥

@@ -1,6 +1,9 @@
 //! The program: the words of the command line, and standard input and output.
 #![tactic(auto)]
 
+mod access_run;
+#[cfg(test)]
+mod access_tests;
 mod command_words;
 mod host_words;
 mod local_run;
