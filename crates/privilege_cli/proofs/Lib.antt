@@ -10,3 +10,4 @@ pub mod Runs
 pub mod Endings
 pub mod RuleTexts
 pub mod Accessing
+pub mod OutOfMemory

@@ -1,5 +1,5 @@
 -- The words of the command line.
-use Rattle.std.specs.Prelude.{◌≡◌, Bool, String, false, ◌&&◌, ◌==◌, if◌then◌else◌, ℕ, List, [], ◌∷◌, Option, Some, None, Result, Ok, Err, codes}
+use Rattle.std.specs.Prelude.{◌≡◌, Bool, String, false, ◌&&◌, ◌==◌, if◌then◌else◌, ℕ, List, [], ◌∷◌, Option, Some, None, IsTrue, Result, Ok, Err, codes}
 use Rattle.std.specs.List.{list_any}
 use Rattle.std.specs.String.{string_bytes}
 use Rattle.std.specs.declared.alloc.Global.{Global}
@@ -54,3 +54,8 @@ abbrev pub Reads : Result Command CommandRefusal → Option Command → Type 0
 Reads (Ok command) expected = expected ≡ Some command
 Reads (Err Unknown) expected = expected ≡ None
 Reads (Err (Memory error)) expected = (command : Command) × (expected ≡ Some command)
+
+-- a command asks for a decision only where the modes are a request
+abbrev pub AsksRequest : Command → Type 0
+AsksRequest Local = Unit {0}
+AsksRequest (SmackAccess subject object asked) = IsTrue (is_request asked)

@@ -1,8 +1,9 @@
 // The words of the command line.
-ghost use Rattle.std.specs.Prelude.{◌≡◌, Some};
+ghost use Rattle.std.specs.Prelude.{◌≡◌, Some, IsTrue, IfOk};
 ghost use Rattle.std.specs.List.{list_any};
 ghost use Rattle.std.specs.String.{string_bytes};
-ghost use Rattle.privilege_cli.specs.Commands.{is_option, local_of, access_of, smack_access_of, command_of, Reads};
+ghost use Rattle.smack_rules.specs.Modes.{is_request};
+ghost use Rattle.privilege_cli.specs.Commands.{is_option, local_of, access_of, smack_access_of, command_of, Reads, AsksRequest};
 
 use smack_rules::{Label, Modes, label_fault};
 use std::alloc::{AllocError, Global};
@@ -30,7 +31,8 @@ pub enum CommandRefusal {
 impl Command {
     /// Reads the words behind the program's name. `Unknown` exactly where they name no command.
     pub fn read(alloc: Global, words: &[String]) -> Result<Command, CommandRefusal>
-        ensures { Reads result (command_of words.now) }
+        ensures command { Reads result (command_of words.now) }
+        ensures asked { IfOk result AsksRequest }
     {
         if has_option(words) {
             return Err(CommandRefusal::Unknown);
@@ -64,7 +66,8 @@ fn is_option(word: &String) -> bool
 
 // The one word `local`.
 fn read_local(word: &[u8]) -> Result<Command, CommandRefusal>
-    ensures { Reads result (local_of word.now) }
+    ensures command { Reads result (local_of word.now) }
+    ensures asked { IfOk result AsksRequest }
 {
     if word != b"local".as_slice() {
         return Err(CommandRefusal::Unknown);
@@ -80,7 +83,8 @@ fn read_smack_access(
     object: &[u8],
     modes: &[u8],
 ) -> Result<Command, CommandRefusal>
-    ensures { Reads result (smack_access_of word.now subject.now object.now modes.now) }
+    ensures command { Reads result (smack_access_of word.now subject.now object.now modes.now) }
+    ensures asked { IfOk result AsksRequest }
 {
     if word != b"smack-access".as_slice() {
         return Err(CommandRefusal::Unknown);
@@ -95,7 +99,8 @@ fn read_access(
     object: &[u8],
     modes: &[u8],
 ) -> Result<Command, CommandRefusal>
-    ensures { Reads result (access_of subject.now object.now modes.now) }
+    ensures command { Reads result (access_of subject.now object.now modes.now) }
+    ensures asked { IfOk result AsksRequest }
 {
     if label_fault(subject).is_some() || label_fault(object).is_some() {
         return Err(CommandRefusal::Unknown);
@@ -116,7 +121,9 @@ fn copy_labels(
     object: &[u8],
     asked: Modes,
 ) -> Result<Command, CommandRefusal>
-    ensures { Reads result (Some (Command.SmackAccess subject.now object.now asked)) }
+    requires { IsTrue (is_request asked) }
+    ensures command { Reads result (Some (Command.SmackAccess subject.now object.now asked)) }
+    ensures asked { IfOk result AsksRequest }
 {
     let Ok(subject) = Label::read(alloc, subject) else {
         return Err(CommandRefusal::Memory(AllocError));

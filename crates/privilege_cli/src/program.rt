@@ -2,7 +2,7 @@ ghost use Rattle.std.specs.Prelude.{◌≡◌, ◌↔◌, None};
 ghost use Rattle.desk_ports.specs.Faults.{Rose};
 ghost use Rattle.line_script.specs.Answers.{command_line_text};
 ghost use Rattle.privilege_cli.specs.Commands.{command_of};
-ghost use Rattle.privilege_cli.specs.Program.{Ends, TookUntilFailure};
+ghost use Rattle.privilege_cli.specs.Program.{RunEnds, TookUntilFailure};
 
 use crate::access_run::run_access;
 use crate::command_words::{Command, CommandRefusal};
@@ -23,7 +23,7 @@ pub fn run<R, S: Source, K: Sink>(
     sink: &mut K,
 ) -> u8
     ensures words { (result ≡ 2) ↔ (command_of words.now ≡ None) }
-    ensures run { Ends (Rose (K.faults sink.old) (K.faults sink.new)) (command_of words.now) result
+    ensures run { RunEnds (Rose (K.faults sink.old) (K.faults sink.new)) (command_of words.now) result
         (S.left source.old) (S.left source.new) (K.taken sink.old) (K.taken sink.new) }
     ensures source_failed { result ≡ 4 → Rose (S.faults source.old) (S.faults source.new) }
     ensures sink_failed { result ≡ 5 → Rose (K.faults sink.old) (K.faults sink.new) }
