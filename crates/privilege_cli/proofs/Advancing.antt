@@ -1,8 +1,8 @@
 -- How a script goes on over whole lines.
-use Rattle.std.proofs.Common.{◌≡◌, ◌∷◌, ◌++◌, [], ℕ, List, inl, inr, refl, sym, ap, ◌∙◌, subst, append_assoc}
+use Rattle.std.proofs.Common.{◌≡◌, ◌∷◌, ◌++◌, [], ℕ, List, inr, refl, sym, ap, ◌∙◌, append_assoc}
 use Rattle.text_lines.specs.Lines.{pieces_of, HasNoNewline}
 use Rattle.text_lines.proofs.Pieces.{pieces_of-newline}
-use Rattle.privilege_cli.specs.Script.{Position, Outcome, script_from, answered, stopped_at}
+use Rattle.privilege_cli.specs.Script.{Position, Outcome, script_from, answered}
 use Rattle.privilege_cli.specs.LocalRun.{Advances, AreWholeLines}
 use Rattle.privilege_cli.specs.Stop.{StopsWithin, StopsAtPiece}
 use Rattle.privilege_cli.specs.declared.local_script.Stop.{Stop}

@@ -18,7 +18,7 @@ module _ (old mid new : LocalScript) (bytes rest line after : List ℕ) (so_far 
         room = omega (arith, length-append so_far.lines (line ++ 10 ∷ []), piece.room, so_far.room);
         answers = piece.answers ∙ (ap (λ answers. answers ++ piece.text) so_far.answers ∙ append_assoc old.answers so_far.text piece.text);
         advanced = Advances-then (position_of old) (position_of mid) (position_of new) so_far.lines (line ++ 10 ∷ []) so_far.text piece.text so_far.advanced
-          (Advances-line (position_of mid) (position_of new) line piece.text plain piece.advanced);
+            (Advances-line (position_of mid) (position_of new) line piece.text plain piece.advanced);
       }
 
   pub StopsInLines-line : (stop : Stop) → new.answers ≡ mid.answers → StopsAtPiece stop (position_of mid) (line ++ 10 ∷ []) → StopsInLines stop old new bytes
@@ -27,7 +27,7 @@ module _ (old mid new : LocalScript) (bytes rest line after : List ℕ) (so_far 
         text = so_far.text;
         answers = same ∙ so_far.answers;
         stopped = subst (λ bytes. StopsWithin stop (position_of old) bytes so_far.text) (sym (so_far.parts ∙ ap (λ rest. so_far.lines ++ rest) cut))
-          (StopsWithin-line (position_of old) (position_of mid) so_far.lines line after so_far.text so_far.advanced plain stop stopped);
+            (StopsWithin-line (position_of old) (position_of mid) so_far.lines line after so_far.text so_far.advanced plain stop stopped);
       }
 
 pub length-piece : (line : List ℕ) → length (line ++ 10 ∷ []) ≡ length line + 1

@@ -1,5 +1,5 @@
 -- A run that ends for want of memory before it begins.
-use Rattle.std.proofs.Common.{arith, ◌≡◌, ◌≢◌, ◌≤◌, ◌++◌, [], ℕ, List, Option, Some, None, refl, sym, ap, append-nil}
+use Rattle.std.proofs.Common.{arith, [], ℕ, List, Option, Some, None, refl, sym, ap, append-nil}
 use Rattle.privilege_cli.specs.Script.{script}
 use Rattle.privilege_cli.specs.LocalRun.{Told, IsCutShort}
 use Rattle.privilege_cli.specs.Program.{Ends, RunEnds}
@@ -14,13 +14,13 @@ Told-nothing (Some input) (Some before) = (input, [], refl, ap Some (sym (append
 
 Ends-memory : (Done Memory Line Source Sink : Type 0) → Memory → Ends 1 Done Memory Line Source Sink
 Ends-memory Done Memory Line Source Sink ended = record {
-    known = (omega arith, λ same. omega arith);
-    done = λ same. cc;
-    memory = λ same. ended;
-    line = λ same. cc;
-    source = λ same. cc;
-    sink = λ same. cc;
-  }
+  known = (omega arith, λ same. omega arith);
+  done = λ same. cc;
+  memory = λ same. ended;
+  line = λ same. cc;
+  source = λ same. cc;
+  sink = λ same. cc;
+}
 
 pub RunEnds-memory : (Failed : Type 0) (command : Command) (left taken : Option (List ℕ)) → RunEnds Failed (Some command) 1 left left taken taken
 RunEnds-memory Failed Local left taken = Ends-memory _ _ _ _ _ (Told-nothing left taken)

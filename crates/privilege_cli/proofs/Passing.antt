@@ -1,10 +1,9 @@
 -- Bytes that pass from a source and to a sink, one call after another, and counts that rise.
-use Rattle.std.proofs.Common.{◌≡◌, ◌≤◌, ◌<◌, ◌+◌, ◌∷◌, ◌++◌, [], ℕ, List, length, take, drop, Option, Some, None, Result, Ok, Err, OnOk, OnErr, inl, inr, refl, sym, ap, ◌∙◌, subst, append_assoc, arith}
+use Rattle.std.proofs.Common.{◌≡◌, ◌<◌, ◌++◌, [], ℕ, List, length, take, Option, Some, None, Result, Ok, Err, OnOk, OnErr, inl, inr, refl, sym, ap, ◌∙◌, subst, append_assoc, arith}
 use Rattle.desk_ports.specs.Faults.{NeverFalls, Rose}
 use Rattle.desk_ports.specs.Content.{Took, AtEnd, Appended, AppendedPart}
 use Rattle.desk_ports.proofs.Appends.{Appended-then}
 use Rattle.line_script.specs.Answers.{line_fault_text}
-use Rattle.privilege_cli.specs.LocalRun.{AreWritten}
 use Rattle.privilege_cli.specs.LocalReading.{EndsAtLine, IsAtEnd}
 
 pub Rose-before : (first second third : ℕ) → Rose first second → NeverFalls second third → Rose first third
@@ -40,7 +39,8 @@ pub EndsAtLine-either : {E F : Type 0} (r : Result E F) (first second third : Op
     EndsAtLine first third waiting line (Rose faults_0 faults_2)
 EndsAtLine-either (Ok value) first second third waiting text line f0 f1 f2 is before count all part failed =
     (text, Appended-then first second third waiting text before all, inl is)
-EndsAtLine-either (Err error) first second third waiting text line f0 f1 f2 is before count all part failed =
-    ( take part.0 text
-    , Appended-then first second third waiting (take part.0 text) before part.2
-    , inr (Rose-behind f0 f1 f2 count failed, part.0, subst (λ text. part.0 < length text) is part.1, ap (take part.0) is))
+EndsAtLine-either (Err error) first second third waiting text line f0 f1 f2 is before count all part failed = (
+  take part.0 text,
+  Appended-then first second third waiting (take part.0 text) before part.2,
+  inr (Rose-behind f0 f1 f2 count failed, part.0, subst (λ text. part.0 < length text) is part.1, ap (take part.0) is),
+)

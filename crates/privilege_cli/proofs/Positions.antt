@@ -1,5 +1,5 @@
 -- How a script goes on from one position to another.
-use Rattle.std.proofs.Common.{◌≡◌, ◌+◌, ◌-◌, ◌∷◌, ◌++◌, [], ℕ, Bool, true, false, cond, not, nat_lt, ◌<◌, ◌≤◌, List, length, Option, Some, None, refl, sym, ap, ◌∙◌, subst, arith, append_assoc, nat_le}
+use Rattle.std.proofs.Common.{◌≡◌, ◌+◌, ◌-◌, ◌∷◌, [], ℕ, Bool, true, false, cond, not, nat_lt, ◌<◌, ◌≤◌, List, length, Option, Some, None, refl, ap, ◌∙◌, subst, arith, nat_le}
 use Rattle.std.proofs.lemmas.Bool.Decides.{nat_tests}
 use Rattle.std.specs.Option.{option_map_or}
 use Rattle.text_lines.specs.Lines.{line_of}
@@ -26,7 +26,7 @@ has_room-same policy first second same =
 
 put-chosen : (room : Bool) (policy : Policy) (first second : State) → IsSameState first second →
     IsSameState (cond room (record { commit = first.commit + 1; policies = put_policy policy first.policies }) first)
-                (cond room (record { commit = second.commit + 1; policies = put_policy policy second.policies }) second)
+    (cond room (record { commit = second.commit + 1; policies = put_policy policy second.policies }) second)
 put-chosen true policy first second same =
     record { commit = ap (λ n. n + 1) same.commit; policies = put_policy-same policy first.policies second.policies same.policies }
 put-chosen false policy first second same = same
@@ -66,7 +66,7 @@ next state line room piece pieces step =
 
 next-same : (line room : ℕ) (piece : List ℕ) (pieces : List (List ℕ)) (first second : State) → HaveOwnKeys first.policies → IsSameState first second →
     ((first second : State) → HaveOwnKeys first.policies → IsSameState first second →
-      script_from (record { state = first; line = line + 1; room = room - length piece }) pieces ≡ script_from (record { state = second; line = line + 1; room = room - length piece }) pieces) →
+    script_from (record { state = first; line = line + 1; room = room - length piece }) pieces ≡ script_from (record { state = second; line = line + 1; room = room - length piece }) pieces) →
     (step : Option Step) → next first line room piece pieces step ≡ next second line room piece pieces step
 next-same line room piece pieces first second own same later None = refl
 next-same line room piece pieces first second own same later (Some step) =
@@ -123,7 +123,7 @@ pub script_from-step : (from : Position) (step : Step) (state : State) (piece : 
 script_from-step from step state piece pieces reads own same =
     ap (λ step. option_map_or (λ step. answered (reply from.state step) (script_from (behind from step piece) pieces)) step (stopped_at from.line)) reads
     ∙ ap (answered (reply from.state step))
-      (script_from-same (from.line + 1) (from.room - length piece) pieces (after from.state step) state (after-own step from.state own) same)
+    (script_from-same (from.line + 1) (from.room - length piece) pieces (after from.state step) state (after-own step from.state own) same)
 
 -- a line that has none
 pub script_from-none : (from : Position) (piece : List ℕ) (pieces : List (List ℕ)) → step_at from.room piece ≡ None →

@@ -1,5 +1,5 @@
 -- One reading: lines answered, a line that can't be one, or a stop.
-use Rattle.std.proofs.Common.{◌≡◌, ◌≤◌, ◌<◌, ◌+◌, ◌∷◌, ◌++◌, [], ◌⊎◌, ℕ, Bool, true, false, cond, List, length, Option, inl, inr, refl, sym, ap, ◌∙◌, subst, append_assoc, arith, length-append}
+use Rattle.std.proofs.Common.{◌≡◌, ◌≤◌, ◌<◌, ◌∷◌, ◌++◌, [], ◌⊎◌, ℕ, Bool, true, false, cond, List, length, Option, inl, inr, refl, sym, ap, ◌∙◌, subst, append_assoc, arith, length-append}
 use Rattle.std.specs.List.{onto_first}
 use Rattle.text_lines.specs.Lines.{HasNoNewline, is_newline, pieces_of, line_of}
 use Rattle.desk_ports.specs.Content.{Took, Appended}
@@ -87,10 +87,10 @@ StopsInLines-long old new bytes left so_far past =
       text = text;
       answers = so_far.answered.answers;
       stopped = λ more.
-        ap (λ bytes. script_from (position_of old) (pieces_of (bytes ++ more))) so_far.answered.parts
-        ∙ (ap (λ bytes. script_from (position_of old) (pieces_of bytes)) (append_assoc lines so_far.rest more)
-        ∙ (so_far.answered.advanced (so_far.rest ++ more)
-        ∙ ap (answered text) (script_from-long (position_of new) so_far.rest more so_far.unfinished past')));
+          ap (λ bytes. script_from (position_of old) (pieces_of (bytes ++ more))) so_far.answered.parts
+          ∙ (ap (λ bytes. script_from (position_of old) (pieces_of bytes)) (append_assoc lines so_far.rest more)
+          ∙ (so_far.answered.advanced (so_far.rest ++ more)
+          ∙ ap (answered text) (script_from-long (position_of new) so_far.rest more so_far.unfinished past')));
     }
 
 module _ (left left_after taken taken_after : Option (List ℕ)) (old mid new : LocalScript) (kept given bytes : List ℕ)
@@ -127,7 +127,7 @@ module _ (left left_after taken taken_after : Option (List ℕ)) (old mid new : 
         whole = answers.answered.whole;
         unfinished = answers.unfinished;
         advanced = subst (λ at. Advances at lines new.answers (position_of new)) same
-          (subst (λ text. Advances (position_of mid) lines text (position_of new)) (sym texts) answers.answered.advanced);
+            (subst (λ text. Advances (position_of mid) lines text (position_of new)) (sym texts) answers.answered.advanced);
         short = omega (arith, answers.length_rest, short);
         within = omega (arith, answers.length_rest, within);
         nearer = omega (arith, rooms, answers.answered.room, more, ap length answers.answered.parts, length-append lines answers.rest);

@@ -1,13 +1,12 @@
 -- A whole run, one reading after another.
-use Rattle.std.proofs.Common.{◌≡◌, ◌+◌, ◌<◌, ◌∷◌, ◌++◌, [], ℕ, zero, suc, List, length, take, Option, Some, None, inl, inr, refl, sym, ap, ◌∙◌, subst, append_assoc, append-nil, arith}
+use Rattle.std.proofs.Common.{◌≡◌, ◌<◌, ◌∷◌, ◌++◌, [], ℕ, zero, suc, List, length, take, Option, Some, None, inl, inr, refl, sym, ap, ◌∙◌, subst, append_assoc, append-nil, arith}
 use Rattle.text_lines.specs.Lines.{pieces_of}
-use Rattle.desk_ports.specs.Content.{Took, AtEnd, Appended, AppendedPart}
+use Rattle.desk_ports.specs.Content.{Took}
 use Rattle.desk_ports.proofs.Appends.{Appended-none, Appended-then}
-use Rattle.privilege_cli.specs.Script.{Position, Outcome, start, script, script_from, answered, stopped_at, ended}
-use Rattle.privilege_cli.specs.LocalRun.{AreWholeLines, Advances, AreAnswered, IsUnfinished, IsDone, IsCutShort, IsStoppedAtLine, AreWritten, Told}
-use Rattle.privilege_cli.specs.Stop.{StopsWithin}
+use Rattle.privilege_cli.specs.Script.{Outcome, start, script, script_from, answered, stopped_at}
+use Rattle.privilege_cli.specs.LocalRun.{AreWholeLines, Advances}
 use Rattle.privilege_cli.specs.LocalScript.{position_of}
-use Rattle.privilege_cli.specs.LocalReading.{MatchRead, ReadsLines, ReadsEnd, StopsReading, IsUnderWay, IsAtEnd, Passes, StopsRun, AnswersLast, StopsLast}
+use Rattle.privilege_cli.specs.LocalReading.{MatchRead, ReadsLines, ReadsEnd, StopsReading, IsUnderWay, IsAtEnd, StopsRun}
 use Rattle.privilege_cli.specs.declared.local_script.Stop.{Stop}
 use Rattle.privilege_cli.specs.declared.local_script.Stop.TheVariants.{Memory, Line, Source, Sink}
 use Rattle.privilege_cli.specs.declared.local_script.LocalScript.{LocalScript}
@@ -53,8 +52,8 @@ module _ (left left_now left_after taken taken_now taken_after : Option (List �
         lines = way.lines ++ reads.lines;
         written = way.written ++ now.answers;
         took = subst (λ bytes. Took left bytes left_after)
-          (append_assoc way.lines kept reads.given ∙ (ap (λ bytes. way.lines ++ bytes) reads.parts ∙ sym (append_assoc way.lines reads.lines rest)))
-          (Took-then left left_now left_after (way.lines ++ kept) reads.given way.took reads.took);
+            (append_assoc way.lines kept reads.given ∙ (ap (λ bytes. way.lines ++ bytes) reads.parts ∙ sym (append_assoc way.lines reads.lines rest)))
+            (Took-then left left_now left_after (way.lines ++ kept) reads.given way.took reads.took);
         appended = Appended-then taken taken_now taken_after way.written now.answers way.appended reads.flushed;
         whole = AreWholeLines-then way.lines reads.lines way.whole reads.whole;
         unfinished = reads.unfinished;
@@ -67,12 +66,12 @@ module _ (left left_now left_after taken taken_now taken_after : Option (List �
         lines = way.lines;
         written = way.written ++ now.answers;
         took = subst (λ bytes. Took left bytes left_after) (append-nil (way.lines ++ kept))
-          (Took-then left left_now left_after (way.lines ++ kept) [] way.took reads.took);
+            (Took-then left left_now left_after (way.lines ++ kept) [] way.took reads.took);
         appended = Appended-then taken taken_now taken_after way.written now.answers way.appended reads.flushed;
         whole = way.whole;
         unfinished = way.unfinished;
         advanced = subst (λ at. Advances start way.lines ((way.written ++ now.answers) ++ new.answers) at) (sym reads.position)
-          (subst (λ text. Advances start way.lines text (position_of now))
+            (subst (λ text. Advances start way.lines text (position_of now))
             (sym (ap (λ answers. (way.written ++ now.answers) ++ answers) reads.answers ∙ append-nil (way.written ++ now.answers))) way.advanced);
       })
 
@@ -86,51 +85,57 @@ module _ (left left_now left_after taken taken_now taken_after : Option (List �
       ∙ way.advanced ((kept ++ given) ++ more)
 
   pub StopsRun-reading : (stop : Stop) → StopsReading left_now left_after taken_now taken_after now new kept stop → StopsRun left left_after taken taken_after new.answers stop
-  StopsRun-reading Memory stopped =
-      ( (way.lines ++ kept) ++ stopped.given
-      , way.written ++ now.answers
-      , Took-then left left_now left_after (way.lines ++ kept) stopped.given way.took stopped.took
-      , Appended-then taken taken_now taken_after way.written now.answers way.appended stopped.flushed
-      , λ more told told_after.
-        let later = stopped.stopped more in
-        ( later.0
-        , so_far stopped.given more ∙ (ap (answered (way.written ++ now.answers)) later.1 ∙ answered-twice (way.written ++ now.answers) new.answers later.0)))
-  StopsRun-reading (Line number) stopped =
-      ( (way.lines ++ kept) ++ stopped.given
-      , way.written ++ now.answers
-      , Took-then left left_now left_after (way.lines ++ kept) stopped.given way.took stopped.took
-      , Appended-then taken taken_now taken_after way.written now.answers way.appended stopped.flushed
-      , λ more told told_after.
+  StopsRun-reading Memory stopped = (
+    (way.lines ++ kept) ++ stopped.given,
+    way.written ++ now.answers,
+    Took-then left left_now left_after (way.lines ++ kept) stopped.given way.took stopped.took,
+    Appended-then taken taken_now taken_after way.written now.answers way.appended stopped.flushed,
+    λ more told told_after.
+        let later = stopped.stopped more in (
+          later.0,
+          so_far stopped.given more ∙ (ap (answered (way.written ++ now.answers)) later.1 ∙ answered-twice (way.written ++ now.answers) new.answers later.0),
+        ),
+  )
+  StopsRun-reading (Line number) stopped = (
+    (way.lines ++ kept) ++ stopped.given,
+    way.written ++ now.answers,
+    Took-then left left_now left_after (way.lines ++ kept) stopped.given way.took stopped.took,
+    Appended-then taken taken_now taken_after way.written now.answers way.appended stopped.flushed,
+    λ more told told_after.
         so_far stopped.given more
-        ∙ (ap (answered (way.written ++ now.answers)) (stopped.stopped more) ∙ answered-twice (way.written ++ now.answers) new.answers (stopped_at number)))
-  StopsRun-reading Source stopped =
-      ( way.lines ++ kept
-      , way.written ++ now.answers
-      , subst (λ bytes. Took left bytes left_after) (append-nil (way.lines ++ kept))
-        (Took-then left left_now left_after (way.lines ++ kept) [] way.took stopped.took)
-      , Appended-then taken taken_now taken_after way.written now.answers way.appended stopped.flushed
-      , λ more told told_after. record {
-          lines = way.lines;
-          part = kept;
-          read = refl;
-          whole = way.whole;
-          unfinished = way.unfinished;
-          answered = ap script (sym (append-nil way.lines)) ∙ (way.advanced []
-            ∙ ap (λ answers. record { answers = answers; last = []; status = 0 }) (append-nil (way.written ++ now.answers)));
-        })
+        ∙ (ap (answered (way.written ++ now.answers)) (stopped.stopped more) ∙ answered-twice (way.written ++ now.answers) new.answers (stopped_at number)),
+  )
+  StopsRun-reading Source stopped = (
+    way.lines ++ kept,
+    way.written ++ now.answers,
+    subst (λ bytes. Took left bytes left_after) (append-nil (way.lines ++ kept))
+        (Took-then left left_now left_after (way.lines ++ kept) [] way.took stopped.took),
+    Appended-then taken taken_now taken_after way.written now.answers way.appended stopped.flushed,
+    λ more told told_after. record {
+      lines = way.lines;
+      part = kept;
+      read = refl;
+      whole = way.whole;
+      unfinished = way.unfinished;
+      answered = ap script (sym (append-nil way.lines)) ∙ (way.advanced []
+          ∙ ap (λ answers. record { answers = answers; last = []; status = 0 }) (append-nil (way.written ++ now.answers)));
+    },
+  )
   StopsRun-reading Sink stopped =
-      let cut = cut-≡ stopped.part.0 now.answers stopped.part.1 in
-      ( way.lines ++ kept
-      , way.written ++ take stopped.part.0 now.answers
-      , subst (λ bytes. Took left bytes left_after) (append-nil (way.lines ++ kept))
-        (Took-then left left_now left_after (way.lines ++ kept) [] way.took stopped.took)
-      , Appended-then taken taken_now taken_after way.written (take stopped.part.0 now.answers) way.appended stopped.part.2
-      , λ more told told_after.
-        let later = script_from (position_of now) (pieces_of (kept ++ more)) in
-        ( cut.0
-        , cut.1 ++ later.answers
-        , ap (λ (outcome : Outcome). outcome.answers) (ap script (append_assoc way.lines kept more) ∙ way.advanced (kept ++ more))
-          ∙ (ap (λ waiting. (way.written ++ waiting) ++ later.answers) cut.2 ∙ regroup way.written (take stopped.part.0 now.answers) (cut.0 ∷ cut.1) later.answers)))
+      let cut = cut-≡ stopped.part.0 now.answers stopped.part.1 in (
+        way.lines ++ kept,
+        way.written ++ take stopped.part.0 now.answers,
+        subst (λ bytes. Took left bytes left_after) (append-nil (way.lines ++ kept))
+            (Took-then left left_now left_after (way.lines ++ kept) [] way.took stopped.took),
+        Appended-then taken taken_now taken_after way.written (take stopped.part.0 now.answers) way.appended stopped.part.2,
+        λ more told told_after.
+            let later = script_from (position_of now) (pieces_of (kept ++ more)) in (
+              cut.0,
+              cut.1 ++ later.answers,
+              ap (λ (outcome : Outcome). outcome.answers) (ap script (append_assoc way.lines kept more) ∙ way.advanced (kept ++ more))
+                  ∙ (ap (λ waiting. (way.written ++ waiting) ++ later.answers) cut.2 ∙ regroup way.written (take stopped.part.0 now.answers) (cut.0 ∷ cut.1) later.answers),
+            ),
+      )
 
 -- a reading that gave no number of bytes is one that met the end
 pub ReadsEnd-none : (left left_after taken taken_after : Option (List ℕ)) (old new : LocalScript) (kept window : List ℕ) (count : Option ℕ) →

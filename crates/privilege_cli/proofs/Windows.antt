@@ -1,5 +1,5 @@
 -- A window of bytes: what is kept at its front, what is read behind that, and what is moved to its front.
-use Rattle.std.proofs.Common.{◌≡◌, ◌≤◌, ◌<◌, ◌+◌, ◌-◌, ◌++◌, [], ℕ, List, length, take, drop, refl, sym, ap, ◌∙◌, subst, zero-add, arith, length-append, length-take, length-drop}
+use Rattle.std.proofs.Common.{◌≡◌, ◌≤◌, ◌+◌, ◌-◌, ◌++◌, ℕ, List, length, take, drop, refl, sym, ap, ◌∙◌, zero-add, arith, length-append, length-take, length-drop}
 use Rattle.std.proofs.Math.Seq.{take-append-add}
 use Rattle.std.proofs.lemmas.List.{length-take-le, take_at, drop_at, drop-take, take-append-le}
 use Rattle.std.specs.List.{copy_within}
@@ -22,9 +22,9 @@ take-moved bytes lines rest filled left parts size within =
     let from : filled - left ≡ length lines = omega (arith, whole) in
     let count : filled - (filled - left) ≡ left = omega (arith, whole) in
     let moved : take left (drop (filled - left) bytes) ≡ rest =
-      sym (drop-take (filled - left) left bytes)
-      ∙ (ap (λ n. drop (filled - left) (take n bytes)) (omega (arith, whole))
-      ∙ (ap (drop (filled - left)) parts ∙ (ap (λ n. drop n (lines ++ rest)) from ∙ drop_at lines rest (length lines) refl))) in
+    sym (drop-take (filled - left) left bytes)
+    ∙ (ap (λ n. drop (filled - left) (take n bytes)) (omega (arith, whole))
+    ∙ (ap (drop (filled - left)) parts ∙ (ap (λ n. drop n (lines ++ rest)) from ∙ drop_at lines rest (length lines) refl))) in
     ap (λ n. take left (take n (drop (filled - left) bytes) ++ drop (0 + n) bytes)) count
     ∙ (ap (λ n. take left (take left (drop (filled - left) bytes) ++ drop n bytes)) (zero-add left)
     ∙ (ap (λ front. take left (front ++ drop left bytes)) moved ∙ take_at rest (drop left bytes) left size))
@@ -36,5 +36,12 @@ length-left filled left bytes lines rest parts size =
 
 pub length-put_mid : (kept size : ℕ) (window into : List ℕ) → kept + size ≤ length window → length into ≡ size → length (put_mid kept size window into) ≡ length window
 length-put_mid kept size window into within is =
-    omega (arith, is, length-append (take kept window) (into ++ post_of kept size window), length-append into (post_of kept size window),
-      length-take-le kept window (omega arith), length-drop size (drop kept window), length-drop kept window)
+    omega (
+      arith,
+      is,
+      length-append (take kept window) (into ++ post_of kept size window),
+      length-append into (post_of kept size window),
+      length-take-le kept window (omega arith),
+      length-drop size (drop kept window),
+      length-drop kept window,
+    )

@@ -1,5 +1,5 @@
 -- The words of the command line.
-use Rattle.std.specs.Prelude.{◌≡◌, Bool, String, false, ◌&&◌, ◌==◌, if◌then◌else◌, ℕ, List, [], ◌∷◌, Option, Some, None, IsTrue, Result, Ok, Err, codes}
+use Rattle.std.specs.Prelude.{◌≡◌, Bool, String, ◌&&◌, if◌then◌else◌, ℕ, List, [], ◌∷◌, Option, Some, None, IsTrue, Result, Ok, Err, codes}
 use Rattle.std.specs.List.{list_any}
 use Rattle.std.specs.String.{string_bytes}
 use Rattle.std.specs.declared.alloc.Global.{Global}

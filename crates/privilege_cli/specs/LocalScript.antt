@@ -1,5 +1,5 @@
 -- A running script, as its contracts see it.
-use Rattle.std.specs.Prelude.{◌≡◌, ◌≤◌, ◌<◌, ◌+◌, ℕ, List, ◌∷◌, ◌++◌, length}
+use Rattle.std.specs.Prelude.{◌≡◌, ◌+◌, ℕ, List, ◌∷◌, ◌++◌, length}
 use Rattle.text_lines.specs.Lines.{HasNoNewline}
 use Rattle.privilege_cli.specs.Script.{Position, script_from, answered as answered_with}
 use Rattle.privilege_cli.specs.LocalRun.{Advances, AreWholeLines}

@@ -27,15 +27,15 @@ RunEnds Failed None status left left_after taken taken_after =
     (status ≡ 2) × (left_after ≡ left) × TookUntilFailure Failed taken command_line_text taken_after
 RunEnds Failed (Some Local) status left left_after taken taken_after =
     Ends status
-        (Told left left_after taken taken_after IsDone)
-        (Told left left_after taken taken_after IsCutShort)
-        (Told left left_after taken taken_after (IsStoppedAtLine Failed))
-        (Told left left_after taken taken_after AreAnswered)
-        (Told left left_after taken taken_after IsUnfinished)
+    (Told left left_after taken taken_after IsDone)
+    (Told left left_after taken taken_after IsCutShort)
+    (Told left left_after taken taken_after (IsStoppedAtLine Failed))
+    (Told left left_after taken taken_after AreAnswered)
+    (Told left left_after taken taken_after IsUnfinished)
 RunEnds Failed (Some (SmackAccess subject object asked)) status left left_after taken taken_after =
     Ends status
-        (Told left left_after taken taken_after (IsDecided subject object asked))
-        (taken_after ≡ taken)
-        (Told left left_after taken taken_after (IsWrongLine Failed))
-        (taken_after ≡ taken)
-        (Told left left_after taken taken_after (IsPartlyDecided subject object asked))
+    (Told left left_after taken taken_after (IsDecided subject object asked))
+    (taken_after ≡ taken)
+    (Told left left_after taken taken_after (IsWrongLine Failed))
+    (taken_after ≡ taken)
+    (Told left left_after taken taken_after (IsPartlyDecided subject object asked))

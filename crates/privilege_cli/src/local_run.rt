@@ -9,9 +9,9 @@ ghost use Rattle.privilege_cli.specs.LocalRun.{Told, IsDone, IsCutShort, IsStopp
 ghost use Rattle.privilege_cli.specs.LocalReading.{MatchRead, StopsReading, IsUnderWay, IsAtEnd, Passes, StopsRun, AnswersLast, StopsLast, EndsAtLine};
 
 use crate::local_script::{LocalScript, MOST_IN_LINE, Stop};
+use crate::zeros::zeros;
 use desk_ports::{Bytes, Sink, Source, write_all};
 use line_script::{LineAnswer, print};
-use crate::zeros::zeros;
 use std::alloc::Global;
 
 /// How many bytes are read at most in one call. A whole line has room beside what is left of the last one.

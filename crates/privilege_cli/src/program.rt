@@ -30,11 +30,13 @@ pub fn run<R, S: Source, K: Sink>(
 {
     match Command::read(alloc, words) {
         Ok(Command::Local) => run_local(alloc, source, sink),
-        Ok(Command::SmackAccess {
-            subject,
-            object,
-            asked,
-        }) => run_access(alloc, &subject, &object, asked, source, sink),
+        Ok(
+            Command::SmackAccess {
+                subject,
+                object,
+                asked,
+            },
+        ) => run_access(alloc, &subject, &object, asked, source, sink),
         Err(CommandRefusal::Unknown) => refuse_words(sink),
         Err(CommandRefusal::Memory(_)) => 1,
     }

@@ -1,8 +1,7 @@
-use Rattle.std.proofs.Common.{◌≡◌, ◌≤◌, ◌∙◌, List, ℕ, ap, sym, subst, take, length, arith}
+use Rattle.std.proofs.Common.{arith}
 use Rattle.std.proofs.lemmas.Result.{err_from_is_err_and}
 use Rattle.std.proofs.lemmas.List.{length-take-le}
-use Rattle.privilege_cli.specs.LocalReading.{IsUnderWay}
-use Rattle.privilege_cli.proofs.Runs.{IsUnderWay-more, IsUnderWay-end, IsAtEnd-read, ReadsEnd-none, StopsRun-reading}
+use Rattle.privilege_cli.proofs.Runs.{IsUnderWay-more, IsUnderWay-end, ReadsEnd-none, StopsRun-reading}
 use Rattle.privilege_cli.proofs.local_run.read_script.Goals as goal
 
 pub returns-in_err-rest-clause-read : goal.returns-in_err-rest-clause-read
