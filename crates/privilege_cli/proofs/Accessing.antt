@@ -1,21 +1,15 @@
 -- A run of `smack-access`: what its parts read and wrote, put together.
-use Rattle.std.proofs.Common.{◌≡◌, ◌≤◌, ◌<◌, ◌+◌, ◌∷◌, ◌++◌, [], ℕ, Bool, true, false, List, length, take, Option, Some, None, Result, Ok, Err, MatchResult, IsErrOf, inl, inr, refl, sym, ap, ◌∙◌, subst, append-nil, arith}
-use Rattle.desk_ports.specs.Faults.{NeverFalls, Rose}
-use Rattle.desk_ports.specs.Content.{Took, AtEnd, Appended, AppendedPart}
+use Rattle.std.proofs.Common.{◌≡◌, ◌++◌, [], ℕ, List, take, Option, Some, None, Result, Ok, Err, MatchResult, sym, ap, ◌∙◌, append-nil}
+use Rattle.desk_ports.specs.Content.{Appended}
 use Rattle.smack_rules.specs.declared.modes.Modes.{Modes}
-use Rattle.smack_rules.specs.declared.decision.Decision.{Decision}
 use Rattle.smack_rules.specs.Table.{Row, granted}
 use Rattle.smack_rules.specs.Decision.{decision}
-use Rattle.line_script.specs.Answers.{line_fault_text}
-use Rattle.privilege_cli.specs.LocalRun.{Told, AreWritten}
 use Rattle.privilege_cli.specs.LocalReading.{IsAtEnd, Passes}
-use Rattle.privilege_cli.specs.AccessRun.{most_in_rules, rules_read, decided_text, answer_under, IsDecided, IsWrongLine, IsPartlyDecided}
-use Rattle.privilege_cli.specs.AccessReading.{IsRead, ReadsMore, AreLoaded, StopsAtText, AreRead, IsWrongSource, StopsRules, StopsWriting, StopsAccess, NamesLine}
+use Rattle.privilege_cli.specs.AccessRun.{rules_read, decided_text, answer_under, IsDecided}
+use Rattle.privilege_cli.specs.AccessReading.{IsRead, AreLoaded, StopsAtText, AreRead, StopsRules, StopsWriting, StopsAccess}
 use Rattle.privilege_cli.specs.declared.local_script.Stop.{Stop}
 use Rattle.privilege_cli.specs.declared.local_script.Stop.TheVariants.{Memory, Line, Source, Sink}
-use Rattle.privilege_cli.proofs.Passing.{Rose-behind, Took-then, IsAtEnd-end}
 use Rattle.privilege_cli.proofs.Runs.{cut-≡}
-use Rattle.privilege_cli.proofs.Endings.{Told-passed}
 
 -- ---- the rules of a source
 
@@ -69,36 +63,38 @@ module _ (left left_after taken taken_after : Option (List ℕ)) (subject object
         ap (λ more. rules_read (read.text ++ more)) (input_read more told told_after) ∙ (ap rules_read (append-nil read.text) ∙ read.right)
 
     Passes-decided : Appended taken text taken_after → Passes left left_after taken taken_after (IsDecided subject object asked)
-    Passes-decided all =
-        ( read.text
-        , text
-        , read.took
-        , all
-        , λ more told told_after. record {
-            rules = read.rules;
-            read = input_read more told told_after;
-            right = input_right more told told_after;
-            answered = answers;
-          })
+    Passes-decided all = (
+      read.text,
+      text,
+      read.took,
+      all,
+      λ more told told_after. record {
+        rules = read.rules;
+        read = input_read more told told_after;
+        right = input_right more told told_after;
+        answered = answers;
+      },
+    )
 
     StopsAccess-writing : (stop : Stop) → StopsWriting taken taken_after text stop → StopsAccess left left_after taken taken_after subject object asked stop
     StopsAccess-writing Memory stopped = stopped
     StopsAccess-writing (Line line) stopped = absurd stopped
     StopsAccess-writing Source stopped = absurd stopped
     StopsAccess-writing Sink stopped =
-        let cut = cut-≡ stopped.0 text stopped.1 in
-        ( read.text
-        , take stopped.0 text
-        , read.took
-        , stopped.2
-        , λ more told told_after. record {
+        let cut = cut-≡ stopped.0 text stopped.1 in (
+          read.text,
+          take stopped.0 text,
+          read.took,
+          stopped.2,
+          λ more told told_after. record {
             rules = read.rules;
             byte = cut.0;
             rest = cut.1;
             read = input_read more told told_after;
             right = input_right more told told_after;
             unfinished = sym answers ∙ cut.2;
-          })
+          },
+        )
 
     -- what the writing of the answer made of the run
     pub MatchAccess-written : {A : Type 0} (r : Result A Stop) → MatchResult r (λ _. Appended taken text taken_after) (StopsWriting taken taken_after text) →

@@ -156,7 +156,7 @@ rules_within-past room number part byte after plain full =
     let first = first_piece part byte after plain in
     ap (rules_within room number) first.is
     ∙ ap (λ b. cond b (Err number) (with_line number (line_rule (line_of first.piece)) (rules_within (room - length first.piece) (number + 1) first.pieces)))
-      (past-test room (length first.piece) (omega (arith, full, first.longer)))
+    (past-test room (length first.piece) (omega (arith, full, first.longer)))
 
 -- the rules of whole lines for which there is room, with a part of a line behind them that fills it
 rules_within-over : (room count : ℕ) (lines part : List ℕ) (byte : ℕ) (after : List ℕ) → AreWholeLines lines → HasNoNewline part →
@@ -179,8 +179,8 @@ over room count text lines more past are =
     let size = length-take-le room text (omega (arith, past)) in
     let sizes : length lines + length are.rest ≡ room = omega (arith, size, ap length are.parts, length-append lines are.rest) in
     let parts : text ++ more ≡ lines ++ (are.rest ++ cut.0 ∷ (cut.1 ++ more)) =
-      ap (λ text. text ++ more) (cut.2 ∙ ap (λ front. front ++ cut.0 ∷ cut.1) are.parts)
-      ∙ (append_assoc (lines ++ are.rest) (cut.0 ∷ cut.1) more ∙ append_assoc lines are.rest (cut.0 ∷ (cut.1 ++ more))) in
+    ap (λ text. text ++ more) (cut.2 ∙ ap (λ front. front ++ cut.0 ∷ cut.1) are.parts)
+    ∙ (append_assoc (lines ++ are.rest) (cut.0 ∷ cut.1) more ∙ append_assoc lines are.rest (cut.0 ∷ (cut.1 ++ more))) in
     ap (λ text. rules_within room 1 (pieces_of text)) parts
     ∙ rules_within-over room count lines are.rest cut.0 (cut.1 ++ more) are.whole are.unfinished are.counted sizes
 
@@ -233,6 +233,11 @@ LinesSoFar-more text rest line after count so_far cut plain =
       lines = lines ++ (line ++ 10 ∷ []);
       parts = so_far.parts ∙ (ap (λ rest. lines ++ rest) (cut ∙ sym (append_assoc line (10 ∷ []) after)) ∙ sym (append_assoc lines (line ++ 10 ∷ []) after));
       whole = AreWholeLines-more lines line;
-      counted = omega (arith, ap length (pieces_of-lines lines (line ++ 10 ∷ []) so_far.whole), ap length (pieces_of-newline line [] plain),
-        length-append (pieces_of lines) (pieces_of (line ++ 10 ∷ [])), so_far.counted);
+      counted = omega (
+        arith,
+        ap length (pieces_of-lines lines (line ++ 10 ∷ []) so_far.whole),
+        ap length (pieces_of-newline line [] plain),
+        length-append (pieces_of lines) (pieces_of (line ++ 10 ∷ [])),
+        so_far.counted,
+      );
     }

@@ -1,5 +1,5 @@
 -- The parts of a run of `smack-access`, as their contracts see them.
-use Rattle.std.specs.Prelude.{◌≡◌, ◌≤◌, ◌<◌, ◌+◌, ℕ, Bool, true, false, List, [], ◌++◌, length, Option, Some, Result, Ok, Err}
+use Rattle.std.specs.Prelude.{◌≡◌, ◌≤◌, ◌<◌, ◌+◌, ℕ, Bool, true, false, List, [], ◌++◌, length, Option, Some, Ok, Err}
 use Rattle.desk_ports.specs.Content.{Took, AtEnd, Appended, AppendedPart}
 use Rattle.text_lines.specs.Lines.{pieces_of, HasNoNewline}
 use Rattle.line_script.specs.Answers.{line_fault_text}
@@ -7,7 +7,7 @@ use Rattle.smack_rules.specs.declared.modes.Modes.{Modes}
 use Rattle.smack_rules.specs.declared.rule.Rule.{Rule}
 use Rattle.smack_rules.specs.Grants.{GrantsAs}
 use Rattle.smack_rules.specs.Table.{Row}
-use Rattle.privilege_cli.specs.AccessRun.{most_in_rules, rules_read, IsDecided, IsPartlyDecided}
+use Rattle.privilege_cli.specs.AccessRun.{most_in_rules, rules_read, IsPartlyDecided}
 use Rattle.privilege_cli.specs.LocalRun.{AreWholeLines, AreWritten}
 use Rattle.privilege_cli.specs.LocalReading.{IsAtEnd, Passes}
 use Rattle.privilege_cli.specs.declared.local_script.Stop.{Stop}

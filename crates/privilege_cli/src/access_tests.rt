@@ -47,12 +47,7 @@ fn with_letters(letters: usize, written: &'static str, status: u8) -> Case {
     }
 }
 
-fn with_failing(
-    rules: &'static str,
-    fails: [u64; 2],
-    written: &'static str,
-    status: u8,
-) -> Case {
+fn with_failing(rules: &'static str, fails: [u64; 2], written: &'static str, status: u8) -> Case {
     Case {
         fails,
         ..asks(rules, ["A", "X", "w"], written, status)

@@ -1,4 +1,4 @@
-use Rattle.std.proofs.Common.{◌≡◌, ◌≤◌, ◌+◌, ◌++◌, length, take, sym, ap, ◌∙◌, subst, arith, length-append}
+use Rattle.std.proofs.Common.{length, sym, ap, subst, arith, length-append}
 use Rattle.std.proofs.lemmas.List.{length-take-le}
 use Rattle.smack_rules.specs.Grants.{GrantsAs}
 use Rattle.privilege_cli.specs.AccessRun.{most_in_rules}
@@ -29,7 +29,7 @@ returns c =
     let count = c.whole_lines-count.result.1 in
     let are = c.whole_lines-count.ensures.lines in
     elim c.match-load.branch [
-      in-Ok w ↦ subst (StopsAtText text) (sym w.result-is) (IsWrongAt-past count text lines (GrantsAs w.in-Ok.field-0) c.requires are w.in-Ok.ensures)
-    | in-Err-BadLine w ↦ subst (StopsAtText text) (sym w.result-is) (IsWrongAt-before count w.in-Err-BadLine.line text lines c.requires are (rw w.in-Err-BadLine.field-0-is at w.in-Err-BadLine.ensures))
-    | in-Err-Memory w ↦ subst (StopsAtText text) (sym w.result-is) tt
+      | in-Ok w ↦ subst (StopsAtText text) (sym w.result-is) (IsWrongAt-past count text lines (GrantsAs w.in-Ok.field-0) c.requires are w.in-Ok.ensures)
+      | in-Err-BadLine w ↦ subst (StopsAtText text) (sym w.result-is) (IsWrongAt-before count w.in-Err-BadLine.line text lines c.requires are (rw w.in-Err-BadLine.field-0-is at w.in-Err-BadLine.ensures))
+      | in-Err-Memory w ↦ subst (StopsAtText text) (sym w.result-is) tt
     ]

@@ -1,4 +1,4 @@
-use Rattle.std.proofs.Common.{◌∷◌, ◌++◌, length, ap, arith, length-append}
+use Rattle.std.proofs.Common.{◌∷◌, length, ap, arith, length-append}
 use Rattle.privilege_cli.proofs.RuleTexts.{LinesSoFar-more}
 use Rattle.privilege_cli.proofs.access_run.whole_lines.Goals as goal
 
