@@ -1,33 +1,15 @@
 -- A run of `smack-access`: what its parts read and wrote, put together.
-use Rattle.std.proofs.Common.{◌≡◌, ◌++◌, [], ℕ, Bool, false, List, take, Option, Some, None, Result, Ok, Err, MatchResult, IsErrOf, inl, inr, refl, sym, ap, ◌∙◌, subst, append-nil}
-use Rattle.desk_ports.specs.Content.{Took, Appended}
+use Rattle.std.proofs.Common.{◌≡◌, ◌++◌, [], ℕ, List, take, Option, Some, None, Result, Ok, Err, MatchResult, sym, ap, ◌∙◌, append-nil}
+use Rattle.desk_ports.specs.Content.{Appended}
 use Rattle.smack_rules.specs.declared.modes.Modes.{Modes}
 use Rattle.smack_rules.specs.Table.{Row, granted}
 use Rattle.smack_rules.specs.Decision.{decision}
-use Rattle.line_script.specs.Answers.{line_fault_text}
-use Rattle.privilege_cli.specs.LocalRun.{Told, AreWritten}
 use Rattle.privilege_cli.specs.LocalReading.{IsAtEnd, Passes}
-use Rattle.privilege_cli.specs.AccessRun.{rules_read, decided_text, answer_under, IsDecided, IsWrongLine}
-use Rattle.privilege_cli.specs.AccessReading.{IsRead, ReadsMore, AreLoaded, StopsAtText, AreRead, IsWrongSource, StopsRules, StopsWriting, StopsAccess, NamesLine}
+use Rattle.privilege_cli.specs.AccessRun.{rules_read, decided_text, answer_under, IsDecided}
+use Rattle.privilege_cli.specs.AccessReading.{IsRead, AreLoaded, StopsAtText, AreRead, StopsRules, StopsWriting, StopsAccess}
 use Rattle.privilege_cli.specs.declared.local_script.Stop.{Stop}
 use Rattle.privilege_cli.specs.declared.local_script.Stop.TheVariants.{Memory, Line, Source, Sink}
-use Rattle.privilege_cli.proofs.Passing.{Took-then, IsAtEnd-end}
 use Rattle.privilege_cli.proofs.Runs.{cut-≡}
-use Rattle.privilege_cli.proofs.Endings.{Told-passed}
-
--- ---- the text that is read
-
-module _ (left left_now left_after : Option (List ℕ)) (old new : List ℕ) (so_far : Took left old left_now) where
-  pub Took-more : (more : Bool) → ReadsMore left_now left_after old new more → Took left new left_after
-  Took-more more reads = subst (λ bytes. Took left bytes left_after) (sym reads.longer) (Took-then left left_now left_after old reads.given so_far reads.took)
-
-  pub IsRead-end : (more : Bool) → ReadsMore left_now left_after old new more → more ≡ false → IsRead left left_after new
-  IsRead-end more reads ended =
-      record {
-        took = Took-more more reads;
-        end = λ within. let end = reads.end ended within in
-            IsAtEnd-end left left_now left_after old so_far end.0 (subst (λ given. Took left_now given left_after) end.1 reads.took);
-      }
 
 -- ---- the rules of a source
 
@@ -119,40 +101,3 @@ module _ (left left_after taken taken_after : Option (List ℕ)) (subject object
         MatchResult r (λ _. Passes left left_after taken taken_after (IsDecided subject object asked)) (StopsAccess left left_after taken taken_after subject object asked)
     MatchAccess-written (Ok value) all = Passes-decided all
     MatchAccess-written (Err stop) stopped = StopsAccess-writing stop stopped
-
--- ---- the number of a wrong line
-
-names-stopped : (taken taken_after : Option (List ℕ)) (line : ℕ) (Failed : Type 0) (stop : Stop) → (stop ≡ Memory → ⊥) →
-    StopsWriting taken taken_after (line_fault_text line) stop → (stop ≡ Sink → Failed) → NamesLine taken taken_after line Failed
-names-stopped taken taken_after line Failed Memory other stopped failed = absurd (other refl)
-names-stopped taken taken_after line Failed (Line number) other stopped failed = absurd stopped
-names-stopped taken taken_after line Failed Source other stopped failed = absurd stopped
-names-stopped taken taken_after line Failed Sink other stopped failed =
-    (take stopped.0 (line_fault_text line), stopped.2, inr (failed refl, stopped.0, stopped.1, refl))
-
--- the line is named, where there was memory for that
-pub NamesLine-written : {A : Type 0} (r : Result A Stop) (taken taken_after : Option (List ℕ)) (line : ℕ) (Failed : Type 0) → (r ≡ Err Memory → ⊥) →
-    MatchResult r (λ _. Appended taken (line_fault_text line) taken_after) (StopsWriting taken taken_after (line_fault_text line)) →
-    (IsErrOf r Sink → Failed) → NamesLine taken taken_after line Failed
-NamesLine-written (Ok value) taken taken_after line Failed other all failed = (line_fault_text line, all, inl refl)
-NamesLine-written (Err stop) taken taken_after line Failed other stopped failed =
-    names-stopped taken taken_after line Failed stop (λ is. other (ap Err is)) stopped (λ is. failed (ap Err is))
-
-written-weaker : (Failed Other : Type 0) → (Failed → Other) → (bytes written : List ℕ) → AreWritten Failed bytes written → AreWritten Other bytes written
-written-weaker Failed Other weaker bytes written (inl all) = inl all
-written-weaker Failed Other weaker bytes written (inr cut) = inr (weaker cut.0, cut.1, cut.2, cut.3)
-
-pub Told-wrong_line : (left left_after taken taken_now taken_after : Option (List ℕ)) (line : ℕ) (Failed Other : Type 0) → (Failed → Other) → taken_now ≡ taken →
-    IsWrongSource left left_after line → NamesLine taken_now taken_after line Failed → Told left left_after taken taken_after (IsWrongLine Other)
-Told-wrong_line left left_after taken taken_now taken_after line Failed Other weaker same source names =
-    Told-passed left left_after taken taken_after (IsWrongLine Other) (
-      source.text,
-      names.0,
-      source.took,
-      subst (λ taken. Appended taken names.0 taken_after) same names.1,
-      λ more told told_after. record {
-        line = line;
-        wrong = source.wrong more told told_after;
-        named = written-weaker Failed Other weaker (line_fault_text line) names.0 names.2;
-      },
-    )
