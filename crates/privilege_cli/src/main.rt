@@ -6,6 +6,8 @@ mod access_run;
 mod access_tests;
 mod command_words;
 mod host_words;
+#[cfg(test)]
+mod limit_tests;
 mod local_run;
 mod local_script;
 mod ordered_policies;
