@@ -70,7 +70,8 @@ fn a_key_beyond_the_limit_is_refused(rt: HostRuntime) -> Result<(), Fail> {
     let mut sink = empty_sink(alloc)?;
     assert_eq!(rt; run_local(alloc, &mut source, &mut sink), 0);
     let first = b"ok 1\nok 2\n";
-    let last = b"\nok 65536\nrefused 11 limit policies 65536\nok 65537\ndeny 65537 . c00001 u p\nallow 65537 . c65535 u p\ndeny 65537 . default\n";
+    let last =
+        b"\nok 65536\nrefused 11 limit policies 65536\nok 65537\ndeny 65537 . c00001 u p\nallow 65537 . c65535 u p\ndeny 65537 . default\n";
     assert!(rt; sink.taken().starts_with(first));
     assert!(rt; sink.taken().ends_with(last));
     Ok(())

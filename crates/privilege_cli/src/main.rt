@@ -10,6 +10,8 @@ mod host_words;
 mod limit_tests;
 mod local_run;
 mod local_script;
+#[cfg(test)]
+mod local_tests;
 mod ordered_policies;
 mod program;
 mod root_policies;

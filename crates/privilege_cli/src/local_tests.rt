@@ -1,0 +1,211 @@
+//! Worked examples of the program, most of them of `local`.
+
+use crate::program::run;
+use desk_ports::{Bytes, FailList, MemSink, MemSource};
+use std::alloc::{AllocError, Global};
+use std::process::Abort;
+use std::test::Fail;
+
+/// Words and an input, and what is written for them with which status.
+#[derive(Clone, Copy)]
+struct Case {
+    words: &'static [&'static str],
+    input: &'static str,
+    /// How often `a` stands behind the input.
+    letters: usize,
+    /// Which call of the source and which of the sink fails; 0 is none.
+    fails: [u64; 2],
+    written: &'static str,
+    status: u8,
+}
+
+fn local(input: &'static str, written: &'static str, status: u8) -> Case {
+    Case {
+        words: &["local"],
+        input,
+        letters: 0,
+        fails: [0, 0],
+        written,
+        status,
+    }
+}
+
+fn with_failing(input: &'static str, fails: [u64; 2], written: &'static str, status: u8) -> Case {
+    Case {
+        fails,
+        ..local(input, written, status)
+    }
+}
+
+/// A check, and then a line of so many letters that has no newline.
+fn with_letters(letters: usize, fails: [u64; 2], written: &'static str, status: u8) -> Case {
+    Case {
+        letters,
+        ..with_failing("check c u p\n", fails, written, status)
+    }
+}
+
+fn strings(alloc: Global, words: &[&str]) -> Result<Vec<String>, AllocError> {
+    let mut strings = Vec::new(alloc);
+    for word in words {
+        strings.push(String::from_str(alloc, word)?)?;
+    }
+    Ok(strings)
+}
+
+/// The status of a run, with the source and the sink behind it.
+fn run_on(rt: &impl Abort, alloc: Global, case: &Case) -> Result<(u8, MemSource, MemSink), Fail> {
+    let words = strings(alloc, case.words)?;
+    let mut input = Bytes::new(alloc);
+    input.append(case.input.as_bytes())?;
+    input.append(vec![in alloc; b'a'; case.letters]?.as_slice())?;
+    let [source_fails, sink_fails] = case.fails;
+    let mut source = MemSource::new(input, FailList::of([source_fails].to_vec(alloc)?))?;
+    let mut sink = MemSink::new(Bytes::new(alloc), FailList::of([sink_fails].to_vec(alloc)?))?;
+    let status = run(rt, alloc, &words, &mut source, &mut sink);
+    Ok((status, source, sink))
+}
+
+/// That each case ends as it should.
+fn end_as_wanted(rt: &impl Abort, alloc: Global, cases: &[Case]) -> Result<(), Fail> {
+    for case in cases {
+        let (status, _, sink) = run_on(rt, alloc, case)?;
+        let input = case.input;
+        let letters = case.letters;
+        assert_eq!(rt; status, case.status, "on {input} and {letters} letters");
+        assert_eq!(rt;
+            sink.taken(),
+            case.written.as_bytes(),
+            "on {input} and {letters} letters"
+        );
+    }
+    Ok(())
+}
+
+#[test]
+fn answers_a_script(rt: HostRuntime) -> Result<(), Fail> {
+    let answers = "ok 1\nok 2\ndeny 2 . c * p\nallow 2 . * * p\ndeny 2 . default\n";
+    let cases = [
+        local("", "", 0),
+        local(
+            "set . * * p allow\nset . c * p deny\ncheck c u p\ncheck d u p\ncheck c u q\n",
+            answers,
+            0,
+        ),
+        // The last line has no newline.
+        local(
+            "set . * * p allow\nset . c * p deny\ncheck c u p\ncheck d u p\ncheck c u q",
+            answers,
+            0,
+        ),
+        // The second result of a key takes the place of the first, and NONE decides nothing.
+        local(
+            "set . c u p allow\nset . c u p deny\ncheck c u p\nset . c u p none\ncheck c u p\n",
+            "ok 1\nok 2\ndeny 2 . c u p\nok 3\ndeny 3 . default\n",
+            0,
+        ),
+        Case {
+            words: &["smack-access", "A", "X", "r"],
+            ..local("A X r\n", "access allow 6\n", 0)
+        },
+    ];
+    end_as_wanted(&rt, rt.alloc(), &cases)
+}
+
+#[test]
+fn stops_at_a_line_outside_the_grammar(rt: HostRuntime) -> Result<(), Fail> {
+    let cases = [
+        local(
+            "set . * * p allow\nset . c u\ncheck c u p\n",
+            "ok 1\nsyntax 2\n",
+            3,
+        ),
+        local("set . * * p allow\nset . c u", "ok 1\nsyntax 2\n", 3),
+        local("# x\ncheck c u p\n", "syntax 1\n", 3),
+        local("\ncheck c u p\n", "syntax 1\n", 3),
+        with_letters(65_535, [0, 0], "deny 0 . default\nsyntax 2\n", 3),
+        with_letters(65_536, [0, 0], "deny 0 . default\nsyntax 2\n", 3),
+        // The source is asked for the rest of a line only while the line is not too long.
+        with_letters(65_535, [2, 0], "deny 0 . default\n", 4),
+        with_letters(65_536, [2, 0], "deny 0 . default\nsyntax 2\n", 3),
+    ];
+    end_as_wanted(&rt, rt.alloc(), &cases)
+}
+
+#[test]
+fn ends_where_a_call_fails(rt: HostRuntime) -> Result<(), Fail> {
+    let cases = [
+        // The source, at once and behind the first answer.
+        with_failing("set . * * p allow\n", [1, 0], "", 4),
+        with_failing("set . * * p allow\n", [2, 0], "ok 1\n", 4),
+        with_failing("set . * * p allow\ncheck c u p", [2, 0], "ok 1\n", 4),
+        with_failing("x", [2, 0], "", 4),
+        // The sink, at the answers, where there are any.
+        with_failing("set . * * p allow\n", [0, 1], "", 5),
+        with_failing("check c u p", [0, 1], "", 5),
+        with_failing("set . * * p allow\nx\n", [0, 1], "", 5),
+        with_failing("", [0, 1], "", 0),
+        // The sink, at the number of a wrong line, which came before.
+        with_failing("x\n", [0, 1], "", 3),
+        with_failing("set . * * p allow\nx\n", [0, 2], "ok 1\n", 3),
+    ];
+    end_as_wanted(&rt, rt.alloc(), &cases)
+}
+
+#[test]
+fn reads_nothing_for_words_that_are_no_command(rt: HostRuntime) -> Result<(), Fail> {
+    let fault = "fault command line\n";
+    let script = "set . * * p allow\n";
+    let refused = local(script, fault, 2);
+    let cases = [
+        Case {
+            words: &[],
+            ..refused
+        },
+        Case {
+            words: &["local", "x"],
+            ..refused
+        },
+        Case {
+            words: &["Local"],
+            ..refused
+        },
+        Case {
+            words: &["serve"],
+            ..refused
+        },
+        Case {
+            words: &["serve", "0"],
+            ..refused
+        },
+        Case {
+            words: &["serve", "-1"],
+            ..refused
+        },
+        Case {
+            words: &["-h"],
+            ..refused
+        },
+        Case {
+            words: &["smack-access", "A", "X"],
+            ..refused
+        },
+        Case {
+            words: &["smack-access", "A", "X", "-"],
+            ..refused
+        },
+        Case {
+            words: &["serve"],
+            fails: [1, 1],
+            written: "",
+            ..refused
+        },
+    ];
+    for case in &cases {
+        let (status, source, sink) = run_on(&rt, rt.alloc(), case)?;
+        assert_eq!(rt; status, 2);
+        assert_eq!(rt; sink.taken(), case.written.as_bytes());
+        assert_eq!(rt; source.left(), script.as_bytes());
+    }
+    Ok(())
+}
