@@ -4,7 +4,8 @@
 //! results are ordered by their keys, is this project's profile.
 #![tactic(auto)]
 
-ghost use Rattle.std.specs.Prelude.{◌≡◌, ◌≢◌, ℕ, ◌<◌, ◌≤◌, length, None, IfSome, IfNone, IfOk, IfErr, MatchOption, MatchResult, slice_get};
+ghost use Rattle.std.specs.Prelude.{◌≡◌, ◌≢◌, ℕ, ◌<◌, ◌≤◌, length, None, slice_get};
+ghost use Rattle.std.specs.Prelude.{IfSome, IfNone, IfOk, IfErr, MatchOption, MatchResult};
 ghost use Rattle.std.specs.List.{All};
 ghost use Rattle.std.specs.Ordering.{is_gt};
 ghost use Rattle.cynara_keys.specs.PolicyResult.{bucket};
@@ -18,11 +19,14 @@ use cynara_keys::{Key, Kind, Policy, Question};
 /// is none. No result may be BUCKET, since what it points to isn't here. That the least result decides is Cynara's.
 pub fn least(policies: &[Policy], question: &Question) -> Option<usize>
     requires { All (λ policy. policy.result.kind ≢ bucket) policies.now }
-    ensures decides { MatchOption result (least_policy question.now policies.now ≡ None) (λ place. slice_get policies.now place ≡ least_policy question.now policies.now) }
-    ensures least { IfSome result (λ place. IfSome (slice_get policies.now place) (DecidesAmong question.now policies.now)) }
+    ensures decides { MatchOption result (least_policy question.now policies.now ≡ None)
+        (λ place. slice_get policies.now place ≡ least_policy question.now policies.now) }
+    ensures least { IfSome result
+        (λ place. IfSome (slice_get policies.now place) (DecidesAmong question.now policies.now)) }
     ensures none { IfNone result (NoneCounts question.now policies.now) }
     ensures in_range { IfSome result (λ place. place < length policies.now) }
-    ensures first { IfSome result (λ place. (k : ℕ) → k < place → slice_get policies.now k ≢ least_policy question.now policies.now) }
+    ensures first { IfSome result
+        (λ place. (k : ℕ) → k < place → slice_get policies.now k ≢ least_policy question.now policies.now) }
 {
     let mut best: Option<usize> = None;
     for place in (0..policies.len()).rev() {
@@ -43,7 +47,9 @@ pub fn place_of(policies: &[Policy], key: &Key) -> Result<usize, usize>
     requires { IsRising policies.now }
     ensures found { IfOk result (HasKeyAt policies.now key.now) }
     ensures absent { IfErr result (BelongsAt policies.now key.now) }
-    ensures in_range { MatchResult result (λ place. place < length policies.now) (λ place. place ≤ length policies.now) }
+    ensures in_range { MatchResult result
+        (λ place. place < length policies.now)
+        (λ place. place ≤ length policies.now) }
 {
     policies.binary_search_by(|policy| policy.key.cmp(key))
 }

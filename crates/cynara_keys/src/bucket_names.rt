@@ -1,5 +1,5 @@
 ghost use Rattle.std.specs.Prelude.{◌≡◌, [], IfOk, IfErr, OnOk};
-ghost use Rattle.cynara_keys.specs.BucketName.{bucket_name_fault, Refuses};
+ghost use Rattle.cynara_keys.specs.BucketName.{bucket_name_fault, is_bucket_name, Refuses};
 ghost use Rattle.cynara_keys.specs.Text.{same_text, text_cmp};
 ghost use Rattle.std.specs.Prelude.{refl};
 ghost use Rattle.std.specs.Ordering.{as_partial_cmp};
@@ -86,6 +86,13 @@ impl BucketName {
             bytes: self.bytes.clone()?,
         })
     }
+}
+
+/// Whether the bytes are a bucket's name, which the metadata of a result that points to a bucket is.
+pub fn is_bucket_name(bytes: &[u8]) -> bool
+    ensures { result ≡ is_bucket_name bytes.now }
+{
+    bytes.len() <= MOST_BYTES && first_no_word_byte(bytes).is_none()
 }
 
 impl PartialEq for BucketName {

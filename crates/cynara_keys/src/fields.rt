@@ -1,7 +1,7 @@
 ghost use Rattle.std.specs.Prelude.{◌≡◌, IfOk, IfErr, OnOk, None};
 ghost use Rattle.cynara_keys.specs.Name.{Refuses};
-ghost use Rattle.cynara_keys.specs.Field.{field_text, field_of, field_fault, field_matches, field_admits, filter_field_text, filter_field_of, filter_field_fault};
-ghost use Rattle.cynara_keys.specs.Field.{field_cmp, same_field};
+ghost use Rattle.cynara_keys.specs.Field.{field_text, field_of, field_fault, field_matches, field_cmp, same_field};
+ghost use Rattle.cynara_keys.specs.Field.{field_admits, filter_field_text, filter_field_of, filter_field_fault};
 ghost use Rattle.std.proofs.Common.{rules};
 ghost use Rattle.std.specs.Ordering.{as_partial_cmp};
 ghost use Rattle.std.specs.Cmp.{partial_order_from_own_ties};

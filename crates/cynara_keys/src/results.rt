@@ -1,7 +1,6 @@
 ghost use Rattle.std.specs.Prelude.{◌≡◌, [], ◌↔◌, IfOk, IfErr, IsOk, IsTrue};
 ghost use Rattle.cynara_keys.specs.PolicyResult as spec;
 ghost use Rattle.cynara_keys.specs.PolicyResult.{may_carry};
-ghost use Rattle.cynara_keys.specs.BucketName.{is_bucket_name};
 ghost use Rattle.cynara_keys.specs.PolicyResult.{result_cmp, same_result};
 ghost use Rattle.std.proofs.Common.{rules};
 ghost use Rattle.std.specs.Ordering.{as_partial_cmp};
@@ -9,7 +8,7 @@ ghost use Rattle.std.specs.Cmp.{partial_order_from_own_ties};
 ghost use Rattle.std.specs.Cmp.Rules.{comparing};
 
 use crate::Metadata;
-use crate::bytes::first_no_word_byte;
+use crate::bucket_names::is_bucket_name;
 use std::alloc::{AllocError, Global};
 use std::cmp::Ordering;
 use std::marker::Model;
@@ -151,11 +150,4 @@ impl Ord for PolicyResult {
         let by_kind = self.kind.cmp(&other.kind);
         by_kind.then_with(|| self.metadata.as_slice().cmp(other.metadata.as_slice()))
     }
-}
-
-// Metadata keeps no `BucketName`, so the rule is tested on its bytes.
-fn is_bucket_name(bytes: &[u8]) -> bool
-    ensures { result ≡ is_bucket_name bytes.now }
-{
-    bytes.len() <= 64 && first_no_word_byte(bytes).is_none()
 }

@@ -62,7 +62,8 @@ impl Sink for MemSink {
     fn write(&mut self, from: &[u8]) -> Result<usize, Failed>
         ensures within { IfOk result (λ count. count ≤ length from.now) }
         ensures some { 0 < length from.now → IfOk result (λ count. 0 < count) }
-        ensures taken { IfOk result (λ count. Appended (Some self.old.bytes) (take count from.now) (Some self.new.bytes)) }
+        ensures taken { IfOk result
+            (λ count. Appended (Some self.old.bytes) (take count from.now) (Some self.new.bytes)) }
         ensures kept { OnErr result (Some self.new.bytes ≡ Some self.old.bytes) }
         ensures count { NeverFalls self.old.faults self.new.faults }
         ensures cause { OnErr result (Rose self.old.faults self.new.faults) }

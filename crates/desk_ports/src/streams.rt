@@ -44,8 +44,8 @@ pub trait Sink {
         ensures cause { OnErr result (Rose (faults self.old) (faults self.new)) };
 }
 
-/// Has the sink take all bytes, in as many calls as it needs. After `Failed`, which comes only where the sink's count of
-/// faults rose, it has taken some bytes from the front of them, or none, but not all.
+/// Has the sink take all bytes, in as many calls as it needs. After `Failed`, which comes only where the sink's count
+/// of faults rose, it has taken some bytes from the front of them, or none, but not all.
 pub fn write_all<K: Sink>(sink: &mut K, bytes: &[u8]) -> Result<(), Failed>
     ensures ok { OnOk result (Appended (K.taken sink.old) bytes.now (K.taken sink.new)) }
     ensures err { OnErr result (AppendedPart (K.taken sink.old) bytes.now (K.taken sink.new)) }

@@ -47,13 +47,11 @@ accepted_text commit = codes "ok " ++ (decimal commit ++ codes "\n")
 
 -- an evaluation that a policy of a bucket decided
 unfoldable pub by_policy_text : ℕ → List ℕ → Policy → List ℕ
-by_policy_text commit name policy =
-    result_text policy.result ++ (codes " " ++ (decimal commit ++ (codes " " ++ (bucket_text name ++ (codes " " ++ (key_text policy.key ++ codes "\n"))))))
+by_policy_text commit name policy = verdict_text commit name policy.result ++ (codes " " ++ (key_text policy.key ++ codes "\n"))
 
 -- an evaluation that the fallback of a bucket decided
 unfoldable pub by_fallback_text : ℕ → List ℕ → Ruling → List ℕ
-by_fallback_text commit name fallback =
-    result_text fallback ++ (codes " " ++ (decimal commit ++ (codes " " ++ (bucket_text name ++ codes " default\n"))))
+by_fallback_text commit name fallback = verdict_text commit name fallback ++ codes " default\n"
 
 -- a command would go past a limit
 unfoldable pub limit_text : Counted → ℕ → List ℕ

@@ -1,6 +1,8 @@
 // The parts of an answer's text, one after another. Where memory runs out in one, those before it stand.
 ghost use Rattle.std.specs.Prelude.{◌≡◌, ◌++◌, decimal, OnOk, OnErr};
-ghost use Rattle.line_script.specs.Answers.{bucket_text, result_text, verdict_text, key_text, counted_text, answer_text, accepted_text, by_policy_text, by_fallback_text, limit_text, access_text, line_fault_text};
+ghost use Rattle.line_script.specs.Answers.{bucket_text, result_text, verdict_text, key_text, counted_text, answer_text};
+ghost use Rattle.line_script.specs.Answers.{accepted_text, by_policy_text, by_fallback_text, limit_text};
+ghost use Rattle.line_script.specs.Answers.{access_text, line_fault_text};
 ghost use Rattle.line_script.specs.Appending.{Lengthens};
 
 use crate::{LineAnswer, command_line_fault};

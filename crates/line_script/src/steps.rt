@@ -1,7 +1,8 @@
 ghost use Rattle.std.specs.Prelude.{◌≡◌, ◌≢◌, Some, IfOk};
 ghost use Rattle.line_script.specs.Words.{word, end_of};
 ghost use Rattle.cynara_keys.specs.PolicyResult.{bucket};
-ghost use Rattle.line_script.specs.Grammar.{PointsToNoBucket, root_at, name_at, field_at, result_at, set_at, check_at, step_of, Gives, GivesWord};
+ghost use Rattle.line_script.specs.Grammar.{root_at, name_at, field_at, result_at, set_at, check_at, step_of};
+ghost use Rattle.line_script.specs.Grammar.{PointsToNoBucket, Gives, GivesWord};
 
 use crate::line_words::Words;
 use cynara_keys::{Field, Key, Kind, Name, NameRefusal, PolicyResult, Question};

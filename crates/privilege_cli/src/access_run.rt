@@ -1,5 +1,6 @@
 // `smack-access`: reads the rules of the source, and has the sink take the decision on one request.
-ghost use Rattle.std.specs.Prelude.{◌≡◌, ◌≢◌, ◌⊎◌, ◌≤◌, ◌<◌, ◌+◌, ◌++◌, [], ℕ, length, take, MatchResult, IfOk, IfErr, OnOk, OnErr, IsErrOf, IsTrue};
+ghost use Rattle.std.specs.Prelude.{◌≡◌, ◌≢◌, ◌⊎◌, ◌≤◌, ◌<◌, ◌+◌, ◌++◌, [], ℕ, length, take};
+ghost use Rattle.std.specs.Prelude.{MatchResult, IfOk, IfErr, OnOk, OnErr, IsErrOf, IsTrue};
 ghost use Rattle.desk_ports.specs.Faults.{NeverFalls, Rose};
 ghost use Rattle.desk_ports.specs.Content.{Took, AtEnd, Appended, AppendedPart};
 ghost use Rattle.line_script.specs.Answers.{answer_text, line_fault_text};
@@ -7,7 +8,8 @@ ghost use Rattle.smack_rules.specs.Modes.{is_request};
 ghost use Rattle.privilege_cli.specs.LocalRun.{Told};
 ghost use Rattle.privilege_cli.specs.LocalReading.{Passes};
 ghost use Rattle.privilege_cli.specs.AccessRun.{IsDecided, IsWrongLine, IsPartlyDecided};
-ghost use Rattle.privilege_cli.specs.AccessReading.{IsRead, AreLinesOf, StopsAtText, AreLoaded, AreRead, StopsRules, StopsWriting, StopsAccess, NamesLine, ReadsMore};
+ghost use Rattle.privilege_cli.specs.AccessReading.{IsRead, ReadsMore, AreLinesOf, AreLoaded, AreRead, NamesLine};
+ghost use Rattle.privilege_cli.specs.AccessReading.{StopsAtText, StopsRules, StopsWriting, StopsAccess};
 
 use crate::local_script::Stop;
 use crate::zeros::zeros;
@@ -57,7 +59,8 @@ pub fn run_access<S: Source, K: Sink>(
 fn end_at_line<K: Sink>(alloc: Global, line: u32, sink: &mut K) -> u8
     ensures known { (result ≡ 1) ⊎ (result ≡ 3) }
     ensures memory { result ≡ 1 → K.taken sink.new ≡ K.taken sink.old }
-    ensures line { result ≡ 3 → NamesLine (K.taken sink.old) (K.taken sink.new) line (Rose (K.faults sink.old) (K.faults sink.new)) }
+    ensures line { result ≡ 3 →
+        NamesLine (K.taken sink.old) (K.taken sink.new) line (Rose (K.faults sink.old) (K.faults sink.new)) }
 {
     match write_answer(alloc, &LineAnswer::LineFault { line }, sink) {
         Err(Stop::Memory) => 1,
@@ -76,8 +79,10 @@ fn decide_request<S: Source, K: Sink>(
 ) -> Result<(), Stop>
     requires { IsTrue (is_request asked) }
     ensures run { MatchResult result
-        (λ _. Passes (S.left source.old) (S.left source.new) (K.taken sink.old) (K.taken sink.new) (IsDecided subject.now object.now asked))
-        (StopsAccess (S.left source.old) (S.left source.new) (K.taken sink.old) (K.taken sink.new) subject.now object.now asked) }
+        (λ _. Passes (S.left source.old) (S.left source.new) (K.taken sink.old) (K.taken sink.new)
+        (IsDecided subject.now object.now asked))
+        (StopsAccess (S.left source.old) (S.left source.new) (K.taken sink.old) (K.taken sink.new)
+        subject.now object.now asked) }
     ensures source_failed { IsErrOf result Stop.Source → Rose (S.faults source.old) (S.faults source.new) }
     ensures sink_count { NeverFalls (K.faults sink.old) (K.faults sink.new) }
     ensures sink_failed { IsErrOf result Stop.Sink → Rose (K.faults sink.old) (K.faults sink.new) }
@@ -109,7 +114,9 @@ fn write_answer<K: Sink>(alloc: Global, answer: &LineAnswer, sink: &mut K) -> Re
 
 // The table of the rules of the source, which is read to its end or past the limit of a rule text.
 fn read_rules<S: Source>(alloc: Global, source: &mut S) -> Result<RuleTable, Stop>
-    ensures read { MatchResult result (AreRead (S.left source.old) (S.left source.new)) (StopsRules (S.left source.old) (S.left source.new)) }
+    ensures read { MatchResult result
+        (AreRead (S.left source.old) (S.left source.new))
+        (StopsRules (S.left source.old) (S.left source.new)) }
     ensures source_failed { IsErrOf result Stop.Source → Rose (S.faults source.old) (S.faults source.new) }
 {
     let text = read_text(alloc, source)?;

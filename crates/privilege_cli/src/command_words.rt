@@ -3,7 +3,8 @@ ghost use Rattle.std.specs.Prelude.{◌≡◌, Some, IsTrue, IfOk};
 ghost use Rattle.std.specs.List.{list_any};
 ghost use Rattle.std.specs.String.{string_bytes};
 ghost use Rattle.smack_rules.specs.Modes.{is_request};
-ghost use Rattle.privilege_cli.specs.Commands.{is_option, local_of, access_of, smack_access_of, command_of, Reads, AsksRequest};
+ghost use Rattle.privilege_cli.specs.Commands.{is_option, local_of, access_of, smack_access_of, command_of};
+ghost use Rattle.privilege_cli.specs.Commands.{Reads, AsksRequest};
 
 use smack_rules::{Label, Modes, label_fault};
 use std::alloc::{AllocError, Global};

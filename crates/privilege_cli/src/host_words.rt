@@ -1,4 +1,6 @@
 // The words that the program was called with.
+ghost use Rattle.std.specs.Prelude.{◌≡◌, [], IsUtf8};
+
 use crate::zeros::zeros;
 use std::alloc::{AllocError, Global};
 use std::env::{Env, FillError};
@@ -16,8 +18,18 @@ pub fn host_words<E: Env>(env: &E, alloc: Global) -> Result<Vec<String>, AllocEr
             Err(FillError::NotPresent) => break,
             Err(FillError::TooLong) => 0,
         };
-        let text = str::from_utf8(&buffer[..length]).unwrap_or("");
-        words.push(String::from_str(alloc, text)?)?;
+        words.push(String::from_str(alloc, word_of(&buffer[..length]))?)?;
     }
     Ok(words)
+}
+
+// The word with these bytes, or the empty one where they are no UTF-8.
+fn word_of(bytes: &[u8]) -> &str
+    ensures word { IsUtf8 bytes.now → result.now ≡ bytes.now }
+    ensures empty { ¬ (IsUtf8 bytes.now) → result.now ≡ [] }
+{
+    match str::from_utf8(bytes) {
+        Ok(word) => word,
+        Err(_) => "",
+    }
 }

@@ -1,12 +1,14 @@
 // `local`: reads a script from the source, and has the sink take its answers.
-ghost use Rattle.std.specs.Prelude.{◌≡◌, ◌≢◌, ◌⊎◌, ◌≤◌, [], length, take, MatchResult, IfOk, IfErr, OnOk, OnErr, IsErrOf};
+ghost use Rattle.std.specs.Prelude.{◌≡◌, ◌≢◌, ◌⊎◌, ◌≤◌, [], length, take};
+ghost use Rattle.std.specs.Prelude.{MatchResult, IfOk, IfErr, OnOk, OnErr, IsErrOf};
 ghost use Rattle.desk_ports.specs.Faults.{NeverFalls, Rose};
 ghost use Rattle.desk_ports.specs.Content.{Appended, AppendedPart};
 ghost use Rattle.text_lines.specs.Lines.{HasNoNewline};
 ghost use Rattle.privilege_cli.specs.LocalScript.{position_of};
 ghost use Rattle.privilege_cli.specs.Script.{start};
 ghost use Rattle.privilege_cli.specs.LocalRun.{Told, IsDone, IsCutShort, IsStoppedAtLine, AreAnswered, IsUnfinished};
-ghost use Rattle.privilege_cli.specs.LocalReading.{MatchRead, StopsReading, IsUnderWay, IsAtEnd, Passes, StopsRun, AnswersLast, StopsLast, EndsAtLine};
+ghost use Rattle.privilege_cli.specs.LocalReading.{MatchRead, StopsReading, IsUnderWay, IsAtEnd, Passes, StopsRun};
+ghost use Rattle.privilege_cli.specs.LocalReading.{AnswersLast, StopsLast, EndsAtLine};
 
 use crate::local_script::{LocalScript, MOST_IN_LINE, Stop};
 use crate::zeros::zeros;
@@ -21,12 +23,17 @@ const WINDOW: usize = 262_144;
 /// outside the grammar, 4 where the source failed and 5 where the sink did.
 pub fn run_local<S: Source, K: Sink>(alloc: Global, source: &mut S, sink: &mut K) -> u8
     ensures known { (result ≤ 5) × (result ≢ 2) }
-    ensures done { result ≡ 0 → Told (S.left source.old) (S.left source.new) (K.taken sink.old) (K.taken sink.new) IsDone }
-    ensures memory { result ≡ 1 → Told (S.left source.old) (S.left source.new) (K.taken sink.old) (K.taken sink.new) IsCutShort }
-    ensures line { result ≡ 3 → Told (S.left source.old) (S.left source.new) (K.taken sink.old) (K.taken sink.new)
+    ensures done { result ≡ 0 →
+        Told (S.left source.old) (S.left source.new) (K.taken sink.old) (K.taken sink.new) IsDone }
+    ensures memory { result ≡ 1 →
+        Told (S.left source.old) (S.left source.new) (K.taken sink.old) (K.taken sink.new) IsCutShort }
+    ensures line { result ≡ 3 →
+        Told (S.left source.old) (S.left source.new) (K.taken sink.old) (K.taken sink.new)
         (IsStoppedAtLine (Rose (K.faults sink.old) (K.faults sink.new))) }
-    ensures source { result ≡ 4 → Told (S.left source.old) (S.left source.new) (K.taken sink.old) (K.taken sink.new) AreAnswered }
-    ensures sink { result ≡ 5 → Told (S.left source.old) (S.left source.new) (K.taken sink.old) (K.taken sink.new) IsUnfinished }
+    ensures source { result ≡ 4 →
+        Told (S.left source.old) (S.left source.new) (K.taken sink.old) (K.taken sink.new) AreAnswered }
+    ensures sink { result ≡ 5 →
+        Told (S.left source.old) (S.left source.new) (K.taken sink.old) (K.taken sink.new) IsUnfinished }
     ensures source_failed { result ≡ 4 → Rose (S.faults source.old) (S.faults source.new) }
     ensures sink_failed { result ≡ 5 → Rose (K.faults sink.old) (K.faults sink.new) }
 {
@@ -48,7 +55,8 @@ pub fn run_local<S: Source, K: Sink>(alloc: Global, source: &mut S, sink: &mut K
 fn end_at_line<K: Sink>(answers: &mut Bytes, line: u32, sink: &mut K) -> u8
     ensures known { (result ≡ 1) ⊎ ((result ≡ 3) ⊎ (result ≡ 5)) }
     ensures memory { result ≡ 1 → Appended (K.taken sink.old) answers.old (K.taken sink.new) }
-    ensures line { result ≡ 3 → EndsAtLine (K.taken sink.old) (K.taken sink.new) answers.old line (Rose (K.faults sink.old) (K.faults sink.new)) }
+    ensures line { result ≡ 3 →
+        EndsAtLine (K.taken sink.old) (K.taken sink.new) answers.old line (Rose (K.faults sink.old) (K.faults sink.new)) }
     ensures sink { result ≡ 5 → AppendedPart (K.taken sink.old) answers.old (K.taken sink.new) }
     ensures sink_failed { result ≡ 5 → Rose (K.faults sink.old) (K.faults sink.new) }
 {
@@ -95,7 +103,8 @@ fn read_script<S: Source, K: Sink>(
     requires answers { script.old.answers ≡ [] }
     requires window { length window.old ≡ 262144 }
     ensures read { MatchResult result
-        (λ kept. IsUnderWay (S.left source.old) (S.left source.new) (K.taken sink.old) (K.taken sink.new) script.new (take kept window.new))
+        (λ kept. IsUnderWay (S.left source.old) (S.left source.new) (K.taken sink.old) (K.taken sink.new)
+        script.new (take kept window.new))
         (StopsRun (S.left source.old) (S.left source.new) (K.taken sink.old) (K.taken sink.new) script.new.answers) }
     ensures at_end { OnOk result (IsAtEnd (S.left source.old) (S.left source.new)) }
     ensures kept { IfOk result (λ kept. kept ≤ length window.new) }
@@ -139,8 +148,10 @@ fn read_lines<S: Source, K: Sink>(
     requires kept { kept ≤ 65535 }
     requires within { kept ≤ script.old.room }
     ensures read { MatchResult result
-        (MatchRead (S.left source.old) (S.left source.new) (K.taken sink.old) (K.taken sink.new) script.old script.new (take kept window.old) window.new)
-        (StopsReading (S.left source.old) (S.left source.new) (K.taken sink.old) (K.taken sink.new) script.old script.new (take kept window.old)) }
+        (MatchRead (S.left source.old) (S.left source.new) (K.taken sink.old) (K.taken sink.new)
+        script.old script.new (take kept window.old) window.new)
+        (StopsReading (S.left source.old) (S.left source.new) (K.taken sink.old) (K.taken sink.new)
+        script.old script.new (take kept window.old)) }
     ensures source_count { NeverFalls (S.faults source.old) (S.faults source.new) }
     ensures source_failed { IsErrOf result Stop.Source → Rose (S.faults source.old) (S.faults source.new) }
     ensures sink_count { NeverFalls (K.faults sink.old) (K.faults sink.new) }

@@ -72,7 +72,9 @@ impl LocalScript {
     pub fn answer_line(&mut self, line: &[u8], size: usize) -> Result<(), Stop>
         requires { 0 < size }
         ensures answered { (piece : List ℕ) → line_of piece ≡ line.now → length piece ≡ size →
-            MatchResult result (λ _. AnswersPiece self.old self.new piece) (λ stop. StopsAtPiece stop (position_of self.old) piece) }
+            MatchResult result
+            (λ _. AnswersPiece self.old self.new piece)
+            (λ stop. StopsAtPiece stop (position_of self.old) piece) }
         ensures err { OnErr result (self.new.answers ≡ self.old.answers) }
     {
         if size > self.room || line.len() > MOST_IN_LINE {
@@ -91,7 +93,9 @@ impl LocalScript {
 
     /// Answers the whole lines of these bytes, and says how many bytes are left behind them.
     pub fn answer_lines(&mut self, bytes: &[u8]) -> Result<usize, Stop>
-        ensures lines { MatchResult result (AnswersLines self.old self.new bytes.now) (λ stop. StopsInLines stop self.old self.new bytes.now) }
+        ensures lines { MatchResult result
+            (AnswersLines self.old self.new bytes.now)
+            (λ stop. StopsInLines stop self.old self.new bytes.now) }
     {
         let mut rest = bytes;
         while let Some((line, after)) = split_at_newline(rest) {

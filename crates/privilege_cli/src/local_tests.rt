@@ -45,6 +45,14 @@ fn with_letters(letters: usize, fails: [u64; 2], written: &'static str, status: 
     }
 }
 
+/// Words that are no command, and a script.
+fn refused(words: &'static [&'static str]) -> Case {
+    Case {
+        words,
+        ..local("set . * * p allow\n", "fault command line\n", 2)
+    }
+}
+
 fn strings(alloc: Global, words: &[&str]) -> Result<Vec<String>, AllocError> {
     let mut strings = Vec::new(alloc);
     for word in words {
@@ -120,7 +128,9 @@ fn stops_at_a_line_outside_the_grammar(rt: HostRuntime) -> Result<(), Fail> {
             "ok 1\nsyntax 2\n",
             3,
         ),
+        local("set . c u", "syntax 1\n", 3),
         local("set . * * p allow\nset . c u", "ok 1\nsyntax 2\n", 3),
+        local("check a;b u p\n", "syntax 1\n", 3),
         local("# x\ncheck c u p\n", "syntax 1\n", 3),
         local("\ncheck c u p\n", "syntax 1\n", 3),
         with_letters(65_535, [0, 0], "deny 0 . default\nsyntax 2\n", 3),
@@ -154,58 +164,28 @@ fn ends_where_a_call_fails(rt: HostRuntime) -> Result<(), Fail> {
 
 #[test]
 fn reads_nothing_for_words_that_are_no_command(rt: HostRuntime) -> Result<(), Fail> {
-    let fault = "fault command line\n";
-    let script = "set . * * p allow\n";
-    let refused = local(script, fault, 2);
     let cases = [
+        refused(&[]),
+        refused(&["local", "x"]),
+        refused(&["Local"]),
+        refused(&["serve"]),
+        refused(&["serve", "0"]),
+        refused(&["serve", "-1"]),
+        refused(&["-h"]),
+        refused(&["smack-access", "A", "X"]),
+        refused(&["smack-access", "A", "X", "b"]),
+        refused(&["smack-access", "A", "X", "-"]),
         Case {
-            words: &[],
-            ..refused
-        },
-        Case {
-            words: &["local", "x"],
-            ..refused
-        },
-        Case {
-            words: &["Local"],
-            ..refused
-        },
-        Case {
-            words: &["serve"],
-            ..refused
-        },
-        Case {
-            words: &["serve", "0"],
-            ..refused
-        },
-        Case {
-            words: &["serve", "-1"],
-            ..refused
-        },
-        Case {
-            words: &["-h"],
-            ..refused
-        },
-        Case {
-            words: &["smack-access", "A", "X"],
-            ..refused
-        },
-        Case {
-            words: &["smack-access", "A", "X", "-"],
-            ..refused
-        },
-        Case {
-            words: &["serve"],
             fails: [1, 1],
             written: "",
-            ..refused
+            ..refused(&["serve"])
         },
     ];
     for case in &cases {
         let (status, source, sink) = run_on(&rt, rt.alloc(), case)?;
         assert_eq!(rt; status, 2);
         assert_eq!(rt; sink.taken(), case.written.as_bytes());
-        assert_eq!(rt; source.left(), script.as_bytes());
+        assert_eq!(rt; source.left(), case.input.as_bytes());
     }
     Ok(())
 }

@@ -5,6 +5,8 @@ mod access_run;
 #[cfg(test)]
 mod access_tests;
 mod command_words;
+#[cfg(test)]
+mod failing_tests;
 mod host_words;
 #[cfg(test)]
 mod limit_tests;

@@ -16,8 +16,12 @@ pub const MOST_POLICIES: usize = 65_536;
 pub fn put_in_order(policies: &mut Vec<Policy>, policy: Policy) -> Result<bool, AllocError>
     requires in_order { AreInOrder policies.old.items }
     requires no_bucket { policy.result.kind ≢ bucket }
-    ensures room { IfOk result (λ accepted. accepted ≡ nat_le (length (put_policy policy policies.old.items)) most_policies) }
-    ensures put { IfOk result (λ accepted. MatchBool accepted (IsPut policy policies.old.items policies.new.items) (policies.new.items ≡ policies.old.items)) }
+    ensures room { IfOk result
+        (λ accepted. accepted ≡ nat_le (length (put_policy policy policies.old.items)) most_policies) }
+    ensures put { IfOk result
+        (λ accepted. MatchBool accepted
+        (IsPut policy policies.old.items policies.new.items)
+        (policies.new.items ≡ policies.old.items)) }
     ensures err { OnErr result (policies.new.items ≡ policies.old.items) }
 {
     match place_of(policies, &policy.key) {

@@ -45,7 +45,8 @@ pub fn run<R, S: Source, K: Sink>(
 // Has the sink take the line of words that are no command.
 fn refuse_words<K: Sink>(sink: &mut K) -> u8
     ensures status { result ≡ 2 }
-    ensures line { TookUntilFailure (Rose (K.faults sink.old) (K.faults sink.new)) (K.taken sink.old) command_line_text (K.taken sink.new) }
+    ensures line { TookUntilFailure (Rose (K.faults sink.old) (K.faults sink.new))
+        (K.taken sink.old) command_line_text (K.taken sink.new) }
 {
     match write_all(sink, command_line_fault()) {
         Ok(()) => 2,

@@ -4,7 +4,8 @@ ghost use Rattle.cynara_keys.specs.PolicyResult as ruling;
 ghost use Rattle.bucket_eval.specs.Reordered.{HaveOwnKeys};
 ghost use Rattle.line_script.specs.Grammar.{PointsToNoBucket};
 ghost use Rattle.line_script.specs.Answers.{limit_text};
-ghost use Rattle.privilege_cli.specs.State.{fresh, reply, after, put, has_room, put_text, verdict_of, most_policies, IsSameState};
+ghost use Rattle.privilege_cli.specs.State.{fresh, reply, after, put, has_room, put_text, verdict_of, most_policies};
+ghost use Rattle.privilege_cli.specs.State.{IsSameState};
 
 use crate::ordered_policies::{MOST_POLICIES, put_in_order};
 use bucket_eval::least;
@@ -71,7 +72,8 @@ impl RootPolicies {
     fn put(&mut self, policy: Policy, out: &mut Bytes) -> Result<(), AllocError>
         requires commit { self.old.commit + 1 < 2 ^ 64 }
         requires no_bucket { policy.result.kind ≢ ruling.bucket }
-        ensures answer { OnOk result (out.new ≡ out.old ++ put_text (has_room policy self.old) (put policy self.old).commit) }
+        ensures answer { OnOk result
+            (out.new ≡ out.old ++ put_text (has_room policy self.old) (put policy self.old).commit) }
         ensures state { OnOk result (IsSameState (put policy self.old) self.new) }
         ensures own_keys { HaveOwnKeys self.old.policies }
         ensures err { OnErr result (out.new ≡ out.old) }

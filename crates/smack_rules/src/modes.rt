@@ -2,7 +2,8 @@
 
 ghost use Rattle.std.specs.Prelude.{◌≡◌, Some, [], if◌then◌else◌};
 ghost use Rattle.std.specs.List.{list_all};
-ghost use Rattle.smack_rules.specs.Modes.{is_empty, union, without, is_within, has, is_request, stands_in, is_mode_byte, is_mode_word, modes_of, spelling};
+ghost use Rattle.smack_rules.specs.Modes.{is_empty, union, without, is_within, has, is_request};
+ghost use Rattle.smack_rules.specs.Modes.{stands_in, is_mode_byte, is_mode_word, modes_of, spelling};
 
 use std::fmt;
 

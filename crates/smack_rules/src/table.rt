@@ -49,7 +49,8 @@ impl Model for RuleTable {
 }
 
 impl RuleTable {
-    ghost use Rattle.std.specs.Prelude.{◌≡◌, ◌≤◌, ℕ, Bool, List, [], ◌∷◌, length, Result, IsTrue, IfOk, IfErr, OnOk, IsOkAnd};
+    ghost use Rattle.std.specs.Prelude.{◌≡◌, ◌≤◌, ℕ, Bool, List, [], ◌∷◌, length, Result};
+    ghost use Rattle.std.specs.Prelude.{IsTrue, IfOk, IfErr, OnOk, IsOkAnd};
     ghost use Rattle.std.specs.Option.{option_to_list};
     ghost use Rattle.smack_rules.specs.declared.rule.Rule.{Rule};
     ghost use Rattle.smack_rules.specs.declared.table.TheConstants.{TEXT_LIMIT};

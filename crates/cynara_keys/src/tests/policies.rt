@@ -45,6 +45,19 @@ fn results_carry_what_their_kind_allows(rt: HostRuntime) -> Result<(), Fail> {
     Ok(())
 }
 
+#[test]
+fn results_point_to_buckets_with_names_of_up_to_64_bytes(rt: HostRuntime) -> Result<(), Fail> {
+    for (count, fits) in [(64, true), (65, false)] {
+        let text = vec![in rt.alloc(); b'a'; count]?;
+        assert_eq!(rt;
+            carries(&rt, rt.alloc(), Kind::BUCKET, &text)?,
+            fits,
+            "{count}"
+        );
+    }
+    Ok(())
+}
+
 fn key(alloc: Global, client: &[u8], user: &[u8], privilege: &[u8]) -> Result<Key, NameRefusal> {
     Ok(Key {
         client: Field::read(alloc, client)?,

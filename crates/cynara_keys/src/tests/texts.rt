@@ -71,7 +71,9 @@ fn reads_texts_or_names_the_first_fault(rt: HostRuntime) {
     }
 }
 
-const LENGTHS: [(u8, usize, Option<Bad>, Option<Bucket>, Option<Meta>); 6] = [
+const LENGTHS: [(u8, usize, Option<Bad>, Option<Bucket>, Option<Meta>); 8] = [
+    (b'a', 0, Some(Bad::Empty), None, None),
+    (b'a', 1, None, None, None),
     (b'a', 64, None, None, None),
     (b'a', 65, None, Some(Bucket::TooLong), None),
     (b'a', 255, None, Some(Bucket::TooLong), None),
