@@ -48,23 +48,27 @@ length-Reordered (kept h) = ap suc (length-Reordered h)
 length-Reordered exchanged = refl
 length-Reordered (joined h k) = length-Reordered h ∙ length-Reordered k
 
-filter-exchanged : {X : Type 0} (first second : Bool) (x y : X) (rest : List X) →
-    Reordered (cond first (x ∷ cond second (y ∷ rest) rest) (cond second (y ∷ rest) rest)) (cond second (y ∷ cond first (x ∷ rest) rest) (cond first (x ∷ rest) rest))
+filter-exchanged : {X : Type 0} (first second : Bool) (x y : X) (rest : List X)
+    → Reordered (cond first (x ∷ cond second (y ∷ rest) rest) (cond second (y ∷ rest) rest))
+    (cond second (y ∷ cond first (x ∷ rest) rest) (cond first (x ∷ rest) rest))
 filter-exchanged true true x y rest = exchanged
 filter-exchanged true false x y rest = Reordered-refl (x ∷ rest)
 filter-exchanged false true x y rest = Reordered-refl (y ∷ rest)
 filter-exchanged false false x y rest = Reordered-refl rest
 
-pub filter-Reordered : {X : Type 0} {xs ys : List X} (test : X → Bool) → Reordered xs ys → Reordered (filter test xs) (filter test ys)
+pub filter-Reordered : {X : Type 0} {xs ys : List X} (test : X → Bool) → Reordered xs ys
+    → Reordered (filter test xs) (filter test ys)
 filter-Reordered test nothing = nothing
 filter-Reordered test (kept {x} {xs} {ys} h) =
     let rest = filter-Reordered test h in
-    elim (test x) as (λ passes. Reordered (cond passes (x ∷ filter test xs) (filter test xs)) (cond passes (x ∷ filter test ys) (filter test ys)))
+    elim (test x) as (λ passes. Reordered (cond passes (x ∷ filter test xs) (filter test xs))
+    (cond passes (x ∷ filter test ys) (filter test ys)))
     [ true ↦ kept rest | false ↦ rest ]
 filter-Reordered test (exchanged {x} {y} {xs}) = filter-exchanged (test x) (test y) x y (filter test xs)
 filter-Reordered test (joined h k) = joined (filter-Reordered test h) (filter-Reordered test k)
 
-pub AllByRecursion-Reordered : {X : Type 0} {xs ys : List X} (P : X → Type 0) → Reordered xs ys → AllByRecursion P xs → AllByRecursion P ys
+pub AllByRecursion-Reordered : {X : Type 0} {xs ys : List X} (P : X → Type 0) → Reordered xs ys → AllByRecursion P xs
+    → AllByRecursion P ys
 AllByRecursion-Reordered P nothing all = all
 AllByRecursion-Reordered P (kept h) all = (all.0, AllByRecursion-Reordered P h all.1)
 AllByRecursion-Reordered P exchanged all = (all.1.0, (all.0, all.1.1))
@@ -72,13 +76,14 @@ AllByRecursion-Reordered P (joined h k) all = AllByRecursion-Reordered P k (AllB
 
 pub HaveOwnKeys-Reordered : {xs ys : List Policy} → Reordered xs ys → HaveOwnKeys xs → HaveOwnKeys ys
 HaveOwnKeys-Reordered nothing own = own
-HaveOwnKeys-Reordered (kept {x} h) own = (AllByRecursion-Reordered (λ other. same_key x.key other.key ≡ false) h own.0, HaveOwnKeys-Reordered h own.1)
+HaveOwnKeys-Reordered (kept {x} h) own =
+    (AllByRecursion-Reordered (λ other. same_key x.key other.key ≡ false) h own.0, HaveOwnKeys-Reordered h own.1)
 HaveOwnKeys-Reordered (exchanged {x} {y}) own =
     ((same_key_equiv.symm y.key x.key ∙ own.0.0, own.1.0), (own.0.1, own.1.1))
 HaveOwnKeys-Reordered (joined h k) own = HaveOwnKeys-Reordered k (HaveOwnKeys-Reordered h own)
 
-least-exchanged : (first second : Bool) (x y : Policy) (rest : Option Policy) → same_key x.key y.key ≡ false →
-    cond first (lesser x (cond second (lesser y rest) rest)) (cond second (lesser y rest) rest)
+least-exchanged : (first second : Bool) (x y : Policy) (rest : Option Policy) → same_key x.key y.key ≡ false
+    → cond first (lesser x (cond second (lesser y rest) rest)) (cond second (lesser y rest) rest)
     ≡ cond second (lesser y (cond first (lesser x rest) rest)) (cond first (lesser x rest) rest)
 least-exchanged true true x y rest apart = lesser-swap x y rest apart
 least-exchanged true false x y rest apart = refl
@@ -86,7 +91,8 @@ least-exchanged false true x y rest apart = refl
 least-exchanged false false x y rest apart = refl
 
 -- policies with keys of their own decide alike in any order
-pub least_policy-Reordered : {xs ys : List Policy} (question : Question) → HaveOwnKeys xs → Reordered xs ys → least_policy question xs ≡ least_policy question ys
+pub least_policy-Reordered : {xs ys : List Policy} (question : Question) → HaveOwnKeys xs → Reordered xs ys
+    → least_policy question xs ≡ least_policy question ys
 least_policy-Reordered question own nothing = refl
 least_policy-Reordered question own (kept {x} h) =
     ap (λ rest. cond (counts question x) (lesser x rest) rest) (least_policy-Reordered question own.1 h)
@@ -97,36 +103,39 @@ least_policy-Reordered question own (joined h k) =
 
 -- ---- lists that a policy is put into
 
-put-own : (policy first : Policy) (rest : List Policy) (same : Bool) → same_key first.key policy.key ≡ same →
-    AllByRecursion (λ other. same_key first.key other.key ≡ false) rest → HaveOwnKeys (rest ++ policy ∷ []) →
-    HaveOwnKeys (cond (not same) (first ∷ rest) rest ++ policy ∷ [])
+put-own : (policy first : Policy) (rest : List Policy) (same : Bool) → same_key first.key policy.key ≡ same
+    → AllByRecursion (λ other. same_key first.key other.key ≡ false) rest → HaveOwnKeys (rest ++ policy ∷ [])
+    → HaveOwnKeys (cond (not same) (first ∷ rest) rest ++ policy ∷ [])
 put-own policy first rest true same others own = own
 put-own policy first rest false apart others own =
     (AllByRecursion-append (λ other. same_key first.key other.key ≡ false) rest (policy ∷ []) others (apart, tt), own)
 
 -- a policy takes the place of the one with its key, or comes beside the others
-pub HaveOwnKeys-put : (policy : Policy) (policies : List Policy) → HaveOwnKeys policies →
-    HaveOwnKeys (filter (λ other. not (same_key other.key policy.key)) policies ++ policy ∷ [])
+pub HaveOwnKeys-put : (policy : Policy) (policies : List Policy) → HaveOwnKeys policies
+    → HaveOwnKeys (filter (λ other. not (same_key other.key policy.key)) policies ++ policy ∷ [])
 HaveOwnKeys-put policy [] own = (tt, tt)
 HaveOwnKeys-put policy (first ∷ policies) own =
     put-own policy first (filter (λ other. not (same_key other.key policy.key)) policies) _ refl
-    (AllByRecursion-filter (λ other. same_key first.key other.key ≡ false) (λ other. not (same_key other.key policy.key)) policies own.0)
+    (AllByRecursion-filter (λ other. same_key first.key other.key ≡ false)
+    (λ other. not (same_key other.key policy.key)) policies own.0)
     (HaveOwnKeys-put policy policies own.1)
 
 -- no policy has the key
-pub filter-none : (key : Key) (policies : List Policy) → HasNoKey policies key → filter (λ other. not (same_key other.key key)) policies ≡ policies
+pub filter-none : (key : Key) (policies : List Policy) → HasNoKey policies key
+    → filter (λ other. not (same_key other.key key)) policies ≡ policies
 filter-none key [] none = refl
 filter-none key (policy ∷ policies) none =
     let rest = filter (λ other. not (same_key other.key key)) policies in
     ap (λ same. cond (not same) (policy ∷ rest) rest) none.0 ∙ ap (λ others. policy ∷ others) (filter-none key policies none.1)
 
 -- one policy in the middle has the key
-pub filter-one : (key : Key) (front : List Policy) (policy : Policy) (back : List Policy) →
-    HasNoKey front key → same_key policy.key key ≡ true → HasNoKey back key →
-    filter (λ other. not (same_key other.key key)) (front ++ policy ∷ back) ≡ front ++ back
+pub filter-one : (key : Key) (front : List Policy) (policy : Policy) (back : List Policy)
+    → HasNoKey front key → same_key policy.key key ≡ true → HasNoKey back key
+    → filter (λ other. not (same_key other.key key)) (front ++ policy ∷ back) ≡ front ++ back
 filter-one key [] policy back before same behind =
     let rest = filter (λ other. not (same_key other.key key)) back in
     ap (λ b. cond (not b) (policy ∷ rest) rest) same ∙ filter-none key back behind
 filter-one key (first ∷ front) policy back before same behind =
     let rest = filter (λ other. not (same_key other.key key)) (front ++ policy ∷ back) in
-    ap (λ b. cond (not b) (first ∷ rest) rest) before.0 ∙ ap (λ others. first ∷ others) (filter-one key front policy back before.1 same behind)
+    ap (λ b. cond (not b) (first ∷ rest) rest) before.0
+    ∙ ap (λ others. first ∷ others) (filter-one key front policy back before.1 same behind)

@@ -55,8 +55,8 @@ IsRising-prop (policy ∷ policies) = ×_prop (AllByRecursion-prop _ (λ later. 
 
 -- ---- where a search ends
 
-found : (key : Key) (policies : List Policy) (place : ℕ) → IsRising policies → place < length policies →
-    HoldsAt (λ (policy : Policy). key_cmp policy.key key ≡ Equal) policies place → HasKeyAt policies key place
+found : (key : Key) (policies : List Policy) (place : ℕ) → IsRising policies → place < length policies
+    → HoldsAt (λ (policy : Policy). key_cmp policy.key key ≡ Equal) policies place → HasKeyAt policies key place
 found key [] place rising lt equal = absurd (omega arith)
 found key (policy ∷ policies) zero rising lt equal = record {
   front = [];
@@ -66,8 +66,10 @@ found key (policy ∷ policies) zero rising lt equal = record {
   length_front = refl;
   same = sym (key_cmp-equal policy.key key) ∙ ap is_eq (equal policy);
   none_in_front = tt;
-  none_behind = AllByRecursion-weaker (λ (later : Policy). ComesBefore policy.key later.key) (λ later. same_key later.key key ≡ false)
-      (λ later before. same_key-behind later.key key (sym (key_total.congr policy.key key later.key (equal policy)) ∙ before)) policies rising.0;
+  none_behind =
+      AllByRecursion-weaker (λ (later : Policy). ComesBefore policy.key later.key) (λ later. same_key later.key key ≡ false)
+      (λ later before. same_key-behind later.key key (sym (key_total.congr policy.key key later.key (equal policy)) ∙ before))
+      policies rising.0;
 }
 found key (first ∷ policies) (suc place) rising lt equal =
     let rest = found key policies place rising.1 (omega arith) equal in
@@ -87,7 +89,8 @@ found key (first ∷ policies) (suc place) rising lt equal =
     }
 
 -- what a binary search asks of the list
-IsSortedBy-IsRising : (policies : List Policy) → IsRising policies → IsSortedBy (λ (a b : Policy). is_lt (key_cmp a.key b.key)) policies
+IsSortedBy-IsRising : (policies : List Policy) → IsRising policies
+    → IsSortedBy (λ (a b : Policy). is_lt (key_cmp a.key b.key)) policies
 IsSortedBy-IsRising [] rising k d ge lt = absurd (omega arith)
 IsSortedBy-IsRising (policy ∷ []) rising k d ge lt = absurd (omega arith)
 IsSortedBy-IsRising (policy ∷ next ∷ policies) rising zero d ge lt =
@@ -95,8 +98,9 @@ IsSortedBy-IsRising (policy ∷ next ∷ policies) rising zero d ge lt =
 IsSortedBy-IsRising (policy ∷ next ∷ policies) rising (suc k) d ge lt =
     rw add-one (rw add-one at (IsSortedBy-IsRising (next ∷ policies) rising.1 k d (omega arith) (omega arith)))
 
-absent : (key : Key) (policies : List Policy) (place : ℕ) → place ≤ length policies →
-    IsPartitionPoint (λ (policy : Policy). key_cmp policy.key key ≡ Less) (λ (policy : Policy). key_cmp policy.key key ≡ Greater) policies place → BelongsAt policies key place
+absent : (key : Key) (policies : List Policy) (place : ℕ) → place ≤ length policies
+    → IsPartitionPoint (λ (policy : Policy). key_cmp policy.key key ≡ Less)
+    (λ (policy : Policy). key_cmp policy.key key ≡ Greater) policies place → BelongsAt policies key place
 absent key policies place le parted = record {
   front = take place policies;
   back = drop place policies;
@@ -105,7 +109,8 @@ absent key policies place le parted = record {
   before = recursion_from_All (λ (policy : Policy). ComesBefore policy.key key) (take place policies) (λ k d lt.
       let short = length-take-le place policies le in
       let here : k < place = omega arith in
-      subst (λ (policy : Policy). ComesBefore policy.key key) (sym (get_or-take place policies k d here)) (parted.0 k d (omega arith) here));
+      subst (λ (policy : Policy). ComesBefore policy.key key) (sym (get_or-take place policies k d here))
+      (parted.0 k d (omega arith) here));
   behind = recursion_from_All (λ (policy : Policy). ComesBefore key policy.key) (drop place policies) (λ k d lt.
       let fits = length-drop place policies in
       let there : place + k < length policies = omega arith in
@@ -113,46 +118,59 @@ absent key policies place le parted = record {
       (ComesBefore-flip (get_or policies (place + k) d).key key (parted.1 (place + k) d (omega arith) there)));
 }
 
-pub searched : (key : Key) (policies : List Policy) → IsRising policies → (r : Result ℕ ℕ) → IsSearchInRange r (length policies) →
-    IsBinarySearchResult (λ (policy : Policy). key_cmp policy.key key) policies r → IfOk r (HasKeyAt policies key) × IfErr r (BelongsAt policies key)
+pub searched : (key : Key) (policies : List Policy) → IsRising policies → (r : Result ℕ ℕ) → IsSearchInRange r (length policies)
+    → IsBinarySearchResult (λ (policy : Policy). key_cmp policy.key key) policies r → IfOk r (HasKeyAt policies key)
+    × IfErr r (BelongsAt policies key)
 searched key policies rising (Ok place) range equal = (found key policies place rising range equal, tt)
-searched key policies rising (Err place) range parted =
-    (tt, absent key policies place range (parted (searchable_from_sorted key_total (λ (policy : Policy). policy.key) policies key (IsSortedBy-IsRising policies rising))))
+searched key policies rising (Err place) range parted = (
+  tt,
+  absent key policies place range
+      (parted (searchable_from_sorted key_total (λ (policy : Policy). policy.key) policies key
+      (IsSortedBy-IsRising policies rising))),
+)
 
 -- ---- what keeps the order
 
 -- a policy between those whose keys come before its own and those whose keys come behind it
-pub IsRising-between : (front : List Policy) (policy : Policy) (back : List Policy) → IsRising (front ++ back) →
-    AllByRecursion (λ other. ComesBefore other.key policy.key) front → AllByRecursion (λ other. ComesBefore policy.key other.key) back →
-    IsRising (front ++ policy ∷ back)
+pub IsRising-between : (front : List Policy) (policy : Policy) (back : List Policy) → IsRising (front ++ back)
+    → AllByRecursion (λ other. ComesBefore other.key policy.key) front
+    → AllByRecursion (λ other. ComesBefore policy.key other.key) back
+    → IsRising (front ++ policy ∷ back)
 IsRising-between [] policy back rising before behind = (behind, rising)
 IsRising-between (first ∷ front) policy back rising before behind =
     let later = λ (other : Policy). ComesBefore first.key other.key in (
-      AllByRecursion-append later front (policy ∷ back) (AllByRecursion-front later front back rising.0) (before.0, AllByRecursion-back later front back rising.0),
+      AllByRecursion-append later front (policy ∷ back) (AllByRecursion-front later front back rising.0)
+          (before.0, AllByRecursion-back later front back rising.0),
       IsRising-between front policy back rising.1 before.1 behind,
     )
 
 -- a policy less
-pub IsRising-without : (front : List Policy) (policy : Policy) (back : List Policy) → IsRising (front ++ policy ∷ back) → IsRising (front ++ back)
+pub IsRising-without : (front : List Policy) (policy : Policy) (back : List Policy) → IsRising (front ++ policy ∷ back)
+    → IsRising (front ++ back)
 IsRising-without [] policy back rising = rising.1
 IsRising-without (first ∷ front) policy back rising =
     let later = λ (other : Policy). ComesBefore first.key other.key in
-    let behind = AllByRecursion-back later front (policy ∷ back) rising.0 in
-    (AllByRecursion-append later front back (AllByRecursion-front later front (policy ∷ back) rising.0) behind.1, IsRising-without front policy back rising.1)
+    let behind = AllByRecursion-back later front (policy ∷ back) rising.0 in (
+      AllByRecursion-append later front back
+          (AllByRecursion-front later front (policy ∷ back) rising.0) behind.1,
+      IsRising-without front policy back rising.1,
+    )
 
 -- a policy instead of one with the same key
-pub IsRising-instead : (front : List Policy) (old new : Policy) (back : List Policy) → same_key old.key new.key ≡ true →
-    IsRising (front ++ old ∷ back) → IsRising (front ++ new ∷ back)
+pub IsRising-instead : (front : List Policy) (old new : Policy) (back : List Policy) → same_key old.key new.key ≡ true
+    → IsRising (front ++ old ∷ back) → IsRising (front ++ new ∷ back)
 IsRising-instead [] old new back same rising = (
   AllByRecursion-weaker (λ (later : Policy). ComesBefore old.key later.key) (λ later. ComesBefore new.key later.key)
-      (λ later before. sym (key_total.congr old.key new.key later.key (key_cmp-same old.key new.key same)) ∙ before) back rising.0,
+      (λ later before. sym (key_total.congr old.key new.key later.key (key_cmp-same old.key new.key same)) ∙ before) back
+      rising.0,
   rising.1,
 )
 IsRising-instead (first ∷ front) old new back same rising =
     let later = λ (other : Policy). ComesBefore first.key other.key in
     let behind = AllByRecursion-back later front (old ∷ back) rising.0 in
     let alike = alike_right key_total old.key new.key first.key (key_cmp-same old.key new.key same) in (
-      AllByRecursion-append later front (new ∷ back) (AllByRecursion-front later front (old ∷ back) rising.0) (sym alike ∙ behind.0, behind.1),
+      AllByRecursion-append later front (new ∷ back) (AllByRecursion-front later front (old ∷ back) rising.0)
+          (sym alike ∙ behind.0, behind.1),
       IsRising-instead front old new back same rising.1,
     )
 
@@ -170,22 +188,25 @@ module _ {policies : List Policy} {key : Key} {place : ℕ} (at : HasKeyAt polic
       ap (filter (λ (other : Policy). not (same_key other.key key))) at.parts
       ∙ filter-one key at.front at.policy at.back at.none_in_front at.same at.none_behind
 
-  pub Reordered-HasKeyAt : (policy : Policy) →
-      Reordered (filter (λ other. not (same_key other.key key)) policies ++ policy ∷ []) (at.front ++ policy ∷ at.back)
+  pub Reordered-HasKeyAt : (policy : Policy)
+      → Reordered (filter (λ other. not (same_key other.key key)) policies ++ policy ∷ []) (at.front ++ policy ∷ at.back)
   Reordered-HasKeyAt policy =
-      subst (λ list. Reordered (list ++ policy ∷ []) (at.front ++ policy ∷ at.back)) (sym filter-HasKeyAt) (Reordered-middle at.front policy at.back)
+      subst (λ list. Reordered (list ++ policy ∷ []) (at.front ++ policy ∷ at.back)) (sym filter-HasKeyAt)
+      (Reordered-middle at.front policy at.back)
 
   pub IsRising-HasKeyAt : (policy : Policy) → policy.key ≡ key → IsRising policies → IsRising (at.front ++ policy ∷ at.back)
   IsRising-HasKeyAt policy is rising =
-      IsRising-instead at.front at.policy policy at.back (ap (same_key at.policy.key) is ∙ at.same) (subst IsRising at.parts rising)
+      IsRising-instead at.front at.policy policy at.back (ap (same_key at.policy.key) is ∙ at.same)
+      (subst IsRising at.parts rising)
 
   pub IsRising-set : (policy : Policy) → policy.key ≡ key → IsRising policies → IsRising (set policies place policy)
   IsRising-set policy is rising = subst IsRising (sym (set-HasKeyAt policy)) (IsRising-HasKeyAt policy is rising)
 
-  pub Reordered-set : (policy : Policy) →
-      Reordered (filter (λ other. not (same_key other.key key)) policies ++ policy ∷ []) (set policies place policy)
+  pub Reordered-set : (policy : Policy)
+      → Reordered (filter (λ other. not (same_key other.key key)) policies ++ policy ∷ []) (set policies place policy)
   Reordered-set policy =
-      subst (Reordered (filter (λ other. not (same_key other.key key)) policies ++ policy ∷ [])) (sym (set-HasKeyAt policy)) (Reordered-HasKeyAt policy)
+      subst (Reordered (filter (λ other. not (same_key other.key key)) policies ++ policy ∷ [])) (sym (set-HasKeyAt policy))
+      (Reordered-HasKeyAt policy)
 
 module _ {policies : List Policy} {key : Key} {place : ℕ} (at : BelongsAt policies key place) where
   pub HasNoKey-BelongsAt : HasNoKey policies key
@@ -207,10 +228,11 @@ module _ {policies : List Policy} {key : Key} {place : ℕ} (at : BelongsAt poli
   pub filter-BelongsAt : filter (λ other. not (same_key other.key key)) policies ≡ policies
   filter-BelongsAt = filter-none key policies HasNoKey-BelongsAt
 
-  pub Reordered-BelongsAt : (policy : Policy) →
-      Reordered (filter (λ other. not (same_key other.key key)) policies ++ policy ∷ []) (at.front ++ policy ∷ at.back)
+  pub Reordered-BelongsAt : (policy : Policy)
+      → Reordered (filter (λ other. not (same_key other.key key)) policies ++ policy ∷ []) (at.front ++ policy ∷ at.back)
   Reordered-BelongsAt policy =
-      subst (λ list. Reordered (list ++ policy ∷ []) (at.front ++ policy ∷ at.back)) (sym (filter-BelongsAt ∙ at.parts)) (Reordered-middle at.front policy at.back)
+      subst (λ list. Reordered (list ++ policy ∷ []) (at.front ++ policy ∷ at.back)) (sym (filter-BelongsAt ∙ at.parts))
+      (Reordered-middle at.front policy at.back)
 
   pub IsRising-BelongsAt : (policy : Policy) → policy.key ≡ key → IsRising policies → IsRising (at.front ++ policy ∷ at.back)
   IsRising-BelongsAt policy is rising =
@@ -221,7 +243,8 @@ module _ {policies : List Policy} {key : Key} {place : ℕ} (at : BelongsAt poli
   pub IsRising-insert : (policy : Policy) → policy.key ≡ key → IsRising policies → IsRising (insert policies place policy)
   IsRising-insert policy is rising = subst IsRising (sym (insert-BelongsAt policy)) (IsRising-BelongsAt policy is rising)
 
-  pub Reordered-insert : (policy : Policy) →
-      Reordered (filter (λ other. not (same_key other.key key)) policies ++ policy ∷ []) (insert policies place policy)
+  pub Reordered-insert : (policy : Policy)
+      → Reordered (filter (λ other. not (same_key other.key key)) policies ++ policy ∷ []) (insert policies place policy)
   Reordered-insert policy =
-      subst (Reordered (filter (λ other. not (same_key other.key key)) policies ++ policy ∷ [])) (sym (insert-BelongsAt policy)) (Reordered-BelongsAt policy)
+      subst (Reordered (filter (λ other. not (same_key other.key key)) policies ++ policy ∷ [])) (sym (insert-BelongsAt policy))
+      (Reordered-BelongsAt policy)

@@ -19,7 +19,8 @@ decision_cmp = then_cmp (on (λ policy. policy.result) result_cmp) (on (λ polic
 -- the policy has a say, and no policy that has a say decides before it
 abbrev pub DecidesAmong : Question → List Policy → Policy → Type 0
 DecidesAmong question policies policy =
-    (counts question policy ≡ true) × AllByRecursion (λ other. counts question other ≡ true → is_gt (decision_cmp policy other) ≡ false) policies
+    (counts question policy ≡ true)
+    × AllByRecursion (λ other. counts question other ≡ true → is_gt (decision_cmp policy other) ≡ false) policies
 
 -- no policy has a say
 abbrev pub NoneCounts : Question → List Policy → Type 0

@@ -66,10 +66,14 @@ key_partial_order = po key_total (λ a b. sym (key_cmp-equal a b))
 -- ---- results
 
 pub result_total : IsTotalOrder result_cmp
-result_total = then_total (on_total (λ (result : Ruling). result.kind) nat_cmp_total) (on_total (λ (result : Ruling). result.metadata) text_total)
+result_total =
+    then_total (on_total (λ (result : Ruling). result.kind) nat_cmp_total)
+    (on_total (λ (result : Ruling). result.metadata) text_total)
 
 pub same_result_equiv : IsEquivalence same_result
-same_result_equiv = and_equiv (on_equiv (λ (result : Ruling). result.kind) nat_eq_equiv) (on_equiv (λ (result : Ruling). result.metadata) nat_list_eq_equiv)
+same_result_equiv =
+    and_equiv (on_equiv (λ (result : Ruling). result.kind) nat_eq_equiv)
+    (on_equiv (λ (result : Ruling). result.metadata) nat_list_eq_equiv)
 
 pub result_cmp-equal : (a b : Ruling) → is_eq (result_cmp a b) ≡ same_result a b
 result_cmp-equal a b =

@@ -11,7 +11,8 @@ HoldsText-padded text short =
     record { short = short; counted = ap length front; zeros = ap padded (sym front) }
 
 -- the array after the copy
-pub HoldsText-copied : (text copied : List ℕ) → length text ≤ 255 → copied ≡ text → HoldsText (length text) (copied ++ drop (length text) (replicate 255 0))
+pub HoldsText-copied : (text copied : List ℕ) → length text ≤ 255 → copied ≡ text
+    → HoldsText (length text) (copied ++ drop (length text) (replicate 255 0))
 HoldsText-copied text copied short same =
     let rest : drop (length text) (replicate 255 0) ≡ replicate (255 - length text) 0 = drop-replicate (length text) 255 0 in
     let all : copied ++ drop (length text) (replicate 255 0) ≡ padded text = λ i. same i ++ rest i in

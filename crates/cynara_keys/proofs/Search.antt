@@ -22,17 +22,24 @@ module _ {K : Type 0} {R : K → K → Ordering} (order : IsTotalOrder R) where
   rises x y key Equal Less at next h = absurd (true≢false (ap is_lt (sym next ∙ sym (alike_right order x key y at)) ∙ h))
   rises x y key Equal Equal at next h = omega arith
   rises x y key Equal Greater at next h = omega arith
-  rises x y key Greater Less at next h = absurd (true≢false (ap is_gt (sym at) ∙ upto order x y key (ap is_gt (order.antisymm x y) ∙ is_gt-reverse (R y x) ∙ h) (ap is_gt next)))
-  rises x y key Greater Equal at next h = absurd (true≢false (ap is_gt (sym at) ∙ upto order x y key (ap is_gt (order.antisymm x y) ∙ is_gt-reverse (R y x) ∙ h) (ap is_gt next)))
+  rises x y key Greater Less at next h =
+      absurd (true≢false (ap is_gt (sym at)
+      ∙ upto order x y key (ap is_gt (order.antisymm x y) ∙ is_gt-reverse (R y x) ∙ h) (ap is_gt next)))
+  rises x y key Greater Equal at next h =
+      absurd (true≢false (ap is_gt (sym at)
+      ∙ upto order x y key (ap is_gt (order.antisymm x y) ∙ is_gt-reverse (R y x) ∙ h) (ap is_gt next)))
   rises x y key Greater Greater at next h = omega arith
 
   -- the elements of xs ascend by the keys that f reads
-  pub answers_rise : {X : Type 0} (f : X → K) (xs : List X) → IsSortedByKey f R xs → (key : K) → IsNonDecreasingBy (λ x. ordering_index (R (f x) key)) xs
+  pub answers_rise : {X : Type 0} (f : X → K) (xs : List X) → IsSortedByKey f R xs → (key : K)
+      → IsNonDecreasingBy (λ x. ordering_index (R (f x) key)) xs
   answers_rise f xs sorted key =
       IsNonDecreasingBy-from_all_adjacent (λ x. ordering_index (R (f x) key)) xs
       (λ k d below. rises _ _ key _ _ refl refl (sorted k d (omega arith) below))
 
 -- between the lesser and the greater elements none is equal
-pub none_equal : {X : Type 0} (answer : X → Ordering) (xs : List X) (at : ℕ) → IsPartitionPoint (λ x. answer x ≡ Less) (λ x. answer x ≡ Greater) xs at → (k : ℕ) (d : X) → k < length xs → is_eq (answer (get_or xs k d)) ≡ false
+pub none_equal : {X : Type 0} (answer : X → Ordering) (xs : List X) (at : ℕ)
+    → IsPartitionPoint (λ x. answer x ≡ Less) (λ x. answer x ≡ Greater) xs at → (k : ℕ) (d : X) → k < length xs
+    → is_eq (answer (get_or xs k d)) ≡ false
 none_equal answer xs at split k d within =
     ⊎_elim (λ below. ap is_eq (split.0 k d (omega arith) below)) (λ from. ap is_eq (split.1 k d from within)) (cases_lt k at)

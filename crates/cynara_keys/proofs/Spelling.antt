@@ -16,14 +16,16 @@ IsSound Any = Unit {0}
 IsSound (Exact name) = name_fault name ≡ None
 
 no_wildcard : (name : List ℕ) (same : Bool) → same_text name wildcard ≡ same → name_fault name ≡ None → same ≡ false
-no_wildcard name true is sound = let other : name_fault wildcard ≡ None = ap name_fault (sym (same_text-≡ name wildcard is)) ∙ sound in cc
+no_wildcard name true is sound =
+    let other : name_fault wildcard ≡ None = ap name_fault (sym (same_text-≡ name wildcard is)) ∙ sound in cc
 no_wildcard name false is sound = refl
 
 pub field_of-name : (name : List ℕ) → name_fault name ≡ None → field_of name ≡ Exact name
 field_of-name name sound = ap (λ same. cond same Any (Exact name)) (no_wildcard name (same_text name wildcard) refl sound)
 
 pub field_fault-name : (name : List ℕ) → name_fault name ≡ None → field_fault name ≡ None
-field_fault-name name sound = ap (λ same. cond same None (name_fault name)) (no_wildcard name (same_text name wildcard) refl sound) ∙ sound
+field_fault-name name sound =
+    ap (λ same. cond same None (name_fault name)) (no_wildcard name (same_text name wildcard) refl sound) ∙ sound
 
 -- the text of a field reads back
 pub field_of-field_text : (field : Field) → IsSound field → field_of (field_text field) ≡ field
@@ -37,7 +39,8 @@ field_fault-field_text (Exact name) sound = field_fault-name name sound
 -- fields with the same text are equal
 pub same_field-≡ : (a b : Field) → IsSound a → IsSound b → same_field a b ≡ true → a ≡ b
 same_field-≡ a b first second same =
-    sym (field_of-field_text a first) ∙ ap field_of (same_text-≡ (field_text a) (field_text b) same) ∙ field_of-field_text b second
+    sym (field_of-field_text a first) ∙ ap field_of (same_text-≡ (field_text a) (field_text b) same)
+    ∙ field_of-field_text b second
 
 pub record IsSoundKey (key : Key) : Type 0 where
   pub client : IsSound key.client

@@ -10,7 +10,8 @@ use Rattle.cynara_keys.specs.declared.keys.Question.{Question}
 -- a key matches a question where each field is `*` or the question's
 abbrev pub key_matches : Key → Question → Bool
 key_matches key question =
-    field_matches key.client question.client && (field_matches key.user question.user && field_matches key.privilege question.privilege)
+    field_matches key.client question.client
+    && (field_matches key.user question.user && field_matches key.privilege question.privilege)
 
 -- a filter admits a key where each of its fields does
 abbrev pub filter_admits : Filter → Key → Bool
@@ -19,8 +20,12 @@ filter_admits filter key =
 
 -- keys are in the order of client, user and privilege in turn
 abbrev pub key_cmp : Key → Key → Ordering
-key_cmp = then_cmp (on (λ key. key.client) field_cmp) (then_cmp (on (λ key. key.user) field_cmp) (on (λ key. key.privilege) field_cmp))
+key_cmp =
+    then_cmp (on (λ key. key.client) field_cmp)
+    (then_cmp (on (λ key. key.user) field_cmp) (on (λ key. key.privilege) field_cmp))
 
 -- the same texts in each field
 abbrev pub same_key : Key → Key → Bool
-same_key = eq_of_both (on (λ key. key.client) same_field) (eq_of_both (on (λ key. key.user) same_field) (on (λ key. key.privilege) same_field))
+same_key =
+    eq_of_both (on (λ key. key.client) same_field)
+    (eq_of_both (on (λ key. key.user) same_field) (on (λ key. key.privilege) same_field))

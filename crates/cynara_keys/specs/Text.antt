@@ -12,7 +12,8 @@ is_visible byte = nat_lt 32 byte && (nat_lt byte 127 && not (byte == 59))
 -- a letter, a digit, an underscore or a dash
 abbrev pub is_word_byte : ℕ → Bool
 is_word_byte byte =
-    ((nat_le 97 byte && nat_le byte 122) || (nat_le 65 byte && nat_le byte 90)) || ((nat_le 48 byte && nat_le byte 57) || (byte == 95 || byte == 45))
+    ((nat_le 97 byte && nat_le byte 122) || (nat_le 65 byte && nat_le byte 90))
+    || ((nat_le 48 byte && nat_le byte 57) || (byte == 95 || byte == 45))
 
 -- the same bytes
 abbrev pub same_text : List ℕ → List ℕ → Bool

@@ -8,12 +8,15 @@ pub Appended-none : (before : Option (List ℕ)) → Appended before [] before
 Appended-none None = tt
 Appended-none (Some bytes) = ap Some (sym (append-nil bytes))
 
-pub Appended-then : (first second third : Option (List ℕ)) (xs ys : List ℕ) → Appended first xs second → Appended second ys third → Appended first (xs ++ ys) third
+pub Appended-then : (first second third : Option (List ℕ)) (xs ys : List ℕ) → Appended first xs second
+    → Appended second ys third → Appended first (xs ++ ys) third
 Appended-then None second third xs ys a b = tt
 Appended-then (Some bytes) second third xs ys a b =
     (subst (λ s. Appended s ys third) a b) ∙ ap Some (append_assoc bytes xs ys)
 
 -- a further part of the bytes, as an index shows it
-pub Appended-part : (first second third : Option (List ℕ)) (bytes : List ℕ) (done n : ℕ) → Appended first (take done bytes) second → Appended second (take n (take (length bytes - done) (drop done bytes))) third → Appended first (take (done + n) bytes) third
+pub Appended-part : (first second third : Option (List ℕ)) (bytes : List ℕ) (done n : ℕ)
+    → Appended first (take done bytes) second → Appended second (take n (take (length bytes - done) (drop done bytes))) third
+    → Appended first (take (done + n) bytes) third
 Appended-part first second third bytes done n a b =
     rw take-add (Appended-then first second third (take done bytes) (take n (drop done bytes)) a (rw take_rest at b))

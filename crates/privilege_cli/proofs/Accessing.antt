@@ -14,14 +14,16 @@ use Rattle.privilege_cli.proofs.Runs.{cut-≡}
 -- ---- the rules of a source
 
 -- nothing is left of a source at its end
-none_left : (left left_after : Option (List ℕ)) (input more : List ℕ) → left ≡ Some input → IsAtEnd left left_after → left_after ≡ Some more → more ≡ []
+none_left : (left left_after : Option (List ℕ)) (input more : List ℕ) → left ≡ Some input → IsAtEnd left left_after
+    → left_after ≡ Some more → more ≡ []
 none_left None left_after input more told end after = cc
 none_left (Some bytes) left_after input more told end after = cc
 
 module _ (left left_after : Option (List ℕ)) (text : List ℕ) (read : IsRead left left_after text) where
   AreRead-loaded : (table : List (List ℕ × Row)) → AreLoaded text table → AreRead left left_after table
   AreRead-loaded table loads =
-      record { text = text; rules = loads.rules; took = read.took; end = read.end loads.within; right = loads.right; grants = loads.grants }
+      record { text = text; rules = loads.rules; took = read.took; end = read.end loads.within; right = loads.right;
+          grants = loads.grants }
 
   StopsRules-text : (stop : Stop) → StopsAtText text stop → StopsRules left left_after stop
   StopsRules-text Memory stopped = tt
@@ -29,14 +31,15 @@ module _ (left left_after : Option (List ℕ)) (text : List ℕ) (read : IsRead 
       record {
         text = text;
         took = read.took;
-        wrong = λ more told told_after. stopped more (λ within. none_left left left_after (text ++ more) more told (read.end within) told_after);
+        wrong = λ more told told_after. stopped more
+            (λ within. none_left left left_after (text ++ more) more told (read.end within) told_after);
       }
   StopsRules-text Source stopped = tt
   StopsRules-text Sink stopped = absurd stopped
 
   -- what the text that was read made of the rules
-  pub MatchRules-text : (r : Result (List (List ℕ × Row)) Stop) → MatchResult r (AreLoaded text) (StopsAtText text) →
-      MatchResult r (AreRead left left_after) (StopsRules left left_after)
+  pub MatchRules-text : (r : Result (List (List ℕ × Row)) Stop) → MatchResult r (AreLoaded text) (StopsAtText text)
+      → MatchResult r (AreRead left left_after) (StopsRules left left_after)
   MatchRules-text (Ok table) loads = AreRead-loaded table loads
   MatchRules-text (Err stop) stopped = StopsRules-text stop stopped
 
@@ -44,7 +47,8 @@ module _ (left left_after : Option (List ℕ)) (text : List ℕ) (read : IsRead 
 
 module _ (left left_after taken taken_after : Option (List ℕ)) (subject object : List ℕ) (asked : Modes) where
   -- the rules stopped the run before anything was written
-  pub StopsAccess-rules : (stop : Stop) → taken_after ≡ taken → StopsRules left left_after stop → StopsAccess left left_after taken taken_after subject object asked stop
+  pub StopsAccess-rules : (stop : Stop) → taken_after ≡ taken → StopsRules left left_after stop
+      → StopsAccess left left_after taken taken_after subject object asked stop
   StopsAccess-rules Memory same stopped = same
   StopsAccess-rules (Line line) same stopped = (same, stopped)
   StopsAccess-rules Source same stopped = same
@@ -58,9 +62,11 @@ module _ (left left_after taken taken_after : Option (List ℕ)) (subject object
     input_read : (more : List ℕ) → left ≡ Some (read.text ++ more) → left_after ≡ Some more → more ≡ []
     input_read more told told_after = none_left left left_after (read.text ++ more) more told read.end told_after
 
-    input_right : (more : List ℕ) → left ≡ Some (read.text ++ more) → left_after ≡ Some more → rules_read (read.text ++ more) ≡ Ok read.rules
+    input_right : (more : List ℕ) → left ≡ Some (read.text ++ more) → left_after ≡ Some more
+        → rules_read (read.text ++ more) ≡ Ok read.rules
     input_right more told told_after =
-        ap (λ more. rules_read (read.text ++ more)) (input_read more told told_after) ∙ (ap rules_read (append-nil read.text) ∙ read.right)
+        ap (λ more. rules_read (read.text ++ more)) (input_read more told told_after)
+            ∙ (ap rules_read (append-nil read.text) ∙ read.right)
 
     Passes-decided : Appended taken text taken_after → Passes left left_after taken taken_after (IsDecided subject object asked)
     Passes-decided all = (
@@ -76,7 +82,8 @@ module _ (left left_after taken taken_after : Option (List ℕ)) (subject object
       },
     )
 
-    StopsAccess-writing : (stop : Stop) → StopsWriting taken taken_after text stop → StopsAccess left left_after taken taken_after subject object asked stop
+    StopsAccess-writing : (stop : Stop) → StopsWriting taken taken_after text stop
+        → StopsAccess left left_after taken taken_after subject object asked stop
     StopsAccess-writing Memory stopped = stopped
     StopsAccess-writing (Line line) stopped = absurd stopped
     StopsAccess-writing Source stopped = absurd stopped
@@ -97,7 +104,9 @@ module _ (left left_after taken taken_after : Option (List ℕ)) (subject object
         )
 
     -- what the writing of the answer made of the run
-    pub MatchAccess-written : {A : Type 0} (r : Result A Stop) → MatchResult r (λ _. Appended taken text taken_after) (StopsWriting taken taken_after text) →
-        MatchResult r (λ _. Passes left left_after taken taken_after (IsDecided subject object asked)) (StopsAccess left left_after taken taken_after subject object asked)
+    pub MatchAccess-written : {A : Type 0} (r : Result A Stop)
+        → MatchResult r (λ _. Appended taken text taken_after) (StopsWriting taken taken_after text)
+        → MatchResult r (λ _. Passes left left_after taken taken_after (IsDecided subject object asked))
+            (StopsAccess left left_after taken taken_after subject object asked)
     MatchAccess-written (Ok value) all = Passes-decided all
     MatchAccess-written (Err stop) stopped = StopsAccess-writing stop stopped

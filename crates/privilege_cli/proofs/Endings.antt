@@ -14,7 +14,8 @@ use Rattle.privilege_cli.specs.declared.local_script.LocalScript.{LocalScript}
 use Rattle.privilege_cli.proofs.Runs.{cut-≡, regroup, Took-none}
 
 -- memory ran out before anything was read
-pub StopsRun-start : (left taken : Option (List ℕ)) (waiting : List ℕ) → waiting ≡ [] → StopsRun left left taken taken waiting Memory
+pub StopsRun-start : (left taken : Option (List ℕ)) (waiting : List ℕ) → waiting ≡ []
+    → StopsRun left left taken taken waiting Memory
 StopsRun-start left taken waiting none = (
   [],
   [],
@@ -24,16 +25,20 @@ StopsRun-start left taken waiting none = (
 )
 
 -- nothing is left of a source at its end
-at_end : (left left_after : Option (List ℕ)) (input more : List ℕ) → left ≡ Some input → IsAtEnd left left_after → left_after ≡ Some more → more ≡ []
+at_end : (left left_after : Option (List ℕ)) (input more : List ℕ) → left ≡ Some input → IsAtEnd left left_after
+    → left_after ≡ Some more → more ≡ []
 at_end None left_after input more told end after = cc
 at_end (Some bytes) left_after input more told end after = cc
 
-module _ (left left_after taken taken_now taken_after : Option (List ℕ)) (now : LocalScript) (waiting last : List ℕ) (way : IsUnderWay left left_after taken taken_now now last) (end : IsAtEnd left left_after) where
+module _ (left left_after taken taken_now taken_after : Option (List ℕ)) (now : LocalScript) (waiting last : List ℕ)
+    (way : IsUnderWay left left_after taken taken_now now last) (end : IsAtEnd left left_after) where
   -- the script at its end
-  at_last : (more : List ℕ) → left ≡ Some ((way.lines ++ last) ++ more) → left_after ≡ Some more →
-      script ((way.lines ++ last) ++ more) ≡ answered (way.written ++ now.answers) (script_from (position_of now) (pieces_of last))
+  at_last : (more : List ℕ) → left ≡ Some ((way.lines ++ last) ++ more) → left_after ≡ Some more
+      → script ((way.lines ++ last) ++ more)
+          ≡ answered (way.written ++ now.answers) (script_from (position_of now) (pieces_of last))
   at_last more told told_after =
-      ap (λ more. script ((way.lines ++ last) ++ more)) (at_end left left_after ((way.lines ++ last) ++ more) more told end told_after)
+      ap (λ more. script ((way.lines ++ last) ++ more))
+          (at_end left left_after ((way.lines ++ last) ++ more) more told end told_after)
       ∙ (ap script (append-nil (way.lines ++ last)) ∙ way.advanced last)
 
   Passes-done : AnswersLast now taken_now taken_after last → Passes left left_after taken taken_after IsDone
@@ -45,11 +50,14 @@ module _ (left left_after taken taken_now taken_after : Option (List ℕ)) (now 
     λ more told told_after. record {
       read = at_end left left_after ((way.lines ++ last) ++ more) more told end told_after;
       answered = at_last more told told_after ∙ (ap (answered (way.written ++ now.answers)) answers.answered
-          ∙ ap (λ text. record { answers = text; last = []; status = 0 }) (ap (λ text. (way.written ++ now.answers) ++ text) (append-nil answers.text) ∙ append_assoc way.written now.answers answers.text));
+          ∙ ap (λ text. record { answers = text; last = []; status = 0 })
+              (ap (λ text. (way.written ++ now.answers) ++ text) (append-nil answers.text)
+              ∙ append_assoc way.written now.answers answers.text));
     },
   )
 
-  StopsRun-last : (stop : Stop) → StopsLast now waiting taken_now taken_after last stop → StopsRun left left_after taken taken_after waiting stop
+  StopsRun-last : (stop : Stop) → StopsLast now waiting taken_now taken_after last stop
+      → StopsRun left left_after taken taken_after waiting stop
   StopsRun-last Memory stopped = (
     way.lines ++ last,
     way.written,
@@ -57,7 +65,8 @@ module _ (left left_after taken taken_now taken_after : Option (List ℕ)) (now 
     subst (Appended taken way.written) (sym stopped.0) way.appended,
     λ more told told_after. (
       script_from (position_of now) (pieces_of last),
-      at_last more told told_after ∙ ap (λ waiting. answered (way.written ++ waiting) (script_from (position_of now) (pieces_of last))) (sym stopped.1),
+      at_last more told told_after
+          ∙ ap (λ waiting. answered (way.written ++ waiting) (script_from (position_of now) (pieces_of last))) (sym stopped.1),
     ),
   )
   StopsRun-last (Line number) stopped = (
@@ -80,24 +89,30 @@ module _ (left left_after taken taken_now taken_after : Option (List ℕ)) (now 
         λ more told told_after. (
           cut.0,
           cut.1,
-          ap (λ (outcome : Outcome). outcome.answers) (at_last more told told_after ∙ ap (answered (way.written ++ now.answers)) stopped.1)
-              ∙ (ap (λ text. (way.written ++ now.answers) ++ text) (append-nil stopped.0) ∙ (append_assoc way.written now.answers stopped.0
-              ∙ (ap (λ text. way.written ++ text) cut.2 ∙ sym (append_assoc way.written (take stopped.2.0 answers) (cut.0 ∷ cut.1))))),
+          ap (λ (outcome : Outcome). outcome.answers)
+              (at_last more told told_after ∙ ap (answered (way.written ++ now.answers)) stopped.1)
+              ∙ (ap (λ text. (way.written ++ now.answers) ++ text) (append-nil stopped.0)
+                  ∙ (append_assoc way.written now.answers stopped.0
+              ∙ (ap (λ text. way.written ++ text) cut.2
+                  ∙ sym (append_assoc way.written (take stopped.2.0 answers) (cut.0 ∷ cut.1))))),
         ),
       )
 
   -- what the last line made of the run
-  pub MatchRun-last : {A : Type 0} (r : Result A Stop) → MatchResult r (λ _. AnswersLast now taken_now taken_after last) (StopsLast now waiting taken_now taken_after last) →
-      MatchResult r (λ _. Passes left left_after taken taken_after IsDone) (StopsRun left left_after taken taken_after waiting)
+  pub MatchRun-last : {A : Type 0} (r : Result A Stop)
+      → MatchResult r (λ _. AnswersLast now taken_now taken_after last) (StopsLast now waiting taken_now taken_after last)
+      → MatchResult r (λ _. Passes left left_after taken taken_after IsDone) (StopsRun left left_after taken taken_after waiting)
   MatchRun-last (Ok value) answers = Passes-done answers
   MatchRun-last (Err stop) stopped = StopsRun-last stop stopped
 
-AreWritten-weaker : (Failed Other : Type 0) → (Failed → Other) → (bytes written : List ℕ) → AreWritten Failed bytes written → AreWritten Other bytes written
+AreWritten-weaker : (Failed Other : Type 0) → (Failed → Other) → (bytes written : List ℕ) → AreWritten Failed bytes written
+    → AreWritten Other bytes written
 AreWritten-weaker Failed Other weaker bytes written (inl all) = inl all
 AreWritten-weaker Failed Other weaker bytes written (inr cut) = inr (weaker cut.0, cut.1, cut.2, cut.3)
 
 -- what passed is what is told
-pub Told-passed : (left left_after taken taken_after : Option (List ℕ)) (P : List ℕ → List ℕ → List ℕ → Type 0) → Passes left left_after taken taken_after P → Told left left_after taken taken_after P
+pub Told-passed : (left left_after taken taken_after : Option (List ℕ)) (P : List ℕ → List ℕ → List ℕ → Type 0)
+    → Passes left left_after taken taken_after P → Told left left_after taken taken_after P
 Told-passed None left_after taken taken_after P passes = tt
 Told-passed (Some input) left_after None taken_after P passes = tt
 Told-passed (Some input) left_after (Some before) taken_after P passes =
@@ -111,20 +126,24 @@ Told-passed (Some input) left_after (Some before) taken_after P passes =
 
 module _ (left left_after taken taken_now taken_after : Option (List ℕ)) (waiting : List ℕ) where
   -- the answers that waited were written as far as the sink took them
-  cut_short : (later : Outcome) (input written front rest : List ℕ) → waiting ≡ front ++ rest → script input ≡ answered (written ++ waiting) later →
-      (script input).answers ≡ (written ++ front) ++ (rest ++ later.answers)
+  cut_short : (later : Outcome) (input written front rest : List ℕ) → waiting ≡ front ++ rest
+      → script input ≡ answered (written ++ waiting) later
+      → (script input).answers ≡ (written ++ front) ++ (rest ++ later.answers)
   cut_short later input written front rest is told =
-      ap (λ (outcome : Outcome). outcome.answers) told ∙ (ap (λ waiting. (written ++ waiting) ++ later.answers) is ∙ regroup written front rest later.answers)
+      ap (λ (outcome : Outcome). outcome.answers) told
+          ∙ (ap (λ waiting. (written ++ waiting) ++ later.answers) is ∙ regroup written front rest later.answers)
 
-  pub Told-cut_short : {A E : Type 0} (r : Result A E) → StopsRun left left_after taken taken_now waiting Memory → OnOk r (Appended taken_now waiting taken_after) →
-      OnErr r (AppendedPart taken_now waiting taken_after) → Told left left_after taken taken_after IsCutShort
+  pub Told-cut_short : {A E : Type 0} (r : Result A E) → StopsRun left left_after taken taken_now waiting Memory
+      → OnOk r (Appended taken_now waiting taken_after)
+      → OnErr r (AppendedPart taken_now waiting taken_after) → Told left left_after taken taken_after IsCutShort
   Told-cut_short (Ok value) run all part =
       Told-passed left left_after taken taken_after IsCutShort (
         run.0,
         run.1 ++ waiting,
         run.2,
         Appended-then taken taken_now taken_after run.1 waiting run.3 all,
-        λ more told told_after. let later = run.4 more told told_after in (later.0.answers, ap (λ (outcome : Outcome). outcome.answers) later.1),
+        λ more told told_after. let later =
+            run.4 more told told_after in (later.0.answers, ap (λ (outcome : Outcome). outcome.answers) later.1),
       )
   Told-cut_short (Err error) run all part =
       let cut = cut-≡ part.0 waiting part.1 in
@@ -134,12 +153,14 @@ module _ (left left_after taken taken_now taken_after : Option (List ℕ)) (wait
         run.2,
         Appended-then taken taken_now taken_after run.1 (take part.0 waiting) run.3 part.2,
         λ more told told_after. let later = run.4 more told told_after in
-            ((cut.0 ∷ cut.1) ++ later.0.answers, cut_short later.0 (run.0 ++ more) run.1 (take part.0 waiting) (cut.0 ∷ cut.1) cut.2 later.1),
+            ((cut.0 ∷ cut.1) ++ later.0.answers, cut_short later.0 (run.0 ++ more) run.1 (take part.0 waiting)
+                (cut.0 ∷ cut.1) cut.2 later.1),
       )
 
   module _ (line : ℕ) (run : StopsRun left left_after taken taken_now waiting (Line line)) where
     -- the last line names the line
-    pub Told-line : (Failed Other : Type 0) → (Failed → Other) → EndsAtLine taken_now taken_after waiting line Failed → Told left left_after taken taken_after (IsStoppedAtLine Other)
+    pub Told-line : (Failed Other : Type 0) → (Failed → Other) → EndsAtLine taken_now taken_after waiting line Failed
+        → Told left left_after taken taken_after (IsStoppedAtLine Other)
     Told-line Failed Other weaker ends =
         Told-passed left left_after taken taken_after (IsStoppedAtLine Other) (
           run.0,
@@ -150,7 +171,10 @@ module _ (left left_after taken taken_now taken_after : Option (List ℕ)) (wait
             line = line;
             answers = run.1 ++ waiting;
             last = ends.0;
-            stopped = run.4 more told told_after ∙ ap (λ answers. record { answers = answers; last = line_fault_text line; status = 3 }) (append-nil (run.1 ++ waiting));
+            stopped =
+                run.4 more told told_after
+                ∙ ap (λ answers. record { answers = answers; last = line_fault_text line; status = 3 })
+                (append-nil (run.1 ++ waiting));
             answered = sym (append_assoc run.1 waiting ends.0);
             named = AreWritten-weaker Failed Other weaker (line_fault_text line) ends.0 ends.2;
           },
@@ -177,7 +201,8 @@ module _ (left left_after taken taken_now taken_after : Option (List ℕ)) (wait
           λ more told told_after. (
             cut.0,
             cut.1,
-            cut_short (stopped_at line) (run.0 ++ more) run.1 (take part.0 waiting) (cut.0 ∷ cut.1) cut.2 (run.4 more told told_after)
+            cut_short (stopped_at line) (run.0 ++ more) run.1 (take part.0 waiting) (cut.0 ∷ cut.1) cut.2
+                (run.4 more told told_after)
                 ∙ ap (λ rest. (run.1 ++ take part.0 waiting) ++ rest) (append-nil (cut.0 ∷ cut.1)),
           ),
         )

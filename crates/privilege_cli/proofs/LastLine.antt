@@ -21,27 +21,32 @@ pieces_of-one [] plain some = cc
 pieces_of-one (byte ∷ bytes) plain some = pieces_of-last byte bytes plain
 
 -- the answers that waited are flushed, with that to the last line
-pub MatchLast-flushed : {E : Type 0} (r : Result E Stop) (old : LocalScript) (answers_after : List ℕ) (taken taken_after : Option (List ℕ)) (last text waiting : List ℕ) →
-    script_from (position_of old) (pieces_of last) ≡ answered text ended → waiting ≡ old.answers ++ text →
-    OnOk r (Appended taken waiting taken_after) → OnErr r (AppendedPart taken waiting taken_after) → IfErr r (λ stop. stop ≡ Sink) →
-    MatchResult r (λ _. AnswersLast old taken taken_after last) (StopsLast old answers_after taken taken_after last)
+pub MatchLast-flushed : {E : Type 0} (r : Result E Stop) (old : LocalScript) (answers_after : List ℕ)
+    (taken taken_after : Option (List ℕ)) (last text waiting : List ℕ)
+    → script_from (position_of old) (pieces_of last) ≡ answered text ended → waiting ≡ old.answers ++ text
+    → OnOk r (Appended taken waiting taken_after) → OnErr r (AppendedPart taken waiting taken_after)
+    → IfErr r (λ stop. stop ≡ Sink)
+    → MatchResult r (λ _. AnswersLast old taken taken_after last) (StopsLast old answers_after taken taken_after last)
 MatchLast-flushed (Ok value) old answers_after taken taken_after last text waiting is answers all part sink =
     record { text = text; answered = is; flushed = subst (λ bytes. Appended taken bytes taken_after) answers all }
 MatchLast-flushed (Err stop) old answers_after taken taken_after last text waiting is answers all part sink =
-    subst (StopsLast old answers_after taken taken_after last) (sym sink) (text, is, subst (λ bytes. AppendedPart taken bytes taken_after) answers part)
+    subst (StopsLast old answers_after taken taken_after last) (sym sink)
+        (text, is, subst (λ bytes. AppendedPart taken bytes taken_after) answers part)
 
 -- there is no last line
 pub no_last : (old : LocalScript) (last : List ℕ) → last ≡ [] → script_from (position_of old) (pieces_of last) ≡ answered [] ended
 no_last old last none = ap (λ bytes. script_from (position_of old) (pieces_of bytes)) none
 
 -- it is answered
-pub one_last : (old new : LocalScript) (last : List ℕ) → HasNoNewline last → (length last == 0) ≡ false → (piece : AnswersPiece old new last) →
-    script_from (position_of old) (pieces_of last) ≡ answered piece.text ended
+pub one_last : (old new : LocalScript) (last : List ℕ) → HasNoNewline last → (length last == 0) ≡ false
+    → (piece : AnswersPiece old new last)
+    → script_from (position_of old) (pieces_of last) ≡ answered piece.text ended
 one_last old new last plain some piece = ap (script_from (position_of old)) (pieces_of-one last plain some) ∙ piece.advanced []
 
 -- it stops the run
-pub StopsLast-piece : (stop : Stop) (old new : LocalScript) (taken : Option (List ℕ)) (last : List ℕ) → HasNoNewline last → (length last == 0) ≡ false →
-    new.answers ≡ old.answers → StopsAtPiece stop (position_of old) last → StopsLast old new.answers taken taken last stop
+pub StopsLast-piece : (stop : Stop) (old new : LocalScript) (taken : Option (List ℕ)) (last : List ℕ) → HasNoNewline last
+    → (length last == 0) ≡ false
+    → new.answers ≡ old.answers → StopsAtPiece stop (position_of old) last → StopsLast old new.answers taken taken last stop
 StopsLast-piece Memory old new taken last plain some same stopped = (refl, same)
 StopsLast-piece (Line number) old new taken last plain some same stopped =
     (refl, same, ap (script_from (position_of old)) (pieces_of-one last plain some) ∙ stopped [])

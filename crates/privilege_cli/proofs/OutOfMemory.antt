@@ -22,6 +22,7 @@ Ends-memory Done Memory Line Source Sink ended = record {
   sink = λ same. cc;
 }
 
-pub RunEnds-memory : (Failed : Type 0) (command : Command) (left taken : Option (List ℕ)) → RunEnds Failed (Some command) 1 left left taken taken
+pub RunEnds-memory : (Failed : Type 0) (command : Command) (left taken : Option (List ℕ))
+    → RunEnds Failed (Some command) 1 left left taken taken
 RunEnds-memory Failed Local left taken = Ends-memory _ _ _ _ _ (Told-nothing left taken)
 RunEnds-memory Failed (SmackAccess subject object asked) left taken = Ends-memory _ _ _ _ _ refl

@@ -13,7 +13,8 @@ pub Rose-behind : (first second third : ℕ) → NeverFalls first second → Ros
 Rose-behind first second third earlier rose = omega arith
 
 -- what two readings took
-pub Took-then : (first second third : Option (List ℕ)) (xs ys : List ℕ) → Took first xs second → Took second ys third → Took first (xs ++ ys) third
+pub Took-then : (first second third : Option (List ℕ)) (xs ys : List ℕ) → Took first xs second → Took second ys third
+    → Took first (xs ++ ys) third
 Took-then None second third xs ys a b = tt
 Took-then (Some bytes) second third xs ys a b =
     let b' = subst (λ (left : Option (List ℕ)). Took left ys third) a.2 b in
@@ -25,7 +26,8 @@ Took-nothing None after same = tt
 Took-nothing (Some bytes) after same = (bytes, refl, same)
 
 -- a source that is at its end, and gave nothing more, is at its end
-pub IsAtEnd-end : (first second third : Option (List ℕ)) (xs : List ℕ) → Took first xs second → AtEnd second → Took second [] third → IsAtEnd first third
+pub IsAtEnd-end : (first second third : Option (List ℕ)) (xs : List ℕ) → Took first xs second → AtEnd second
+    → Took second [] third → IsAtEnd first third
 IsAtEnd-end None second third xs a end b = tt
 IsAtEnd-end (Some bytes) second third xs a end b =
     let end' = subst AtEnd a.2 end in
@@ -33,10 +35,11 @@ IsAtEnd-end (Some bytes) second third xs a end b =
     b'.2 ∙ ap Some (sym b'.1 ∙ end')
 
 -- the last line is written, or cut where the sink failed
-pub EndsAtLine-either : {E F : Type 0} (r : Result E F) (first second third : Option (List ℕ)) (waiting text : List ℕ) (line faults_0 faults_1 faults_2 : ℕ) →
-    text ≡ line_fault_text line → Appended first waiting second → NeverFalls faults_0 faults_1 →
-    OnOk r (Appended second text third) → OnErr r (AppendedPart second text third) → OnErr r (Rose faults_1 faults_2) →
-    EndsAtLine first third waiting line (Rose faults_0 faults_2)
+pub EndsAtLine-either : {E F : Type 0} (r : Result E F) (first second third : Option (List ℕ)) (waiting text : List ℕ)
+    (line faults_0 faults_1 faults_2 : ℕ)
+    → text ≡ line_fault_text line → Appended first waiting second → NeverFalls faults_0 faults_1
+    → OnOk r (Appended second text third) → OnErr r (AppendedPart second text third) → OnErr r (Rose faults_1 faults_2)
+    → EndsAtLine first third waiting line (Rose faults_0 faults_2)
 EndsAtLine-either (Ok value) first second third waiting text line f0 f1 f2 is before count all part failed =
     (text, Appended-then first second third waiting text before all, inl is)
 EndsAtLine-either (Err error) first second third waiting text line f0 f1 f2 is before count all part failed = (

@@ -17,21 +17,26 @@ abbrev NoBucket : Policy → Type 0
 NoBucket policy = policy.result.kind ≢ bucket
 
 module _ {X : Type 0} (P : X → Type 0) where
-  All-instead : (front : List X) (old new : X) (back : List X) → P new → AllByRecursion P (front ++ old ∷ back) → AllByRecursion P (front ++ new ∷ back)
+  All-instead : (front : List X) (old new : X) (back : List X) → P new → AllByRecursion P (front ++ old ∷ back)
+      → AllByRecursion P (front ++ new ∷ back)
   All-instead [] old new back one all = (one, all.1)
   All-instead (first ∷ front) old new back one all = (all.0, All-instead front old new back one all.1)
 
-  All-between : (front : List X) (new : X) (back : List X) → P new → AllByRecursion P (front ++ back) → AllByRecursion P (front ++ new ∷ back)
+  All-between : (front : List X) (new : X) (back : List X) → P new → AllByRecursion P (front ++ back)
+      → AllByRecursion P (front ++ new ∷ back)
   All-between [] new back one all = (one, all)
   All-between (first ∷ front) new back one all = (all.0, All-between front new back one all.1)
 
-length-more : (front : List Policy) (policy : Policy) (back : List Policy) → length (front ++ policy ∷ back) ≡ length (front ++ back) + 1
+length-more : (front : List Policy) (policy : Policy) (back : List Policy)
+    → length (front ++ policy ∷ back) ≡ length (front ++ back) + 1
 length-more front policy back = omega (arith, length-append front (policy ∷ back), length-append front back)
 
-length-same : (front : List Policy) (old new : Policy) (back : List Policy) → length (front ++ new ∷ back) ≡ length (front ++ old ∷ back)
+length-same : (front : List Policy) (old new : Policy) (back : List Policy)
+    → length (front ++ new ∷ back) ≡ length (front ++ old ∷ back)
 length-same front old new back = omega (arith, length-append front (old ∷ back), length-append front (new ∷ back))
 
-module _ {policies : List Policy} {place : ℕ} (policy : Policy) (order : AreInOrder policies) (plain : policy.result.kind ≢ bucket) where
+module _ {policies : List Policy} {place : ℕ} (policy : Policy) (order : AreInOrder policies)
+    (plain : policy.result.kind ≢ bucket) where
   -- there is room for a policy whose key is there
   pub length-found : HasKeyAt policies policy.key place → length (put_policy policy policies) ≡ length policies
   length-found at =
@@ -45,16 +50,20 @@ module _ {policies : List Policy} {place : ℕ} (policy : Policy) (order : AreIn
         in_order = subst AreInOrder (sym is) (record {
           rising = IsRising-HasKeyAt at policy refl order.rising;
           within = omega (arith, order.within, length-same at.front at.policy policy at.back, ap length at.parts);
-          no_bucket = All-instead NoBucket at.front at.policy policy at.back plain (subst (AllByRecursion NoBucket) at.parts order.no_bucket);
+          no_bucket =
+              All-instead NoBucket at.front at.policy policy at.back plain
+              (subst (AllByRecursion NoBucket) at.parts order.no_bucket);
         });
       }
 
   -- a policy whose key is new is one more
   pub length-absent : BelongsAt policies policy.key place → length (put_policy policy policies) ≡ length policies + 1
   length-absent at =
-      length-Reordered (Reordered-BelongsAt at policy) ∙ (length-more at.front policy at.back ∙ sym (ap (λ list. length list + 1) at.parts))
+      length-Reordered (Reordered-BelongsAt at policy)
+          ∙ (length-more at.front policy at.back ∙ sym (ap (λ list. length list + 1) at.parts))
 
-  pub IsPut-absent : BelongsAt policies policy.key place → length policies < most_policies → IsPut policy policies (insert policies place policy)
+  pub IsPut-absent : BelongsAt policies policy.key place → length policies < most_policies
+      → IsPut policy policies (insert policies place policy)
   IsPut-absent at room =
       let is = insert-BelongsAt at policy in
       record {
@@ -62,7 +71,8 @@ module _ {policies : List Policy} {place : ℕ} (policy : Policy) (order : AreIn
         in_order = subst AreInOrder (sym is) (record {
           rising = IsRising-BelongsAt at policy refl order.rising;
           within = omega (arith, room, length-more at.front policy at.back, ap length at.parts);
-          no_bucket = All-between NoBucket at.front policy at.back plain (subst (AllByRecursion NoBucket) at.parts order.no_bucket);
+          no_bucket =
+              All-between NoBucket at.front policy at.back plain (subst (AllByRecursion NoBucket) at.parts order.no_bucket);
         });
       }
 
@@ -82,17 +92,22 @@ IsSameState-refl state = record { commit = refl; policies = Reordered-refl state
 -- nothing is put where there is no room
 pub IsSameState-refused : (policy : Policy) (state : State) → false ≡ has_room policy state → IsSameState (put policy state) state
 IsSameState-refused policy state full =
-    subst (λ room. IsSameState (cond room (record { commit = state.commit + 1; policies = put_policy policy state.policies }) state) state) full (IsSameState-refl state)
+    subst (λ room. IsSameState
+        (cond room (record { commit = state.commit + 1; policies = put_policy policy state.policies }) state) state) full
+        (IsSameState-refl state)
 
 -- nothing was put, and nothing changed
-pub IsSameState-kept : (policy : Policy) (state : State) (accepted : Bool) (policies : List Policy) → accepted ≡ false → accepted ≡ has_room policy state →
-    MatchBool accepted (IsPut policy state.policies policies) (policies ≡ state.policies) →
-    IsSameState (put policy state) (record { commit = state.commit; policies = policies })
+pub IsSameState-kept : (policy : Policy) (state : State) (accepted : Bool) (policies : List Policy) → accepted ≡ false
+    → accepted ≡ has_room policy state
+    → MatchBool accepted (IsPut policy state.policies policies) (policies ≡ state.policies)
+    → IsSameState (put policy state) (record { commit = state.commit; policies = policies })
 IsSameState-kept policy state false policies refused room same =
-    subst (λ list. IsSameState (put policy state) (record { commit = state.commit; policies = list })) (sym same) (IsSameState-refused policy state room)
+    subst (λ list. IsSameState (put policy state) (record { commit = state.commit; policies = list })) (sym same)
+        (IsSameState-refused policy state room)
 IsSameState-kept policy state true policies refused room same = absurd (true≢false refused)
 
 -- the policies in order have their own keys, seen as the state that they are kept in
-pub own_keys-kept : (commit : ℕ) (policies : List Policy) (state : State) → AreInOrder policies → record { commit = commit; policies = policies } ≡ state → HaveOwnKeys state.policies
+pub own_keys-kept : (commit : ℕ) (policies : List Policy) (state : State) → AreInOrder policies
+    → record { commit = commit; policies = policies } ≡ state → HaveOwnKeys state.policies
 own_keys-kept commit policies state order is =
     subst (λ (state : State). HaveOwnKeys state.policies) is (HaveOwnKeys-IsRising policies order.rising)

@@ -23,10 +23,12 @@ pub record BeginsWith (part : List ℕ) (text : List ℕ) : Type 0 where
 line_of-cons : (byte : ℕ) (bytes : List ℕ) → is_newline byte ≡ false → line_of (byte ∷ bytes) ≡ byte ∷ line_of bytes
 line_of-cons byte bytes plain = ap (λ b. cond b [] (byte ∷ line_of bytes)) plain
 
-pieces_of-cons : (byte : ℕ) (bytes : List ℕ) → is_newline byte ≡ false → pieces_of (byte ∷ bytes) ≡ onto_first byte (pieces_of bytes)
+pieces_of-cons : (byte : ℕ) (bytes : List ℕ) → is_newline byte ≡ false
+    → pieces_of (byte ∷ bytes) ≡ onto_first byte (pieces_of bytes)
 pieces_of-cons byte bytes plain = ap (λ b. cond b ((byte ∷ []) ∷ pieces_of bytes) (onto_first byte (pieces_of bytes))) plain
 
-begins-one : (byte : ℕ) (text : List ℕ) (pieces : List (List ℕ)) → is_newline byte ≡ false → pieces_of text ≡ pieces → BeginsWith (byte ∷ []) (byte ∷ text)
+begins-one : (byte : ℕ) (text : List ℕ) (pieces : List (List ℕ)) → is_newline byte ≡ false → pieces_of text ≡ pieces
+    → BeginsWith (byte ∷ []) (byte ∷ text)
 begins-one byte text [] plain is =
     record {
       piece = byte ∷ [];
@@ -42,7 +44,8 @@ begins-one byte text (piece ∷ pieces) plain is =
       long = omega (arith, ap length (line_of-cons byte piece plain));
     }
 
-begins-more : (byte : ℕ) (part text : List ℕ) → is_newline byte ≡ false → BeginsWith part text → BeginsWith (byte ∷ part) (byte ∷ text)
+begins-more : (byte : ℕ) (part text : List ℕ) → is_newline byte ≡ false → BeginsWith part text
+    → BeginsWith (byte ∷ part) (byte ∷ text)
 begins-more byte part text plain rest =
     record {
       piece = byte ∷ rest.piece;
@@ -53,9 +56,11 @@ begins-more byte part text plain rest =
 
 begins : (byte : ℕ) (part more : List ℕ) → HasNoNewline (byte ∷ part) → BeginsWith (byte ∷ part) ((byte ∷ part) ++ more)
 begins byte [] more plain = begins-one byte more (pieces_of more) plain.0 refl
-begins byte (next ∷ part) more plain = begins-more byte (next ∷ part) ((next ∷ part) ++ more) plain.0 (begins next part more plain.1)
+begins byte (next ∷ part) more plain =
+    begins-more byte (next ∷ part) ((next ∷ part) ++ more) plain.0 (begins next part more plain.1)
 
-length-chosen : (b : Bool) (byte : ℕ) (line bytes : List ℕ) → length line ≤ length bytes → length (cond b [] (byte ∷ line)) ≤ length (byte ∷ bytes)
+length-chosen : (b : Bool) (byte : ℕ) (line bytes : List ℕ) → length line ≤ length bytes
+    → length (cond b [] (byte ∷ line)) ≤ length (byte ∷ bytes)
 length-chosen true byte line bytes within = omega arith
 length-chosen false byte line bytes within = omega arith
 
@@ -64,21 +69,26 @@ length-line_of [] = omega arith
 length-line_of (byte ∷ bytes) = length-chosen (is_newline byte) byte (line_of bytes) bytes (length-line_of bytes)
 
 -- What begins so can't be a line: it is too long, or goes past the end of the script.
-pub script_from-long : (at : Position) (part more : List ℕ) → HasNoNewline part → (most_in_line < length part) ⊎ (at.room < length part) →
-    script_from at (pieces_of (part ++ more)) ≡ stopped_at at.line
+pub script_from-long : (at : Position) (part more : List ℕ) → HasNoNewline part → (most_in_line < length part)
+    ⊎ (at.room < length part)
+    → script_from at (pieces_of (part ++ more)) ≡ stopped_at at.line
 script_from-long at [] more plain (inl long) = absurd (omega (arith, long))
 script_from-long at [] more plain (inr past) = absurd (omega (arith, past))
 script_from-long at (byte ∷ part) more plain (inl long) =
     let first = begins byte part more plain in
-    ap (script_from at) first.is ∙ script_from-none at first.piece first.pieces (step_at-long at.room first.piece (line_of first.piece) refl (omega (arith, long, first.long)))
+    ap (script_from at) first.is
+        ∙ script_from-none at first.piece first.pieces
+        (step_at-long at.room first.piece (line_of first.piece) refl (omega (arith, long, first.long)))
 script_from-long at (byte ∷ part) more plain (inr past) =
     let first = begins byte part more plain in
     ap (script_from at) first.is
-    ∙ script_from-none at first.piece first.pieces (step_at-past at.room first.piece (omega (arith, past, first.long, length-line_of first.piece)))
+    ∙ script_from-none at first.piece first.pieces
+        (step_at-past at.room first.piece (omega (arith, past, first.long, length-line_of first.piece)))
 
 -- the rest of some lines is too long
-pub StopsInLines-long : (old new : LocalScript) (bytes : List ℕ) (left : ℕ) → AnswersLines old new bytes left → (most_in_line < left) ⊎ (new.room < left) →
-    StopsInLines (Line new.line) old new bytes
+pub StopsInLines-long : (old new : LocalScript) (bytes : List ℕ) (left : ℕ) → AnswersLines old new bytes left
+    → (most_in_line < left) ⊎ (new.room < left)
+    → StopsInLines (Line new.line) old new bytes
 StopsInLines-long old new bytes left so_far past =
     let lines = so_far.answered.lines in
     let text = so_far.answered.text in
@@ -104,15 +114,18 @@ module _ (left left_after taken taken_after : Option (List ℕ)) (old mid new : 
       (subst (λ bytes. StopsWithin stop (position_of mid) bytes new.answers) parts
       (subst (StopsWithin stop (position_of mid) bytes) (sym texts) stopped.stopped))
 
-  pub StopsReading-lines : (stop : Stop) → StopsInLines stop mid new bytes → StopsReading left left_after taken taken_after old new kept stop
+  pub StopsReading-lines : (stop : Stop) → StopsInLines stop mid new bytes
+      → StopsReading left left_after taken taken_after old new kept stop
   StopsReading-lines Memory stopped = record { given = given; took = took; flushed = flushed; stopped = stops Memory stopped }
-  StopsReading-lines (Line number) stopped = record { given = given; took = took; flushed = flushed; stopped = stops (Line number) stopped }
+  StopsReading-lines (Line number) stopped =
+      record { given = given; took = took; flushed = flushed; stopped = stops (Line number) stopped }
   StopsReading-lines Source stopped = absurd (stops Source stopped)
   StopsReading-lines Sink stopped = absurd (stops Sink stopped)
 
   -- the lines that were read
-  pub ReadsLines-lines : (left_over : ℕ) (answers : AnswersLines mid new bytes left_over) → left_over ≤ 65535 → left_over ≤ new.room → length kept < length bytes →
-      (rest : List ℕ) → rest ≡ answers.rest → ReadsLines left left_after taken taken_after old new kept rest
+  pub ReadsLines-lines : (left_over : ℕ) (answers : AnswersLines mid new bytes left_over) → left_over ≤ 65535
+      → left_over ≤ new.room → length kept < length bytes
+      → (rest : List ℕ) → rest ≡ answers.rest → ReadsLines left left_after taken taken_after old new kept rest
   ReadsLines-lines left_over answers short within more rest is =
       let lines = answers.answered.lines in
       let text = answers.answered.text in
@@ -130,5 +143,7 @@ module _ (left left_after taken taken_after : Option (List ℕ)) (old mid new : 
             (subst (λ text. Advances (position_of mid) lines text (position_of new)) (sym texts) answers.answered.advanced);
         short = omega (arith, answers.length_rest, short);
         within = omega (arith, answers.length_rest, within);
-        nearer = omega (arith, rooms, answers.answered.room, more, ap length answers.answered.parts, length-append lines answers.rest);
+        nearer =
+            omega (arith, rooms, answers.answered.room, more, ap length answers.answered.parts, length-append lines
+            answers.rest);
       })

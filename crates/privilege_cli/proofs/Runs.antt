@@ -15,7 +15,8 @@ use Rattle.privilege_cli.proofs.Passing.{Took-then, IsAtEnd-end}
 
 AreWholeLines-then : (xs ys : List ℕ) → AreWholeLines xs → AreWholeLines ys → AreWholeLines (xs ++ ys)
 AreWholeLines-then xs ys front (inl none) = subst AreWholeLines (sym (ap (λ ys. xs ++ ys) none ∙ append-nil xs)) front
-AreWholeLines-then xs ys front (inr back) = inr (xs ++ back.0, ap (λ ys. xs ++ ys) back.1 ∙ sym (append_assoc xs back.0 (10 ∷ [])))
+AreWholeLines-then xs ys front (inr back) =
+    inr (xs ++ back.0, ap (λ ys. xs ++ ys) back.1 ∙ sym (append_assoc xs back.0 (10 ∷ [])))
 
 -- a list cut before its end
 pub cut-≡ : (n : ℕ) (xs : List ℕ) → n < length xs → (x : ℕ) × (rest : List ℕ) × (xs ≡ take n xs ++ x ∷ rest)
@@ -33,7 +34,8 @@ Took-none None = tt
 Took-none (Some bytes) = (bytes, refl, refl)
 
 -- nothing was read yet
-pub IsUnderWay-start : (left taken : Option (List ℕ)) (now : LocalScript) → position_of now ≡ start → now.answers ≡ [] → IsUnderWay left left taken taken now []
+pub IsUnderWay-start : (left taken : Option (List ℕ)) (now : LocalScript) → position_of now ≡ start → now.answers ≡ []
+    → IsUnderWay left left taken taken now []
 IsUnderWay-start left taken now at none =
     record {
       lines = [];
@@ -42,25 +44,33 @@ IsUnderWay-start left taken now at none =
       appended = Appended-none taken;
       whole = inl refl;
       unfinished = tt;
-      advanced = subst (λ at. Advances start [] now.answers at) (sym at) (subst (λ answers. Advances start [] answers start) (sym none) (Advances-none start));
+      advanced =
+          subst (λ at. Advances start [] now.answers at) (sym at)
+          (subst (λ answers. Advances start [] answers start) (sym none) (Advances-none start));
     }
 
-module _ (left left_now left_after taken taken_now taken_after : Option (List ℕ)) (now new : LocalScript) (kept : List ℕ) (way : IsUnderWay left left_now taken taken_now now kept) where
-  pub IsUnderWay-more : (rest : List ℕ) → ReadsLines left_now left_after taken_now taken_after now new kept rest → IsUnderWay left left_after taken taken_after new rest
+module _ (left left_now left_after taken taken_now taken_after : Option (List ℕ)) (now new : LocalScript) (kept : List ℕ)
+    (way : IsUnderWay left left_now taken taken_now now kept) where
+  pub IsUnderWay-more : (rest : List ℕ) → ReadsLines left_now left_after taken_now taken_after now new kept rest
+      → IsUnderWay left left_after taken taken_after new rest
   IsUnderWay-more rest reads =
       record {
         lines = way.lines ++ reads.lines;
         written = way.written ++ now.answers;
         took = subst (λ bytes. Took left bytes left_after)
-            (append_assoc way.lines kept reads.given ∙ (ap (λ bytes. way.lines ++ bytes) reads.parts ∙ sym (append_assoc way.lines reads.lines rest)))
+            (append_assoc way.lines kept reads.given
+                ∙ (ap (λ bytes. way.lines ++ bytes) reads.parts ∙ sym (append_assoc way.lines reads.lines rest)))
             (Took-then left left_now left_after (way.lines ++ kept) reads.given way.took reads.took);
         appended = Appended-then taken taken_now taken_after way.written now.answers way.appended reads.flushed;
         whole = AreWholeLines-then way.lines reads.lines way.whole reads.whole;
         unfinished = reads.unfinished;
-        advanced = Advances-then start (position_of now) (position_of new) way.lines reads.lines (way.written ++ now.answers) new.answers way.advanced reads.advanced;
+        advanced =
+            Advances-then start (position_of now) (position_of new) way.lines reads.lines
+            (way.written ++ now.answers) new.answers way.advanced reads.advanced;
       }
 
-  pub IsUnderWay-end : (rest : List ℕ) → ReadsEnd left_now left_after taken_now taken_after now new kept rest → IsUnderWay left left_after taken taken_after new rest
+  pub IsUnderWay-end : (rest : List ℕ) → ReadsEnd left_now left_after taken_now taken_after now new kept rest
+      → IsUnderWay left left_after taken taken_after new rest
   IsUnderWay-end rest reads =
       subst (IsUnderWay left left_after taken taken_after new) (sym reads.same) (record {
         lines = way.lines;
@@ -72,19 +82,24 @@ module _ (left left_now left_after taken taken_now taken_after : Option (List �
         unfinished = way.unfinished;
         advanced = subst (λ at. Advances start way.lines ((way.written ++ now.answers) ++ new.answers) at) (sym reads.position)
             (subst (λ text. Advances start way.lines text (position_of now))
-            (sym (ap (λ answers. (way.written ++ now.answers) ++ answers) reads.answers ∙ append-nil (way.written ++ now.answers))) way.advanced);
+            (sym (ap (λ answers. (way.written ++ now.answers) ++ answers) reads.answers
+                ∙ append-nil (way.written ++ now.answers))) way.advanced);
       })
 
-  pub IsAtEnd-read : (rest : List ℕ) → ReadsEnd left_now left_after taken_now taken_after now new kept rest → IsAtEnd left left_after
+  pub IsAtEnd-read : (rest : List ℕ) → ReadsEnd left_now left_after taken_now taken_after now new kept rest
+      → IsAtEnd left left_after
   IsAtEnd-read rest reads = IsAtEnd-end left left_now left_after (way.lines ++ kept) way.took reads.end reads.took
 
   -- the script, over what was given so far
-  so_far : (given more : List ℕ) → script (((way.lines ++ kept) ++ given) ++ more) ≡ answered (way.written ++ now.answers) (script_from (position_of now) (pieces_of ((kept ++ given) ++ more)))
+  so_far : (given more : List ℕ)
+      → script (((way.lines ++ kept) ++ given) ++ more)
+      ≡ answered (way.written ++ now.answers) (script_from (position_of now) (pieces_of ((kept ++ given) ++ more)))
   so_far given more =
       ap script (ap (λ bytes. bytes ++ more) (append_assoc way.lines kept given) ∙ append_assoc way.lines (kept ++ given) more)
       ∙ way.advanced ((kept ++ given) ++ more)
 
-  pub StopsRun-reading : (stop : Stop) → StopsReading left_now left_after taken_now taken_after now new kept stop → StopsRun left left_after taken taken_after new.answers stop
+  pub StopsRun-reading : (stop : Stop) → StopsReading left_now left_after taken_now taken_after now new kept stop
+      → StopsRun left left_after taken taken_after new.answers stop
   StopsRun-reading Memory stopped = (
     (way.lines ++ kept) ++ stopped.given,
     way.written ++ now.answers,
@@ -93,7 +108,9 @@ module _ (left left_now left_after taken taken_now taken_after : Option (List �
     λ more told told_after.
         let later = stopped.stopped more in (
           later.0,
-          so_far stopped.given more ∙ (ap (answered (way.written ++ now.answers)) later.1 ∙ answered-twice (way.written ++ now.answers) new.answers later.0),
+          so_far stopped.given more
+              ∙ (ap (answered (way.written ++ now.answers)) later.1
+              ∙ answered-twice (way.written ++ now.answers) new.answers later.0),
         ),
   )
   StopsRun-reading (Line number) stopped = (
@@ -103,7 +120,8 @@ module _ (left left_now left_after taken taken_now taken_after : Option (List �
     Appended-then taken taken_now taken_after way.written now.answers way.appended stopped.flushed,
     λ more told told_after.
         so_far stopped.given more
-        ∙ (ap (answered (way.written ++ now.answers)) (stopped.stopped more) ∙ answered-twice (way.written ++ now.answers) new.answers (stopped_at number)),
+        ∙ (ap (answered (way.written ++ now.answers)) (stopped.stopped more)
+            ∙ answered-twice (way.written ++ now.answers) new.answers (stopped_at number)),
   )
   StopsRun-reading Source stopped = (
     way.lines ++ kept,
@@ -132,14 +150,17 @@ module _ (left left_now left_after taken taken_now taken_after : Option (List �
             let later = script_from (position_of now) (pieces_of (kept ++ more)) in (
               cut.0,
               cut.1 ++ later.answers,
-              ap (λ (outcome : Outcome). outcome.answers) (ap script (append_assoc way.lines kept more) ∙ way.advanced (kept ++ more))
-                  ∙ (ap (λ waiting. (way.written ++ waiting) ++ later.answers) cut.2 ∙ regroup way.written (take stopped.part.0 now.answers) (cut.0 ∷ cut.1) later.answers),
+              ap (λ (outcome : Outcome). outcome.answers)
+                  (ap script (append_assoc way.lines kept more) ∙ way.advanced (kept ++ more))
+                  ∙ (ap (λ waiting. (way.written ++ waiting) ++ later.answers) cut.2
+                      ∙ regroup way.written (take stopped.part.0 now.answers) (cut.0 ∷ cut.1) later.answers),
             ),
       )
 
 -- a reading that gave no number of bytes is one that met the end
-pub ReadsEnd-none : (left left_after taken taken_after : Option (List ℕ)) (old new : LocalScript) (kept window : List ℕ) (count : Option ℕ) →
-    ((rest : ℕ) → count ≡ Some rest → ⊥) → MatchRead left left_after taken taken_after old new kept window count →
-    ReadsEnd left left_after taken taken_after old new kept (take (length kept) window)
+pub ReadsEnd-none : (left left_after taken taken_after : Option (List ℕ)) (old new : LocalScript) (kept window : List ℕ)
+    (count : Option ℕ)
+    → ((rest : ℕ) → count ≡ Some rest → ⊥) → MatchRead left left_after taken taken_after old new kept window count
+    → ReadsEnd left left_after taken taken_after old new kept (take (length kept) window)
 ReadsEnd-none left left_after taken taken_after old new kept window None none read = read
 ReadsEnd-none left left_after taken taken_after old new kept window (Some rest) none read = absurd (none rest refl)

@@ -83,7 +83,8 @@ module _ (left left_after taken taken_after : Option (List ℕ)) (subject object
 
 -- that line's number was written, which is cut only where the sink failed
 abbrev pub NamesLine : Option (List ℕ) → Option (List ℕ) → ℕ → Type 0 → Type 0
-NamesLine taken taken_after line Failed = (written : List ℕ) × Appended taken written taken_after × AreWritten Failed (line_fault_text line) written
+NamesLine taken taken_after line Failed =
+    (written : List ℕ) × Appended taken written taken_after × AreWritten Failed (line_fault_text line) written
 
 module _ (left left_after : Option (List ℕ)) (old new : List ℕ) where
   -- One reading gave these bytes, and the text goes on with them. A text within the limit ends only where the source does.

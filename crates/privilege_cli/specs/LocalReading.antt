@@ -78,7 +78,8 @@ IsAtEnd None after = Unit {0}
 IsAtEnd (Some before) after = after ≡ Some []
 
 -- P holds of what the source gave with what it has left, and of what the sink took
-abbrev pub Passes : Option (List ℕ) → Option (List ℕ) → Option (List ℕ) → Option (List ℕ) → (List ℕ → List ℕ → List ℕ → Type 0) → Type 0
+abbrev pub Passes : Option (List ℕ) → Option (List ℕ) → Option (List ℕ) → Option (List ℕ)
+    → (List ℕ → List ℕ → List ℕ → Type 0) → Type 0
 Passes left left_after taken taken_after P =
     (given : List ℕ) × (written : List ℕ) × Took left given left_after × Appended taken written taken_after ×
     ((more : List ℕ) → left ≡ Some (given ++ more) → left_after ≡ Some more → P (given ++ more) more written)
@@ -87,8 +88,11 @@ module _ (left left_after taken taken_after : Option (List ℕ)) (waiting : List
   -- how a whole run may stop before the end of its script; the answers that wait are not written yet
   abbrev pub StopsRun : Stop → Type 0
   StopsRun Memory =
-      Passes left left_after taken taken_after (λ input more written. (later : Outcome) × (script input ≡ answered_by (written ++ waiting) later))
-  StopsRun (Line number) = Passes left left_after taken taken_after (λ input more written. script input ≡ answered_by (written ++ waiting) (stopped_at number))
+      Passes left left_after taken taken_after
+          (λ input more written. (later : Outcome) × (script input ≡ answered_by (written ++ waiting) later))
+  StopsRun (Line number) =
+      Passes left left_after taken taken_after
+      (λ input more written. script input ≡ answered_by (written ++ waiting) (stopped_at number))
   StopsRun Source = Passes left left_after taken taken_after AreAnswered
   StopsRun Sink = Passes left left_after taken taken_after IsUnfinished
 
@@ -105,7 +109,8 @@ StopsLast old waiting taken taken_after last (Line number) =
     (taken_after ≡ taken) × (waiting ≡ old.answers) × (script_from (position_of old) (pieces_of last) ≡ stopped_at number)
 StopsLast old waiting taken taken_after last Source = ⊥
 StopsLast old waiting taken taken_after last Sink =
-    (text : List ℕ) × (script_from (position_of old) (pieces_of last) ≡ answered_by text ended) × AppendedPart taken (old.answers ++ text) taken_after
+    (text : List ℕ) × (script_from (position_of old) (pieces_of last) ≡ answered_by text ended)
+        × AppendedPart taken (old.answers ++ text) taken_after
 
 -- the answers that waited are written, and then that line's number, which is cut only where the sink failed
 abbrev pub EndsAtLine : Option (List ℕ) → Option (List ℕ) → List ℕ → ℕ → Type 0 → Type 0

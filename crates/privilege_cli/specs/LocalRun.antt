@@ -5,11 +5,13 @@ use Rattle.line_script.specs.Answers.{line_fault_text}
 use Rattle.privilege_cli.specs.Script.{Position, script, script_from, answered}
 
 -- P holds of the whole input, the bytes that are left of it, and the bytes that were written
-abbrev pub Told : Option (List ℕ) → Option (List ℕ) → Option (List ℕ) → Option (List ℕ) → (List ℕ → List ℕ → List ℕ → Type 0) → Type 0
+abbrev pub Told : Option (List ℕ) → Option (List ℕ) → Option (List ℕ) → Option (List ℕ)
+    → (List ℕ → List ℕ → List ℕ → Type 0) → Type 0
 Told None left_after taken taken_after P = Unit {0}
 Told (Some input) left_after None taken_after P = Unit {0}
 Told (Some input) left_after (Some before) taken_after P =
-    (left : List ℕ) × (written : List ℕ) × (left_after ≡ Some left) × (taken_after ≡ Some (before ++ written)) × P input left written
+    (left : List ℕ) × (written : List ℕ) × (left_after ≡ Some left) × (taken_after ≡ Some (before ++ written))
+        × P input left written
 
 -- the one list begins with the other
 abbrev pub IsFront : List ℕ → List ℕ → Type 0
@@ -21,7 +23,8 @@ AreWholeLines bytes = (bytes ≡ []) ⊎ ((front : List ℕ) × (bytes ≡ front
 
 -- all of these bytes, or some and then the sink failed
 abbrev pub AreWritten : Type 0 → List ℕ → List ℕ → Type 0
-AreWritten Failed bytes written = (written ≡ bytes) ⊎ (Failed × (count : ℕ) × (count < length bytes) × (written ≡ take count bytes))
+AreWritten Failed bytes written =
+    (written ≡ bytes) ⊎ (Failed × (count : ℕ) × (count < length bytes) × (written ≡ take count bytes))
 
 -- Status 0: the input is read to its end, and each of its lines is answered.
 pub record IsDone (input left written : List ℕ) : Type 0 where
@@ -57,4 +60,5 @@ IsUnfinished input left written = (byte : ℕ) × (rest : List ℕ) × ((script 
 
 -- From one position to another, over these bytes and with these answers, whatever follows.
 abbrev pub Advances : Position → List ℕ → List ℕ → Position → Type 0
-Advances from bytes answers to = (more : List ℕ) → script_from from (pieces_of (bytes ++ more)) ≡ answered answers (script_from to (pieces_of more))
+Advances from bytes answers to =
+    (more : List ℕ) → script_from from (pieces_of (bytes ++ more)) ≡ answered answers (script_from to (pieces_of more))

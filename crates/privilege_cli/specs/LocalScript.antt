@@ -15,7 +15,8 @@ pub record AnswersPiece (old new : LocalScript) (piece : List ℕ) : Type 0 wher
   pub text : List ℕ
   pub answers : new.answers ≡ old.answers ++ text
   pub room : new.room + length piece ≡ old.room
-  pub advanced : (pieces : List (List ℕ)) → script_from (position_of old) (piece ∷ pieces) ≡ answered_with text (script_from (position_of new) pieces)
+  pub advanced : (pieces : List (List ℕ))
+      → script_from (position_of old) (piece ∷ pieces) ≡ answered_with text (script_from (position_of new) pieces)
 
 -- the lines of these bytes before the rest were answered
 pub record HasAnswered (old new : LocalScript) (bytes rest : List ℕ) : Type 0 where

@@ -18,7 +18,8 @@ pub record Ends (status : ℕ) (Done Memory Line Source Sink : Type 0) : Type 0 
 
 -- a sink took all of these bytes, or some of them and then failed
 abbrev pub TookUntilFailure : Type 0 → Option (List ℕ) → List ℕ → Option (List ℕ) → Type 0
-TookUntilFailure Failed taken bytes taken_after = Appended taken bytes taken_after ⊎ (Failed × AppendedPart taken bytes taken_after)
+TookUntilFailure Failed taken bytes taken_after =
+    Appended taken bytes taken_after ⊎ (Failed × AppendedPart taken bytes taken_after)
 
 -- How a run ends, with the words' command and a status: what is left of the source and what the sink took, before and
 -- after. `None` is that the words name no command, and `Failed` is that the sink failed.

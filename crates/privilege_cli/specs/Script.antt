@@ -33,7 +33,9 @@ pub record Outcome : Type 0 where
 -- script's limit stands in the piece, where the line is longer than a line may be, or where it is outside the grammar.
 abbrev pub step_at : ℕ → List ℕ → Option Step
 step_at room piece =
-    if nat_lt room (length piece) then None else (if nat_lt most_in_line (length (line_of piece)) then None else step_of (line_of piece))
+    if nat_lt room (length piece) then None
+    else (if nat_lt most_in_line (length (line_of piece)) then None
+    else step_of (line_of piece))
 
 -- every line was answered
 abbrev pub ended : Outcome
@@ -55,7 +57,10 @@ behind at step piece = record { state = after at.state step; line = at.line + 1;
 abbrev pub script_from : Position → List (List ℕ) → Outcome
 script_from at [] = ended
 script_from at (piece ∷ pieces) =
-    option_map_or (λ step. answered (reply at.state step) (script_from (behind at step piece) pieces)) (step_at at.room piece) (stopped_at at.line)
+    option_map_or
+        (λ step. answered (reply at.state step) (script_from (behind at step piece) pieces))
+        (step_at at.room piece)
+        (stopped_at at.line)
 
 -- what is written for a script
 abbrev pub script : List ℕ → Outcome

@@ -11,7 +11,8 @@ cond_none true x h = cc
 cond_none false x h = refl
 
 -- the part before the first that passes, and those behind it
-pub slice_split-position : (p : ℕ → Bool) (xs : List ℕ) (i : ℕ) → position p xs ≡ Some i → slice_split p xs ≡ take i xs ∷ slice_split p (drop (i + 1) xs)
+pub slice_split-position : (p : ℕ → Bool) (xs : List ℕ) (i : ℕ) → position p xs ≡ Some i
+    → slice_split p xs ≡ take i xs ∷ slice_split p (drop (i + 1) xs)
 slice_split-position p xs i h =
     let place = cond_some (ltb (position_or_len p xs) (length xs)) _ _ h in
     let Cut : ℕ → Type 0 = λ n. slice_split p xs ≡ take n xs ∷ slice_split p (drop (n + 1) xs) in

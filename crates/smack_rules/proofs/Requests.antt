@@ -12,9 +12,11 @@ second_not false b h = cc
 pub is_request-bring_up : (asked : Modes) → is_request asked ≡ true → asked.bring_up ≡ false
 is_request-bring_up asked h = second_not _ asked.bring_up h
 
-is_within-tried : (asked granted : Modes) (tried : Bool) → asked.bring_up ≡ false → is_within asked (with_lock (record granted { bring_up = tried })) ≡ is_within asked (with_lock granted)
+is_within-tried : (asked granted : Modes) (tried : Bool) → asked.bring_up ≡ false
+    → is_within asked (with_lock (record granted { bring_up = tried })) ≡ is_within asked (with_lock granted)
 is_within-tried asked granted tried h = rw h refl
 
-pub decision-tried : (subject object : List ℕ) (asked granted : Modes) (tried : Bool) → is_request asked ≡ true → decision subject object asked granted ≡ decision subject object asked (record granted { bring_up = tried })
+pub decision-tried : (subject object : List ℕ) (asked granted : Modes) (tried : Bool) → is_request asked ≡ true
+    → decision subject object asked granted ≡ decision subject object asked (record granted { bring_up = tried })
 unfolding decision
 decision-tried subject object asked granted tried h = rw (is_request-bring_up asked h) refl

@@ -61,7 +61,8 @@ cases subject object asked granted =
 -- the first case that holds, where the cases are numbered from a number on
 abbrev pub first_case : ℕ → List Case → Decision
 first_case number [] = record { allowed = false; rule = number }
-first_case number (case ∷ others) = if case.holds then record { allowed = case.allows; rule = number } else first_case (number + 1) others
+first_case number (case ∷ others) =
+    if case.holds then record { allowed = case.allows; rule = number } else first_case (number + 1) others
 
 -- the decision on a request, where the rules grant the pair these modes
 unfoldable pub decision : List ℕ → List ℕ → Modes → Modes → Decision

@@ -38,7 +38,8 @@ rule_behind subject object _ = Err Form
 abbrev pub rule_of_words : List (List ℕ) → Result (Option Rule) LineRefusal
 rule_of_words [] = Ok None
 rule_of_words (word ∷ []) = Err Form
-rule_of_words (subject ∷ object ∷ modes) = if is_label subject && is_label object then rule_behind subject object modes else Err Form
+rule_of_words (subject ∷ object ∷ modes) =
+    if is_label subject && is_label object then rule_behind subject object modes else Err Form
 
 -- the rule of a line, or that it has another form
 abbrev pub line_rule : List ℕ → Result (Option Rule) LineRefusal

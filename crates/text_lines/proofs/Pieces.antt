@@ -4,7 +4,8 @@ use Rattle.std.specs.List.{onto_first}
 use Rattle.text_lines.specs.Lines.{HasNoNewline, pieces_of, line_of, lines_of}
 
 -- the piece at the front, where a newline ends it
-pub pieces_of-newline : (line rest : List ℕ) → HasNoNewline line → pieces_of (line ++ 10 ∷ rest) ≡ (line ++ 10 ∷ []) ∷ pieces_of rest
+pub pieces_of-newline : (line rest : List ℕ) → HasNoNewline line
+    → pieces_of (line ++ 10 ∷ rest) ≡ (line ++ 10 ∷ []) ∷ pieces_of rest
 pieces_of-newline [] rest h = refl
 pieces_of-newline (byte ∷ bytes) rest h =
     ap (λ b. cond b ((byte ∷ []) ∷ pieces_of (bytes ++ 10 ∷ rest)) (onto_first byte (pieces_of (bytes ++ 10 ∷ rest)))) h.0

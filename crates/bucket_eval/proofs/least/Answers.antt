@@ -6,13 +6,15 @@ use Rattle.bucket_eval.proofs.least.Goals as goal
 pub loop-place-preserved-in-Some : goal.loop-place-preserved-in-Some
 loop-place-preserved-in-Some c =
     IsBest-after _ _ _ _ _ _ (omega arith) c.index-policies-place.is (sym c.counts.ensures ∙ c.if-counts.true)
-    c.index-policies-other.is (sym c.is_after.ensures ∙ c.if-is_after.true) (IsBest-down c.loop-place-test.true c.in-Some.is c.loop-place.invariant)
+    c.index-policies-other.is (sym c.is_after.ensures ∙ c.if-is_after.true)
+    (IsBest-down c.loop-place-test.true c.in-Some.is c.loop-place.invariant)
 
 -- it doesn't
 pub loop-place-preserved-in_default : goal.loop-place-preserved-in_default
 loop-place-preserved-in_default c =
     IsBest-instead _ _ _ _ _ _ (omega arith) c.index-policies-place.is (sym c.counts.ensures ∙ c.if-counts.true)
-    c.index-policies-other.is (sym c.is_after.ensures ∙ c.if-is_after.false) (IsBest-down c.loop-place-test.true c.in-Some.is c.loop-place.invariant)
+    c.index-policies-other.is (sym c.is_after.ensures ∙ c.if-is_after.false)
+    (IsBest-down c.loop-place-test.true c.in-Some.is c.loop-place.invariant)
 
 -- there was none
 pub loop-place-preserved-in_default-2 : goal.loop-place-preserved-in_default-2

@@ -8,6 +8,8 @@ use Rattle.bucket_eval.proofs.place_of.Goals as goal
 pub returns : goal.returns
 returns c =
     let facts = c.binary_search_by.ensures in
-    let by_key = facts.position (λ policy. key_cmp policy.key c.args.key.now) (always_returns_same _ _ _ (λ a r f called. search rules)) in
+    let by_key =
+    facts.position (λ policy. key_cmp policy.key c.args.key.now)
+    (always_returns_same _ _ _ (λ a r f called. search rules)) in
     let ends = searched c.args.key.now c.args.policies.now c.requires c.binary_search_by.result facts.bound by_key in
     record { found = ends.0; absent = ends.1; in_range = facts.bound }

@@ -6,4 +6,6 @@ pub returns-in-Ok : goal.returns-in-Ok
 returns-in-Ok c = AreLoaded-all c.args.text.now c.in-Ok.table (omega arith) c.in-Ok.ensures
 
 pub returns-in-Err-BadLine : goal.returns-in-Err-BadLine
-returns-in-Err-BadLine c = IsWrongAt-within c.in-Err-BadLine.line c.args.text.now (omega arith) (rw c.in-Err-BadLine.field-0-is at c.in-Err-BadLine.ensures)
+returns-in-Err-BadLine c =
+    IsWrongAt-within c.in-Err-BadLine.line c.args.text.now (omega arith)
+    (rw c.in-Err-BadLine.field-0-is at c.in-Err-BadLine.ensures)

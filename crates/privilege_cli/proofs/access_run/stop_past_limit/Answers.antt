@@ -20,7 +20,8 @@ load-requires c =
     omega (arith, ap length are.parts, length-append lines are.rest, length-take-le most_in_rules c.args.text.now (omega arith))
 
 pub overflow_add-result : goal.overflow_add-result
-overflow_add-result c = omega (arith, c.whole_lines-count.ensures.count, length-take-le most_in_rules c.args.text.now (omega arith))
+overflow_add-result c =
+    omega (arith, c.whole_lines-count.ensures.count, length-take-le most_in_rules c.args.text.now (omega arith))
 
 pub returns : goal.returns
 returns c =
@@ -29,7 +30,10 @@ returns c =
     let count = c.whole_lines-count.result.1 in
     let are = c.whole_lines-count.ensures.lines in
     elim c.match-load.branch [
-      | in-Ok w ↦ subst (StopsAtText text) (sym w.result-is) (IsWrongAt-past count text lines (GrantsAs w.in-Ok.field-0) c.requires are w.in-Ok.ensures)
-      | in-Err-BadLine w ↦ subst (StopsAtText text) (sym w.result-is) (IsWrongAt-before count w.in-Err-BadLine.line text lines c.requires are (rw w.in-Err-BadLine.field-0-is at w.in-Err-BadLine.ensures))
+      | in-Ok w ↦ subst (StopsAtText text) (sym w.result-is)
+          (IsWrongAt-past count text lines (GrantsAs w.in-Ok.field-0) c.requires are w.in-Ok.ensures)
+      | in-Err-BadLine w ↦ subst (StopsAtText text) (sym w.result-is)
+          (IsWrongAt-before count w.in-Err-BadLine.line text lines c.requires are
+          (rw w.in-Err-BadLine.field-0-is at w.in-Err-BadLine.ensures))
       | in-Err-Memory w ↦ subst (StopsAtText text) (sym w.result-is) tt
     ]

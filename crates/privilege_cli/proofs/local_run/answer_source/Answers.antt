@@ -8,4 +8,6 @@ returns-in_err-buffer-clause-read g c =
     rw (exit.1, exit.2) (StopsRun-start _ _ _ c.requires.answers)
 
 pub returns-clause-read : goal.returns-clause-read
-returns-clause-read g c = MatchRun-last _ _ _ _ _ _ c.answer_last.new.script.answers _ c.in_ok-kept.ensures.read c.in_ok-kept.ensures.at_end c.answer_last.result c.answer_last.ensures.last
+returns-clause-read g c =
+    MatchRun-last _ _ _ _ _ _ c.answer_last.new.script.answers _ c.in_ok-kept.ensures.read c.in_ok-kept.ensures.at_end
+    c.answer_last.result c.answer_last.ensures.last

@@ -6,7 +6,8 @@ use Rattle.privilege_cli.proofs.local_run.read_script.Given as goal
 abbrev pub invariant-loop-rest : goal.invariant-loop-rest
 invariant-loop-rest g l =
     record {
-      under_way : IsUnderWay (g.S.Source.left l.fn.source) (g.S.Source.left l.source) (g.K.Sink.taken l.fn.sink) (g.K.Sink.taken l.sink) l.script (take l.kept l.window);
+      under_way : IsUnderWay (g.S.Source.left l.fn.source) (g.S.Source.left l.source) (g.K.Sink.taken l.fn.sink)
+          (g.K.Sink.taken l.sink) l.script (take l.kept l.window);
       window : length l.window ≡ 262144;
       short : l.kept ≤ 65535;
       within : l.kept ≤ l.script.room;

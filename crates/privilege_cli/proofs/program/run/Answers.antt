@@ -30,4 +30,5 @@ returns-in-Err-Unknown-clause-run g c = rw (rw c.in-Err-Unknown.field-0-is at c.
 pub returns-in-Err-Memory-clause-run : goal.returns-in-Err-Memory-clause-run
 returns-in-Err-Memory-clause-run g c =
     let named = rw c.in-Err-Memory.field-0-is at c.in-Err-Memory.ensures.command in
-    rw named.1 (RunEnds-memory (Rose (g.K.Sink.faults c.args.sink.now) (g.K.Sink.faults c.args.sink.now)) named.0 (g.S.Source.left c.args.source.now) (g.K.Sink.taken c.args.sink.now))
+    rw named.1 (RunEnds-memory (Rose (g.K.Sink.faults c.args.sink.now) (g.K.Sink.faults c.args.sink.now)) named.0
+        (g.S.Source.left c.args.source.now) (g.K.Sink.taken c.args.sink.now))

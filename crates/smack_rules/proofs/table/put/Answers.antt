@@ -16,7 +16,8 @@ returns-in-Some c =
     let row = c.put_in_row.new.row in
     on_ok c.put_in_row.result
     (λ objects. rw c.as_slice.ensures.value at
-    (changes_pair bytes c.args.object c.args.modes (rows_of old.entries) (rows_of new.entries) (Some (row_of c.in-Some.row.now)) (row_of row)
+    (changes_pair bytes c.args.object c.args.modes (rows_of old.entries) (rows_of new.entries) (Some (row_of c.in-Some.row.now))
+    (row_of row)
     (lookup-shown row_of bytes old.entries ∙ ap (option_map row_of) (sym c.in-Some.ensures.value))
     (shown-updates row_of bytes old new (Some row) ((c.get_mut.follows.holds row).3 (search rules)))
     objects))
@@ -32,6 +33,8 @@ returns-in_ok-insert-in-None c =
     let same : bytes ≡ c.as_slice.result.now = c.into_bytes.ensures ∙ sym c.as_slice.ensures.value in
     rw c.into_bytes.ensures at
     (changes_pair bytes c.args.object c.args.modes (rows_of old.entries) (rows_of new.entries) None (row_of row)
-    (lookup-shown row_of bytes old.entries ∙ ap (λ b. option_map row_of (lookup (has_bytes b) old.entries)) same ∙ ap (option_map row_of) (sym c.in-None.ensures.value))
-    (rw c.get_mut.follows.holds-at-none at (shown-updates row_of bytes c.get_mut.follows.lender-at-none new (Some row) c.in_ok-insert-in-None.ensures.updates))
+    (lookup-shown row_of bytes old.entries ∙ ap (λ b. option_map row_of (lookup (has_bytes b) old.entries)) same
+    ∙ ap (option_map row_of) (sym c.in-None.ensures.value))
+    (rw c.get_mut.follows.holds-at-none at
+    (shown-updates row_of bytes c.get_mut.follows.lender-at-none new (Some row) c.in_ok-insert-in-None.ensures.updates))
     (rw c.new-row.ensures.empty at c.in_ok-put_in_row-in-None.ensures))

@@ -9,8 +9,11 @@ returns-in_err-answer_line c =
     let line = c.in-Some.line.now in
     let exit = err_from_is_err_and c.from_residual.result c.from_residual.ensures.1 in
     record {
-      lines = rw (exit.1, exit.2) (StopsInLines-line _ _ _ _ _ line _ c.loop-line.invariant c.in-Some.ensures.cut c.in-Some.ensures.first _ c.in_err-answer_line.ensures.err
-          (c.in_err-answer_line.ensures.answered (line ++ 10 ∷ []) (line_of-newline line [] c.in-Some.ensures.first) (length-piece line)));
+      lines = rw (exit.1, exit.2)
+          (StopsInLines-line _ _ _ _ _ line _ c.loop-line.invariant c.in-Some.ensures.cut c.in-Some.ensures.first _
+          c.in_err-answer_line.ensures.err
+          (c.in_err-answer_line.ensures.answered (line ++ 10 ∷ []) (line_of-newline line [] c.in-Some.ensures.first)
+              (length-piece line)));
     }
 
 pub loop-line-preserved : goal.loop-line-preserved

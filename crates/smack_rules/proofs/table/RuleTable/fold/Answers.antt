@@ -7,7 +7,9 @@ pub loop-rule-preserved : goal.loop-rule-preserved
 loop-rule-preserved c =
     let rules = c.args.rules.now in
     let at = c.loop-rule.rule-index in
-    let more = GrantsAs-more c.loop-rule.table c.follow.new.self (take at rules) (c.rule-item.result ∷ []) c.loop-rule.invariant (rw c.in_ok-copy.ensures at c.in_ok-follow.ensures) in
+    let more =
+    GrantsAs-more c.loop-rule.table c.follow.new.self (take at rules) (c.rule-item.result ∷ []) c.loop-rule.invariant
+    (rw c.in_ok-copy.ensures at c.in_ok-follow.ensures) in
     rw (take_more rules at c.rule-item.result (omega arith), ← c.rule-item.is) more
 
 pub returns : goal.returns

@@ -9,7 +9,8 @@ use Rattle.smack_rules.proofs.table.RuleTable.load.Given as goal
 abbrev pub invariant-loop-line : goal.invariant-loop-line
 invariant-loop-line l = record {
   counted : l.number + length l.rest ≤ length l.text;
-  taken : (done : List Rule) × GrantsAs l.table done × (with_front done (rules_from (l.number + 1) (lines_of l.rest)) ≡ rules_of l.text);
+  taken : (done : List Rule) × GrantsAs l.table done
+      × (with_front done (rules_from (l.number + 1) (lines_of l.rest)) ≡ rules_of l.text);
 }
 
 abbrev pub decreases-loop-line : goal.decreases-loop-line
