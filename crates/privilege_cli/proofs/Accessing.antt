@@ -4,11 +4,11 @@ use Rattle.desk_ports.specs.Content.{Appended}
 use Rattle.smack_rules.specs.declared.modes.Modes.{Modes}
 use Rattle.smack_rules.specs.Table.{Row, granted}
 use Rattle.smack_rules.specs.Decision.{decision}
-use Rattle.privilege_cli.specs.LocalReading.{IsAtEnd, Passes}
+use Rattle.privilege_cli.specs.Contents.{IsAtEnd, Passes}
 use Rattle.privilege_cli.specs.AccessRun.{rules_read, decided_text, answer_under, IsDecided}
 use Rattle.privilege_cli.specs.AccessReading.{IsRead, AreLoaded, StopsAtText, AreRead, StopsRules, StopsWriting, StopsAccess}
-use Rattle.privilege_cli.specs.declared.local_script.Stop.{Stop}
-use Rattle.privilege_cli.specs.declared.local_script.Stop.TheVariants.{Memory, Line, Source, Sink}
+use Rattle.privilege_cli.specs.declared.stops.Stop.{Stop}
+use Rattle.privilege_cli.specs.declared.stops.Stop.TheVariants.{Memory, Line, Source, Sink}
 use Rattle.privilege_cli.proofs.Runs.{cut-≡}
 
 -- ---- the rules of a source
@@ -22,8 +22,14 @@ none_left (Some bytes) left_after input more told end after = cc
 module _ (left left_after : Option (List ℕ)) (text : List ℕ) (read : IsRead left left_after text) where
   AreRead-loaded : (table : List (List ℕ × Row)) → AreLoaded text table → AreRead left left_after table
   AreRead-loaded table loads =
-      record { text = text; rules = loads.rules; took = read.took; end = read.end loads.within; right = loads.right;
-          grants = loads.grants }
+      record {
+        text = text;
+        rules = loads.rules;
+        took = read.took;
+        end = read.end loads.within;
+        right = loads.right;
+        grants = loads.grants;
+      }
 
   StopsRules-text : (stop : Stop) → StopsAtText text stop → StopsRules left left_after stop
   StopsRules-text Memory stopped = tt
@@ -66,7 +72,7 @@ module _ (left left_after taken taken_after : Option (List ℕ)) (subject object
         → rules_read (read.text ++ more) ≡ Ok read.rules
     input_right more told told_after =
         ap (λ more. rules_read (read.text ++ more)) (input_read more told told_after)
-            ∙ (ap rules_read (append-nil read.text) ∙ read.right)
+        ∙ (ap rules_read (append-nil read.text) ∙ read.right)
 
     Passes-decided : Appended taken text taken_after → Passes left left_after taken taken_after (IsDecided subject object asked)
     Passes-decided all = (
@@ -107,6 +113,6 @@ module _ (left left_after taken taken_after : Option (List ℕ)) (subject object
     pub MatchAccess-written : {A : Type 0} (r : Result A Stop)
         → MatchResult r (λ _. Appended taken text taken_after) (StopsWriting taken taken_after text)
         → MatchResult r (λ _. Passes left left_after taken taken_after (IsDecided subject object asked))
-            (StopsAccess left left_after taken taken_after subject object asked)
+        (StopsAccess left left_after taken taken_after subject object asked)
     MatchAccess-written (Ok value) all = Passes-decided all
     MatchAccess-written (Err stop) stopped = StopsAccess-writing stop stopped

@@ -3,16 +3,17 @@ use Rattle.std.proofs.Common.{◌≡◌, ◌∷◌, ◌++◌, [], ℕ, List, inr
 use Rattle.text_lines.specs.Lines.{pieces_of, HasNoNewline}
 use Rattle.text_lines.proofs.Pieces.{pieces_of-newline}
 use Rattle.privilege_cli.specs.Script.{Position, Outcome, script_from, answered}
-use Rattle.privilege_cli.specs.LocalRun.{Advances, AreWholeLines}
+use Rattle.privilege_cli.specs.LocalScript.{Advances}
+use Rattle.privilege_cli.specs.Contents.{AreWholeLines}
 use Rattle.privilege_cli.specs.Stop.{StopsWithin, StopsAtPiece}
-use Rattle.privilege_cli.specs.declared.local_script.Stop.{Stop}
-use Rattle.privilege_cli.specs.declared.local_script.Stop.TheVariants.{Memory, Line, Source, Sink}
+use Rattle.privilege_cli.specs.declared.stops.Stop.{Stop}
+use Rattle.privilege_cli.specs.declared.stops.Stop.TheVariants.{Memory, Line, Source, Sink}
 
 pub answered-twice : (first second : List ℕ) (outcome : Outcome)
     → answered first (answered second outcome) ≡ answered (first ++ second) outcome
 answered-twice first second outcome =
     ap (λ answers. record { answers = answers; last = outcome.last; status = outcome.status })
-        (sym (append_assoc first second outcome.answers))
+    (sym (append_assoc first second outcome.answers))
 
 pub Advances-none : (at : Position) → Advances at [] [] at
 Advances-none at more = refl
@@ -49,7 +50,7 @@ module _ (from at : Position) (lines line after text : List ℕ) (advanced : Adv
   behind-lines more =
       ap (λ bytes. script_from from (pieces_of bytes)) (append_assoc lines (line ++ 10 ∷ after) more)
       ∙ (advanced ((line ++ 10 ∷ after) ++ more)
-          ∙ ap (λ pieces. answered text (script_from at pieces)) (pieces_of-line line after more plain))
+      ∙ ap (λ pieces. answered text (script_from at pieces)) (pieces_of-line line after more plain))
 
   -- a script that stops at a line behind others
   pub StopsWithin-line : (stop : Stop) → StopsAtPiece stop at (line ++ 10 ∷ [])

@@ -3,7 +3,7 @@ use Rattle.std.proofs.Common.{◌≡◌, ◌+◌, ◌∷◌, ◌++◌, [], ℕ, 
 use Rattle.text_lines.specs.Lines.{HasNoNewline}
 use Rattle.privilege_cli.specs.Stop.{StopsWithin, StopsAtPiece}
 use Rattle.privilege_cli.specs.LocalScript.{position_of, AnswersPiece, HasAnswered, StopsInLines}
-use Rattle.privilege_cli.specs.declared.local_script.Stop.{Stop}
+use Rattle.privilege_cli.specs.declared.stops.Stop.{Stop}
 use Rattle.privilege_cli.specs.declared.local_script.LocalScript.{LocalScript}
 use Rattle.privilege_cli.proofs.Advancing.{Advances-then, Advances-line, AreWholeLines-more, StopsWithin-line}
 
@@ -37,7 +37,7 @@ module _ (old mid new : LocalScript) (bytes rest line after : List ℕ) (so_far 
             subst (λ bytes. StopsWithin stop (position_of old) bytes so_far.text)
             (sym (so_far.parts ∙ ap (λ rest. so_far.lines ++ rest) cut))
             (StopsWithin-line (position_of old)
-                (position_of mid) so_far.lines line after so_far.text so_far.advanced plain stop stopped);
+            (position_of mid) so_far.lines line after so_far.text so_far.advanced plain stop stopped);
       }
 
 pub length-piece : (line : List ℕ) → length (line ++ 10 ∷ []) ≡ length line + 1

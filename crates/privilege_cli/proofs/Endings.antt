@@ -5,11 +5,12 @@ use Rattle.desk_ports.proofs.Appends.{Appended-none, Appended-then}
 use Rattle.text_lines.specs.Lines.{pieces_of}
 use Rattle.line_script.specs.Answers.{line_fault_text}
 use Rattle.privilege_cli.specs.Script.{Outcome, script, script_from, answered, stopped_at}
-use Rattle.privilege_cli.specs.LocalRun.{Told, IsDone, IsCutShort, IsStoppedAtLine, IsUnfinished, AreWritten}
+use Rattle.privilege_cli.specs.Contents.{Told, AreWritten, IsAtEnd, Passes}
+use Rattle.privilege_cli.specs.LocalRun.{IsDone, IsCutShort, IsStoppedAtLine, IsUnfinished}
 use Rattle.privilege_cli.specs.LocalScript.{position_of}
-use Rattle.privilege_cli.specs.LocalReading.{IsUnderWay, IsAtEnd, Passes, StopsRun, AnswersLast, StopsLast, EndsAtLine}
-use Rattle.privilege_cli.specs.declared.local_script.Stop.{Stop}
-use Rattle.privilege_cli.specs.declared.local_script.Stop.TheVariants.{Memory, Line, Source, Sink}
+use Rattle.privilege_cli.specs.LocalReading.{IsUnderWay, StopsRun, AnswersLast, StopsLast, EndsAtLine}
+use Rattle.privilege_cli.specs.declared.stops.Stop.{Stop}
+use Rattle.privilege_cli.specs.declared.stops.Stop.TheVariants.{Memory, Line, Source, Sink}
 use Rattle.privilege_cli.specs.declared.local_script.LocalScript.{LocalScript}
 use Rattle.privilege_cli.proofs.Runs.{cut-≡, regroup, Took-none}
 
@@ -35,10 +36,10 @@ module _ (left left_after taken taken_now taken_after : Option (List ℕ)) (now 
   -- the script at its end
   at_last : (more : List ℕ) → left ≡ Some ((way.lines ++ last) ++ more) → left_after ≡ Some more
       → script ((way.lines ++ last) ++ more)
-          ≡ answered (way.written ++ now.answers) (script_from (position_of now) (pieces_of last))
+      ≡ answered (way.written ++ now.answers) (script_from (position_of now) (pieces_of last))
   at_last more told told_after =
       ap (λ more. script ((way.lines ++ last) ++ more))
-          (at_end left left_after ((way.lines ++ last) ++ more) more told end told_after)
+      (at_end left left_after ((way.lines ++ last) ++ more) more told end told_after)
       ∙ (ap script (append-nil (way.lines ++ last)) ∙ way.advanced last)
 
   Passes-done : AnswersLast now taken_now taken_after last → Passes left left_after taken taken_after IsDone
@@ -51,8 +52,8 @@ module _ (left left_after taken taken_now taken_after : Option (List ℕ)) (now 
       read = at_end left left_after ((way.lines ++ last) ++ more) more told end told_after;
       answered = at_last more told told_after ∙ (ap (answered (way.written ++ now.answers)) answers.answered
           ∙ ap (λ text. record { answers = text; last = []; status = 0 })
-              (ap (λ text. (way.written ++ now.answers) ++ text) (append-nil answers.text)
-              ∙ append_assoc way.written now.answers answers.text));
+          (ap (λ text. (way.written ++ now.answers) ++ text) (append-nil answers.text)
+          ∙ append_assoc way.written now.answers answers.text));
     },
   )
 
@@ -92,9 +93,9 @@ module _ (left left_after taken taken_now taken_after : Option (List ℕ)) (now 
           ap (λ (outcome : Outcome). outcome.answers)
               (at_last more told told_after ∙ ap (answered (way.written ++ now.answers)) stopped.1)
               ∙ (ap (λ text. (way.written ++ now.answers) ++ text) (append-nil stopped.0)
-                  ∙ (append_assoc way.written now.answers stopped.0
+              ∙ (append_assoc way.written now.answers stopped.0
               ∙ (ap (λ text. way.written ++ text) cut.2
-                  ∙ sym (append_assoc way.written (take stopped.2.0 answers) (cut.0 ∷ cut.1))))),
+              ∙ sym (append_assoc way.written (take stopped.2.0 answers) (cut.0 ∷ cut.1))))),
         ),
       )
 
@@ -131,7 +132,7 @@ module _ (left left_after taken taken_now taken_after : Option (List ℕ)) (wait
       → (script input).answers ≡ (written ++ front) ++ (rest ++ later.answers)
   cut_short later input written front rest is told =
       ap (λ (outcome : Outcome). outcome.answers) told
-          ∙ (ap (λ waiting. (written ++ waiting) ++ later.answers) is ∙ regroup written front rest later.answers)
+      ∙ (ap (λ waiting. (written ++ waiting) ++ later.answers) is ∙ regroup written front rest later.answers)
 
   pub Told-cut_short : {A E : Type 0} (r : Result A E) → StopsRun left left_after taken taken_now waiting Memory
       → OnOk r (Appended taken_now waiting taken_after)
@@ -152,9 +153,11 @@ module _ (left left_after taken taken_now taken_after : Option (List ℕ)) (wait
         run.1 ++ take part.0 waiting,
         run.2,
         Appended-then taken taken_now taken_after run.1 (take part.0 waiting) run.3 part.2,
-        λ more told told_after. let later = run.4 more told told_after in
-            ((cut.0 ∷ cut.1) ++ later.0.answers, cut_short later.0 (run.0 ++ more) run.1 (take part.0 waiting)
-                (cut.0 ∷ cut.1) cut.2 later.1),
+        λ more told told_after. let later = run.4 more told told_after in (
+          (cut.0 ∷ cut.1) ++ later.0.answers,
+          cut_short later.0 (run.0 ++ more) run.1 (take part.0 waiting)
+              (cut.0 ∷ cut.1) cut.2 later.1,
+        ),
       )
 
   module _ (line : ℕ) (run : StopsRun left left_after taken taken_now waiting (Line line)) where

@@ -8,8 +8,8 @@ use Rattle.privilege_cli.specs.Script.{Position, script_from, answered, ended}
 use Rattle.privilege_cli.specs.Stop.{StopsAtPiece}
 use Rattle.privilege_cli.specs.LocalScript.{position_of, AnswersPiece}
 use Rattle.privilege_cli.specs.LocalReading.{AnswersLast, StopsLast}
-use Rattle.privilege_cli.specs.declared.local_script.Stop.{Stop}
-use Rattle.privilege_cli.specs.declared.local_script.Stop.TheVariants.{Memory, Line, Source, Sink}
+use Rattle.privilege_cli.specs.declared.stops.Stop.{Stop}
+use Rattle.privilege_cli.specs.declared.stops.Stop.TheVariants.{Memory, Line, Source, Sink}
 use Rattle.privilege_cli.specs.declared.local_script.LocalScript.{LocalScript}
 
 pub is_empty-≡ : (bytes : List ℕ) → (length bytes == 0) ≡ true → bytes ≡ []
@@ -31,7 +31,7 @@ MatchLast-flushed (Ok value) old answers_after taken taken_after last text waiti
     record { text = text; answered = is; flushed = subst (λ bytes. Appended taken bytes taken_after) answers all }
 MatchLast-flushed (Err stop) old answers_after taken taken_after last text waiting is answers all part sink =
     subst (StopsLast old answers_after taken taken_after last) (sym sink)
-        (text, is, subst (λ bytes. AppendedPart taken bytes taken_after) answers part)
+    (text, is, subst (λ bytes. AppendedPart taken bytes taken_after) answers part)
 
 -- there is no last line
 pub no_last : (old : LocalScript) (last : List ℕ) → last ≡ [] → script_from (position_of old) (pieces_of last) ≡ answered [] ended

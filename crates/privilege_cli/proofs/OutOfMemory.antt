@@ -1,7 +1,8 @@
 -- A run that ends for want of memory before it begins.
 use Rattle.std.proofs.Common.{arith, [], ℕ, List, Option, Some, None, refl, sym, ap, append-nil}
 use Rattle.privilege_cli.specs.Script.{script}
-use Rattle.privilege_cli.specs.LocalRun.{Told, IsCutShort}
+use Rattle.privilege_cli.specs.Contents.{Told}
+use Rattle.privilege_cli.specs.LocalRun.{IsCutShort}
 use Rattle.privilege_cli.specs.Program.{Ends, RunEnds}
 use Rattle.privilege_cli.specs.declared.command_words.Command.{Command}
 use Rattle.privilege_cli.specs.declared.command_words.Command.TheVariants.{Local, SmackAccess}

@@ -4,7 +4,8 @@ use Rattle.desk_ports.specs.Faults.{NeverFalls, Rose}
 use Rattle.desk_ports.specs.Content.{Took, AtEnd, Appended, AppendedPart}
 use Rattle.desk_ports.proofs.Appends.{Appended-then}
 use Rattle.line_script.specs.Answers.{line_fault_text}
-use Rattle.privilege_cli.specs.LocalReading.{EndsAtLine, IsAtEnd}
+use Rattle.privilege_cli.specs.Contents.{IsAtEnd}
+use Rattle.privilege_cli.specs.LocalReading.{EndsAtLine}
 
 pub Rose-before : (first second third : ℕ) → Rose first second → NeverFalls second third → Rose first third
 Rose-before first second third rose later = omega arith

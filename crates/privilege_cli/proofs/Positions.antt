@@ -25,21 +25,24 @@ has_room-same : (policy : Policy) (first second : State) → IsSameState first s
     → has_room policy first ≡ has_room policy second
 has_room-same policy first second same =
     ap (λ count. nat_le count most_policies)
-        (length-Reordered (put_policy-same policy first.policies second.policies same.policies))
+    (length-Reordered (put_policy-same policy first.policies second.policies same.policies))
 
 put-chosen : (room : Bool) (policy : Policy) (first second : State) → IsSameState first second
     → IsSameState (cond room (record { commit = first.commit + 1; policies = put_policy policy first.policies }) first)
     (cond room (record { commit = second.commit + 1; policies = put_policy policy second.policies }) second)
 put-chosen true policy first second same =
-    record { commit = ap (λ n. n + 1) same.commit; policies = put_policy-same policy first.policies second.policies
-        same.policies }
+    record {
+      commit = ap (λ n. n + 1) same.commit;
+      policies = put_policy-same policy first.policies second.policies
+          same.policies;
+    }
 put-chosen false policy first second same = same
 
 put-same : (policy : Policy) (first second : State) → IsSameState first second
     → IsSameState (put policy first) (put policy second)
 put-same policy first second same =
     subst (λ room. IsSameState (put policy first)
-        (cond room (record { commit = second.commit + 1; policies = put_policy policy second.policies }) second))
+    (cond room (record { commit = second.commit + 1; policies = put_policy policy second.policies }) second))
     (has_room-same policy first second same) (put-chosen (has_room policy first) policy first second same)
 
 after-same : (step : Step) (first second : State) → IsSameState first second → IsSameState (after first step) (after second step)
@@ -70,30 +73,30 @@ after-own (Check question) state own = own
 abbrev next : State → ℕ → ℕ → List ℕ → List (List ℕ) → Option Step → Outcome
 next state line room piece pieces step =
     option_map_or (λ step. answered (reply state step)
-        (script_from (behind (record { state = state; line = line; room = room }) step piece) pieces)) step (stopped_at line)
+    (script_from (behind (record { state = state; line = line; room = room }) step piece) pieces)) step (stopped_at line)
 
 next-same : (line room : ℕ) (piece : List ℕ) (pieces : List (List ℕ)) (first second : State) → HaveOwnKeys first.policies
     → IsSameState first second
     → ((first second : State) → HaveOwnKeys first.policies → IsSameState first second
     → script_from (record { state = first; line = line + 1; room = room - length piece }) pieces
-        ≡ script_from (record { state = second; line = line + 1; room = room - length piece }) pieces)
+    ≡ script_from (record { state = second; line = line + 1; room = room - length piece }) pieces)
     → (step : Option Step) → next first line room piece pieces step ≡ next second line room piece pieces step
 next-same line room piece pieces first second own same later None = refl
 next-same line room piece pieces first second own same later (Some step) =
     ap (λ text. answered text (script_from (behind (record { state = first; line = line; room = room }) step piece) pieces))
-        (reply-same step first second own same)
+    (reply-same step first second own same)
     ∙ ap (answered (reply second step))
-        (later (after first step) (after second step) (after-own step first own) (after-same step first second same))
+    (later (after first step) (after second step) (after-own step first own) (after-same step first second same))
 
 -- a script is answered alike from a state and from the same one with its policies in another order
 pub script_from-same : (line room : ℕ) (pieces : List (List ℕ)) (first second : State) → HaveOwnKeys first.policies
     → IsSameState first second
     → script_from (record { state = first; line = line; room = room }) pieces
-        ≡ script_from (record { state = second; line = line; room = room }) pieces
+    ≡ script_from (record { state = second; line = line; room = room }) pieces
 script_from-same line room [] first second own same = refl
 script_from-same line room (piece ∷ pieces) first second own same =
     next-same line room piece pieces first second own same (script_from-same (line + 1) (room - length piece) pieces)
-        (step_at room piece)
+    (step_at room piece)
 
 -- ---- the step of a line
 
@@ -113,26 +116,26 @@ pub step_at-line : (room : ℕ) (piece line : List ℕ) (step : Option Step) →
     → step_of line ≡ step → step_at room piece ≡ step
 step_at-line room piece line step is within short reads =
     ap (λ b. cond b None (cond (nat_lt most_in_line (length (line_of piece))) None (step_of (line_of piece))))
-        (within-test room (length piece) within)
+    (within-test room (length piece) within)
     ∙ (ap (λ line. cond (nat_lt most_in_line (length line)) None (step_of line)) is
     ∙ (ap (λ b. cond b None (step_of line)) (within-test most_in_line (length line) short) ∙ reads))
 
 pub step_at-outside : (room : ℕ) (piece line : List ℕ) → line_of piece ≡ line → step_of line ≡ None → step_at room piece ≡ None
 step_at-outside room piece line is outside =
     ap (λ step. cond (nat_lt room (length piece)) None (cond (nat_lt most_in_line (length (line_of piece))) None step))
-        (ap step_of is ∙ outside)
+    (ap step_of is ∙ outside)
     ∙ nones (nat_lt room (length piece)) (nat_lt most_in_line (length (line_of piece)))
 
 pub step_at-past : (room : ℕ) (piece : List ℕ) → room < length piece → step_at room piece ≡ None
 step_at-past room piece past =
     ap (λ b. cond b None (cond (nat_lt most_in_line (length (line_of piece))) None (step_of (line_of piece))))
-        (past-test room (length piece) past)
+    (past-test room (length piece) past)
 
 pub step_at-long : (room : ℕ) (piece line : List ℕ) → line_of piece ≡ line → most_in_line < length line
     → step_at room piece ≡ None
 step_at-long room piece line is long =
     ap (λ b. cond (nat_lt room (length piece)) None (cond b None (step_of (line_of piece))))
-        (ap (λ line. nat_lt most_in_line (length line)) is ∙ past-test most_in_line (length line) long)
+    (ap (λ line. nat_lt most_in_line (length line)) is ∙ past-test most_in_line (length line) long)
     ∙ nones (nat_lt room (length piece)) true
 
 -- ---- one piece
@@ -142,18 +145,18 @@ pub script_from-step : (from : Position) (step : Step) (state : State) (piece : 
     → step_at from.room piece ≡ Some step
     → HaveOwnKeys from.state.policies → IsSameState (after from.state step) state
     → script_from from (piece ∷ pieces)
-        ≡ answered (reply from.state step)
-        (script_from (record { state = state; line = from.line + 1; room = from.room - length piece }) pieces)
+    ≡ answered (reply from.state step)
+    (script_from (record { state = state; line = from.line + 1; room = from.room - length piece }) pieces)
 script_from-step from step state piece pieces reads own same =
     ap (λ step. option_map_or (λ step. answered (reply from.state step) (script_from (behind from step piece) pieces)) step
-        (stopped_at from.line)) reads
+    (stopped_at from.line)) reads
     ∙ ap (answered (reply from.state step))
     (script_from-same (from.line + 1) (from.room - length piece) pieces (after from.state step) state
-        (after-own step from.state own) same)
+    (after-own step from.state own) same)
 
 -- a line that has none
 pub script_from-none : (from : Position) (piece : List ℕ) (pieces : List (List ℕ)) → step_at from.room piece ≡ None
     → script_from from (piece ∷ pieces) ≡ stopped_at from.line
 script_from-none from piece pieces outside =
     ap (λ step. option_map_or (λ step. answered (reply from.state step) (script_from (behind from step piece) pieces)) step
-        (stopped_at from.line)) outside
+    (stopped_at from.line)) outside

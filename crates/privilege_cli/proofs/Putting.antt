@@ -60,7 +60,7 @@ module _ {policies : List Policy} {place : ℕ} (policy : Policy) (order : AreIn
   pub length-absent : BelongsAt policies policy.key place → length (put_policy policy policies) ≡ length policies + 1
   length-absent at =
       length-Reordered (Reordered-BelongsAt at policy)
-          ∙ (length-more at.front policy at.back ∙ sym (ap (λ list. length list + 1) at.parts))
+      ∙ (length-more at.front policy at.back ∙ sym (ap (λ list. length list + 1) at.parts))
 
   pub IsPut-absent : BelongsAt policies policy.key place → length policies < most_policies
       → IsPut policy policies (insert policies place policy)
@@ -93,8 +93,8 @@ IsSameState-refl state = record { commit = refl; policies = Reordered-refl state
 pub IsSameState-refused : (policy : Policy) (state : State) → false ≡ has_room policy state → IsSameState (put policy state) state
 IsSameState-refused policy state full =
     subst (λ room. IsSameState
-        (cond room (record { commit = state.commit + 1; policies = put_policy policy state.policies }) state) state) full
-        (IsSameState-refl state)
+    (cond room (record { commit = state.commit + 1; policies = put_policy policy state.policies }) state) state) full
+    (IsSameState-refl state)
 
 -- nothing was put, and nothing changed
 pub IsSameState-kept : (policy : Policy) (state : State) (accepted : Bool) (policies : List Policy) → accepted ≡ false
@@ -103,7 +103,7 @@ pub IsSameState-kept : (policy : Policy) (state : State) (accepted : Bool) (poli
     → IsSameState (put policy state) (record { commit = state.commit; policies = policies })
 IsSameState-kept policy state false policies refused room same =
     subst (λ list. IsSameState (put policy state) (record { commit = state.commit; policies = list })) (sym same)
-        (IsSameState-refused policy state room)
+    (IsSameState-refused policy state room)
 IsSameState-kept policy state true policies refused room same = absurd (true≢false refused)
 
 -- the policies in order have their own keys, seen as the state that they are kept in

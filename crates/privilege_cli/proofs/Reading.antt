@@ -4,12 +4,11 @@ use Rattle.std.specs.List.{onto_first}
 use Rattle.text_lines.specs.Lines.{HasNoNewline, is_newline, pieces_of, line_of}
 use Rattle.desk_ports.specs.Content.{Took, Appended}
 use Rattle.privilege_cli.specs.Script.{Position, script_from, answered, stopped_at, most_in_line}
-use Rattle.privilege_cli.specs.LocalRun.{Advances}
 use Rattle.privilege_cli.specs.Stop.{StopsWithin}
-use Rattle.privilege_cli.specs.LocalScript.{position_of, AnswersLines, StopsInLines}
+use Rattle.privilege_cli.specs.LocalScript.{Advances, position_of, AnswersLines, StopsInLines}
 use Rattle.privilege_cli.specs.LocalReading.{StopsReading, ReadsLines}
-use Rattle.privilege_cli.specs.declared.local_script.Stop.{Stop}
-use Rattle.privilege_cli.specs.declared.local_script.Stop.TheVariants.{Memory, Line, Source, Sink}
+use Rattle.privilege_cli.specs.declared.stops.Stop.{Stop}
+use Rattle.privilege_cli.specs.declared.stops.Stop.TheVariants.{Memory, Line, Source, Sink}
 use Rattle.privilege_cli.specs.declared.local_script.LocalScript.{LocalScript}
 use Rattle.privilege_cli.proofs.Positions.{step_at-past, step_at-long, script_from-none}
 
@@ -77,13 +76,13 @@ script_from-long at [] more plain (inr past) = absurd (omega (arith, past))
 script_from-long at (byte ∷ part) more plain (inl long) =
     let first = begins byte part more plain in
     ap (script_from at) first.is
-        ∙ script_from-none at first.piece first.pieces
-        (step_at-long at.room first.piece (line_of first.piece) refl (omega (arith, long, first.long)))
+    ∙ script_from-none at first.piece first.pieces
+    (step_at-long at.room first.piece (line_of first.piece) refl (omega (arith, long, first.long)))
 script_from-long at (byte ∷ part) more plain (inr past) =
     let first = begins byte part more plain in
     ap (script_from at) first.is
     ∙ script_from-none at first.piece first.pieces
-        (step_at-past at.room first.piece (omega (arith, past, first.long, length-line_of first.piece)))
+    (step_at-past at.room first.piece (omega (arith, past, first.long, length-line_of first.piece)))
 
 -- the rest of some lines is too long
 pub StopsInLines-long : (old new : LocalScript) (bytes : List ℕ) (left : ℕ) → AnswersLines old new bytes left
@@ -144,6 +143,13 @@ module _ (left left_after taken taken_after : Option (List ℕ)) (old mid new : 
         short = omega (arith, answers.length_rest, short);
         within = omega (arith, answers.length_rest, within);
         nearer =
-            omega (arith, rooms, answers.answered.room, more, ap length answers.answered.parts, length-append lines
-            answers.rest);
+            omega (
+              arith,
+              rooms,
+              answers.answered.room,
+              more,
+              ap length answers.answered.parts,
+              length-append lines
+                  answers.rest,
+            );
       })

@@ -12,7 +12,7 @@ use Rattle.smack_rules.specs.Rule.{line_rule}
 use Rattle.smack_rules.specs.Table.{Row}
 use Rattle.smack_rules.specs.Grants.{GrantsAs}
 use Rattle.smack_rules.specs.RuleText.{with_front, with_line, rules_from, rules_of}
-use Rattle.privilege_cli.specs.LocalRun.{AreWholeLines}
+use Rattle.privilege_cli.specs.Contents.{AreWholeLines}
 use Rattle.privilege_cli.specs.AccessRun.{most_in_rules, rules_within, rules_read}
 use Rattle.privilege_cli.specs.AccessReading.{AreLinesOf, IsWrongAt, AreLoaded}
 use Rattle.privilege_cli.proofs.Advancing.{AreWholeLines-more}
@@ -50,7 +50,7 @@ some-pieces (byte ∷ front) = some-chosen (is_newline byte) byte (pieces_of (fr
 
 chosen-append : (b : Bool) (byte : ℕ) (first rest : List (List ℕ)) → 0 < length first
     → cond b ((byte ∷ []) ∷ (first ++ rest)) (onto_first byte (first ++ rest))
-        ≡ cond b ((byte ∷ []) ∷ first) (onto_first byte first) ++ rest
+    ≡ cond b ((byte ∷ []) ∷ first) (onto_first byte first) ++ rest
 chosen-append true byte first rest some = refl
 chosen-append false byte [] rest some = absurd (omega (arith, some))
 chosen-append false byte (piece ∷ first) rest some = refl
@@ -78,7 +78,7 @@ record FirstPiece (part bytes : List ℕ) : Type 0 where
 
 first-chosen : (b : Bool) (byte : ℕ) (rest pieces : List (List ℕ)) → rest ≡ pieces
     → (piece : List ℕ) × (others : List (List ℕ)) × (cond b ((byte ∷ []) ∷ rest) (onto_first byte rest) ≡ piece ∷ others)
-        × (0 < length piece)
+    × (0 < length piece)
 first-chosen true byte rest pieces is = (byte ∷ [], rest, refl, omega arith)
 first-chosen false byte rest [] is = (byte ∷ [], [], ap (onto_first byte) is, omega arith)
 first-chosen false byte rest (piece ∷ pieces) is = (byte ∷ piece, pieces, ap (onto_first byte) is, omega arith)
@@ -128,7 +128,7 @@ past-test room size past = grind (arith, nat_tests)
 -- the rules of pieces for which there is room, and of those behind them
 rules_within-front : (room number : ℕ) (first rest : List (List ℕ)) → bytes_in first ≤ room
     → rules_within room number (first ++ rest)
-        ≡ then_rules (rules_from number (map line_of first)) (rules_within (room - bytes_in first) (number + length first) rest)
+    ≡ then_rules (rules_from number (map line_of first)) (rules_within (room - bytes_in first) (number + length first) rest)
 rules_within-front room number [] rest within =
     let rooms : room ≡ room - 0 = omega arith in
     let numbers : number ≡ number + 0 = omega arith in
@@ -142,10 +142,10 @@ rules_within-front room number (piece ∷ first) rest within =
     let line = line_rule (line_of piece) in
     let own = rules_from number (map line_of (piece ∷ first)) in
     ap (λ b. cond b (Err number) (with_line number line (rules_within left (number + 1) (first ++ rest))))
-        (within-test room (length piece) (omega (arith, within)))
+    (within-test room (length piece) (omega (arith, within)))
     ∙ (ap (with_line number line) (rules_within-front left (number + 1) first rest (omega (arith, within)))
     ∙ (with_line-then number line (rules_from (number + 1) (map line_of first))
-        (rules_within (left - bytes_in first) (number + 1 + length first) rest)
+    (rules_within (left - bytes_in first) (number + 1 + length first) rest)
     ∙ (ap (λ room. then_rules own (rules_within room (number + 1 + length first) rest)) rooms
     ∙ ap (λ number. then_rules own (rules_within (room - (length piece + bytes_in first)) number rest)) numbers)))
 
@@ -158,7 +158,7 @@ rules_within-all : (room : ℕ) (text : List ℕ) → length text ≤ room → r
 rules_within-all room text within =
     ap (rules_within room 1) (sym (append-nil (pieces_of text)))
     ∙ (rules_within-front room 1 (pieces_of text) [] (omega (arith, bytes_in-pieces text, within))
-        ∙ then_rules-none (rules_of text))
+    ∙ then_rules-none (rules_of text))
 
 -- no room for the byte that follows a part of a line
 rules_within-past : (room number : ℕ) (part : List ℕ) (byte : ℕ) (after : List ℕ) → HasNoNewline part → length part ≡ room
@@ -167,8 +167,8 @@ rules_within-past room number part byte after plain full =
     let first = first_piece part byte after plain in
     ap (rules_within room number) first.is
     ∙ ap (λ b. cond b (Err number)
-        (with_line number (line_rule (line_of first.piece))
-        (rules_within (room - length first.piece) (number + 1) first.pieces)))
+    (with_line number (line_rule (line_of first.piece))
+    (rules_within (room - length first.piece) (number + 1) first.pieces)))
     (past-test room (length first.piece) (omega (arith, full, first.longer)))
 
 -- the rules of whole lines for which there is room, with a part of a line behind them that fills it
@@ -182,7 +182,7 @@ rules_within-over room count lines part byte after whole plain counted full =
     ap (rules_within room 1) (pieces_of-lines lines (part ++ byte ∷ after) whole)
     ∙ (rules_within-front room 1 (pieces_of lines) rest (omega (arith, bytes_in-pieces lines, full))
     ∙ (ap (then_rules (rules_of lines))
-        (rules_within-past (room - bytes_in (pieces_of lines)) (1 + length (pieces_of lines)) part byte after plain rooms)
+    (rules_within-past (room - bytes_in (pieces_of lines)) (1 + length (pieces_of lines)) part byte after plain rooms)
     ∙ ap (λ number. then_rules (rules_of lines) (Err number)) numbers))
 
 -- the same of a text that goes past the room, whatever follows
@@ -209,7 +209,7 @@ pub IsWrongAt-past : (count : ℕ) (text lines : List ℕ) (P : List Rule → Ty
     → IsOkAnd (rules_of lines) P → IsWrongAt text (count + 1)
 IsWrongAt-past count text lines P past are right =
     λ more none. over most_in_rules count text lines more past are
-        ∙ right-then P (rules_of lines) (Err (count + 1)) (count + 1) right refl
+    ∙ right-then P (rules_of lines) (Err (count + 1)) (count + 1) right refl
 
 -- a line within the limit is wrong
 pub IsWrongAt-before : (count line : ℕ) (text lines : List ℕ) → most_in_rules < length text
@@ -222,7 +222,7 @@ IsWrongAt-before count line text lines past are wrong =
 pub IsWrongAt-within : (line : ℕ) (text : List ℕ) → length text ≤ most_in_rules → rules_of text ≡ Err line → IsWrongAt text line
 IsWrongAt-within line text within wrong =
     λ more none. ap (λ more. rules_read (text ++ more)) (none within)
-        ∙ (ap rules_read (append-nil text) ∙ (rules_within-all most_in_rules text within ∙ wrong))
+    ∙ (ap rules_read (append-nil text) ∙ (rules_within-all most_in_rules text within ∙ wrong))
 
 loaded : (text : List ℕ) (table : List (List ℕ × Row)) (rules : Result (List Rule) ℕ) → length text ≤ most_in_rules
     → rules_read text ≡ rules → IsOkAnd rules (GrantsAs table)

@@ -4,11 +4,11 @@ use Rattle.text_lines.specs.Lines.{pieces_of}
 use Rattle.desk_ports.specs.Content.{Took}
 use Rattle.desk_ports.proofs.Appends.{Appended-none, Appended-then}
 use Rattle.privilege_cli.specs.Script.{Outcome, start, script, script_from, answered, stopped_at}
-use Rattle.privilege_cli.specs.LocalRun.{AreWholeLines, Advances}
-use Rattle.privilege_cli.specs.LocalScript.{position_of}
-use Rattle.privilege_cli.specs.LocalReading.{MatchRead, ReadsLines, ReadsEnd, StopsReading, IsUnderWay, IsAtEnd, StopsRun}
-use Rattle.privilege_cli.specs.declared.local_script.Stop.{Stop}
-use Rattle.privilege_cli.specs.declared.local_script.Stop.TheVariants.{Memory, Line, Source, Sink}
+use Rattle.privilege_cli.specs.Contents.{AreWholeLines, IsAtEnd}
+use Rattle.privilege_cli.specs.LocalScript.{Advances, position_of}
+use Rattle.privilege_cli.specs.LocalReading.{MatchRead, ReadsLines, ReadsEnd, StopsReading, IsUnderWay, StopsRun}
+use Rattle.privilege_cli.specs.declared.stops.Stop.{Stop}
+use Rattle.privilege_cli.specs.declared.stops.Stop.TheVariants.{Memory, Line, Source, Sink}
 use Rattle.privilege_cli.specs.declared.local_script.LocalScript.{LocalScript}
 use Rattle.privilege_cli.proofs.Advancing.{Advances-none, Advances-then, answered-twice}
 use Rattle.privilege_cli.proofs.Passing.{Took-then, IsAtEnd-end}
@@ -59,7 +59,7 @@ module _ (left left_now left_after taken taken_now taken_after : Option (List �
         written = way.written ++ now.answers;
         took = subst (λ bytes. Took left bytes left_after)
             (append_assoc way.lines kept reads.given
-                ∙ (ap (λ bytes. way.lines ++ bytes) reads.parts ∙ sym (append_assoc way.lines reads.lines rest)))
+            ∙ (ap (λ bytes. way.lines ++ bytes) reads.parts ∙ sym (append_assoc way.lines reads.lines rest)))
             (Took-then left left_now left_after (way.lines ++ kept) reads.given way.took reads.took);
         appended = Appended-then taken taken_now taken_after way.written now.answers way.appended reads.flushed;
         whole = AreWholeLines-then way.lines reads.lines way.whole reads.whole;
@@ -83,7 +83,7 @@ module _ (left left_now left_after taken taken_now taken_after : Option (List �
         advanced = subst (λ at. Advances start way.lines ((way.written ++ now.answers) ++ new.answers) at) (sym reads.position)
             (subst (λ text. Advances start way.lines text (position_of now))
             (sym (ap (λ answers. (way.written ++ now.answers) ++ answers) reads.answers
-                ∙ append-nil (way.written ++ now.answers))) way.advanced);
+            ∙ append-nil (way.written ++ now.answers))) way.advanced);
       })
 
   pub IsAtEnd-read : (rest : List ℕ) → ReadsEnd left_now left_after taken_now taken_after now new kept rest
@@ -121,7 +121,7 @@ module _ (left left_now left_after taken taken_now taken_after : Option (List �
     λ more told told_after.
         so_far stopped.given more
         ∙ (ap (answered (way.written ++ now.answers)) (stopped.stopped more)
-            ∙ answered-twice (way.written ++ now.answers) new.answers (stopped_at number)),
+        ∙ answered-twice (way.written ++ now.answers) new.answers (stopped_at number)),
   )
   StopsRun-reading Source stopped = (
     way.lines ++ kept,
@@ -153,7 +153,7 @@ module _ (left left_now left_after taken taken_now taken_after : Option (List �
               ap (λ (outcome : Outcome). outcome.answers)
                   (ap script (append_assoc way.lines kept more) ∙ way.advanced (kept ++ more))
                   ∙ (ap (λ waiting. (way.written ++ waiting) ++ later.answers) cut.2
-                      ∙ regroup way.written (take stopped.part.0 now.answers) (cut.0 ∷ cut.1) later.answers),
+                  ∙ regroup way.written (take stopped.part.0 now.answers) (cut.0 ∷ cut.1) later.answers),
             ),
       )
 

@@ -20,7 +20,7 @@ pub take-moved : (bytes lines rest : List ℕ) (filled left : ℕ) → take fill
     → take left (copy_within bytes (filled - left) filled 0) ≡ rest
 take-moved bytes lines rest filled left parts size within =
     let whole : length lines + left ≡ filled =
-        omega (arith, length-take-le filled bytes within, ap length parts, length-append lines rest) in
+    omega (arith, length-take-le filled bytes within, ap length parts, length-append lines rest) in
     let from : filled - left ≡ length lines = omega (arith, whole) in
     let count : filled - (filled - left) ≡ left = omega (arith, whole) in
     let moved : take left (drop (filled - left) bytes) ≡ rest =

@@ -8,10 +8,9 @@ use Rattle.smack_rules.specs.declared.rule.Rule.{Rule}
 use Rattle.smack_rules.specs.Grants.{GrantsAs}
 use Rattle.smack_rules.specs.Table.{Row}
 use Rattle.privilege_cli.specs.AccessRun.{most_in_rules, rules_read, IsPartlyDecided}
-use Rattle.privilege_cli.specs.LocalRun.{AreWholeLines, AreWritten}
-use Rattle.privilege_cli.specs.LocalReading.{IsAtEnd, Passes}
-use Rattle.privilege_cli.specs.declared.local_script.Stop.{Stop}
-use Rattle.privilege_cli.specs.declared.local_script.Stop.TheVariants.{Memory, Line, Source, Sink}
+use Rattle.privilege_cli.specs.Contents.{AreWholeLines, AreWritten, IsAtEnd, Passes}
+use Rattle.privilege_cli.specs.declared.stops.Stop.{Stop}
+use Rattle.privilege_cli.specs.declared.stops.Stop.TheVariants.{Memory, Line, Source, Sink}
 
 -- The text is all that the source had, or goes past the limit.
 pub record IsRead (left left_after : Option (List ℕ)) (text : List ℕ) : Type 0 where

@@ -9,7 +9,7 @@ use Rattle.smack_rules.specs.RuleText.{with_line}
 use Rattle.smack_rules.specs.Effective.{effective}
 use Rattle.smack_rules.specs.Decision.{decision}
 use Rattle.line_script.specs.Answers.{access_text, line_fault_text}
-use Rattle.privilege_cli.specs.LocalRun.{AreWritten}
+use Rattle.privilege_cli.specs.Contents.{AreWritten}
 
 -- a text of rules has at most so many bytes
 abbrev pub most_in_rules : ℕ

@@ -2,6 +2,7 @@ pub mod State
 pub mod InOrder
 pub mod RootPolicies
 pub mod Script
+pub mod Contents
 pub mod LocalRun
 pub mod Stop
 pub mod LocalScript

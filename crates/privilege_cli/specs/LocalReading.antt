@@ -4,11 +4,12 @@ use Rattle.desk_ports.specs.Content.{Took, AtEnd, Appended, AppendedPart}
 use Rattle.text_lines.specs.Lines.{HasNoNewline, pieces_of}
 use Rattle.line_script.specs.Answers.{line_fault_text}
 use Rattle.privilege_cli.specs.Script.{Outcome, start, script, script_from, answered as answered_by, stopped_at, ended}
-use Rattle.privilege_cli.specs.LocalRun.{AreAnswered, IsUnfinished, AreWholeLines, AreWritten, Advances}
-use Rattle.privilege_cli.specs.LocalScript.{position_of}
+use Rattle.privilege_cli.specs.Contents.{AreWholeLines, AreWritten, Passes}
+use Rattle.privilege_cli.specs.LocalRun.{AreAnswered, IsUnfinished}
+use Rattle.privilege_cli.specs.LocalScript.{Advances, position_of}
 use Rattle.privilege_cli.specs.Stop.{StopsWithin}
-use Rattle.privilege_cli.specs.declared.local_script.Stop.{Stop}
-use Rattle.privilege_cli.specs.declared.local_script.Stop.TheVariants.{Memory, Line, Source, Sink}
+use Rattle.privilege_cli.specs.declared.stops.Stop.{Stop}
+use Rattle.privilege_cli.specs.declared.stops.Stop.TheVariants.{Memory, Line, Source, Sink}
 use Rattle.privilege_cli.specs.declared.local_script.LocalScript.{LocalScript}
 
 module _ (left left_after taken taken_after : Option (List ℕ)) (old new : LocalScript) (kept : List ℕ) where
@@ -72,24 +73,12 @@ pub record IsUnderWay (left left_now taken taken_now : Option (List ℕ)) (now :
   pub unfinished : HasNoNewline kept
   pub advanced : Advances start lines (written ++ now.answers) (position_of now)
 
--- a source that tells its content is at its end
-abbrev pub IsAtEnd : Option (List ℕ) → Option (List ℕ) → Type 0
-IsAtEnd None after = Unit {0}
-IsAtEnd (Some before) after = after ≡ Some []
-
--- P holds of what the source gave with what it has left, and of what the sink took
-abbrev pub Passes : Option (List ℕ) → Option (List ℕ) → Option (List ℕ) → Option (List ℕ)
-    → (List ℕ → List ℕ → List ℕ → Type 0) → Type 0
-Passes left left_after taken taken_after P =
-    (given : List ℕ) × (written : List ℕ) × Took left given left_after × Appended taken written taken_after ×
-    ((more : List ℕ) → left ≡ Some (given ++ more) → left_after ≡ Some more → P (given ++ more) more written)
-
 module _ (left left_after taken taken_after : Option (List ℕ)) (waiting : List ℕ) where
   -- how a whole run may stop before the end of its script; the answers that wait are not written yet
   abbrev pub StopsRun : Stop → Type 0
   StopsRun Memory =
       Passes left left_after taken taken_after
-          (λ input more written. (later : Outcome) × (script input ≡ answered_by (written ++ waiting) later))
+      (λ input more written. (later : Outcome) × (script input ≡ answered_by (written ++ waiting) later))
   StopsRun (Line number) =
       Passes left left_after taken taken_after
       (λ input more written. script input ≡ answered_by (written ++ waiting) (stopped_at number))
@@ -110,7 +99,7 @@ StopsLast old waiting taken taken_after last (Line number) =
 StopsLast old waiting taken taken_after last Source = ⊥
 StopsLast old waiting taken taken_after last Sink =
     (text : List ℕ) × (script_from (position_of old) (pieces_of last) ≡ answered_by text ended)
-        × AppendedPart taken (old.answers ++ text) taken_after
+    × AppendedPart taken (old.answers ++ text) taken_after
 
 -- the answers that waited are written, and then that line's number, which is cut only where the sink failed
 abbrev pub EndsAtLine : Option (List ℕ) → Option (List ℕ) → List ℕ → ℕ → Type 0 → Type 0

@@ -1,14 +1,20 @@
 -- A running script, as its contracts see it.
 use Rattle.std.specs.Prelude.{◌≡◌, ◌+◌, ℕ, List, ◌∷◌, ◌++◌, length}
-use Rattle.text_lines.specs.Lines.{HasNoNewline}
+use Rattle.text_lines.specs.Lines.{HasNoNewline, pieces_of}
 use Rattle.privilege_cli.specs.Script.{Position, script_from, answered as answered_with}
-use Rattle.privilege_cli.specs.LocalRun.{Advances, AreWholeLines}
+use Rattle.privilege_cli.specs.Contents.{AreWholeLines}
 use Rattle.privilege_cli.specs.Stop.{StopsWithin}
-use Rattle.privilege_cli.specs.declared.local_script.Stop.{Stop}
+use Rattle.privilege_cli.specs.declared.stops.Stop.{Stop}
 use Rattle.privilege_cli.specs.declared.local_script.LocalScript.{LocalScript}
 
 abbrev pub position_of : LocalScript → Position
 position_of script = record { state = script.root; line = script.line; room = script.room }
+
+-- From one position to another, over these bytes and with these answers, whatever follows.
+abbrev pub Advances : Position → List ℕ → List ℕ → Position → Type 0
+Advances from bytes answers to =
+    (more : List ℕ)
+    → script_from from (pieces_of (bytes ++ more)) ≡ answered_with answers (script_from to (pieces_of more))
 
 -- one piece of the script was answered
 pub record AnswersPiece (old new : LocalScript) (piece : List ℕ) : Type 0 where

@@ -4,7 +4,8 @@ use Rattle.desk_ports.specs.Content.{Appended, AppendedPart}
 use Rattle.line_script.specs.Answers.{command_line_text}
 use Rattle.privilege_cli.specs.declared.command_words.Command.{Command}
 use Rattle.privilege_cli.specs.declared.command_words.Command.TheVariants.{Local, SmackAccess}
-use Rattle.privilege_cli.specs.LocalRun.{Told, IsDone, IsCutShort, IsStoppedAtLine, AreAnswered, IsUnfinished}
+use Rattle.privilege_cli.specs.Contents.{Told}
+use Rattle.privilege_cli.specs.LocalRun.{IsDone, IsCutShort, IsStoppedAtLine, AreAnswered, IsUnfinished}
 use Rattle.privilege_cli.specs.AccessRun.{IsDecided, IsWrongLine, IsPartlyDecided}
 
 -- What holds at each status of a command. There is no other status.

@@ -58,9 +58,9 @@ abbrev pub script_from : Position → List (List ℕ) → Outcome
 script_from at [] = ended
 script_from at (piece ∷ pieces) =
     option_map_or
-        (λ step. answered (reply at.state step) (script_from (behind at step piece) pieces))
-        (step_at at.room piece)
-        (stopped_at at.line)
+    (λ step. answered (reply at.state step) (script_from (behind at step piece) pieces))
+    (step_at at.room piece)
+    (stopped_at at.line)
 
 -- what is written for a script
 abbrev pub script : List ℕ → Outcome

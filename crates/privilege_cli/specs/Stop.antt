@@ -2,8 +2,8 @@
 use Rattle.std.specs.Prelude.{◌≡◌, ℕ, List, ◌∷◌, ◌++◌}
 use Rattle.text_lines.specs.Lines.{pieces_of}
 use Rattle.privilege_cli.specs.Script.{Position, Outcome, script_from, answered, stopped_at}
-use Rattle.privilege_cli.specs.declared.local_script.Stop.{Stop}
-use Rattle.privilege_cli.specs.declared.local_script.Stop.TheVariants.{Memory, Line, Source, Sink}
+use Rattle.privilege_cli.specs.declared.stops.Stop.{Stop}
+use Rattle.privilege_cli.specs.declared.stops.Stop.TheVariants.{Memory, Line, Source, Sink}
 
 -- Within these bytes the script stops behind these answers, at a line or for want of memory, whatever follows.
 abbrev pub StopsWithin : Stop → Position → List ℕ → List ℕ → Type 0

@@ -5,13 +5,12 @@ ghost use Rattle.desk_ports.specs.Faults.{NeverFalls, Rose};
 ghost use Rattle.desk_ports.specs.Content.{Took, AtEnd, Appended, AppendedPart};
 ghost use Rattle.line_script.specs.Answers.{answer_text, line_fault_text};
 ghost use Rattle.smack_rules.specs.Modes.{is_request};
-ghost use Rattle.privilege_cli.specs.LocalRun.{Told};
-ghost use Rattle.privilege_cli.specs.LocalReading.{Passes};
+ghost use Rattle.privilege_cli.specs.Contents.{Told, Passes};
 ghost use Rattle.privilege_cli.specs.AccessRun.{IsDecided, IsWrongLine, IsPartlyDecided};
 ghost use Rattle.privilege_cli.specs.AccessReading.{IsRead, ReadsMore, AreLinesOf, AreLoaded, AreRead, NamesLine};
 ghost use Rattle.privilege_cli.specs.AccessReading.{StopsAtText, StopsRules, StopsWriting, StopsAccess};
 
-use crate::local_script::Stop;
+use crate::stops::Stop;
 use crate::zeros::zeros;
 use desk_ports::{Bytes, Sink, Source, write_all};
 use line_script::{LineAnswer, print};

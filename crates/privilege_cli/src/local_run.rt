@@ -6,11 +6,13 @@ ghost use Rattle.desk_ports.specs.Content.{Appended, AppendedPart};
 ghost use Rattle.text_lines.specs.Lines.{HasNoNewline};
 ghost use Rattle.privilege_cli.specs.LocalScript.{position_of};
 ghost use Rattle.privilege_cli.specs.Script.{start};
-ghost use Rattle.privilege_cli.specs.LocalRun.{Told, IsDone, IsCutShort, IsStoppedAtLine, AreAnswered, IsUnfinished};
-ghost use Rattle.privilege_cli.specs.LocalReading.{MatchRead, StopsReading, IsUnderWay, IsAtEnd, Passes, StopsRun};
+ghost use Rattle.privilege_cli.specs.Contents.{Told, IsAtEnd, Passes};
+ghost use Rattle.privilege_cli.specs.LocalRun.{IsDone, IsCutShort, IsStoppedAtLine, AreAnswered, IsUnfinished};
+ghost use Rattle.privilege_cli.specs.LocalReading.{MatchRead, StopsReading, IsUnderWay, StopsRun};
 ghost use Rattle.privilege_cli.specs.LocalReading.{AnswersLast, StopsLast, EndsAtLine};
 
-use crate::local_script::{LocalScript, MOST_IN_LINE, Stop};
+use crate::local_script::{LocalScript, MOST_IN_LINE};
+use crate::stops::Stop;
 use crate::zeros::zeros;
 use desk_ports::{Bytes, Sink, Source, write_all};
 use line_script::{LineAnswer, print};

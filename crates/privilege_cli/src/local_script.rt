@@ -4,9 +4,10 @@ ghost use Rattle.text_lines.specs.Lines.{line_of};
 ghost use Rattle.privilege_cli.specs.Script.{start};
 
 use crate::root_policies::RootPolicies;
+use crate::stops::Stop;
 use desk_ports::Bytes;
 use line_script::{LineRefusal, Reader};
-use std::alloc::{AllocError, Global};
+use std::alloc::Global;
 use text_lines::split_at_newline;
 
 /// The most bytes of a line, without its newline.
@@ -14,27 +15,6 @@ pub const MOST_IN_LINE: usize = 65_535;
 
 /// The most bytes of a script.
 const MOST_IN_SCRIPT: usize = 16_777_216;
-
-/// Why a script stopped before its end.
-#[derive(Clone, Copy, Debug, PartialEq, Eq)]
-pub enum Stop {
-    Memory,
-    /// The line with this number, from 1, is outside the grammar.
-    Line(u32),
-    Source,
-    Sink,
-}
-
-impl From<AllocError> for Stop {
-    ghost use Rattle.std.specs.Prelude.{◌≡◌};
-    ghost use Rattle.privilege_cli.specs.declared.local_script.Stop.TheVariants.{Memory};
-
-    ghost from_gives = { λ _ stop. stop ≡ Memory };
-
-    fn from(_: AllocError) -> Stop {
-        Stop::Memory
-    }
-}
 
 /// A script, and the answers that the sink hasn't taken yet.
 #[derive(Drop)]

@@ -18,6 +18,7 @@ mod ordered_policies;
 mod program;
 mod root_policies;
 mod standard_streams;
+mod stops;
 mod zeros;
 
 use standard_streams::{InputSource, OutputSink};

@@ -10,6 +10,11 @@ loop-after-preserved c =
           LinesSoFar-more _ _ line _ c.loop-after.count c.loop-after.invariant.so_far c.in-Some.ensures.cut
           c.in-Some.ensures.first;
       within =
-          omega (arith, c.loop-after.invariant.within, ap length c.in-Some.ensures.cut, length-append line
-          (10 ∷ c.in-Some.after.now));
+          omega (
+            arith,
+            c.loop-after.invariant.within,
+            ap length c.in-Some.ensures.cut,
+            length-append line
+                (10 ∷ c.in-Some.after.now),
+          );
     }

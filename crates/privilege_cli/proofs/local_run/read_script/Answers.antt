@@ -26,6 +26,6 @@ pub returns-clause-read : goal.returns-clause-read
 returns-clause-read g c =
     let kept = length-take-le c.loop-rest.kept c.loop-rest.window (omega arith) in
     let reads =
-        ReadsEnd-none _ _ _ _ _ _ _ c.read_lines.new.window c.in_ok-rest.field-0 c.in_default.not-Some c.in_ok-rest.ensures.read
-        in
+    ReadsEnd-none _ _ _ _ _ _ _ c.read_lines.new.window c.in_ok-rest.field-0 c.in_default.not-Some c.in_ok-rest.ensures.read
+    in
     rw kept at (IsUnderWay-end _ _ _ _ _ _ _ _ _ c.loop-rest.invariant.under_way _ reads)

@@ -9,10 +9,10 @@ use Rattle.privilege_cli.proofs.ordered_policies.put_in_order.Goals as goal
 pub returns-in-Ok-clause-room : goal.returns-in-Ok-clause-room
 returns-in-Ok-clause-room c =
     let found =
-        subst (λ (list : List Policy). HasKeyAt list c.args.policy.key c.in-Ok.place) c.deref.ensures.value
-        c.in-Ok.ensures.found in
+    subst (λ (list : List Policy). HasKeyAt list c.args.policy.key c.in-Ok.place) c.deref.ensures.value
+    c.in-Ok.ensures.found in
     room-found most_policies _ _
-        (length-found c.args.policy c.requires.in_order c.requires.no_bucket found) c.requires.in_order.within
+    (length-found c.args.policy c.requires.in_order c.requires.no_bucket found) c.requires.in_order.within
 
 pub returns-in-Ok-clause-put : goal.returns-in-Ok-clause-put
 returns-in-Ok-clause-put c =
@@ -22,23 +22,23 @@ returns-in-Ok-clause-put c =
 pub returns-in-Err-clause-room : goal.returns-in-Err-clause-room
 returns-in-Err-clause-room c =
     let absent =
-        subst (λ (list : List Policy). BelongsAt list c.args.policy.key c.in-Err.field-0) c.deref.ensures.value
-        c.in-Err.ensures.absent in
+    subst (λ (list : List Policy). BelongsAt list c.args.policy.key c.in-Err.field-0) c.deref.ensures.value
+    c.in-Err.ensures.absent in
     room-full most_policies _ _ (length-absent c.args.policy c.requires.in_order c.requires.no_bucket absent)
-        (omega (arith, c.len.ensures))
+    (omega (arith, c.len.ensures))
 
 pub returns-in_ok-insert-in-Err-2-clause-room : goal.returns-in_ok-insert-in-Err-2-clause-room
 returns-in_ok-insert-in-Err-2-clause-room c =
     let absent =
-        subst (λ (list : List Policy). BelongsAt list c.args.policy.key c.in-Err.field-0) c.deref.ensures.value
-        c.in-Err.ensures.absent in
+    subst (λ (list : List Policy). BelongsAt list c.args.policy.key c.in-Err.field-0) c.deref.ensures.value
+    c.in-Err.ensures.absent in
     room-absent most_policies _ _ (length-absent c.args.policy c.requires.in_order c.requires.no_bucket absent)
-        (omega (arith, c.len.ensures))
+    (omega (arith, c.len.ensures))
 
 pub returns-in_ok-insert-in-Err-2-clause-put : goal.returns-in_ok-insert-in-Err-2-clause-put
 returns-in_ok-insert-in-Err-2-clause-put c =
     let absent =
-        subst (λ (list : List Policy). BelongsAt list c.args.policy.key c.in-Err.field-0) c.deref.ensures.value
-        c.in-Err.ensures.absent in
+    subst (λ (list : List Policy). BelongsAt list c.args.policy.key c.in-Err.field-0) c.deref.ensures.value
+    c.in-Err.ensures.absent in
     subst (IsPut c.args.policy c.args.policies.now.items) (sym c.in_ok-insert-in-Err-2.ensures.items)
     (IsPut-absent c.args.policy c.requires.in_order c.requires.no_bucket absent (omega (arith, c.len.ensures)))

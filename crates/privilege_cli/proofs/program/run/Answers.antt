@@ -31,4 +31,4 @@ pub returns-in-Err-Memory-clause-run : goal.returns-in-Err-Memory-clause-run
 returns-in-Err-Memory-clause-run g c =
     let named = rw c.in-Err-Memory.field-0-is at c.in-Err-Memory.ensures.command in
     rw named.1 (RunEnds-memory (Rose (g.K.Sink.faults c.args.sink.now) (g.K.Sink.faults c.args.sink.now)) named.0
-        (g.S.Source.left c.args.source.now) (g.K.Sink.taken c.args.sink.now))
+    (g.S.Source.left c.args.source.now) (g.K.Sink.taken c.args.sink.now))

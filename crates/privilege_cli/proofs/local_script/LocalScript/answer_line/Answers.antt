@@ -15,8 +15,12 @@ returns-clause-answered c = λ piece is size.
       room = omega (arith, size);
       advanced = λ pieces.
           script_from-step (position_of c.args.self.now) c.in-Ok.step c.answer.new.self piece pieces reads
-              c.in_ok-answer.ensures.own_keys c.in_ok-answer.ensures.state
+          c.in_ok-answer.ensures.own_keys c.in_ok-answer.ensures.state
           ∙ ap (λ size. answered (reply c.args.self.now.root c.in-Ok.step)
-              (script_from (record { state = c.answer.new.self; line = c.args.self.now.line + 1; room = c.args.self.now.room -
-              size }) pieces)) size;
+          (script_from (record {
+            state = c.answer.new.self;
+            line = c.args.self.now.line + 1;
+            room = c.args.self.now.room -
+                size;
+          }) pieces)) size;
     }

@@ -13,7 +13,7 @@ returns-in_err-answer_line c =
           (StopsInLines-line _ _ _ _ _ line _ c.loop-line.invariant c.in-Some.ensures.cut c.in-Some.ensures.first _
           c.in_err-answer_line.ensures.err
           (c.in_err-answer_line.ensures.answered (line ++ 10 ∷ []) (line_of-newline line [] c.in-Some.ensures.first)
-              (length-piece line)));
+          (length-piece line)));
     }
 
 pub loop-line-preserved : goal.loop-line-preserved

@@ -7,4 +7,4 @@ use Rattle.privilege_cli.proofs.root_policies.RootPolicies.answer.Goals as goal
 pub returns-in_ok-print_verdict-in-Check-clause-state : goal.returns-in_ok-print_verdict-in-Check-clause-state
 returns-in_ok-print_verdict-in-Check-clause-state c =
     subst (λ (step : Step). IsSameState (after c.args.self.now step) c.args.self.now) (sym c.in-Check.is)
-        (IsSameState-refl c.args.self.now)
+    (IsSameState-refl c.args.self.now)
