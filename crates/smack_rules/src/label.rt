@@ -17,7 +17,8 @@ pub enum LabelRefusal {
     Empty,
     #[error("a label has at most 255 bytes")]
     TooLong,
-    #[error("byte {0} of the label is not printable, or is one of / \\ ' \"")]
+    /// The place of the first such byte, from 0.
+    #[error("byte {0} of the label, counted from 0, is a space, no printable ASCII, or one of / \\ ' \"")]
     BadByte(usize),
     #[error("a label does not begin with -")]
     Dash,
