@@ -7,6 +7,11 @@ abbrev pub Took : Option (List ℕ) → List ℕ → Option (List ℕ) → Type 
 Took None given after = Unit {0}
 Took (Some before) given after = (rest : List ℕ) × (before ≡ given ++ rest) × (after ≡ Some rest)
 
+-- the content is the one before
+abbrev pub Stays : Option (List ℕ) → Option (List ℕ) → Type 0
+Stays None after = Unit {0}
+Stays (Some before) after = after ≡ Some before
+
 -- a source is at its end: no bytes are left
 abbrev pub AtEnd : Option (List ℕ) → Type 0
 AtEnd None = Unit {0}

@@ -1,7 +1,7 @@
 ghost use Rattle.std.specs.Prelude.{◌≡◌, ◌<◌, ◌≤◌, length, take, Some, IfOk, OnOk, OnErr, IsErr};
 ghost use Rattle.std.specs.List.{Contains};
 ghost use Rattle.desk_ports.specs.Faults.{NeverFalls, Rose, next_count};
-ghost use Rattle.desk_ports.specs.Content.{Appended};
+ghost use Rattle.desk_ports.specs.Content.{Appended, Stays};
 ghost use Rattle.desk_ports.specs.Memory.{next_call};
 
 use crate::{Bytes, FailList, Failed, Sink};
@@ -64,7 +64,7 @@ impl Sink for MemSink {
         ensures some { 0 < length from.now → IfOk result (λ count. 0 < count) }
         ensures taken { IfOk result
             (λ count. Appended (Some self.old.bytes) (take count from.now) (Some self.new.bytes)) }
-        ensures kept { OnErr result (Some self.new.bytes ≡ Some self.old.bytes) }
+        ensures kept { OnErr result (Stays (Some self.old.bytes) (Some self.new.bytes)) }
         ensures count { NeverFalls self.old.faults self.new.faults }
         ensures cause { OnErr result (Rose self.old.faults self.new.faults) }
 

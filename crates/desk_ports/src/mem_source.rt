@@ -1,7 +1,7 @@
 ghost use Rattle.std.specs.Prelude.{◌≡◌, ◌<◌, ◌≤◌, ◌↔◌, min, length, take, drop, Some, IfOk, OnOk, OnErr, IsErr};
 ghost use Rattle.std.specs.List.{Contains};
 ghost use Rattle.desk_ports.specs.Faults.{NeverFalls, Rose, next_count};
-ghost use Rattle.desk_ports.specs.Content.{Took, AtEnd};
+ghost use Rattle.desk_ports.specs.Content.{Took, AtEnd, Stays};
 ghost use Rattle.desk_ports.specs.Memory.{next_call};
 
 use crate::{Bytes, FailList, Failed, Source};
@@ -68,7 +68,7 @@ impl Source for MemSource {
         ensures within { IfOk result (λ count. count ≤ length into.old) }
         ensures given { IfOk result (λ count. Took (Some self.old.bytes) (take count into.new) (Some self.new.bytes)) }
         ensures ended { 0 < length into.old → IfOk result (λ count. count ≡ 0 → AtEnd (Some self.old.bytes)) }
-        ensures kept { OnErr result (Some self.new.bytes ≡ Some self.old.bytes) }
+        ensures kept { OnErr result (Stays (Some self.old.bytes) (Some self.new.bytes)) }
         ensures count { NeverFalls self.old.faults self.new.faults }
         ensures cause { OnErr result (Rose self.old.faults self.new.faults) }
 

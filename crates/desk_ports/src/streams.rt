@@ -1,6 +1,6 @@
 ghost use Rattle.std.specs.Prelude.{◌≡◌, ◌<◌, ◌≤◌, ℕ, List, length, take, Option, IfOk, OnOk, OnErr};
 ghost use Rattle.desk_ports.specs.Faults.{NeverFalls, Rose};
-ghost use Rattle.desk_ports.specs.Content.{Took, AtEnd, Appended, AppendedPart};
+ghost use Rattle.desk_ports.specs.Content.{Took, AtEnd, Appended, AppendedPart, Stays};
 
 /// A call of an object of the outside failed. The object's count of faults rose in that call.
 #[derive(Clone, Copy, Debug, PartialEq, Eq)]
@@ -20,7 +20,7 @@ pub trait Source {
         ensures within { IfOk result (λ count. count ≤ length into.old) }
         ensures given { IfOk result (λ count. Took (left self.old) (take count into.new) (left self.new)) }
         ensures ended { 0 < length into.old → IfOk result (λ count. count ≡ 0 → AtEnd (left self.old)) }
-        ensures kept { OnErr result (left self.new ≡ left self.old) }
+        ensures kept { OnErr result (Stays (left self.old) (left self.new)) }
         ensures count { NeverFalls (faults self.old) (faults self.new) }
         ensures cause { OnErr result (Rose (faults self.old) (faults self.new)) };
 }
@@ -39,7 +39,7 @@ pub trait Sink {
         ensures within { IfOk result (λ count. count ≤ length from.now) }
         ensures some { 0 < length from.now → IfOk result (λ count. 0 < count) }
         ensures taken { IfOk result (λ count. Appended (taken self.old) (take count from.now) (taken self.new)) }
-        ensures kept { OnErr result (taken self.new ≡ taken self.old) }
+        ensures kept { OnErr result (Stays (taken self.old) (taken self.new)) }
         ensures count { NeverFalls (faults self.old) (faults self.new) }
         ensures cause { OnErr result (Rose (faults self.old) (faults self.new)) };
 }

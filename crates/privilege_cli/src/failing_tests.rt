@@ -34,7 +34,7 @@ fn failing_sink(alloc: Global, call: u64) -> Result<MemSink, AllocError> {
 }
 
 /// The status of `local`.
-fn local<S: Source, K: Sink>(
+pub fn local<S: Source, K: Sink>(
     alloc: Global,
     source: &mut S,
     sink: &mut K,

@@ -19,6 +19,8 @@ mod program;
 mod root_policies;
 mod standard_streams;
 mod stops;
+#[cfg(test)]
+mod stream_tests;
 mod zeros;
 
 use standard_streams::{InputSource, OutputSink};

@@ -1,5 +1,5 @@
-//! Standard input and output as a source and a sink. They tell nothing of their content.
-ghost use Rattle.std.specs.Prelude.{None};
+//! Readers and writers of std as sources and sinks. They tell their content where the reader or the writer does: those in
+//! memory do, standard input and output do not.
 
 use desk_ports::{Failed, Sink, Source};
 use std::io::{Read, Write};
@@ -14,7 +14,7 @@ pub struct InputSource<R: Read + Drop> {
 impl<R: Read + Drop> Source for InputSource<R> {
     ghost faults = { λ source. source.faults };
 
-    ghost left = { λ _. None };
+    ghost left = { λ source. R.remaining source.reader };
 
     fn read(&mut self, into: &mut [u8]) -> Result<usize, Failed> {
         match self.reader.read(into) {
@@ -37,7 +37,7 @@ pub struct OutputSink<W: Write + Drop> {
 impl<W: Write + Drop> Sink for OutputSink<W> {
     ghost faults = { λ sink. sink.faults };
 
-    ghost taken = { λ _. None };
+    ghost taken = { λ sink. W.contents sink.writer };
 
     fn write(&mut self, from: &[u8]) -> Result<usize, Failed> {
         match self.writer.write(from) {
