@@ -7,6 +7,8 @@ mod access_tests;
 mod command_words;
 #[cfg(test)]
 mod failing_tests;
+#[cfg(test)]
+mod host_word_tests;
 mod host_words;
 #[cfg(test)]
 mod limit_tests;
