@@ -1,8 +1,8 @@
 // The words of the command line.
-ghost use Rattle.std.specs.Prelude.{◌≡◌, Some, IsTrue, IfOk};
+ghost use Rattle.std.specs.Prelude.{◌≡◌, None, IfOk};
 ghost use Rattle.std.specs.List.{list_any};
 ghost use Rattle.std.specs.String.{string_bytes};
-ghost use Rattle.smack_rules.specs.Modes.{is_request};
+ghost use Rattle.smack_rules.specs.Label.{label_fault};
 ghost use Rattle.privilege_cli.specs.Commands.{is_option, local_of, access_of, smack_access_of, command_of};
 ghost use Rattle.privilege_cli.specs.Commands.{Reads, AsksRequest};
 
@@ -112,7 +112,7 @@ fn read_access(
     if !asked.is_request() {
         return Err(CommandRefusal::Unknown);
     }
-    copy_labels(alloc, subject, object, asked)
+    copy_labels(alloc, subject, object, asked).map_err(CommandRefusal::Memory)
 }
 
 // The command with its labels copied from the words.
@@ -121,20 +121,14 @@ fn copy_labels(
     subject: &[u8],
     object: &[u8],
     asked: Modes,
-) -> Result<Command, CommandRefusal>
-    requires { IsTrue (is_request asked) }
-    ensures command { Reads result (Some (Command.SmackAccess subject.now object.now asked)) }
-    ensures asked { IfOk result AsksRequest }
+) -> Result<Command, AllocError>
+    requires subject { label_fault subject.now ≡ None }
+    requires object { label_fault object.now ≡ None }
+    ensures { IfOk result (λ command. command ≡ Command.SmackAccess subject.now object.now asked) }
 {
-    let Ok(subject) = Label::read(alloc, subject) else {
-        return Err(CommandRefusal::Memory(AllocError));
-    };
-    let Ok(object) = Label::read(alloc, object) else {
-        return Err(CommandRefusal::Memory(AllocError));
-    };
     Ok(Command::SmackAccess {
-        subject,
-        object,
+        subject: Label::of(alloc, subject)?,
+        object: Label::of(alloc, object)?,
         asked,
     })
 }

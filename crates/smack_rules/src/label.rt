@@ -57,10 +57,17 @@ impl Label {
         if let Some(fault) = label_fault(bytes) {
             return Err(fault);
         }
-        match Vec::from_slice(alloc, bytes) {
-            Ok(bytes) => Ok(Label { bytes }),
-            Err(error) => Err(LabelRefusal::Memory(error)),
-        }
+        Label::of(alloc, bytes).map_err(LabelRefusal::Memory)
+    }
+
+    /// The label with these bytes, in which [`label_fault`] finds no fault.
+    pub fn of(alloc: Global, bytes: &[u8]) -> Result<Label, AllocError>
+        requires { label_fault bytes.now ≡ None }
+        ensures { IfOk result (λ label. label ≡ bytes.now) }
+    {
+        Ok(Label {
+            bytes: Vec::from_slice(alloc, bytes)?,
+        })
     }
 
     /// The bytes of the label.
