@@ -1,0 +1,74 @@
+#!/usr/bin/env python3
+"""Times the program and the peer in `peer.rs` on the same inputs, in turn, and prints the best of three runs each. The two
+must answer alike. Build the program before, by `privilege`; the peer is built here, by `rustc`."""
+
+import pathlib
+import random
+import subprocess
+import tempfile
+import time
+
+HERE = pathlib.Path(__file__).resolve().parent
+PROGRAM = HERE.parent / "crates" / "privilege_cli" / "out" / "privilege_cli"
+MOST_BYTES = 16_777_216
+MOST_POLICIES = 65_536
+
+
+def filled(lines):
+    """A text of these lines, as many as it may have."""
+    text, size = [], 0
+    for line in lines:
+        size += len(line) + 1
+        if size > MOST_BYTES:
+            break
+        text.append(line)
+    return b"\n".join(text) + b"\n"
+
+
+def forever(line):
+    number = 0
+    while True:
+        yield line(number)
+        number += 1
+
+
+def inputs():
+    draw = random.Random(1)
+    rising = [b"set . c%05d u p allow" % number for number in range(MOST_POLICIES)]
+    mixed = draw.sample(rising, len(rising))
+    access = ["smack-access", "A", "X", "r"]
+    yield "16 MiB of checks, no policy", ["local"], filled(forever(lambda _: b"check c u p"))
+    yield "65,536 new keys, rising", ["local"], b"\n".join(rising) + b"\n"
+    yield "65,536 new keys, in any order", ["local"], b"\n".join(mixed) + b"\n"
+    yield "the same rising, and 1,000 checks", ["local"], b"\n".join(rising + 1000 * [b"check c00001 u p"]) + b"\n"
+    yield "16 MiB of rules for one pair", access, filled(forever(lambda _: b"A X rwx"))
+    yield "16 MiB of rules, new objects", access, filled(forever(lambda number: b"s%d o%d rx" % (number % 1000, number)))
+    yield "16 MiB of rules, new subjects", access, filled(forever(lambda number: b"s%d X rx" % number))
+    random_rule = lambda _: b"s%d o%d rx w" % (draw.randrange(10**6), draw.randrange(10))
+    random_rules = filled(forever(random_rule))
+    yield "16 MiB of rules, random pairs", access, random_rules
+    yield "the first half of them", access, random_rules[: random_rules.rindex(b"\n", 0, MOST_BYTES // 2) + 1]
+
+
+def timed(command, file):
+    with open(file, "rb") as text:
+        start = time.perf_counter()
+        done = subprocess.run(command, stdin=text, stdout=subprocess.PIPE, check=True)
+        return time.perf_counter() - start, done.stdout
+
+
+def main():
+    with tempfile.TemporaryDirectory() as folder:
+        peer, file = pathlib.Path(folder) / "peer", pathlib.Path(folder) / "input"
+        subprocess.run(["rustc", "--edition", "2021", "-O", "-o", peer, HERE / "peer.rs"], check=True)
+        print(f"{'':36}{'program':>10}{'peer':>10}{'lines':>12}")
+        for name, words, text in inputs():
+            file.write_bytes(text)
+            runs = [(timed([PROGRAM, *words], file), timed([peer, *words], file)) for _ in range(3)]
+            assert all(ours[1] == theirs[1] for ours, theirs in runs), name
+            ours = min(ours[0] for ours, _ in runs)
+            theirs = min(theirs[0] for _, theirs in runs)
+            print(f"{name:36}{ours:8.2f} s{theirs:8.2f} s{text.count(bytes([10])):12,}", flush=True)
+
+
+main()
