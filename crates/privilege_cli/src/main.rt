@@ -2,27 +2,17 @@
 #![tactic(auto)]
 
 mod access_run;
-#[cfg(test)]
-mod access_tests;
 mod command_words;
-#[cfg(test)]
-mod failing_tests;
-#[cfg(test)]
-mod host_word_tests;
 mod host_words;
-#[cfg(test)]
-mod limit_tests;
 mod local_run;
 mod local_script;
-#[cfg(test)]
-mod local_tests;
 mod ordered_policies;
 mod program;
 mod root_policies;
 mod standard_streams;
 mod stops;
 #[cfg(test)]
-mod stream_tests;
+mod tests;
 mod zeros;
 
 use standard_streams::{InputSource, OutputSink};

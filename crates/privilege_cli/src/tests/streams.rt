@@ -1,6 +1,6 @@
 //! `local` over readers and writers of std in memory.
 
-use crate::failing_tests::local;
+use super::failing_calls::local;
 use crate::standard_streams::{InputSource, OutputSink};
 use std::io::{self, ErrorKind, Read};
 use std::test::Fail;
