@@ -1,15 +1,13 @@
 #!/usr/bin/env python3
 """random_inputs.py COUNT SEED: runs the program and the models on so many random scripts and rule texts each, valid and
-broken, and ends with status 1 at the first that they answer differently. Build the program before, by `privilege`."""
+broken, and ends with status 1 at the first that they answer differently."""
 
-import pathlib
 import random
-import subprocess
 import sys
 
 import models
+from program import compare
 
-PROGRAM = pathlib.Path(__file__).resolve().parent.parent / "privilege"
 NAMES = [b"c", b"d", b"u", b"v", b"p", b"q", b"User::Pkg::x", b"http://tizen.org/privilege/camera", b"~", b"!", b"**", b"##", b"A" * 255]
 BAD_WORDS = [b"", b"#", b";", b"a;b", b"a\x7f", b"\x80", b"a\tb", b"A" * 256, b"\x00", b"\r", b"*;", b"\xc3\xa9", b"a/b"]
 LINES = [
@@ -58,18 +56,6 @@ class Inputs(random.Random):
             at = self.randrange(len(text))
             text = text[:at] + self.randbytes(1) + text[at + 1:]
         return text + self.choice([b"", b"\n"])
-
-
-def answer(words, text):
-    done = subprocess.run([PROGRAM, *words], input=text, capture_output=True)
-    return done.stdout, done.returncode
-
-
-def compare(words, text, wanted):
-    given = answer(words, text)
-    if given != wanted:
-        print(f"{words} on {text!r}\n  the program: {given}\n  the model:   {wanted}")
-        sys.exit(1)
 
 
 def main():
