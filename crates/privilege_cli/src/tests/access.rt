@@ -3,8 +3,9 @@
 ghost use Rattle.std.specs.Prelude.{IsTrue, IfSome};
 ghost use Rattle.smack_rules.specs.Modes.{is_request};
 
+use super::runs::{failing_sink, failing_source};
 use crate::access_run::run_access;
-use desk_ports::{Bytes, FailList, MemSink, MemSource};
+use desk_ports::{Bytes, MemSink};
 use smack_rules::{Label, Modes};
 use std::alloc::Global;
 use std::process::Abort;
@@ -78,8 +79,8 @@ fn run_on(
     let object = Label::read(alloc, object.as_bytes())?;
     let asked = request_of(modes).ok_or("no request")?;
     let [source_fails, sink_fails] = fails;
-    let mut source = MemSource::new(text, FailList::of([source_fails].to_vec(alloc)?))?;
-    let mut sink = MemSink::new(Bytes::new(alloc), FailList::of([sink_fails].to_vec(alloc)?))?;
+    let mut source = failing_source(alloc, text, source_fails)?;
+    let mut sink = failing_sink(alloc, sink_fails)?;
     let status = run_access(alloc, &subject, &object, asked, &mut source, &mut sink);
     Ok((status, sink))
 }

@@ -2,9 +2,8 @@
 
 ghost use Rattle.std.specs.Prelude.{Some};
 
-use crate::program::run;
-use desk_ports::{Bytes, FailList, Failed, MemSink, MemSource, Sink, Source};
-use std::alloc::{AllocError, Global};
+use super::runs::{failing_sink, failing_source, status_of};
+use desk_ports::{Bytes, Failed, MemSink, Sink};
 use std::test::Fail;
 
 /// A sink that takes one byte a call.
@@ -23,27 +22,6 @@ impl Sink for SlowSink {
     }
 }
 
-/// A source of which this call fails; 0 is none.
-fn failing_source(alloc: Global, input: Bytes, call: u64) -> Result<MemSource, AllocError> {
-    MemSource::new(input, FailList::of([call].to_vec(alloc)?))
-}
-
-/// A sink of which this call fails; 0 is none.
-fn failing_sink(alloc: Global, call: u64) -> Result<MemSink, AllocError> {
-    MemSink::new(Bytes::new(alloc), FailList::of([call].to_vec(alloc)?))
-}
-
-/// The status of `local`.
-pub fn local<S: Source, K: Sink>(
-    alloc: Global,
-    source: &mut S,
-    sink: &mut K,
-) -> Result<u8, AllocError> {
-    let mut words = Vec::new(alloc);
-    words.push(String::from_str(alloc, "local")?)?;
-    Ok(run(&(), alloc, &words, source, sink))
-}
-
 #[test]
 fn a_slow_sink_gets_the_same_bytes(rt: HostRuntime) -> Result<(), Fail> {
     let alloc = rt.alloc();
@@ -53,7 +31,7 @@ fn a_slow_sink_gets_the_same_bytes(rt: HostRuntime) -> Result<(), Fail> {
     let mut slow = SlowSink {
         sink: failing_sink(alloc, 0)?,
     };
-    assert_eq!(rt; local(alloc, &mut source, &mut slow)?, 0);
+    assert_eq!(rt; status_of(alloc, &["local"], &mut source, &mut slow)?, 0);
     let answers = b"ok 1\nok 2\ndeny 2 . c * p\nallow 2 . * * p\ndeny 2 . default\n";
     assert_eq!(rt; slow.sink.taken(), answers.as_slice());
     Ok(())
@@ -72,7 +50,7 @@ fn a_slow_sink_fails_within_an_answer(rt: HostRuntime) -> Result<(), Fail> {
             sink: failing_sink(alloc, call)?,
         };
         assert_eq!(rt;
-            local(alloc, &mut source, &mut slow)?,
+            status_of(alloc, &["local"], &mut source, &mut slow)?,
             status,
             "at call {call}"
         );
@@ -103,7 +81,7 @@ fn each_call_of_a_longer_run_may_fail(rt: HostRuntime) -> Result<(), Fail> {
         let mut source = failing_source(alloc, input, source_call)?;
         let mut sink = failing_sink(alloc, sink_call)?;
         assert_eq!(rt;
-            local(alloc, &mut source, &mut sink)?,
+            status_of(alloc, &["local"], &mut source, &mut sink)?,
             status,
             "at calls {source_call} and {sink_call}"
         );

@@ -1,15 +1,15 @@
 //! `local` with the most policies, and with the longest script.
 
-use crate::local_run::run_local;
-use desk_ports::{Bytes, FailList, MemSink, MemSource};
+use super::runs::{failing_sink, failing_source, status_of};
+use desk_ports::{Bytes, MemSink};
 use std::alloc::{AllocError, Global};
 use std::test::Fail;
 
 /// The status of `local` on a script, with the sink behind it.
 fn local_on(alloc: Global, script: Bytes) -> Result<(u8, MemSink), AllocError> {
-    let mut source = MemSource::new(script, FailList::of(Vec::new(alloc)))?;
-    let mut sink = MemSink::new(Bytes::new(alloc), FailList::of(Vec::new(alloc)))?;
-    let status = run_local(alloc, &mut source, &mut sink);
+    let mut source = failing_source(alloc, script, 0)?;
+    let mut sink = failing_sink(alloc, 0)?;
+    let status = status_of(alloc, &["local"], &mut source, &mut sink)?;
     Ok((status, sink))
 }
 

@@ -1,7 +1,7 @@
 //! Worked examples of the program, most of them of `local`.
 
-use crate::program::run;
-use desk_ports::{Bytes, FailList, MemSink, MemSource};
+use super::runs::{failing_sink, failing_source, status_of};
+use desk_ports::{Bytes, MemSink, MemSource};
 use std::alloc::{AllocError, Global};
 use std::process::Abort;
 use std::test::Fail;
@@ -53,31 +53,22 @@ fn refused(words: &'static [&'static str]) -> Case {
     }
 }
 
-fn strings(alloc: Global, words: &[&str]) -> Result<Vec<String>, AllocError> {
-    let mut strings = Vec::new(alloc);
-    for word in words {
-        strings.push(String::from_str(alloc, word)?)?;
-    }
-    Ok(strings)
-}
-
 /// The status of a run, with the source and the sink behind it.
-fn run_on(rt: &impl Abort, alloc: Global, case: &Case) -> Result<(u8, MemSource, MemSink), Fail> {
-    let words = strings(alloc, case.words)?;
+fn run_on(alloc: Global, case: &Case) -> Result<(u8, MemSource, MemSink), AllocError> {
     let mut input = Bytes::new(alloc);
     input.append(case.input.as_bytes())?;
     input.append(vec![in alloc; b'a'; case.letters]?.as_slice())?;
     let [source_fails, sink_fails] = case.fails;
-    let mut source = MemSource::new(input, FailList::of([source_fails].to_vec(alloc)?))?;
-    let mut sink = MemSink::new(Bytes::new(alloc), FailList::of([sink_fails].to_vec(alloc)?))?;
-    let status = run(rt, alloc, &words, &mut source, &mut sink);
+    let mut source = failing_source(alloc, input, source_fails)?;
+    let mut sink = failing_sink(alloc, sink_fails)?;
+    let status = status_of(alloc, case.words, &mut source, &mut sink)?;
     Ok((status, source, sink))
 }
 
 /// That each case ends as it should.
 fn end_as_wanted(rt: &impl Abort, alloc: Global, cases: &[Case]) -> Result<(), Fail> {
     for case in cases {
-        let (status, _, sink) = run_on(rt, alloc, case)?;
+        let (status, _, sink) = run_on(alloc, case)?;
         let input = case.input;
         let letters = case.letters;
         assert_eq!(rt; status, case.status, "on {input} and {letters} letters");
@@ -182,7 +173,7 @@ fn reads_nothing_for_words_that_are_no_command(rt: HostRuntime) -> Result<(), Fa
         },
     ];
     for case in &cases {
-        let (status, source, sink) = run_on(&rt, rt.alloc(), case)?;
+        let (status, source, sink) = run_on(rt.alloc(), case)?;
         assert_eq!(rt; status, 2);
         assert_eq!(rt; sink.taken(), case.written.as_bytes());
         assert_eq!(rt; source.left(), case.input.as_bytes());

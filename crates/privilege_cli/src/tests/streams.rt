@@ -1,6 +1,6 @@
 //! `local` over readers and writers of std in memory.
 
-use super::failing_calls::local;
+use super::runs::status_of;
 use crate::standard_streams::{InputSource, OutputSink};
 use std::io::{self, ErrorKind, Read};
 use std::test::Fail;
@@ -26,7 +26,10 @@ fn a_reader_and_a_writer_serve_as_input_and_output(rt: HostRuntime) -> Result<()
         writer: Vec::new(rt.alloc()),
         faults: 0,
     };
-    assert_eq!(rt; local(rt.alloc(), &mut source, &mut sink)?, 0);
+    assert_eq!(rt;
+        status_of(rt.alloc(), &["local"], &mut source, &mut sink)?,
+        0
+    );
     assert!(rt; source.reader.is_empty());
     assert_eq!(rt;
         sink.writer.as_slice(),
@@ -46,7 +49,10 @@ fn failing_calls_are_counted(rt: HostRuntime) -> Result<(), Fail> {
         writer: Vec::new(rt.alloc()),
         faults: 0,
     };
-    assert_eq!(rt; local(rt.alloc(), &mut broken, &mut sink)?, 4);
+    assert_eq!(rt;
+        status_of(rt.alloc(), &["local"], &mut broken, &mut sink)?,
+        4
+    );
     assert_eq!(rt; (broken.faults, sink.faults), (1, 0));
     // A slice takes no more than it has room for.
     let mut room = [0; 3];
@@ -58,7 +64,10 @@ fn failing_calls_are_counted(rt: HostRuntime) -> Result<(), Fail> {
         writer: room.as_mut_slice(),
         faults: 0,
     };
-    assert_eq!(rt; local(rt.alloc(), &mut source, &mut full)?, 5);
+    assert_eq!(rt;
+        status_of(rt.alloc(), &["local"], &mut source, &mut full)?,
+        5
+    );
     assert_eq!(rt; (source.faults, full.faults), (0, 1));
     assert_eq!(rt; room, *b"ok ");
     Ok(())
