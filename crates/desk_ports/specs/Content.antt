@@ -17,6 +17,11 @@ abbrev pub AtEnd : Option (List ℕ) → Type 0
 AtEnd None = Unit {0}
 AtEnd (Some left) = left ≡ []
 
+-- a source was read to its end
+abbrev pub ReadToEnd : Option (List ℕ) → Option (List ℕ) → Type 0
+ReadToEnd None after = Unit {0}
+ReadToEnd (Some before) after = after ≡ Some []
+
 -- a sink took all of these bytes, behind those that it had taken before
 abbrev pub Appended : Option (List ℕ) → List ℕ → Option (List ℕ) → Type 0
 Appended None more after = Unit {0}

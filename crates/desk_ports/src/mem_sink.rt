@@ -1,6 +1,6 @@
 ghost use Rattle.std.specs.Prelude.{◌≡◌, ◌<◌, ◌≤◌, length, take, Some, IfOk, OnOk, OnErr, IsErr};
 ghost use Rattle.std.specs.List.{Contains};
-ghost use Rattle.desk_ports.specs.Faults.{NeverFalls, Rose, next_count};
+ghost use Rattle.desk_ports.specs.Faults.{NeverFalls, CountsFailure};
 ghost use Rattle.desk_ports.specs.Content.{Appended, Stays};
 ghost use Rattle.desk_ports.specs.Memory.{next_call};
 
@@ -65,20 +65,19 @@ impl Sink for MemSink {
         ensures taken { IfOk result
             (λ count. Appended (Some self.old.bytes) (take count from.now) (Some self.new.bytes)) }
         ensures kept { OnErr result (Stays (Some self.old.bytes) (Some self.new.bytes)) }
-        ensures count { NeverFalls self.old.faults self.new.faults }
-        ensures cause { OnErr result (Rose self.old.faults self.new.faults) }
+        ensures count { CountsFailure result self.old.faults self.new.faults }
+        ensures bound { NeverFalls self.old.faults self.new.faults }
 
         // More than any sink promises: which calls fail, that one takes the whole piece, and what stays.
         ensures listed { Contains self.old.fails (next_call self.old) → IsErr result }
         ensures whole { IfOk result (λ count. count ≡ length from.now) }
         ensures calls { self.new.calls ≡ next_call self.old }
         ensures fails { self.new.fails ≡ self.old.fails }
-        ensures faultless { OnOk result (self.new.faults ≡ self.old.faults) }
-        ensures faulted { OnErr result (self.new.faults ≡ next_count self.old.faults) }
     {
+        let faults = self.faults;
         self.calls = self.calls.saturating_add(1);
         if self.fails.fails(self.calls) || self.bytes.append(from).is_err() {
-            self.faults = self.faults.saturating_add(1);
+            self.faults = faults.saturating_add(1);
             return Err(Failed);
         }
         Ok(from.len())

@@ -1,6 +1,6 @@
 ghost use Rattle.std.specs.Prelude.{◌≡◌, ◌<◌, ◌≤◌, ◌↔◌, min, length, take, drop, Some, IfOk, OnOk, OnErr, IsErr};
 ghost use Rattle.std.specs.List.{Contains};
-ghost use Rattle.desk_ports.specs.Faults.{NeverFalls, Rose, next_count};
+ghost use Rattle.desk_ports.specs.Faults.{NeverFalls, CountsFailure};
 ghost use Rattle.desk_ports.specs.Content.{Took, AtEnd, Stays};
 ghost use Rattle.desk_ports.specs.Memory.{next_call};
 
@@ -69,8 +69,8 @@ impl Source for MemSource {
         ensures given { IfOk result (λ count. Took (Some self.old.bytes) (take count into.new) (Some self.new.bytes)) }
         ensures ended { 0 < length into.old → IfOk result (λ count. count ≡ 0 → AtEnd (Some self.old.bytes)) }
         ensures kept { OnErr result (Stays (Some self.old.bytes) (Some self.new.bytes)) }
-        ensures count { NeverFalls self.old.faults self.new.faults }
-        ensures cause { OnErr result (Rose self.old.faults self.new.faults) }
+        ensures count { CountsFailure result self.old.faults self.new.faults }
+        ensures bound { NeverFalls self.old.faults self.new.faults }
 
         // More than any source promises: which calls fail, how many bytes one gives, and what stays.
         ensures listed { IsErr result ↔ Contains self.old.fails (next_call self.old) }
@@ -79,12 +79,11 @@ impl Source for MemSource {
         ensures untouched { OnErr result (into.new ≡ into.old) }
         ensures calls { self.new.calls ≡ next_call self.old }
         ensures fails { self.new.fails ≡ self.old.fails }
-        ensures faultless { OnOk result (self.new.faults ≡ self.old.faults) }
-        ensures faulted { OnErr result (self.new.faults ≡ next_count self.old.faults) }
     {
+        let faults = self.faults;
         self.calls = self.calls.saturating_add(1);
         if self.fails.fails(self.calls) {
-            self.faults = self.faults.saturating_add(1);
+            self.faults = faults.saturating_add(1);
             return Err(Failed);
         }
         let left = &self.bytes.as_slice()[self.given..];

@@ -1,5 +1,5 @@
 -- Texts as lists of lines.
-use Rattle.std.specs.Prelude.{◌≡◌, ℕ, Bool, false, List, [], ◌∷◌, ◌++◌, map, if◌then◌else◌, ◌==◌, ◌⊎◌}
+use Rattle.std.specs.Prelude.{◌≡◌, ◌≢◌, ◌-◌, nat_lt, ℕ, Bool, false, List, [], ◌∷◌, ◌++◌, length, map, if◌then◌else◌, ◌==◌, ◌⊎◌, Option, Some, None}
 use Rattle.std.specs.List.{AllByRecursion, onto_first}
 use Rattle.text_lines.specs.declared.TheConstants.{NEWLINE}
 
@@ -27,3 +27,14 @@ lines_of text = map line_of (pieces_of text)
 -- The text is this line, and behind it a newline and these bytes. The last line may lack its newline, with no bytes behind.
 abbrev pub IsFirstLine : List ℕ → List ℕ → List ℕ → Type 0
 IsFirstLine text line rest = HasNoNewline line × ((text ≡ line ++ NEWLINE ∷ rest) ⊎ ((text ≡ line) × (rest ≡ [])))
+
+-- a piece of a text holds this line: with its newline, or the bytes of a last line without one
+abbrev pub IsPieceOf : List ℕ → List ℕ → Type 0
+IsPieceOf line piece = HasNoNewline line × ((piece ≡ line ++ NEWLINE ∷ []) ⊎ ((piece ≡ line) × (line ≢ [])))
+
+-- The lines of a text that may have so many bytes, given as its pieces. `None` stands for the line in which a byte past
+-- that stands, and nothing comes behind it.
+abbrev pub lines_within : ℕ → List (List ℕ) → List (Option (List ℕ))
+lines_within room [] = []
+lines_within room (piece ∷ pieces) =
+    if nat_lt room (length piece) then None ∷ [] else Some (line_of piece) ∷ lines_within (room - length piece) pieces

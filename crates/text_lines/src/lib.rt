@@ -5,6 +5,13 @@ ghost use Rattle.std.specs.Prelude.{◌≡◌, ◌+◌, ◌<◌, [], ◌∷◌, 
 ghost use Rattle.text_lines.specs.Lines.{lines_of, HasNoNewline, IsFirstLine};
 ghost use Rattle.text_lines.specs.declared.TheConstants.{NEWLINE};
 
+mod line_reader;
+mod refusal;
+mod window;
+
+pub use line_reader::LineReader;
+pub use refusal::ReadRefusal;
+
 /// The byte that ends a line.
 pub const NEWLINE: u8 = b'\n';
 
