@@ -4,6 +4,7 @@
 #![tactic(auto)]
 
 mod answers;
+mod line_fault;
 mod line_words;
 mod print_parts;
 mod steps;
@@ -11,4 +12,5 @@ mod steps;
 mod tests;
 
 pub use answers::{LineAnswer, command_line_fault, print};
+pub use line_fault::write_line_fault;
 pub use steps::{LineRefusal, Reader, Step};

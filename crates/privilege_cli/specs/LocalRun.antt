@@ -1,38 +1,35 @@
--- What a run of `local` has read and written by the time that it ends, where source and sink tell their content.
-use Rattle.std.specs.Prelude.{◌≡◌, ℕ, List, [], ◌∷◌, ◌++◌}
-use Rattle.text_lines.specs.Lines.{HasNoNewline}
-use Rattle.line_script.specs.Answers.{line_fault_text}
-use Rattle.privilege_cli.specs.Contents.{AreWholeLines, IsFront, AreWritten}
-use Rattle.privilege_cli.specs.Script.{script}
+-- What a run of `local` has read and answered by the time that it ends.
+use Rattle.std.specs.Prelude.{◌≡◌, ◌≤◌, ◌⊎◌, List, [], ◌++◌, length, ℕ, Some, None}
+use Rattle.text_lines.specs.Lines.{HasNoNewline, AreWholeLines}
+use Rattle.privilege_cli.specs.State.{State}
+use Rattle.privilege_cli.specs.Script.{read_script, replies}
+use Rattle.privilege_cli.specs.declared.limits.TheConstants.{MOST_LINE_BYTES}
+use Rattle.privilege_cli.specs.declared.ending.Ending.{Ending}
+use Rattle.privilege_cli.specs.declared.ending.Ending.TheVariants.{Done, Memory, Words, Line, Source, Sink}
 
--- Status 0: the input is read to its end, and each of its lines is answered.
-pub record IsDone (input left written : List ℕ) : Type 0 where
-  pub read : left ≡ []
-  pub answered : script input ≡ record { answers = written; last = []; status = 0 }
-
--- Status 1: the answers begin so.
-abbrev pub IsCutShort : List ℕ → List ℕ → List ℕ → Type 0
-IsCutShort input left written = IsFront written (script input).answers
-
--- Status 3: a line is outside the grammar. The answers to the lines before it are written, and then its number, which is
--- cut only where the sink failed.
-pub record IsStoppedAtLine (Failed : Type 0) (input left written : List ℕ) : Type 0 where
-  pub line : ℕ
-  pub answers : List ℕ
-  pub last : List ℕ
-  pub stopped : script input ≡ record { answers = answers; last = line_fault_text line; status = 3 }
-  pub answered : written ≡ answers ++ last
-  pub named : AreWritten Failed (line_fault_text line) last
-
--- Status 4: the whole lines that were read are answered, and what was read behind them is no whole line.
-pub record AreAnswered (input left written : List ℕ) : Type 0 where
+-- Some whole lines at the front of the input were answered, all of them right. Other bytes were read behind them. At the
+-- end of the input the last line needs no newline.
+pub record AnswersLines (start : State) (input left answers : List ℕ) : Type 0 where
   pub lines : List ℕ
-  pub part : List ℕ
-  pub read : input ≡ (lines ++ part) ++ left
-  pub whole : AreWholeLines lines
-  pub unfinished : HasNoNewline part
-  pub answered : script lines ≡ record { answers = written; last = []; status = 0 }
+  pub behind : List ℕ
+  pub parts : input ≡ (lines ++ behind) ++ left
+  pub whole : AreWholeLines lines ⊎ (behind ++ left ≡ [])
+  pub right : (read_script lines).wrong ≡ None
+  pub answered : answers ≡ replies start (read_script lines).steps
 
--- Status 5: the answers begin so, and go on.
-abbrev pub IsUnfinished : List ℕ → List ℕ → List ℕ → Type 0
-IsUnfinished input left written = (byte : ℕ) × (rest : List ℕ) × ((script input).answers ≡ written ++ byte ∷ rest)
+-- All whole lines that were read were answered. What was read behind them is no whole line, and no longer than one may be.
+pub record AnswersAllRead (start : State) (input left answers : List ℕ) : Type 0 where
+  pub answers_lines : AnswersLines start input left answers
+  pub unfinished : HasNoNewline answers_lines.behind
+  pub short : length answers_lines.behind ≤ MOST_LINE_BYTES
+
+-- The input, what is left of it, and the answers, for each way in which the run ends.
+abbrev pub LocalAnswers : State → Ending → List ℕ → List ℕ → List ℕ → Type 0
+LocalAnswers start Done input left answers =
+    (left ≡ []) × ((read_script input).wrong ≡ None) × (answers ≡ replies start (read_script input).steps)
+LocalAnswers start (Line number) input left answers =
+    ((read_script input).wrong ≡ Some number) × (answers ≡ replies start (read_script input).steps)
+LocalAnswers start Memory input left answers = AnswersLines start input left answers
+LocalAnswers start Source input left answers = AnswersAllRead start input left answers
+LocalAnswers start Sink input left answers = AnswersLines start input left answers
+LocalAnswers start Words input left answers = ⊥

@@ -1,87 +1,94 @@
-// A running script: the answers to its lines, one after another.
-ghost use Rattle.std.specs.Prelude.{◌≡◌, ◌+◌, ◌≤◌, ◌<◌, [], ℕ, List, length, MatchResult, OnErr};
-ghost use Rattle.text_lines.specs.Lines.{line_of};
-ghost use Rattle.privilege_cli.specs.Script.{start};
+// A script that is being answered, line by line.
+ghost use Rattle.std.specs.Prelude.{◌≡◌, ◌+◌, ◌<◌, ◌≤◌, ◌^◌, [], MatchResult};
+ghost use Rattle.privilege_cli.specs.State.{fresh};
 
+use crate::ending::Ending;
 use crate::root_policies::RootPolicies;
-use crate::stops::Stop;
-use desk_ports::Bytes;
+use desk_ports::{Bytes, Sink, Source, write_all};
 use line_script::{LineRefusal, Reader};
 use std::alloc::Global;
-use text_lines::split_at_newline;
+use text_lines::LineReader;
 
-/// The most bytes of a line, without its newline.
-pub const MOST_IN_LINE: usize = 65_535;
-
-/// The most bytes of a script.
-const MOST_IN_SCRIPT: usize = 16_777_216;
-
-/// A script, and the answers that the sink hasn't taken yet.
+/// What a script has made of the policies, and the answers that the sink hasn't taken yet.
 #[derive(Drop)]
 pub struct LocalScript {
     pub reader: Reader,
     pub root: RootPolicies,
     pub answers: Bytes,
-    /// The number of the next line, from 1.
-    pub line: u32,
-    /// How many bytes the script may still have.
-    pub room: usize,
-    ghost counted: { root.commit + 1 ≤ line },
-    ghost numbered: { line + room ≤ 16777217 },
 }
 
 impl LocalScript {
-    ghost use Rattle.privilege_cli.specs.LocalScript.{position_of, AnswersPiece, AnswersLines, StopsInLines};
-    ghost use Rattle.privilege_cli.specs.Stop.{StopsAtPiece};
+    ghost use Rattle.privilege_cli.specs.parts.Local.{AnswersLine, RefusesLine, Turns, Flushes, HandsOver, counts_source, counts_sink};
 
-    /// A script from its first line on.
+    /// A script before its first line.
     pub fn new(alloc: Global) -> LocalScript
-        ensures position { position_of result ≡ start }
+        ensures state { result.root ≡ fresh }
         ensures answers { result.answers ≡ [] }
     {
         LocalScript {
             reader: Reader::new(alloc),
             root: RootPolicies::new(alloc),
             answers: Bytes::new(alloc),
-            line: 1,
-            room: MOST_IN_SCRIPT,
         }
     }
 
-    /// Answers a line that takes so many bytes of the script, its newline among them where it has one.
-    pub fn answer_line(&mut self, line: &[u8], size: usize) -> Result<(), Stop>
-        requires { 0 < size }
-        ensures answered { (piece : List ℕ) → line_of piece ≡ line.now → length piece ≡ size →
-            MatchResult result
-            (λ _. AnswersPiece self.old self.new piece)
-            (λ stop. StopsAtPiece stop (position_of self.old) piece) }
-        ensures err { OnErr result (self.new.answers ≡ self.old.answers) }
+    /// Answers the next line of the script, if one is left. The sink takes the answers that wait before the source is
+    /// read, and where no line is left.
+    pub fn answer_next<S: Source, K: Sink>(
+        &mut self,
+        lines: &mut LineReader,
+        source: &mut S,
+        sink: &mut K,
+    ) -> Result<bool, Ending>
+        requires { self.old.root.commit + 1 < 2 ^ 64 }
+        ensures turn { Turns (S.left source.old) (S.left source.new) (K.taken sink.old) (K.taken sink.new)
+            self.old self.new lines.old lines.new result }
+        ensures source { S.faults source.new ≡ counts_source result (S.faults source.old) }
+        ensures sink { K.faults sink.new ≡ counts_sink result (K.faults sink.old) }
     {
-        if size > self.room || line.len() > MOST_IN_LINE {
-            return Err(Stop::Line(self.line));
+        self.hand_over(lines, sink)?;
+        if !lines.next(source)? {
+            return Ok(false);
         }
+        self.answer_line(lines.line(), lines.number())?;
+        Ok(true)
+    }
+
+    // Has the sink take the answers that wait, unless a further line waits to be answered.
+    fn hand_over<K: Sink>(&mut self, lines: &mut LineReader, sink: &mut K) -> Result<(), Ending>
+        ensures handed { HandsOver (K.taken sink.old) (K.taken sink.new) self.old self.new lines.old result }
+        ensures lines { lines.new ≡ lines.old }
+        ensures count { K.faults sink.new ≡ counts_sink result (K.faults sink.old) }
+    {
+        if lines.has_line() {
+            return Ok(());
+        }
+        self.flush(sink)
+    }
+
+    // Answers the line with this number.
+    fn answer_line(&mut self, line: &[u8], number: u32) -> Result<(), Ending>
+        requires { self.old.root.commit + 1 < 2 ^ 64 }
+        ensures { MatchResult result (λ _. AnswersLine self.old self.new line.now) (RefusesLine self.old self.new line.now number) }
+    {
         let step = match self.reader.line(line) {
             Ok(step) => step,
-            Err(LineRefusal::Syntax) => return Err(Stop::Line(self.line)),
-            Err(LineRefusal::Memory(_)) => return Err(Stop::Memory),
+            Err(LineRefusal::Syntax) => return Err(Ending::Line(number)),
+            Err(LineRefusal::Memory(_)) => return Err(Ending::Memory),
         };
         self.root.answer(step, &mut self.answers)?;
-        self.line += 1;
-        self.room -= size;
         Ok(())
     }
 
-    /// Answers the whole lines of these bytes, and says how many bytes are left behind them.
-    pub fn answer_lines(&mut self, bytes: &[u8]) -> Result<usize, Stop>
-        ensures lines { MatchResult result
-            (AnswersLines self.old self.new bytes.now)
-            (λ stop. StopsInLines stop self.old self.new bytes.now) }
+    /// Has the sink take the answers that wait.
+    pub fn flush<K: Sink>(&mut self, sink: &mut K) -> Result<(), Ending>
+        ensures flush { Flushes (K.taken sink.old) (K.taken sink.new) self.old self.new result }
+        ensures count { K.faults sink.new ≡ counts_sink result (K.faults sink.old) }
     {
-        let mut rest = bytes;
-        while let Some((line, after)) = split_at_newline(rest) {
-            self.answer_line(line, line.len() + 1)?;
-            rest = after;
+        if write_all(sink, self.answers.as_slice()).is_err() {
+            return Err(Ending::Sink);
         }
-        Ok(rest.len())
+        self.answers.clear();
+        Ok(())
     }
 }

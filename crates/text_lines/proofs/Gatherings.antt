@@ -15,6 +15,8 @@ Keeps-nothing left reading =
     record {
       given = [];
       took = Took-nothing left;
+      ended = λ _. refl;
+      stays_ended = λ ended. ended;
       waiting = sym (append-nil reading.waiting);
       number = refl;
       room = refl;
@@ -27,6 +29,8 @@ module _ {left left_now left_after : Option (List ℕ)} {old now new : LineReadi
       record {
         given = first.given ++ second.given;
         took = Took-then left left_now left_after first.given second.given first.took second.took;
+        ended = λ ended. ap (λ given. given ++ second.given) (first.ended ended) ∙ second.ended (first.stays_ended ended);
+        stays_ended = λ ended. second.stays_ended (first.stays_ended ended);
         waiting = second.waiting
             ∙ (ap (λ waiting. waiting ++ second.given) first.waiting ∙ append_assoc old.waiting first.given second.given);
         number = second.number ∙ first.number;

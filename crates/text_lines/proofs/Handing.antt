@@ -88,7 +88,7 @@ pub HandsOutNext-gathered : {left left_after : Option (List ℕ)} {old now : Lin
     → (result : Result Bool ReadRefusal)
     → Keeps left left_after old now → HandsOutWaiting now new result → HandsOutNext left left_after old new result
 HandsOutNext-gathered new (Ok true) kept waiting =
-    record { given = kept.given; took = kept.took; handed_out = followed kept waiting.0 }
+    record { given = kept.given; took = kept.took; ended = kept.ended; handed_out = followed kept waiting.0 }
 HandsOutNext-gathered {left = left} {left_after = after} {old = old} new (Ok false) kept waiting =
     record {
       kept = subst (λ new. Keeps left after old new) (sym waiting.0) kept;

@@ -50,12 +50,15 @@ module _ (left left_after : Option (List ℕ)) (old new : LineReading) where
   pub record HandsOut : Type 0 where
     pub given : List ℕ
     pub took : Took left given left_after
+    pub ended : old.is_ended ≡ true → given ≡ []
     pub handed_out : IsHandedOut (followed_by old given) new
 
   -- What the source gave waits behind what waited. No line was handed out.
   pub record Keeps : Type 0 where
     pub given : List ℕ
     pub took : Took left given left_after
+    pub ended : old.is_ended ≡ true → given ≡ []
+    pub stays_ended : old.is_ended ≡ true → new.is_ended ≡ true
     pub waiting : new.waiting ≡ old.waiting ++ given
     pub number : new.number ≡ old.number
     pub room : new.room ≡ old.room

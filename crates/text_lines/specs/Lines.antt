@@ -32,6 +32,10 @@ IsFirstLine text line rest = HasNoNewline line × ((text ≡ line ++ NEWLINE ∷
 abbrev pub IsPieceOf : List ℕ → List ℕ → Type 0
 IsPieceOf line piece = HasNoNewline line × ((piece ≡ line ++ NEWLINE ∷ []) ⊎ ((piece ≡ line) × (line ≢ [])))
 
+-- no line is begun behind the last newline
+abbrev pub AreWholeLines : List ℕ → Type 0
+AreWholeLines bytes = (bytes ≡ []) ⊎ ((front : List ℕ) × (bytes ≡ front ++ NEWLINE ∷ []))
+
 -- The lines of a text that may have so many bytes, given as its pieces. `None` stands for the line in which a byte past
 -- that stands, and nothing comes behind it.
 abbrev pub lines_within : ℕ → List (List ℕ) → List (Option (List ℕ))

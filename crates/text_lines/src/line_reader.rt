@@ -133,7 +133,8 @@ impl LineReader {
 
     // Reads once from the source. Drops the line in hand.
     fn read_more<S: Source>(&mut self, source: &mut S) -> Result<(), ReadRefusal>
-        requires { length self.old.waiting ≤ self.old.room }
+        requires within { length self.old.waiting ≤ self.old.room }
+        requires running { self.old.is_ended ≡ false }
         ensures kept { Keeps (S.left source.old) (S.left source.new) self.old self.new }
         ensures more { OnOk result (ReadsMore (S.left source.old) (S.left source.new) self.old self.new) }
         ensures err { IfErr result (FailsToRead self.old self.new) }

@@ -1,0 +1,28 @@
+use Rattle.std.proofs.Common.{subst, Ok, Err, false}
+use Rattle.std.proofs.lemmas.Result.{err_from_is_err_and}
+use Rattle.text_lines.specs.LineReader.{HandsOutNext, Ends, EndsReading}
+use Rattle.privilege_cli.proofs.Turning.{Turns-refused, Turns-ended}
+use Rattle.privilege_cli.proofs.local_script.LocalScript.answer_next.Goals as goal
+
+pub returns-in_err-next-clause-turn : goal.returns-in_err-next-clause-turn
+returns-in_err-next-clause-turn g c =
+    let exit = err_from_is_err_and c.from_residual-in_err-next.result c.from_residual-in_err-next.ensures.1 in
+    let refusal = c.in_err-next.field-0.0 in
+    rw (exit.1, exit.2)
+    (Turns-refused _ _ _ _ c.args.self.now c.hand_over.new.self c.args.lines.now c.next.new.self
+    c.in_ok-hand_over.ensures.handed refusal
+    (subst (λ old. EndsReading (g.S.Source.left c.args.source.now) (g.S.Source.left c.next.new.source) old c.next.new.self)
+    c.hand_over.ensures.lines c.in_err-next.ensures.ended)
+    (subst (λ old. HandsOutNext (g.S.Source.left c.args.source.now) (g.S.Source.left c.next.new.source) old c.next.new.self (Err refusal))
+    c.hand_over.ensures.lines c.in_err-next.ensures.next))
+
+pub returns-then-not-branch-clause-turn : goal.returns-then-not-branch-clause-turn
+returns-then-not-branch-clause-turn g c =
+    let left = g.S.Source.left c.args.source.now in
+    let left_after = g.S.Source.left c.next.new.source in
+    let ends = subst (λ found. HandsOutNext left left_after c.hand_over.new.lines c.next.new.self (Ok found)) c.if-not-branch.true
+    c.in_ok-next.ensures.next in
+    Turns-ended _ _ _ _ c.args.self.now c.hand_over.new.self c.args.lines.now c.next.new.self
+    c.in_ok-hand_over.ensures.handed
+    (subst (λ old. Ends left left_after old c.next.new.self) c.hand_over.ensures.lines ends)
+    (subst (λ old. EndsReading left left_after old c.next.new.self) c.hand_over.ensures.lines c.in_ok-next.ensures.ended)

@@ -1,0 +1,4 @@
+pub mod Endings
+pub mod Local
+pub mod Progress
+pub mod Runs

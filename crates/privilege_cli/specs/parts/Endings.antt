@@ -1,0 +1,23 @@
+-- Which ending a narrower refusal is.
+use Rattle.std.specs.Prelude.{◌≡◌}
+use Rattle.text_lines.specs.declared.refusal.ReadRefusal.{ReadRefusal}
+use Rattle.text_lines.specs.declared.refusal.ReadRefusal.TheVariants.{PastLimit, Source as SourceFailed, Memory as NoMemory}
+use Rattle.privilege_cli.specs.declared.command_words.CommandRefusal.{CommandRefusal}
+use Rattle.privilege_cli.specs.declared.command_words.CommandRefusal.TheVariants.{Unknown, Memory as NoMemoryForWords}
+use Rattle.privilege_cli.specs.declared.ending.Ending.{Ending}
+use Rattle.privilege_cli.specs.declared.ending.Ending.TheVariants.{Memory, Words, Line, Source}
+
+abbrev pub command_ending : CommandRefusal → Ending
+command_ending Unknown = Words
+command_ending (NoMemoryForWords error) = Memory
+
+abbrev pub reading_ending : ReadRefusal → Ending
+reading_ending (PastLimit number) = Line number
+reading_ending SourceFailed = Source
+reading_ending (NoMemory error) = Memory
+
+abbrev pub RefusesCommand : CommandRefusal → Ending → Type 0
+RefusesCommand refusal ending = ending ≡ command_ending refusal
+
+abbrev pub RefusesLine : ReadRefusal → Ending → Type 0
+RefusesLine refusal ending = ending ≡ reading_ending refusal

@@ -1,0 +1,67 @@
+-- How far a script is read and answered.
+use Rattle.std.specs.Prelude.{◌≡◌, ◌≤◌, ◌+◌, ◌⊎◌, ℕ, true, List, [], ◌++◌, Option, Result, Ok, Err}
+use Rattle.desk_ports.specs.Content.{Took, ReadToEnd, Appended}
+use Rattle.text_lines.specs.Lines.{pieces_of, lines_within, AreWholeLines}
+use Rattle.text_lines.specs.LineReader.{LineReading}
+use Rattle.line_script.specs.declared.steps.Step.{Step}
+use Rattle.privilege_cli.specs.State.{fresh}
+use Rattle.privilege_cli.specs.Script.{Script, read_lines, read_script, replies}
+use Rattle.privilege_cli.specs.Outside.{Outside, Had}
+use Rattle.privilege_cli.specs.Ending.{IsCut}
+use Rattle.privilege_cli.specs.LocalRun.{LocalAnswers, AnswersLines}
+use Rattle.privilege_cli.specs.declared.limits.TheConstants.{MOST_LINE_BYTES, MOST_SCRIPT_BYTES}
+use Rattle.privilege_cli.specs.declared.ending.Ending.{Ending}
+use Rattle.privilege_cli.specs.declared.ending.Ending.TheVariants.{Done, Memory, Words, Line, Source, Sink}
+use Rattle.privilege_cli.specs.declared.local_script.LocalScript.{LocalScript}
+
+-- a script with these steps before its other ones
+abbrev pub with_steps : List Step → Script → Script
+with_steps steps script = record script { steps = steps ++ script.steps }
+
+-- the source has given its end, and nothing waits
+abbrev pub IsOver : LineReading → Type 0
+IsOver reading = (reading.is_ended ≡ true) × (reading.waiting ≡ [])
+
+-- These lines were read and answered; what is written and what waits are the answers, whatever follows.
+pub record Progress (left left_now taken taken_now : Option (List ℕ)) (now : LocalScript) (reading : LineReading) : Type 0 where
+  pub lines : List ℕ
+  pub written : List ℕ
+  pub steps : List Step
+  pub took : Took left (lines ++ reading.waiting) left_now
+  pub appended : Appended taken written taken_now
+  pub whole : AreWholeLines lines ⊎ IsOver reading
+  pub read : (more : List ℕ) → (IsOver reading → more ≡ [])
+      → read_script (lines ++ more) ≡ with_steps steps (read_lines (reading.number + 1) (lines_within reading.room (pieces_of more)))
+  pub answered : (later : List Step) → replies fresh (steps ++ later) ≡ (written ++ now.answers) ++ replies now.root later
+  pub ended : reading.is_ended ≡ true → ReadToEnd left left_now
+  pub longest : reading.longest ≡ MOST_LINE_BYTES
+  pub counted : now.root.commit ≤ reading.number
+  pub within : reading.number + reading.room ≤ MOST_SCRIPT_BYTES
+
+abbrev pub ending_of : Result (Unit {0}) Ending → Ending
+ending_of (Ok value) = Done
+ending_of (Err ending) = ending
+
+-- what was handed to the sink of these answers, and what waits of them
+abbrev pub AreHanded : Ending → List ℕ → List ℕ → List ℕ → Type 0
+AreHanded Done answers written waiting = (written ≡ answers) × (waiting ≡ [])
+AreHanded Source answers written waiting = (written ≡ answers) × (waiting ≡ [])
+AreHanded Sink answers written waiting = IsCut written answers
+AreHanded ending answers written waiting = answers ≡ written ++ waiting
+
+-- a script is read and answered so; before a wrong line, whole lines are
+abbrev pub IsAnswered : Ending → List ℕ → List ℕ → List ℕ → Type 0
+IsAnswered (Line number) input rest answers =
+    LocalAnswers fresh (Line number) input rest answers × AnswersLines fresh input rest answers
+IsAnswered ending input rest answers = LocalAnswers fresh ending input rest answers
+
+-- a script is read and answered as this ending says, but for the answers that wait
+pub record Answers (ending : Ending) (waiting : List ℕ) (left left_after taken taken_after : Option (List ℕ)) : Type 0 where
+  pub input : List ℕ
+  pub rest : List ℕ
+  pub answers : List ℕ
+  pub written : List ℕ
+  pub had : Had left left_after input rest
+  pub answered : IsAnswered ending input rest answers
+  pub appended : Appended taken written taken_after
+  pub handed : AreHanded ending answers written waiting

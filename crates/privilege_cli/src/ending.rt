@@ -1,0 +1,97 @@
+//! The ways in which a run ends.
+
+ghost use Rattle.std.specs.Prelude.{◌≡◌, List, ℕ};
+ghost use Rattle.desk_ports.specs.Content.{Appended};
+
+use crate::command_words::CommandRefusal;
+use desk_ports::{Sink, write_all};
+use line_script::{command_line_fault, write_line_fault};
+use std::alloc::AllocError;
+use text_lines::ReadRefusal;
+
+/// How a run ends: with its work done, or by the first thing that stopped it.
+#[derive(Clone, Copy, Debug, PartialEq, Eq)]
+pub enum Ending {
+    /// The command did its work.
+    Done,
+    /// Memory ran out.
+    Memory,
+    /// The words are no command.
+    Words,
+    /// The line with this number, from 1, is outside its grammar.
+    Line(u32),
+    /// A call of the source failed.
+    Source,
+    /// A call of the sink failed.
+    Sink,
+}
+
+impl Ending {
+    ghost use Rattle.privilege_cli.specs.Ending.{status_of, last_line, IsTried};
+
+    /// The status of the run.
+    pub fn status(self) -> u8
+        ensures { result ≡ status_of self }
+    {
+        match self {
+            Ending::Done => 0,
+            Ending::Memory => 1,
+            Ending::Words => 2,
+            Ending::Line(_) => 3,
+            Ending::Source => 4,
+            Ending::Sink => 5,
+        }
+    }
+
+    /// Has the sink take the last line of the run, where the ending has one. It takes no memory; where a call of the
+    /// sink fails, the line is cut there.
+    pub fn write_last_line<K: Sink>(self, sink: &mut K)
+        ensures { (last : List ℕ) × Appended (K.taken sink.old) last (K.taken sink.new)
+            × IsTried (K.faults sink.old) (K.faults sink.new) (last_line self) last }
+    {
+        // Where the sink fails, its count shows it; the status is that of the ending.
+        let _ = match self {
+            Ending::Words => write_all(sink, command_line_fault()),
+            Ending::Line(line) => write_line_fault(line, sink),
+            _ => Ok(()),
+        };
+    }
+}
+
+impl From<AllocError> for Ending {
+    ghost use Rattle.std.specs.Prelude.{◌≡◌};
+    ghost use Rattle.privilege_cli.specs.declared.ending.Ending.TheVariants.{Memory};
+
+    ghost from_gives = { λ _ ending. ending ≡ Memory };
+
+    fn from(_: AllocError) -> Ending {
+        Ending::Memory
+    }
+}
+
+impl From<CommandRefusal> for Ending {
+    ghost use Rattle.privilege_cli.specs.parts.Endings.{RefusesCommand};
+
+    ghost from_gives = { RefusesCommand };
+
+    fn from(refusal: CommandRefusal) -> Ending {
+        match refusal {
+            CommandRefusal::Unknown => Ending::Words,
+            CommandRefusal::Memory(_) => Ending::Memory,
+        }
+    }
+}
+
+impl From<ReadRefusal> for Ending {
+    ghost use Rattle.privilege_cli.specs.parts.Endings.{RefusesLine};
+
+    ghost from_gives = { RefusesLine };
+
+    fn from(refusal: ReadRefusal) -> Ending {
+        match refusal {
+            ReadRefusal::PastLimit(line) => Ending::Line(line),
+            ReadRefusal::Source => Ending::Source,
+            ReadRefusal::Memory(_) => Ending::Memory,
+        }
+    }
+}

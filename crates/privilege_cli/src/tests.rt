@@ -1,7 +1,0 @@
-mod access;
-mod failing_calls;
-mod limits;
-mod local;
-mod runs;
-mod streams;
-mod words;
