@@ -8,7 +8,7 @@ use std::marker::Model;
 use thiserror::Error;
 
 /// The most bytes of a label.
-pub const LABEL_LIMIT: usize = 255;
+pub const MOST_LABEL_BYTES: usize = 255;
 
 /// Why bytes are no label: the first of these rules that they break.
 #[derive(Clone, Copy, Debug, PartialEq, Eq, Error)]
@@ -86,14 +86,6 @@ impl Label {
             bytes: self.bytes.clone()?,
         })
     }
-
-    /// The bytes of the label, which takes no memory.
-    pub(crate) fn into_bytes(self) -> Vec<u8>
-        ensures { result.items ≡ self }
-    {
-        let Label { bytes } = self;
-        bytes
-    }
 }
 
 /// The first rule of a label that bytes break, in the order in which `Label::read` refuses, and `None` where they
@@ -104,7 +96,7 @@ pub fn label_fault(bytes: &[u8]) -> Option<LabelRefusal>
     if bytes.is_empty() {
         return Some(LabelRefusal::Empty);
     }
-    if bytes.len() > LABEL_LIMIT {
+    if bytes.len() > MOST_LABEL_BYTES {
         return Some(LabelRefusal::TooLong);
     }
     match first_bad_byte(bytes) {
