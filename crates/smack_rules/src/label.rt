@@ -49,8 +49,8 @@ impl Label {
     ghost use Rattle.smack_rules.specs.LabelRead.{ReadsAs};
 
     /// Reads a label. Refuses, in this order: no byte, more than 255 bytes, the first byte that isn't
-    /// printable (0x21 to 0x7E) or is one of `/ \ ' "`, a `-` at the front, and the labels `@` and `?`,
-    /// which this project's profile doesn't know.
+    /// printable (0x21 to 0x7E) or is one of `/ \ ' "`, a `-` at the front, the labels `@` and `?`,
+    /// which this project's profile doesn't know, and, where none of these is so, the lack of memory.
     pub fn read(alloc: Global, bytes: &[u8]) -> Result<Label, LabelRefusal>
         ensures { ReadsAs result bytes.now }
     {
@@ -60,7 +60,7 @@ impl Label {
         Label::of(alloc, bytes).map_err(LabelRefusal::Memory)
     }
 
-    /// The label with these bytes, in which [`label_fault`] finds no fault.
+    /// The label with these bytes, in which [`label_fault`] finds no fault. Fails only for lack of memory.
     pub fn of(alloc: Global, bytes: &[u8]) -> Result<Label, AllocError>
         requires { label_fault bytes.now ≡ None }
         ensures { IfOk result (λ label. label ≡ bytes.now) }
@@ -78,7 +78,7 @@ impl Label {
         self.bytes.as_slice()
     }
 
-    /// An equal label.
+    /// An equal label in memory of its own. Fails only for lack of memory.
     pub fn copy(&self) -> Result<Label, AllocError>
         ensures { IfOk result (λ label. label ≡ self.now) }
     {

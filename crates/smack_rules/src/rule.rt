@@ -59,7 +59,7 @@ impl Rule {
         Ok(Some(rule))
     }
 
-    /// An equal rule.
+    /// An equal rule in memory of its own. Fails only for lack of memory.
     pub fn copy(&self) -> Result<Rule, AllocError>
         ensures { IfOk result (λ rule. rule ≡ self.now) }
     {

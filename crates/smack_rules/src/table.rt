@@ -75,8 +75,8 @@ impl RuleTable {
     ghost use Rattle.smack_rules.specs.Grants.{GrantsAs};
     ghost use Rattle.smack_rules.specs.RuleText.{rules_of, LoadsAs, NamesFirstWrongLine};
 
-    /// The table of a list of rules, made by sorting: with n rules it takes some n log n comparisons. Fails only where
-    /// memory is wanting.
+    /// The table of a list of rules, the oldest first, made by sorting: with n rules it takes some n log n comparisons.
+    /// Fails only for lack of memory.
     pub fn fold(alloc: Global, rules: &[Rule]) -> Result<RuleTable, AllocError>
         ensures { IfOk result (λ table. GrantsAs table rules.now) }
     {
@@ -109,8 +109,8 @@ impl RuleTable {
         }
     }
 
-    /// Decides a request, in the order of the kernel's Smack document. Takes no memory, and in a table of n pairs some
-    /// log n comparisons.
+    /// Decides a request, which has a mode and no `b`, in the order of the kernel's Smack document. Takes no memory, and
+    /// in a table of n pairs some log n comparisons.
     pub fn decide(&self, subject: &Label, object: &Label, asked: Modes) -> Decision
         requires { IsTrue (is_request asked) }
         ensures decided { result ≡ decision subject.now object.now asked (granted self.now subject.now object.now) }
@@ -170,8 +170,8 @@ fn follow_line<'a>(
     }
 }
 
-/// The refusal of a text for whose lines up to this number memory was wanting: the first of the lines after them that is
-/// no rule, and else the lack of memory.
+/// The refusal of a text for whose lines up to this number there was not memory enough: the first of the lines after them
+/// that is no rule, and else the lack of memory.
 fn refusal_before(lines: &[u8], read: u32, error: AllocError) -> LoadRefusal
     requires { read + length lines.now < 2 ^ 32 }
     ensures { RefusesText result (rules_from (read + 1) (lines_of lines.now)) }
