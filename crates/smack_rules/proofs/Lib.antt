@@ -1,4 +1,8 @@
-pub mod Following
-pub mod Parts
-pub mod Requests
-pub mod Rows
+pub mod BringUp
+pub mod ChangeLists
+pub mod FirstPassing
+pub mod PairOrder
+pub mod RuleLines
+pub mod RuleLists
+pub mod RuleTexts
+pub mod SortedPairs

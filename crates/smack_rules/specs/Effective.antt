@@ -1,5 +1,5 @@
 -- The modes that a list of rules gives a pair of labels, from the Linux kernel's Documentation/admin-guide/LSM/Smack.
-use Rattle.std.specs.Prelude.{ℕ, List, [], ◌∷◌, reverse, Option, Some, None, if◌then◌else◌}
+use Rattle.std.specs.Prelude.{ℕ, List, [], ◌∷◌, reverse, if◌then◌else◌}
 use Rattle.smack_rules.specs.declared.modes.Modes.{Modes}
 use Rattle.smack_rules.specs.declared.rule.Rule.{Rule}
 use Rattle.smack_rules.specs.declared.rule.Rule.TheVariants.{Set, Adjust}
@@ -24,8 +24,3 @@ effective_from start rules s o = looking_back start s o (reverse rules)
 -- the modes of a pair under rules: no access before the first
 abbrev pub effective : List Rule → List ℕ → List ℕ → Modes
 effective rules s o = effective_from no_access rules s o
-
--- what a rule sets a pair to, whatever it had before
-abbrev pub modes_set : List ℕ → List ℕ → Rule → Option Modes
-modes_set s o (Set subject object modes) = if is_pair subject object s o then Some modes else None
-modes_set s o (Adjust subject object allow deny) = None

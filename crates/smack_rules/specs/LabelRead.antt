@@ -5,9 +5,9 @@ use Rattle.smack_rules.specs.declared.label.LabelRefusal.{LabelRefusal}
 use Rattle.smack_rules.specs.declared.label.LabelRefusal.TheVariants.{Memory}
 use Rattle.smack_rules.specs.Label.{label_fault}
 
--- A refusal is the first fault. Want of memory may come in place of any answer.
+-- A refusal is the first fault. Out of memory comes only where there is none.
 abbrev pub RefusesAs : LabelRefusal → List ℕ → Type 0
-RefusesAs (Memory error) bytes = Unit {0}
+RefusesAs (Memory error) bytes = label_fault bytes ≡ None
 RefusesAs refusal bytes = label_fault bytes ≡ Some refusal
 
 -- What is read has the bytes, and they have no fault.

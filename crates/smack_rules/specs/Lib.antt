@@ -8,3 +8,4 @@ pub mod Rule
 pub mod RuleText
 pub mod Table
 pub mod Words
+pub mod parts

@@ -1,8 +1,9 @@
 -- Sets of access modes, from the Linux kernel's Documentation/admin-guide/LSM/Smack; the letter `l` is this project's profile.
-use Rattle.std.specs.Prelude.{ℕ, Bool, false, not, ◌&&◌, ◌||◌, ◌==◌, nat_le, List, [], ◌∷◌, ◌++◌, length, Option, Some, None, if◌then◌else◌}
+use Rattle.std.specs.Prelude.{ℕ, Bool, true, false, not, ◌&&◌, ◌||◌, ◌==◌, nat_le, List, [], ◌∷◌, ◌++◌, length, Option, Some, None, if◌then◌else◌}
 use Rattle.std.specs.List.{list_any, list_all}
 use Rattle.std.specs.Char.{to_ascii_lowercase}
 use Rattle.smack_rules.specs.declared.modes.Modes.{Modes}
+use Rattle.smack_rules.specs.declared.modes.TheConstants.{MOST_MODE_WORD_BYTES}
 
 -- the set of the letters that pass a test
 abbrev pub letters_that : (ℕ → Bool) → Modes
@@ -33,6 +34,10 @@ by_letter choose a b =
 -- the set without a letter
 abbrev pub no_access : Modes
 no_access = letters_that (λ letter. false)
+
+-- the set of all letters
+abbrev pub all_modes : Modes
+all_modes = letters_that (λ letter. true)
 
 -- the letters of either set
 abbrev pub union : Modes → Modes → Modes
@@ -72,9 +77,9 @@ mode_bytes = 45 ∷ 114 ∷ 119 ∷ 120 ∷ 97 ∷ 116 ∷ 108 ∷ 98 ∷ []
 abbrev pub is_mode_byte : ℕ → Bool
 is_mode_byte byte = list_any (λ known. to_ascii_lowercase byte == known) mode_bytes
 
--- 1 to 64 letters or `-`
+-- letters or `-`, at least one and within the limit
 abbrev pub is_mode_word : List ℕ → Bool
-is_mode_word word = nat_le 1 (length word) && nat_le (length word) 64 && list_all is_mode_byte word
+is_mode_word word = nat_le 1 (length word) && nat_le (length word) MOST_MODE_WORD_BYTES && list_all is_mode_byte word
 
 -- the set that a mode word names: the letters that stand in it
 abbrev pub modes_of : List ℕ → Option Modes

@@ -1,5 +1,5 @@
 -- Rules and their lines, from the Linux kernel's Documentation/admin-guide/LSM/Smack.
-use Rattle.std.specs.Prelude.{◌≡◌, ℕ, Bool, false, ◌&&◌, List, [], ◌∷◌, Option, Some, None, is_none, Result, Ok, Err, if◌then◌else◌}
+use Rattle.std.specs.Prelude.{◌≡◌, ℕ, Bool, ◌&&◌, List, [], ◌∷◌, Option, Some, None, IsSome, is_none, Result, Ok, Err, IsOkAnd, if◌then◌else◌}
 use Rattle.std.specs.Str.{bytes_eq}
 use Rattle.smack_rules.specs.declared.modes.Modes.{Modes}
 use Rattle.smack_rules.specs.declared.rule.Rule.{Rule}
@@ -45,16 +45,12 @@ rule_of_words (subject ∷ object ∷ modes) =
 abbrev pub line_rule : List ℕ → Result (Option Rule) LineRefusal
 line_rule line = rule_of_words (words_of line)
 
--- What reading gives. Want of memory may come in place of any answer.
+-- A refusal is a line of another form. Out of memory comes only where the line is a rule.
 abbrev pub RefusesLine : LineRefusal → Result (Option Rule) LineRefusal → Type 0
-RefusesLine (Memory error) line = Unit {0}
 RefusesLine Form line = line ≡ Err Form
+RefusesLine (Memory error) line = IsOkAnd line IsSome
 
+-- what reading a line gives
 abbrev pub GivesLine : Result (Option Rule) LineRefusal → Result (Option Rule) LineRefusal → Type 0
 GivesLine (Ok rule) line = line ≡ Ok rule
 GivesLine (Err refusal) line = RefusesLine refusal line
-
--- A word of a line is refused only if its test fails, or memory is wanting.
-abbrev pub IsRefused : Bool → LineRefusal → Type 0
-IsRefused right (Memory error) = Unit {0}
-IsRefused right Form = right ≡ false

@@ -1,5 +1,6 @@
 -- Rule texts: a rule a line.
-use Rattle.std.specs.Prelude.{◌≡◌, ℕ, ◌+◌, List, [], ◌∷◌, ◌++◌, Option, Result, Ok, Err, IsOkAnd}
+use Rattle.std.specs.Prelude.{◌≡◌, ℕ, ◌+◌, Bool, List, [], ◌∷◌, ◌++◌, Option, None, IsSomeAnd, Result, Ok, Err, IsOk, IsOkAnd, position}
+use Rattle.std.specs.Result.{is_err}
 use Rattle.std.specs.Option.{option_to_list}
 use Rattle.text_lines.specs.Lines.{lines_of}
 use Rattle.smack_rules.specs.declared.table.RuleTable.{RuleTable}
@@ -29,10 +30,22 @@ rules_from number (line ∷ lines) = with_line number (line_rule line) (rules_fr
 abbrev pub rules_of : List ℕ → Result (List Rule) ℕ
 rules_of text = rules_from 1 (lines_of text)
 
--- A refusal is the first wrong line. Want of memory may come in place of any answer.
+-- A refusal is the first wrong line. Out of memory comes only where no line is wrong.
 abbrev pub RefusesText : LoadRefusal → Result (List Rule) ℕ → Type 0
 RefusesText (BadLine number) rules = rules ≡ Err number
-RefusesText (Memory error) rules = Unit {0}
+RefusesText (Memory error) rules = IsOk rules
+
+abbrev pub is_wrong_line : List ℕ → Bool
+is_wrong_line line = is_err (line_rule line)
+
+-- the place from 0 of the first line of a text that is no rule
+abbrev pub first_wrong_line : List ℕ → Option ℕ
+first_wrong_line text = position is_wrong_line (lines_of text)
+
+-- what a refusal says of the first wrong line, whose number is counted from 1
+abbrev pub NamesFirstWrongLine : LoadRefusal → List ℕ → Type 0
+NamesFirstWrongLine (BadLine number) text = IsSomeAnd (first_wrong_line text) (λ place. number ≡ place + 1)
+NamesFirstWrongLine (Memory error) text = first_wrong_line text ≡ None
 
 -- What is loaded grants as the rules of the text.
 abbrev pub LoadsAs : Result RuleTable LoadRefusal → Result (List Rule) ℕ → Type 0

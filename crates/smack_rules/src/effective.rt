@@ -2,7 +2,8 @@
 
 ghost use Rattle.std.specs.Prelude.{◌≡◌, [], ◌∷◌};
 ghost use Rattle.smack_rules.specs.Rule.{is_pair};
-ghost use Rattle.smack_rules.specs.Effective.{effective, effective_from, modes_set};
+ghost use Rattle.smack_rules.specs.Effective.{effective, effective_from};
+ghost use Rattle.smack_rules.specs.parts.Setting.{modes_set};
 
 use crate::label::Label;
 use crate::modes::Modes;

@@ -8,7 +8,7 @@ use std::marker::Model;
 use thiserror::Error;
 
 /// The most bytes of a label.
-pub const LABEL_LIMIT: usize = 255;
+pub const MOST_LABEL_BYTES: usize = 255;
 
 /// Why bytes are no label: the first of these rules that they break.
 #[derive(Clone, Copy, Debug, PartialEq, Eq, Error)]
@@ -49,8 +49,8 @@ impl Label {
     ghost use Rattle.smack_rules.specs.LabelRead.{ReadsAs};
 
     /// Reads a label. Refuses, in this order: no byte, more than 255 bytes, the first byte that isn't
-    /// printable (0x21 to 0x7E) or is one of `/ \ ' "`, a `-` at the front, and the labels `@` and `?`,
-    /// which this project's profile doesn't know.
+    /// printable (0x21 to 0x7E) or is one of `/ \ ' "`, a `-` at the front, the labels `@` and `?`,
+    /// which this project's profile doesn't know, and, where none of these is so, the lack of memory.
     pub fn read(alloc: Global, bytes: &[u8]) -> Result<Label, LabelRefusal>
         ensures { ReadsAs result bytes.now }
     {
@@ -60,7 +60,7 @@ impl Label {
         Label::of(alloc, bytes).map_err(LabelRefusal::Memory)
     }
 
-    /// The label with these bytes, in which [`label_fault`] finds no fault.
+    /// The label with these bytes, in which [`label_fault`] finds no fault. Fails only for lack of memory.
     pub fn of(alloc: Global, bytes: &[u8]) -> Result<Label, AllocError>
         requires { label_fault bytes.now ≡ None }
         ensures { IfOk result (λ label. label ≡ bytes.now) }
@@ -78,21 +78,13 @@ impl Label {
         self.bytes.as_slice()
     }
 
-    /// An equal label.
+    /// An equal label in memory of its own. Fails only for lack of memory.
     pub fn copy(&self) -> Result<Label, AllocError>
         ensures { IfOk result (λ label. label ≡ self.now) }
     {
         Ok(Label {
             bytes: self.bytes.clone()?,
         })
-    }
-
-    /// The bytes of the label, which takes no memory.
-    pub(crate) fn into_bytes(self) -> Vec<u8>
-        ensures { result.items ≡ self }
-    {
-        let Label { bytes } = self;
-        bytes
     }
 }
 
@@ -104,7 +96,7 @@ pub fn label_fault(bytes: &[u8]) -> Option<LabelRefusal>
     if bytes.is_empty() {
         return Some(LabelRefusal::Empty);
     }
-    if bytes.len() > LABEL_LIMIT {
+    if bytes.len() > MOST_LABEL_BYTES {
         return Some(LabelRefusal::TooLong);
     }
     match first_bad_byte(bytes) {

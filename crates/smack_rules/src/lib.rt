@@ -4,15 +4,18 @@
 
 pub use decision::Decision;
 pub use effective::effective_of;
-pub use label::{LABEL_LIMIT, Label, LabelRefusal, label_fault};
-pub use modes::{MODE_WORD_LIMIT, Modes};
+pub use label::{Label, LabelRefusal, MOST_LABEL_BYTES, label_fault};
+pub use modes::{MOST_MODE_WORD_BYTES, Modes};
 pub use rule::{LineRefusal, Rule};
-pub use table::{LoadRefusal, RuleTable, TEXT_LIMIT};
+pub use table::{LoadRefusal, MOST_TEXT_BYTES, RuleTable};
 
+mod changes;
 mod decision;
 mod effective;
 mod label;
+mod line_rule;
 mod modes;
+mod pair_key;
 mod rule;
 mod table;
 #[cfg(test)]

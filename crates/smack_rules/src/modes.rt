@@ -8,7 +8,7 @@ ghost use Rattle.smack_rules.specs.Modes.{stands_in, is_mode_byte, is_mode_word,
 use std::fmt;
 
 /// The most bytes of a mode word.
-pub const MODE_WORD_LIMIT: usize = 64;
+pub const MOST_MODE_WORD_BYTES: usize = 64;
 
 /// A set of access modes, each with its letter. The letter `l` is this project's profile.
 #[derive(Clone, Copy, Debug, PartialEq, Eq)]
@@ -41,6 +41,17 @@ impl Modes {
         transmute: false,
         lock: false,
         bring_up: false,
+    };
+
+    /// The set of all modes.
+    pub(crate) const ALL: Modes = Modes {
+        read: true,
+        write: true,
+        execute: true,
+        append: true,
+        transmute: true,
+        lock: true,
+        bring_up: true,
     };
 
     /// Reads a mode word: 1 to 64 bytes, each a letter in either case, or `-`, which adds nothing.
@@ -178,7 +189,7 @@ fn letter_if(present: bool, letter: &str) -> &str
 fn is_mode_word(word: &[u8]) -> bool
     ensures { result ≡ is_mode_word word.now }
 {
-    let fits = !word.is_empty() && word.len() <= MODE_WORD_LIMIT;
+    let fits = !word.is_empty() && word.len() <= MOST_MODE_WORD_BYTES;
     fits && are_mode_bytes(word)
 }
 

@@ -1,13 +1,12 @@
 //! Rules, and the lines that spell them.
 
-ghost use Rattle.std.specs.Prelude.{◌≡◌, Ok, Err, Some, None, IsTrue, IfOk, MatchResult};
-ghost use Rattle.smack_rules.specs.declared.rule.LineRefusal.TheVariants.{Form, Memory};
-ghost use Rattle.smack_rules.specs.Rule.{is_pair, is_label, rule_behind, line_rule, GivesLine, IsRefused};
-ghost use Rattle.smack_rules.specs.Words.{words_of};
+ghost use Rattle.std.specs.Prelude.{◌≡◌, IfOk};
+ghost use Rattle.smack_rules.specs.declared.rule.LineRefusal.TheVariants.{Memory};
+ghost use Rattle.smack_rules.specs.Rule.{line_rule, GivesLine};
 
-use crate::label::{Label, LabelRefusal};
+use crate::label::Label;
+use crate::line_rule::LineRule;
 use crate::modes::Modes;
-use crate::words::split_word;
 use std::alloc::{AllocError, Global};
 use thiserror::Error;
 
@@ -49,23 +48,18 @@ impl From<AllocError> for LineRefusal {
 impl Rule {
     /// Reads a line: two labels, and one mode word for `Set`, or two for `Adjust`. Words are parted by
     /// spaces or tabs, which may stand at the ends too. `Ok(None)` where the line has no word.
-    /// Refuses a line of any other form.
+    /// Refuses a line of any other form, and then, for lack of memory, a line that is a rule.
     pub fn read_line(alloc: Global, line: &[u8]) -> Result<Option<Rule>, LineRefusal>
         ensures { GivesLine result (line_rule line.now) }
     {
-        let Some((subject, rest)) = split_word(line) else {
+        let Some(rule) = LineRule::read(line)? else {
             return Ok(None);
         };
-        let Some((object, rest)) = split_word(rest) else {
-            return Err(LineRefusal::Form);
-        };
-        let subject = read_label(alloc, subject)?;
-        let object = read_label(alloc, object)?;
-        let rule = read_modes(subject, object, rest)?;
+        let rule = rule.to_rule(alloc)?;
         Ok(Some(rule))
     }
 
-    /// An equal rule.
+    /// An equal rule in memory of its own. Fails only for lack of memory.
     pub fn copy(&self) -> Result<Rule, AllocError>
         ensures { IfOk result (λ rule. rule ≡ self.now) }
     {
@@ -92,43 +86,4 @@ impl Rule {
             }),
         }
     }
-}
-
-/// Reads a label of a line.
-fn read_label(alloc: Global, word: &[u8]) -> Result<Label, LineRefusal>
-    ensures { MatchResult result
-        (λ label. (label ≡ word.now) × IsTrue (is_label word.now))
-        (IsRefused (is_label word.now)) }
-{
-    match Label::read(alloc, word) {
-        Ok(label) => Ok(label),
-        Err(LabelRefusal::Memory(error)) => Err(LineRefusal::Memory(error)),
-        Err(_) => Err(LineRefusal::Form),
-    }
-}
-
-/// Reads the mode words behind the labels of a rule.
-fn read_modes(subject: Label, object: Label, words: &[u8]) -> Result<Rule, LineRefusal>
-    ensures { MatchResult result (λ rule. rule_behind subject object (words_of words.now) ≡ Ok (Some rule))
-        (λ refusal. rule_behind subject object (words_of words.now) ≡ Err Form) }
-{
-    let (first, rest) = split_word(words).ok_or(LineRefusal::Form)?;
-    let modes = Modes::read(first).ok_or(LineRefusal::Form)?;
-    let Some((second, rest)) = split_word(rest) else {
-        return Ok(Rule::Set {
-            subject,
-            object,
-            modes,
-        });
-    };
-    let deny = Modes::read(second).ok_or(LineRefusal::Form)?;
-    if split_word(rest).is_some() {
-        return Err(LineRefusal::Form);
-    }
-    Ok(Rule::Adjust {
-        subject,
-        object,
-        allow: modes,
-        deny,
-    })
 }

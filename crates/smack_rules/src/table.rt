@@ -1,20 +1,32 @@
 //! Tables of rules.
 
-ghost use Rattle.std.specs.Prelude.{◌≡◌, OnOk};
-ghost use Rattle.smack_rules.specs.Table.{granted, row_of, rows_of, ChangesPair, SetsObject};
+ghost use Rattle.std.specs.Prelude.{◌≡◌, ◌+◌, ◌^◌, ◌<◌, Option, List, ℕ, length, map, IfOk, IfErr, OnOk, IsOkAnd, Result};
+ghost use Rattle.std.specs.Option.{option_to_list};
+ghost use Rattle.std.specs.List.Sorted.{IsStrictlySortedBy};
+ghost use Rattle.text_lines.specs.Lines.{lines_of};
+ghost use Rattle.smack_rules.specs.declared.rule.Rule.{Rule};
+ghost use Rattle.smack_rules.specs.Rule.{line_rule};
+ghost use Rattle.smack_rules.specs.RuleText.{with_line, rules_from, RefusesText};
+ghost use Rattle.smack_rules.specs.Table.{granted};
+ghost use Rattle.smack_rules.specs.parts.Order.{pair_cmp};
+ghost use Rattle.smack_rules.specs.parts.Changes.{modes_after, pair_modes, FollowsRules};
+ghost use Rattle.smack_rules.specs.Modes.{no_access};
+ghost use Rattle.smack_rules.specs.parts.Pairs.{pair_of};
 
+use crate::changes::{Changes, PairChange};
 use crate::decision::{Decision, decide};
 use crate::label::Label;
+use crate::line_rule::LineRule;
 use crate::modes::Modes;
-use crate::rule::{LineRefusal, Rule};
+use crate::pair_key::PairKey;
+use crate::rule::Rule;
 use std::alloc::{AllocError, Global};
-use std::collections::BTreeMap;
 use std::marker::Model;
 use text_lines::split_line;
 use thiserror::Error;
 
 /// The most bytes of a rule text.
-pub const TEXT_LIMIT: usize = 16_777_216;
+pub const MOST_TEXT_BYTES: usize = 16_777_216;
 
 /// Why a rule text is not read.
 #[derive(Clone, Copy, Debug, PartialEq, Eq, Error)]
@@ -26,70 +38,79 @@ pub enum LoadRefusal {
     Memory(AllocError),
 }
 
-/// A subject's objects, each with the modes of the pair.
-type Row = BTreeMap<Vec<u8>, Modes>;
-
-/// The rows of the subjects.
-type Rows = BTreeMap<Vec<u8>, Row>;
+/// A pair of labels with its modes.
+#[derive(Debug, Drop)]
+pub struct PairModes {
+    pub subject: Label,
+    pub object: Label,
+    pub modes: Modes,
+}
 
 /// What rules grant each subject and object.
 #[derive(Debug, Drop)]
 pub struct RuleTable {
-    alloc: Global,
-    rows: Rows,
+    pairs: Vec<PairModes>,
 }
 
 impl Model for RuleTable {
-    ghost use Rattle.std.specs.Prelude.{List, ℕ};
-    ghost use Rattle.smack_rules.specs.Table.{Row, rows_of};
+    ghost use Rattle.std.specs.Prelude.{List, map};
+    ghost use Rattle.std.specs.List.Sorted.{IsStrictlySortedBy};
+    ghost use Rattle.smack_rules.specs.declared.table.PairModes.{PairModes};
+    ghost use Rattle.smack_rules.specs.parts.Order.{pair_cmp};
+    ghost use Rattle.smack_rules.specs.parts.Pairs.{pair_of};
 
-    ghost Value = { List (List ℕ × Row) };
+    ghost Value = { List PairModes };
 
-    ghost view = { λ table. rows_of table.rows.entries };
+    ghost view = { λ table. table.pairs.items };
+
+    ghost invariant = { λ table. IsStrictlySortedBy pair_cmp (map pair_of table.pairs.items) };
 }
 
 impl RuleTable {
-    ghost use Rattle.std.specs.Prelude.{◌≡◌, ◌≤◌, ℕ, Bool, List, [], ◌∷◌, length, Result};
-    ghost use Rattle.std.specs.Prelude.{IsTrue, IfOk, IfErr, OnOk, IsOkAnd};
-    ghost use Rattle.std.specs.Option.{option_to_list};
-    ghost use Rattle.smack_rules.specs.declared.rule.Rule.{Rule};
-    ghost use Rattle.smack_rules.specs.declared.table.TheConstants.{TEXT_LIMIT};
+    ghost use Rattle.std.specs.Prelude.{◌≡◌, ◌≤◌, Bool, IsTrue, IfOk, IfErr, length};
+    ghost use Rattle.smack_rules.specs.declared.table.TheConstants.{MOST_TEXT_BYTES};
     ghost use Rattle.smack_rules.specs.Modes.{is_request};
-    ghost use Rattle.smack_rules.specs.Rule.{line_rule};
     ghost use Rattle.smack_rules.specs.Table.{granted};
     ghost use Rattle.smack_rules.specs.Decision.{decision};
-    ghost use Rattle.smack_rules.specs.Grants.{FollowsRules, GrantsAs};
-    ghost use Rattle.smack_rules.specs.RuleText.{with_line, rules_of, RefusesText, LoadsAs};
+    ghost use Rattle.smack_rules.specs.Grants.{GrantsAs};
+    ghost use Rattle.smack_rules.specs.RuleText.{rules_of, LoadsAs, NamesFirstWrongLine};
 
-    /// The table of a list of rules. Fails only where memory is wanting.
+    /// The table of a list of rules, the oldest first, made by sorting: with n rules it takes some n log n comparisons.
+    /// Fails only for lack of memory.
     pub fn fold(alloc: Global, rules: &[Rule]) -> Result<RuleTable, AllocError>
         ensures { IfOk result (λ table. GrantsAs table rules.now) }
     {
-        let mut table = RuleTable::empty(alloc);
+        let mut changes = Changes::new(alloc);
         for rule in rules {
-            table.follow(rule.copy()?)?;
+            changes.follow(PairChange::of(rule))?;
         }
-        Ok(table)
+        table_of(alloc, changes)
     }
 
-    /// The table of the rules of a text: a rule a line, as [`Rule::read_line`] takes it.
-    /// Refuses, with its number from 1, the first line of another form.
+    /// The table of the rules of a text: a rule a line, as [`Rule::read_line`] takes it. Refuses first a text with a
+    /// line of another form, by the number, from 1, of its first such line, and then, for lack of memory, a text of
+    /// rules. It costs as much as [`RuleTable::fold`].
     pub fn load(alloc: Global, text: &[u8]) -> Result<RuleTable, LoadRefusal>
-        requires { length text.now ≤ TEXT_LIMIT }
-        ensures { LoadsAs result (rules_of text.now) }
+        requires { length text.now ≤ MOST_TEXT_BYTES }
+        ensures loaded { LoadsAs result (rules_of text.now) }
+        ensures refused { IfErr result (λ refusal. NamesFirstWrongLine refusal text.now) }
     {
-        let mut table = RuleTable::empty(alloc);
+        let mut changes = Changes::new(alloc);
         let mut rest = text;
         let mut number = 0u32;
         while let Some((line, after)) = split_line(rest) {
             number += 1;
-            table.follow_line(line, number)?;
+            follow_line(&mut changes, line, number, after)?;
             rest = after;
         }
-        Ok(table)
+        match table_of(alloc, changes) {
+            Ok(table) => Ok(table),
+            Err(error) => Err(LoadRefusal::Memory(error)),
+        }
     }
 
-    /// Decides a request, in the order of the kernel's Smack document. Takes no memory.
+    /// Decides a request, which has a mode and no `b`, in the order of the kernel's Smack document. Takes no memory, and
+    /// in a table of n pairs some log n comparisons.
     pub fn decide(&self, subject: &Label, object: &Label, asked: Modes) -> Decision
         requires { IsTrue (is_request asked) }
         ensures decided { result ≡ decision subject.now object.now asked (granted self.now subject.now object.now) }
@@ -97,101 +118,93 @@ impl RuleTable {
         ensures bring_up { (tried : Bool) → result ≡ decision subject.now object.now asked
             (record (granted self.now subject.now object.now) { bring_up = tried }) }
     {
-        let granted = modes_at(&self.rows, subject.as_slice(), object.as_slice());
+        let granted = modes_at(self.pairs.as_slice(), subject, object);
         decide(subject, object, asked, granted)
     }
-
-    /// The table without a rule.
-    fn empty(alloc: Global) -> RuleTable
-        ensures { result ≡ [] }
-    {
-        RuleTable {
-            alloc,
-            rows: BTreeMap::new(alloc),
-        }
-    }
-
-    /// Follows one more rule.
-    fn follow(&mut self, rule: Rule) -> Result<(), AllocError>
-        ensures { OnOk result (FollowsRules self.old self.new (rule ∷ [])) }
-    {
-        match rule {
-            Rule::Set {
-                subject,
-                object,
-                modes,
-            } => put(self.alloc, &mut self.rows, subject, object, modes),
-            Rule::Adjust {
-                subject,
-                object,
-                allow,
-                deny,
-            } => {
-                let standing = modes_at(&self.rows, subject.as_slice(), object.as_slice());
-                let modes = standing.adjusted(allow, deny);
-                put(self.alloc, &mut self.rows, subject, object, modes)
-            }
-        }
-    }
-
-    /// Follows the rule of one more line, which has this number.
-    fn follow_line(&mut self, line: &[u8], number: u32) -> Result<(), LoadRefusal>
-        ensures followed { OnOk result
-            (IsOkAnd (line_rule line.now) (λ rule. FollowsRules self.old self.new (option_to_list rule))) }
-        // Whatever lines come later.
-        ensures refused { IfErr result (λ refusal. (later : Result (List Rule) ℕ)
-            → RefusesText refusal (with_line number (line_rule line.now) later)) }
-    {
-        match Rule::read_line(self.alloc, line) {
-            Ok(None) => Ok(()),
-            Ok(Some(rule)) => match self.follow(rule) {
-                Ok(()) => Ok(()),
-                Err(error) => Err(LoadRefusal::Memory(error)),
-            },
-            Err(LineRefusal::Form) => Err(LoadRefusal::BadLine(number)),
-            Err(LineRefusal::Memory(error)) => Err(LoadRefusal::Memory(error)),
-        }
-    }
 }
 
-/// What the rows have for a pair.
-fn modes_at(rows: &Rows, subject: &[u8], object: &[u8]) -> Modes
-    ensures { result ≡ granted (rows_of rows.now.entries) subject.now object.now }
+/// The table of changes.
+fn table_of(alloc: Global, changes: Changes) -> Result<RuleTable, AllocError>
+    ensures { IfOk result (λ table. (s o : List ℕ) → granted table s o ≡ modes_after changes.entry.changes.items s o no_access) }
 {
-    match rows.get(subject) {
-        Some(row) => match row.get(object) {
-            Some(modes) => *modes,
-            None => Modes::NO_ACCESS,
+    let joined = changes.into_joined()?;
+    let pairs = pairs_of(alloc, joined.as_slice())?;
+    Ok(RuleTable { pairs })
+}
+
+/// The pairs of changes of no access.
+fn pairs_of(alloc: Global, changes: &[PairChange]) -> Result<Vec<PairModes>, AllocError>
+    ensures { IfOk result (λ pairs. pairs.items ≡ map pair_modes changes.now) }
+{
+    let mut pairs = Vec::new(alloc);
+    for change in changes {
+        pairs.push(PairModes {
+            subject: Label::of(alloc, change.key.subject())?,
+            object: Label::of(alloc, change.key.object())?,
+            modes: change.change.added,
+        })?;
+    }
+    Ok(pairs)
+}
+
+/// Follows the rule of one more line, which has this number, before the lines that come after it.
+fn follow_line<'a>(
+    changes: &mut Changes<'a>,
+    line: &'a [u8],
+    number: u32,
+    after: &[u8],
+) -> Result<(), LoadRefusal>
+    requires { number + length after.now < 2 ^ 32 }
+    ensures followed { OnOk result (IsOkAnd (line_rule line.now)
+        (λ rule. FollowsRules changes.old.changes.items changes.new.changes.items (option_to_list rule))) }
+    ensures refused { IfErr result (λ refusal. RefusesText refusal
+        (with_line number (line_rule line.now) (rules_from (number + 1) (lines_of after.now)))) }
+{
+    match LineRule::read(line) {
+        Ok(None) => Ok(()),
+        Ok(Some(rule)) => match changes.follow(rule.change()) {
+            Ok(()) => Ok(()),
+            Err(error) => Err(refusal_before(after, number, error)),
         },
-        None => Modes::NO_ACCESS,
+        Err(_) => Err(LoadRefusal::BadLine(number)),
     }
 }
 
-/// Gives a pair these modes in place of what it had.
-fn put(
-    alloc: Global,
-    rows: &mut Rows,
-    subject: Label,
-    object: Label,
-    modes: Modes,
-) -> Result<(), AllocError>
-    ensures { OnOk result (ChangesPair (rows_of rows.old.entries) (rows_of rows.new.entries) subject object modes) }
+/// The refusal of a text for whose lines up to this number there was not memory enough: the first of the lines after them
+/// that is no rule, and else the lack of memory.
+fn refusal_before(lines: &[u8], read: u32, error: AllocError) -> LoadRefusal
+    requires { read + length lines.now < 2 ^ 32 }
+    ensures { RefusesText result (rules_from (read + 1) (lines_of lines.now)) }
 {
-    match rows.get_mut(subject.as_slice()) {
-        Some(row) => put_in_row(row, object, modes),
-        None => {
-            let mut row = BTreeMap::new(alloc);
-            put_in_row(&mut row, object, modes)?;
-            rows.insert(subject.into_bytes(), row)?;
-            Ok(())
-        }
+    let mut rest = lines;
+    let mut number = read;
+    while let Some((line, after)) = split_line(rest) {
+        number += 1;
+        let Ok(_rule) = LineRule::read(line) else {
+            return LoadRefusal::BadLine(number);
+        };
+        rest = after;
+    }
+    LoadRefusal::Memory(error)
+}
+
+/// What a table has for a pair.
+fn modes_at(pairs: &[PairModes], subject: &Label, object: &Label) -> Modes
+    requires { IsStrictlySortedBy pair_cmp (map pair_of pairs.now) }
+    ensures { result ≡ granted pairs.now subject.now object.now }
+{
+    let asked = PairKey::of(subject.as_slice(), object.as_slice());
+    match pairs.binary_search_by(|pair| pair.key().compare(&asked)) {
+        Ok(place) => pairs[place].modes,
+        Err(_) => Modes::NO_ACCESS,
     }
 }
 
-/// Gives an object these modes in the row of a subject.
-fn put_in_row(row: &mut Row, object: Label, modes: Modes) -> Result<(), AllocError>
-    ensures { OnOk result (SetsObject (row_of row.old) (row_of row.new) object modes) }
-{
-    row.insert(object.into_bytes(), modes)?;
-    Ok(())
+impl PairModes {
+    /// The pair, as tables are ordered by it.
+    fn key(&self) -> PairKey<'_>
+        ensures { result ≡ pair_of self.now }
+    {
+        PairKey::of(self.subject.as_slice(), self.object.as_slice())
+    }
 }

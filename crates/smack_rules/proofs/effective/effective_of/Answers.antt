@@ -1,7 +1,7 @@
 use Rattle.std.proofs.Common.{sym, ap, ◌∙◌, ◌∷◌, ◌+◌, drop}
 use Rattle.std.proofs.lemmas.List.{drop_more}
 use Rattle.smack_rules.specs.Effective.{effective_from}
-use Rattle.smack_rules.proofs.Following.{effective_from-cons}
+use Rattle.smack_rules.proofs.RuleLists.{effective_from-cons}
 use Rattle.smack_rules.proofs.effective.effective_of.Goals as goal
 
 pub loop-rule-preserved : goal.loop-rule-preserved

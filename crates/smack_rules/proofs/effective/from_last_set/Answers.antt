@@ -1,6 +1,6 @@
 use Rattle.std.proofs.Common.{◌-◌, sym, ◌∙◌, arith}
 use Rattle.std.proofs.lemmas.List.{take_rest}
-use Rattle.smack_rules.proofs.Following.{effective-set}
+use Rattle.smack_rules.proofs.RuleLists.{effective-set}
 use Rattle.smack_rules.proofs.effective.from_last_set.Goals as goal
 
 pub returns-in-Some : goal.returns-in-Some

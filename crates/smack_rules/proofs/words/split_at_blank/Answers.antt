@@ -1,7 +1,7 @@
 use Rattle.std.proofs.Common.{sym}
 use Rattle.std.proofs.lemmas.List.{take_rest}
 use Rattle.smack_rules.specs.Words.{is_blank}
-use Rattle.smack_rules.proofs.Parts.{slice_split-position, slice_split-no_position}
+use Rattle.smack_rules.proofs.FirstPassing.{slice_split-position, slice_split-no_position}
 use Rattle.smack_rules.proofs.words.split_at_blank.Goals as goal
 
 pub returns-in-Some-clause-parts : goal.returns-in-Some-clause-parts

@@ -1,15 +1,15 @@
 use Rattle.std.proofs.Common.{◌≡◌, ◌+◌, ◌≤◌, List, length}
 use Rattle.text_lines.specs.Lines.{lines_of}
 use Rattle.smack_rules.specs.declared.rule.Rule.{Rule}
-use Rattle.smack_rules.specs.Grants.{GrantsAs}
 use Rattle.smack_rules.specs.RuleText.{with_front, rules_from, rules_of}
+use Rattle.smack_rules.specs.parts.Changes.{ChangeAs}
 use Rattle.smack_rules.proofs.table.RuleTable.load.Given as goal
 
--- the table follows the rules of the lines so far, and those of the lines that are left come behind them
+-- the changes are those of the lines so far, and the lines that are left come behind them
 abbrev pub invariant-loop-line : goal.invariant-loop-line
 invariant-loop-line l = record {
   counted : l.number + length l.rest ≤ length l.text;
-  taken : (done : List Rule) × GrantsAs l.table done
+  taken : (done : List Rule) × ChangeAs l.changes.changes.items done
       × (with_front done (rules_from (l.number + 1) (lines_of l.rest)) ≡ rules_of l.text);
 }
 

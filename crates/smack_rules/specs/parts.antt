@@ -1,0 +1,6 @@
+-- What only the functions of this crate cite among themselves.
+pub mod Changes
+pub mod Lines
+pub mod Order
+pub mod Pairs
+pub mod Setting
