@@ -7,3 +7,7 @@ pub mod Hads
 pub mod Progressing
 pub mod Answering
 pub mod Finishing
+pub mod RuleTexts
+pub mod Accessing
+pub mod LastLine
+pub mod Refusing

@@ -49,11 +49,12 @@ is_option word = begins_with_dash (string_bytes word)
 abbrev pub command_of : List (String Global) → Option Command
 command_of words = if list_any is_option words then None else named words
 
--- the command of the words, or that they name none; want of memory comes only where they name one
+-- The command of the words, or that they name none. Memory may run out only where labels are to be copied.
 abbrev pub Reads : Result Command CommandRefusal → Option Command → Type 0
 Reads (Ok command) expected = expected ≡ Some command
 Reads (Err Unknown) expected = expected ≡ None
-Reads (Err (Memory error)) expected = (command : Command) × (expected ≡ Some command)
+Reads (Err (Memory error)) expected =
+    (subject object : List ℕ) × (asked : Modes) × (expected ≡ Some (SmackAccess subject object asked))
 
 -- a command asks for a decision only where the modes are a request
 abbrev pub AsksRequest : Command → Type 0

@@ -2,3 +2,5 @@ pub mod Endings
 pub mod Local
 pub mod Progress
 pub mod Runs
+pub mod Access
+pub mod Words

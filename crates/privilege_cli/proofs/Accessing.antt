@@ -1,0 +1,172 @@
+-- A run of `smack-access`: what its parts read and wrote, put together.
+use Rattle.std.proofs.Common.{◌≡◌, ◌<◌, ◌≤◌, ◌+◌, ◌++◌, [], ℕ, Bool, true, false, nat_lt, List, length, take, Option, Some, None, Result, Ok, Err, MatchResult, inl, inr, refl, sym, ap, ◌∙◌, subst, arith, append-nil, length-append}
+use Rattle.std.proofs.lemmas.Bool.{ltb-true, ltb-false}
+use Rattle.desk_ports.specs.Faults.{next_count}
+use Rattle.desk_ports.specs.Content.{Took, ReadToEnd, Appended, AppendedPart}
+use Rattle.desk_ports.proofs.Appends.{Appended-none}
+use Rattle.smack_rules.specs.declared.modes.Modes.{Modes}
+use Rattle.smack_rules.specs.declared.table.PairModes.{PairModes}
+use Rattle.smack_rules.specs.Table.{granted}
+use Rattle.smack_rules.specs.Decision.{decision}
+use Rattle.privilege_cli.specs.Outside.{Had}
+use Rattle.privilege_cli.specs.AccessRun.{rules_read, decided_text, IsDecided, IsReadThrough, AccessAnswers}
+use Rattle.privilege_cli.specs.parts.Access.{IsRead, AreLoaded, StopsAtText, AreRead, ReadsRules, WritesAnswer}
+use Rattle.privilege_cli.specs.parts.Local.{counts_source, counts_sink}
+use Rattle.privilege_cli.specs.parts.Runs.{RunsBefore}
+use Rattle.privilege_cli.specs.declared.limits.TheConstants.{MOST_RULES_BYTES}
+use Rattle.privilege_cli.specs.declared.ending.Ending.{Ending}
+use Rattle.privilege_cli.specs.declared.ending.Ending.TheVariants.{Done, Memory, Words, Line, Source, Sink}
+use Rattle.privilege_cli.proofs.Hads.{Took-Had}
+use Rattle.privilege_cli.proofs.Trying.{IsCut-take}
+
+module _ (left left_after : Option (List ℕ)) (text : List ℕ) (read : IsRead left left_after text) where
+  loaded : (table : List PairModes) → AreLoaded text table → AreRead left left_after table
+  loaded table loads =
+      let had = Took-Had left left_after text read.took in
+      let rest = had.2 (read.end loads.within) in
+      let input : text ++ had.0 ≡ text = ap (λ rest. text ++ rest) rest ∙ append-nil text in
+      record {
+        input = text ++ had.0;
+        rules = loads.rules;
+        had = subst (Had left left_after (text ++ had.0)) rest had.1;
+        right = ap rules_read input ∙ loads.right;
+        grants = loads.grants;
+      }
+
+  stopped : (ending : Ending) → StopsAtText text ending → ReadsRules left left_after (Err ending)
+  stopped Done stops = absurd stops
+  stopped Memory stops = (text, read.took)
+  stopped Words stops = absurd stops
+  stopped Source stops = absurd stops
+  stopped Sink stops = absurd stops
+  stopped (Line number) stops =
+      let had = Took-Had left left_after text read.took in
+      let through = either (nat_lt MOST_RULES_BYTES (length text)) refl had.0 had.2 in
+      record {
+        input = text ++ had.0;
+        rest = had.0;
+        had = had.1;
+        through = through;
+        wrong = stops had.0 (λ within. had.2 (read.end within));
+      }
+    where
+      either : (past : Bool) → nat_lt MOST_RULES_BYTES (length text) ≡ past → (rest : List ℕ) → (ReadToEnd left left_after → rest ≡ [])
+          → IsReadThrough (text ++ rest) rest
+      either true is rest none = inr (omega (arith, ltb-true MOST_RULES_BYTES (length text) is, length-append text rest))
+      either false is rest none = inl (none (read.end (ltb-false MOST_RULES_BYTES (length text) is)))
+
+  -- what the text that was read made of the rules
+  pub ReadsRules-text : (result : Result (List PairModes) Ending) → MatchResult result (AreLoaded text) (StopsAtText text)
+      → ReadsRules left left_after result
+  ReadsRules-text (Ok table) loads = loaded table loads
+  ReadsRules-text (Err ending) stops = stopped ending stops
+
+module _ (left left_after taken taken_after : Option (List ℕ)) (reads reads_after faults faults_after : ℕ)
+    (subject object : List ℕ) (asked : Modes) where
+  abbrev Run : Ending → Type 0
+  Run ending =
+      RunsBefore (AccessAnswers subject object asked) ending
+      (record { left = left; source_faults = reads; taken = taken; sink_faults = faults })
+      (record { left = left_after; source_faults = reads_after; taken = taken_after; sink_faults = faults_after })
+
+  -- the rules were not read, and nothing was written
+  pub RunsBefore-unread : (ending : Ending) → ReadsRules left left_after (Err ending)
+      → reads_after ≡ counts_source {A = List PairModes} (Err ending) reads → taken_after ≡ taken → faults_after ≡ faults → Run ending
+  RunsBefore-unread Done rules source same count = absurd rules
+  RunsBefore-unread Words rules source same count = absurd rules
+  RunsBefore-unread Sink rules source same count = absurd rules
+  RunsBefore-unread (Line number) rules source same count =
+      record {
+        input = rules.input;
+        left = rules.rest;
+        answers = [];
+        written = [];
+        had = rules.had;
+        answered = (rules.through, rules.wrong, refl);
+        taken = subst (Appended taken []) (sym same) (Appended-none taken);
+        is_written = (count, refl);
+        source = source;
+      }
+  RunsBefore-unread Memory rules source same count =
+      let had = Took-Had left left_after rules.0 rules.1 in
+      record {
+        input = rules.0 ++ had.0;
+        left = had.0;
+        answers = [];
+        written = [];
+        had = had.1;
+        answered = refl;
+        taken = subst (Appended taken []) (sym same) (Appended-none taken);
+        is_written = inl (count, refl);
+        source = source;
+      }
+  RunsBefore-unread Source rules source same count =
+      let had = Took-Had left left_after rules.0 rules.1 in
+      record {
+        input = rules.0 ++ had.0;
+        left = had.0;
+        answers = [];
+        written = [];
+        had = had.1;
+        answered = refl;
+        taken = subst (Appended taken []) (sym same) (Appended-none taken);
+        is_written = (count, refl);
+        source = source;
+      }
+
+  module _ (table : List PairModes) (read : AreRead left left_after table) (text : List ℕ)
+      (decided : text ≡ decided_text (decision subject object asked (granted table subject object)))
+      (source : reads_after ≡ reads) where
+    is_decided : IsDecided subject object asked read.input [] text
+    is_decided =
+        record {
+          rules = read.rules;
+          read = refl;
+          right = read.right;
+          answered = decided ∙ ap (λ granted. decided_text (decision subject object asked granted)) (read.grants subject object);
+        }
+
+    pub RunsBefore-written : Appended taken text taken_after → faults_after ≡ faults → Run Done
+    RunsBefore-written all count =
+        record {
+          input = read.input;
+          left = [];
+          answers = text;
+          written = text;
+          had = read.had;
+          answered = is_decided;
+          taken = all;
+          is_written = (count, refl);
+          source = source;
+        }
+
+    pub RunsBefore-unwritten : (ending : Ending) → WritesAnswer taken taken_after text (Err ending)
+        → faults_after ≡ counts_sink {A = Unit {0}} (Err ending) faults → Run ending
+    RunsBefore-unwritten Done writes count = absurd writes
+    RunsBefore-unwritten Words writes count = absurd writes
+    RunsBefore-unwritten Source writes count = absurd writes
+    RunsBefore-unwritten (Line number) writes count = absurd writes
+    RunsBefore-unwritten Memory writes count =
+        record {
+          input = read.input;
+          left = [];
+          answers = [];
+          written = [];
+          had = read.had;
+          answered = refl;
+          taken = subst (Appended taken []) (sym writes) (Appended-none taken);
+          is_written = inl (count, refl);
+          source = source;
+        }
+    RunsBefore-unwritten Sink writes count =
+        record {
+          input = read.input;
+          left = [];
+          answers = text;
+          written = take writes.0 text;
+          had = read.had;
+          answered = is_decided;
+          taken = writes.2;
+          is_written = (count, IsCut-take writes.0 text writes.1);
+          source = source;
+        }

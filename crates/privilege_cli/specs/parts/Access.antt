@@ -1,0 +1,83 @@
+-- The parts of a run of `smack-access`.
+use Rattle.std.specs.Prelude.{◌≡◌, ◌≤◌, ◌<◌, ◌+◌, ℕ, Bool, true, false, List, [], ◌++◌, length, Option, Result, Ok, Err}
+use Rattle.desk_ports.specs.Content.{Took, AtEnd, ReadToEnd, Appended, AppendedPart}
+use Rattle.text_lines.specs.Lines.{pieces_of, HasNoNewline, AreWholeLines}
+use Rattle.smack_rules.specs.declared.rule.Rule.{Rule}
+use Rattle.smack_rules.specs.declared.table.PairModes.{PairModes}
+use Rattle.smack_rules.specs.Grants.{GrantsAs}
+use Rattle.privilege_cli.specs.Outside.{Had}
+use Rattle.privilege_cli.specs.AccessRun.{rules_read, IsReadThrough}
+use Rattle.privilege_cli.specs.declared.limits.TheConstants.{MOST_RULES_BYTES}
+use Rattle.privilege_cli.specs.declared.ending.Ending.{Ending}
+use Rattle.privilege_cli.specs.declared.ending.Ending.TheVariants.{Done, Memory, Words, Line, Source, Sink}
+
+-- The text is all that the source had, or goes past the limit.
+pub record IsRead (left left_after : Option (List ℕ)) (text : List ℕ) : Type 0 where
+  pub took : Took left text left_after
+  pub end : length text ≤ MOST_RULES_BYTES → ReadToEnd left left_after
+
+-- these are the whole lines of the text, so many
+pub record AreLinesOf (text lines : List ℕ) (count : ℕ) : Type 0 where
+  pub rest : List ℕ
+  pub parts : text ≡ lines ++ rest
+  pub whole : AreWholeLines lines
+  pub unfinished : HasNoNewline rest
+  pub counted : length (pieces_of lines) ≡ count
+
+-- a text that begins so has its first wrong line here; nothing follows a text within the limit
+abbrev pub IsWrongAt : List ℕ → ℕ → Type 0
+IsWrongAt text line = (more : List ℕ) → (length text ≤ MOST_RULES_BYTES → more ≡ []) → rules_read (text ++ more) ≡ Err line
+
+-- how a text may be no rules
+abbrev pub StopsAtText : List ℕ → Ending → Type 0
+StopsAtText text Memory = Unit {0}
+StopsAtText text (Line number) = IsWrongAt text number
+StopsAtText text ending = ⊥
+
+-- the text is rules, and the table grants as they do
+pub record AreLoaded (text : List ℕ) (table : List PairModes) : Type 0 where
+  pub rules : List Rule
+  pub within : length text ≤ MOST_RULES_BYTES
+  pub right : rules_read text ≡ Ok rules
+  pub grants : GrantsAs table rules
+
+-- the source was read to its end, and the table grants as the rules of what it had
+pub record AreRead (left left_after : Option (List ℕ)) (table : List PairModes) : Type 0 where
+  pub input : List ℕ
+  pub rules : List Rule
+  pub had : Had left left_after input []
+  pub right : rules_read input ≡ Ok rules
+  pub grants : GrantsAs table rules
+
+-- the first wrong line of what the source had, which was read to its end or past the limit
+pub record IsWrongInput (left left_after : Option (List ℕ)) (number : ℕ) : Type 0 where
+  pub input : List ℕ
+  pub rest : List ℕ
+  pub had : Had left left_after input rest
+  pub through : IsReadThrough input rest
+  pub wrong : rules_read input ≡ Err number
+
+-- how reading the rules ends
+abbrev pub ReadsRules : Option (List ℕ) → Option (List ℕ) → Result (List PairModes) Ending → Type 0
+ReadsRules left left_after (Ok table) = AreRead left left_after table
+ReadsRules left left_after (Err (Line number)) = IsWrongInput left left_after number
+ReadsRules left left_after (Err Memory) = (given : List ℕ) × Took left given left_after
+ReadsRules left left_after (Err Source) = (given : List ℕ) × Took left given left_after
+ReadsRules left left_after (Err ending) = ⊥
+
+-- how writing the answer ends
+abbrev pub WritesAnswer : Option (List ℕ) → Option (List ℕ) → List ℕ → Result (Unit {0}) Ending → Type 0
+WritesAnswer taken taken_after text (Ok value) = Appended taken text taken_after
+WritesAnswer taken taken_after text (Err Memory) = taken_after ≡ taken
+WritesAnswer taken taken_after text (Err Sink) = AppendedPart taken text taken_after
+WritesAnswer taken taken_after text (Err ending) = ⊥
+
+module _ (left left_after : Option (List ℕ)) (old new : List ℕ) where
+  -- One reading gave these bytes, and the text goes on with them. A text within the limit ends only where the source does.
+  pub record ReadsMore (more : Bool) : Type 0 where
+    pub given : List ℕ
+    pub took : Took left given left_after
+    pub longer : new ≡ old ++ given
+    pub within : length new ≤ MOST_RULES_BYTES + 1
+    pub nearer : more ≡ true → length old < length new
+    pub end : more ≡ false → length new ≤ MOST_RULES_BYTES → AtEnd left × (given ≡ [])

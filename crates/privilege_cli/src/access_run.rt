@@ -1,0 +1,156 @@
+// `smack-access`: reads the rules of the source, and has the sink take the decision on one request.
+ghost use Rattle.std.specs.Prelude.{◌≡◌, ◌≤◌, ◌<◌, ◌+◌, ◌⊎◌, ℕ, List, length, MatchResult, IfOk, IfErr, IsTrue};
+ghost use Rattle.desk_ports.specs.Faults.{CountsFailure};
+ghost use Rattle.desk_ports.specs.Content.{Took};
+ghost use Rattle.line_script.specs.Answers.{answer_text};
+ghost use Rattle.smack_rules.specs.Modes.{is_request};
+ghost use Rattle.privilege_cli.specs.AccessRun.{AccessAnswers};
+ghost use Rattle.privilege_cli.specs.parts.Access.{IsRead, ReadsMore, AreLinesOf, AreLoaded, StopsAtText, ReadsRules, WritesAnswer};
+ghost use Rattle.privilege_cli.specs.parts.Local.{counts_source, counts_sink};
+ghost use Rattle.privilege_cli.specs.parts.Runs.{RunsBefore};
+
+use crate::ending::Ending;
+use crate::zeros::zeros;
+use desk_ports::{Bytes, Sink, Source, write_all};
+use line_script::{LineAnswer, print};
+use smack_rules::{Label, LoadRefusal, MOST_TEXT_BYTES, Modes, RuleTable};
+use std::alloc::Global;
+use text_lines::split_at_newline;
+
+/// How many bytes are read at most in one call.
+const WINDOW: usize = 262_144;
+
+/// Decides a request under the rule lines of the source, which is read first, to its end or past the longest text of
+/// rules. Nothing is written but the decision.
+pub fn run_access<S: Source, K: Sink>(
+    alloc: Global,
+    subject: &Label,
+    object: &Label,
+    asked: Modes,
+    source: &mut S,
+    sink: &mut K,
+) -> Ending
+    requires { IsTrue (is_request asked) }
+    ensures { RunsBefore (AccessAnswers subject.now object.now asked) result
+        (record { left = S.left source.old; source_faults = S.faults source.old; taken = K.taken sink.old; sink_faults = K.faults sink.old })
+        (record { left = S.left source.new; source_faults = S.faults source.new; taken = K.taken sink.new; sink_faults = K.faults sink.new }) }
+{
+    let table = match read_rules(alloc, source) {
+        Ok(table) => table,
+        Err(ending) => return ending,
+    };
+    let decision = table.decide(subject, object, asked);
+    let answer = LineAnswer::Access {
+        allowed: decision.allowed,
+        rule: decision.rule,
+    };
+    match write_answer(alloc, &answer, sink) {
+        Ok(()) => Ending::Done,
+        Err(ending) => ending,
+    }
+}
+
+// Prints the answer, and has the sink take it.
+fn write_answer<K: Sink>(alloc: Global, answer: &LineAnswer, sink: &mut K) -> Result<(), Ending>
+    ensures written { WritesAnswer (K.taken sink.old) (K.taken sink.new) (answer_text answer.now) result }
+    ensures count { K.faults sink.new ≡ counts_sink result (K.faults sink.old) }
+{
+    let mut text = Bytes::new(alloc);
+    print(answer, &mut text)?;
+    match write_all(sink, text.as_slice()) {
+        Ok(()) => Ok(()),
+        Err(_) => Err(Ending::Sink),
+    }
+}
+
+// The table of the rules of the source, which is read to its end or past the limit of a rule text.
+fn read_rules<S: Source>(alloc: Global, source: &mut S) -> Result<RuleTable, Ending>
+    ensures read { ReadsRules (S.left source.old) (S.left source.new) result }
+    ensures count { S.faults source.new ≡ counts_source result (S.faults source.old) }
+{
+    let text = read_text(alloc, source)?;
+    load_rules(alloc, text.as_slice())
+}
+
+// The bytes of the source up to its end. Where there are more than a rule text may have, one byte more than that.
+fn read_text<S: Source>(alloc: Global, source: &mut S) -> Result<Bytes, Ending>
+    ensures read { IfOk result (IsRead (S.left source.old) (S.left source.new)) }
+    ensures stopped { IfErr result (λ ending. ((ending ≡ Ending.Memory) ⊎ (ending ≡ Ending.Source))
+        × ((given : List ℕ) × Took (S.left source.old) given (S.left source.new))) }
+    ensures count { S.faults source.new ≡ counts_source result (S.faults source.old) }
+{
+    let mut text = Bytes::new(alloc);
+    let mut buffer = zeros(alloc, WINDOW)?;
+    let window = buffer.as_mut_slice();
+    'pieces: while read_more(&mut text, window, source)? {}
+    Ok(text)
+}
+
+// Reads once, by way of the window, and appends what was read. Whether the text may go on behind that.
+fn read_more<S: Source>(
+    text: &mut Bytes,
+    window: &mut [u8],
+    source: &mut S,
+) -> Result<bool, Ending>
+    requires window { 0 < length window.old }
+    requires within { length text.old ≤ 16777217 }
+    ensures read { IfOk result (ReadsMore (S.left source.old) (S.left source.new) text.old text.new) }
+    ensures stopped { IfErr result (λ ending. ((ending ≡ Ending.Memory) ⊎ (ending ≡ Ending.Source))
+        × ((given : List ℕ) × Took (S.left source.old) given (S.left source.new))) }
+    ensures count { S.faults source.new ≡ counts_source result (S.faults source.old) }
+{
+    if text.len() > MOST_TEXT_BYTES {
+        return Ok(false);
+    }
+    let end = window.len().min(MOST_TEXT_BYTES + 1 - text.len());
+    let Ok(count) = source.read(&mut window[..end]) else {
+        return Err(Ending::Source);
+    };
+    let Ok(()) = text.append(&window[..count]) else {
+        return Err(Ending::Memory);
+    };
+    Ok(count > 0)
+}
+
+// The table of a text's rules, or the first of its lines that is wrong.
+fn load_rules(alloc: Global, text: &[u8]) -> Result<RuleTable, Ending>
+    ensures { MatchResult result (AreLoaded text.now) (StopsAtText text.now) }
+{
+    if text.len() > MOST_TEXT_BYTES {
+        return Err(stop_past_limit(alloc, text));
+    }
+    match RuleTable::load(alloc, text) {
+        Ok(table) => Ok(table),
+        Err(LoadRefusal::BadLine(line)) => Err(Ending::Line(line)),
+        Err(LoadRefusal::Memory(_)) => Err(Ending::Memory),
+    }
+}
+
+// Where a text stops that goes past the limit: at the first of its lines within the limit that is no rule, and else at
+// the line behind them, in which the byte past the limit stands.
+fn stop_past_limit(alloc: Global, text: &[u8]) -> Ending
+    requires { 16777216 < length text.now }
+    ensures { StopsAtText text.now result }
+{
+    let (lines, count) = whole_lines(&text[..MOST_TEXT_BYTES]);
+    match RuleTable::load(alloc, lines) {
+        Ok(_) => Ending::Line(count + 1),
+        Err(LoadRefusal::BadLine(line)) => Ending::Line(line),
+        Err(LoadRefusal::Memory(_)) => Ending::Memory,
+    }
+}
+
+// The lines of a text that end with a newline, and how many they are.
+fn whole_lines(text: &[u8]) -> (&[u8], u32)
+    requires { length text.now ≤ 16777216 }
+    ensures lines { AreLinesOf text.now result.0.now result.1 }
+    ensures count { result.1 ≤ length text.now }
+{
+    let mut rest = text;
+    let mut count = 0u32;
+    while let Some((_, after)) = split_at_newline(rest) {
+        rest = after;
+        count += 1;
+    }
+    (&text[..text.len() - rest.len()], count)
+}
