@@ -1,0 +1,4 @@
+pub mod OpenQuestion
+pub mod Table
+pub mod Refusals
+pub mod parts
