@@ -283,3 +283,6 @@ fn told(question: &OpenQuestion) -> Result<Asked, AllocError>
         metadata: question.metadata.copy()?,
     })
 }
+
+#[cfg(test)]
+mod tests;
