@@ -1,14 +1,14 @@
 -- What each call keeps of the table's fields.
-use Rattle.std.proofs.Common.{◌≡◌, ℕ, ◌+◌, ◌<◌, ◌==◌, Bool, true, false, not, cond, ◌&&◌, List, [], ◌∷◌, ◌++◌, map, filter, Option, Some, None, refl, sym, ap, ◌∙◌, subst, arith, suc}
-use Rattle.std.specs.List.{AllByRecursion, find}
+use Rattle.std.proofs.Common.{◌≡◌, ℕ, ◌+◌, ◌<◌, ◌==◌, Bool, true, false, not, cond, ◌&&◌, List, [], ◌∷◌, ◌++◌, Some, refl, sym, ap, ◌∙◌, subst, arith}
+use Rattle.std.specs.List.{AllByRecursion}
 use Rattle.agent_table.specs.declared.open_questions.OpenQuestion.{OpenQuestion}
 use Rattle.agent_table.specs.declared.open_questions.State.{State}
-use Rattle.agent_table.specs.OpenQuestion.{is_waiting, once_left, waits_for, numbered, noted, with_state, without, left_by, agent_left}
+use Rattle.agent_table.specs.OpenQuestion.{is_waiting, once_left, waits_for, numbered, with_state, without, agent_left}
 use Rattle.agent_table.specs.parts.Rising.{Rises, numbers_of}
 use Rattle.agent_table.specs.parts.Waiting.{numbers_waiting, Queues, queue_of, ChangesQueue, AreQueuesOf}
 use Rattle.agent_table.specs.parts.Kept.{AreKept}
-use Rattle.agent_table.proofs.Rising.{eqb-is, eqb-same, Rises-filter, Rises-append, AllByRecursion-append, AllByRecursion-weaker, AllByRecursion-map-filter}
-use Rattle.agent_table.proofs.Waiting.{find-passes, others, others-absent, waiting-push, waiting-noted, waiting-without, waiting-left}
+use Rattle.agent_table.proofs.Rising.{eqb-is, Rises-filter, Rises-append, AllByRecursion-append, AllByRecursion-weaker, AllByRecursion-map-filter}
+use Rattle.agent_table.proofs.Waiting.{others, others-absent, waiting-push, waiting-noted, waiting-without, waiting-left}
 
 -- ---- the numbers
 

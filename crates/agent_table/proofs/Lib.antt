@@ -6,3 +6,4 @@ mod Waiting
 mod Answering
 mod Keeping
 mod Finding
+mod Pairing

@@ -1,5 +1,5 @@
 -- The kinds that have a queue, against the map of the queues.
-use Rattle.std.proofs.Common.{◌≡◌, ℕ, ◌==◌, Bool, true, false, cond, List, [], ◌∷◌, refl, sym, ap, ◌∙◌, ◌||◌, Option, Some, None, is_some, arith}
+use Rattle.std.proofs.Common.{◌≡◌, ℕ, ◌==◌, true, false, cond, List, [], ◌∷◌, refl, sym, ap, ◌∙◌, ◌||◌, Option, Some, None, is_some}
 use Rattle.std.specs.declared.cmp.Ordering.{Ordering}
 use Rattle.std.specs.declared.cmp.Ordering.TheVariants.{Less, Equal, Greater}
 use Rattle.std.specs.List.{list_any}
@@ -8,12 +8,9 @@ use Rattle.std.specs.Set.{remove_key}
 use Rattle.std.specs.BTreeMap.{BTreeMap, get, keys, insert_entry, is_at}
 use mathlib.Core.Bool.{true≢false}
 use Rattle.std.specs.BTreeSet.{insert_key}
-use Rattle.std.specs.Ordering.{nat_cmp, is_eq, match_ordering}
+use Rattle.std.specs.Ordering.{nat_cmp, match_ordering}
 use Rattle.std.specs.Cmp.{unsigned_ties}
-use Rattle.std.proofs.lemmas.Bool.Decides.{nat_tests}
-
-eqb-flip : (a b : ℕ) → (a == b) ≡ (b == a)
-eqb-flip a b = grind (arith, nat_tests)
+use Rattle.agent_table.proofs.Rising.{eqb-flip}
 
 pub is_at-same : (kind other : ℕ) → is_at (nat_cmp kind) other ≡ (other == kind)
 is_at-same kind other = sym (unsigned_ties kind other) ∙ eqb-flip kind other

@@ -1,5 +1,5 @@
 -- Lists along which a number rises: one place at most has a number, and what a change at that place makes of the list.
-use Rattle.std.proofs.Common.{◌≡◌, ℕ, ◌+◌, ◌<◌, ◌==◌, Bool, true, false, not, cond, List, [], ◌∷◌, ◌++◌, zero, suc, length, map, filter, set, get_or, Option, Some, None, refl, sym, ap, ◌∙◌, subst, arith}
+use Rattle.std.proofs.Common.{◌≡◌, ℕ, ◌<◌, ◌==◌, Bool, true, false, not, cond, List, [], ◌∷◌, ◌++◌, zero, suc, length, map, filter, set, get_or, Some, None, refl, sym, ap, subst, arith}
 use Rattle.std.specs.List.{AllByRecursion, find, remove}
 use Rattle.std.proofs.lemmas.Bool.Decides.{nat_tests}
 use Rattle.agent_table.specs.parts.Rising.{Rises}
@@ -9,6 +9,9 @@ eqb-below a b lt = grind (arith, nat_tests)
 
 pub eqb-above : (a b : ℕ) → b < a → (a == b) ≡ false
 eqb-above a b lt = grind (arith, nat_tests)
+
+pub eqb-flip : (a b : ℕ) → (a == b) ≡ (b == a)
+eqb-flip a b = grind (arith, nat_tests)
 
 pub eqb-same : (a : ℕ) → (a == a) ≡ true
 eqb-same a = grind (arith, nat_tests)

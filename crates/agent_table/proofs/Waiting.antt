@@ -1,14 +1,13 @@
 -- The queues against the open questions: what a change of the one makes of the other.
-use Rattle.std.proofs.Common.{◌≡◌, ℕ, ◌+◌, ◌<◌, ◌==◌, Bool, true, false, not, cond, ◌&&◌, List, [], ◌∷◌, ◌++◌, map, filter, Option, Some, None, refl, sym, ap, ◌∙◌, subst}
+use Rattle.std.proofs.Common.{◌≡◌, ℕ, ◌<◌, ◌==◌, Bool, true, false, not, cond, ◌&&◌, List, [], ◌∷◌, ◌++◌, map, filter, Some, refl, sym, ap, ◌∙◌, subst}
 use Rattle.std.specs.List.{AllByRecursion, find, slice_get}
 use Rattle.std.specs.Option.{option_map}
-use mathlib.Core.Bool.{true≢false}
 use Rattle.agent_table.specs.declared.open_questions.OpenQuestion.{OpenQuestion}
 use Rattle.agent_table.specs.declared.open_questions.State.{State}
 use Rattle.agent_table.specs.declared.open_questions.State.TheVariants.{Waiting, Given, Answered, Gone}
-use Rattle.agent_table.specs.OpenQuestion.{is_waiting, once_left, waits_for, numbered, first_waiting, noted, with_state, without, left_by, agent_left}
+use Rattle.agent_table.specs.OpenQuestion.{is_waiting, once_left, waits_for, numbered, with_state, without, agent_left}
 use Rattle.agent_table.specs.parts.Rising.{Rises, numbers_of}
-use Rattle.agent_table.specs.parts.Waiting.{numbers_waiting, Queues, queue_of, ChangesQueue, AreQueuesOf}
+use Rattle.agent_table.specs.parts.Waiting.{numbers_waiting}
 use Rattle.agent_table.proofs.Rising.{eqb-is, eqb-same, eqb-below, eqb-above, AllByRecursion-map-filter}
 
 -- ---- what a test finds

@@ -1,5 +1,5 @@
 -- What each call answers, by the table before it: the first rule that is broken, or what was asked for.
-use Rattle.std.specs.Prelude.{◌≡◌, ℕ, Bool, true, false, not, nat_le, if◌then◌else◌, length, Option, Some, None, Result, Ok, Err}
+use Rattle.std.specs.Prelude.{◌≡◌, ℕ, Bool, not, nat_le, if◌then◌else◌, length, Option, Some, None, Result, Ok, Err}
 use Rattle.cynara_keys.specs.declared.results.Kind.{Kind}
 use Rattle.agent_table.specs.declared.limits.TheConstants.{MOST_OPEN, MOST_NUMBERS}
 use Rattle.agent_table.specs.declared.open_questions.OpenQuestion.{OpenQuestion}

@@ -1,4 +1,4 @@
-use Rattle.std.proofs.Common.{refl, sym, ap}
+use Rattle.std.proofs.Common.{refl, ap}
 use Rattle.agent_table.specs.OpenQuestion.{waits_for}
 use Rattle.agent_table.specs.declared.table.Asked.{Asked}
 use Rattle.agent_table.proofs.Waiting.{find-passes}

@@ -1,5 +1,4 @@
-use Rattle.std.proofs.Common.{refl, sym, ap, ◌∙◌, Ok, Err}
-use Rattle.agent_table.specs.declared.open_questions.OpenQuestion.{OpenQuestion}
+use Rattle.std.proofs.Common.{refl, sym, ap, ◌∙◌, Err}
 use Rattle.agent_table.specs.declared.refusals.TakeRefusal.TheVariants.{AgentGone}
 use Rattle.agent_table.specs.OpenQuestion.{is_waiting}
 use Rattle.agent_table.proofs.Answering.{reply-found, reply-unanswered}
