@@ -1,6 +1,6 @@
 -- What the places that a search gives have to do with the list.
 use Rattle.std.proofs.Common.{◌≡◌, ℕ, ◌<◌, ◌==◌, Bool, true, false, not, cond, ◌&&◌, List, [], ◌∷◌, length, get_or, Option, Some, None, IfSome, refl, sym, ap, ◌∙◌, subst}
-use Rattle.std.specs.List.{slice_get}
+use Rattle.std.specs.List.{AllByRecursion, slice_get}
 use Rattle.std.specs.Option.{option_map}
 use Rattle.std.specs.Vec.{with_items}
 use Rattle.std.specs.declared.vec.Vec.{Vec}
@@ -15,7 +15,7 @@ use Rattle.agent_table.specs.OpenQuestion.{is_waiting, is_given, is_owed_by, wai
 use Rattle.agent_table.specs.parts.Rising.{Rises, numbers_of}
 use Rattle.agent_table.specs.parts.Waiting.{Queues, queue_of, ChangesQueue}
 use Rattle.agent_table.specs.parts.Kept.{AreKept}
-use Rattle.agent_table.proofs.Rising.{eqb-is, Rises-filter}
+use Rattle.agent_table.proofs.Rising.{eqb-is, eqb-below, Rises-filter}
 use Rattle.agent_table.proofs.Waiting.{find-passes, others, find-numbered, first-filter}
 
 -- as many questions written over a vector's are its questions
@@ -97,6 +97,12 @@ changed-first kind n m old new question own same changed =
     let P : ℕ → Type 0 = λ k. ChangesQueue k (others n (queue_of k old)) old new in
     let Q : ℕ → Type 0 = λ l. ChangesQueue kind (others l (queue_of kind old)) old new in
     subst P (sym own) (subst Q same changed)
+
+-- no open question has the number that comes next
+pub numbered-next : (n : ℕ) (questions : List OpenQuestion) → AllByRecursion (λ number. number < n) (numbers_of questions)
+    → numbered n questions ≡ None
+numbered-next n [] below = refl
+numbered-next n (first ∷ questions) below = rw (eqb-below first.number n below.0) (numbered-next n questions below.1)
 
 -- without the number of no question, all stay
 pub without-none : (n : ℕ) (questions : List OpenQuestion) → numbered n questions ≡ None → without n questions ≡ questions

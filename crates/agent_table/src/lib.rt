@@ -13,7 +13,6 @@ mod table;
 mod waiting_numbers;
 
 pub use limits::{MOST_NUMBERS, MOST_OPEN};
-pub use open_questions::{OpenQuestion, State};
 pub use refusals::{AnswerRefusal, PutRefusal, RegisterRefusal, TakeRefusal};
 pub use runs::answers_are_paired;
 pub use table::{Asked, Questions, Taken};

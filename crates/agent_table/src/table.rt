@@ -2,7 +2,7 @@ ghost use Rattle.std.specs.Prelude.{◌≡◌, ◌<◌, length, None, slice_get}
 ghost use Rattle.std.specs.Prelude.{IsTrue, IsSome, IfSome, MatchOption, IfOk, IfErr, OnOk, OnErr};
 ghost use Rattle.std.specs.Option.{option_map};
 ghost use Rattle.cynara_keys.specs.PolicyResult.{is_agent};
-ghost use Rattle.agent_table.specs.OpenQuestion.{first_waiting};
+ghost use Rattle.agent_table.specs.OpenQuestion.{numbered, first_waiting};
 ghost use Rattle.agent_table.specs.Table.{fresh, after_register, after_put, after_next, after_answer};
 ghost use Rattle.agent_table.specs.Table.{after_drop_agent, after_stop};
 ghost use Rattle.agent_table.specs.Refusals.{register_fault, put_fault, RefusesAgent, RefusesQuestion};
@@ -122,6 +122,7 @@ impl Questions {
         requires agent { IsTrue (is_agent kind.0) }
         ensures accepted { OnOk result (put_fault kind self.old ≡ None) }
         ensures number { IfOk result (λ number. number ≡ self.old.next) }
+        ensures alone { OnOk result (numbered self.old.next self.old.questions ≡ None) }
         ensures refused { IfErr result (λ refusal. RefusesQuestion refusal (put_fault kind self.old)) }
         ensures ok { OnOk result (self.new ≡ after_put kind question metadata self.old) }
         ensures err { OnErr result (self.new ≡ self.old) }
