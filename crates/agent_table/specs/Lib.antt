@@ -1,0 +1,5 @@
+pub mod OpenQuestion
+pub mod Table
+pub mod Refusals
+pub mod Runs
+pub mod parts
