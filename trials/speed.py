@@ -1,10 +1,12 @@
 #!/usr/bin/env python3
-"""Times the program and the peer in `peer.rs` on the same inputs, in turn, and prints the best of three runs each. The two
-must answer alike. Build the program before, by `privilege`; the peer is built here, by `rustc`."""
+"""Times the program and the peer in `peer.rs` on the same inputs, in turn, and prints the best of three runs each, and where
+GNU time stands in /usr/bin the most memory that each took. The two must answer alike. Build the program before, by
+`privilege`; the peer is built here, by `rustc`. Words of this script, as "rules", choose the inputs whose names have them."""
 
 import pathlib
 import random
 import subprocess
+import sys
 import tempfile
 import time
 
@@ -12,6 +14,7 @@ HERE = pathlib.Path(__file__).resolve().parent
 PROGRAM = HERE.parent / "crates" / "privilege_cli" / "out" / "privilege_cli"
 MOST_BYTES = 16_777_216
 MOST_POLICIES = 65_536
+GNU_TIME = pathlib.Path("/usr/bin/time")
 
 
 def filled(lines):
@@ -48,27 +51,38 @@ def inputs():
     random_rules = filled(forever(random_rule))
     yield "16 MiB of rules, random pairs", access, random_rules
     yield "the first half of them", access, random_rules[: random_rules.rindex(b"\n", 0, MOST_BYTES // 2) + 1]
+    some_rule = lambda _: b"s%d o%d rx w" % (draw.randrange(100), draw.randrange(10))
+    yield "16 MiB of rules for 1,000 pairs", access, filled(forever(some_rule))
+    long_rule = lambda _: b"User::App::org.tizen.%d User::Pkg::org.tizen.%d rx w" % (draw.randrange(10**5), draw.randrange(1000))
+    yield "16 MiB of rules, labels alike", access, filled(forever(long_rule))
 
 
 def timed(command, file):
+    """How long a run took, its memory in MB, and what it wrote."""
+    measured = [GNU_TIME, "-f", "%M", "-o", file.with_suffix(".memory")] if GNU_TIME.exists() else []
     with open(file, "rb") as text:
         start = time.perf_counter()
-        done = subprocess.run(command, stdin=text, stdout=subprocess.PIPE, check=True)
-        return time.perf_counter() - start, done.stdout
+        done = subprocess.run([*measured, *command], stdin=text, stdout=subprocess.PIPE, check=True)
+        took = time.perf_counter() - start
+    memory = int(file.with_suffix(".memory").read_text()) / 1000 if measured else 0
+    return took, memory, done.stdout
 
 
 def main():
     with tempfile.TemporaryDirectory() as folder:
         peer, file = pathlib.Path(folder) / "peer", pathlib.Path(folder) / "input"
         subprocess.run(["rustc", "--edition", "2021", "-O", "-o", peer, HERE / "peer.rs"], check=True)
-        print(f"{'':36}{'program':>10}{'peer':>10}{'lines':>12}")
+        print(f"{'':36}{'program':>10}{'':>9}{'peer':>10}{'':>9}{'lines':>12}")
         for name, words, text in inputs():
+            if not all(word in name for word in sys.argv[1:]):
+                continue
             file.write_bytes(text)
             runs = [(timed([PROGRAM, *words], file), timed([peer, *words], file)) for _ in range(3)]
-            assert all(ours[1] == theirs[1] for ours, theirs in runs), name
-            ours = min(ours[0] for ours, _ in runs)
-            theirs = min(theirs[0] for _, theirs in runs)
-            print(f"{name:36}{ours:8.2f} s{theirs:8.2f} s{text.count(bytes([10])):12,}", flush=True)
+            assert all(ours[2] == theirs[2] for ours, theirs in runs), name
+            ours = [min(ours[column] for ours, _ in runs) for column in (0, 1)]
+            theirs = [min(theirs[column] for _, theirs in runs) for column in (0, 1)]
+            each = "".join(f"{took:8.2f} s{memory:6.0f} MB" for took, memory in (ours, theirs))
+            print(f"{name:36}{each}{text.count(bytes([10])):12,}", flush=True)
 
 
 main()
