@@ -17,9 +17,12 @@ install_cmp =
 abbrev pub is_of_package : List ℕ → Install → Bool
 is_of_package name install = same_text install.package name
 
+abbrev pub is_of_app : List ℕ → Install → Bool
+is_of_app app install = same_text install.app app
+
 -- the application, installed for the scope
 abbrev pub is_install_of : List ℕ → Scope → Install → Bool
-is_install_of app scope install = same_text install.app app && same_scope install.scope scope
+is_install_of app scope install = is_of_app app install && same_scope install.scope scope
 
 abbrev pub is_for_user : ℕ → Scope → Bool
 is_for_user uid Everyone = false

@@ -3,3 +3,4 @@ pub mod Scope
 pub mod Rising
 pub mod Install
 pub mod Registry
+pub mod Label

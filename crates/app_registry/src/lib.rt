@@ -7,13 +7,15 @@
 
 mod idents;
 mod installs;
+mod labels;
 mod lists;
 mod name_sets;
 mod registry;
 mod users;
 
-pub use idents::{Ident, IdentRefusal, IDENT_LIMIT};
+pub use idents::{IDENT_LIMIT, Ident, IdentRefusal};
 pub use installs::{Install, Scope};
+pub use labels::{install_label, package_label};
 pub use name_sets::NameSet;
 pub use registry::Registry;
 pub use users::{User, UserType};

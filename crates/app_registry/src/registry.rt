@@ -77,7 +77,11 @@ impl Registry {
     {
         Ok(Registry {
             users: self.users.clone()?,
-            installs: copies(*self.installs.allocator(), &self.installs, self.installs.len())?,
+            installs: copies(
+                *self.installs.allocator(),
+                &self.installs,
+                self.installs.len(),
+            )?,
         })
     }
 }
