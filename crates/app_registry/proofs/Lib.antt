@@ -1,1 +1,4 @@
 pub mod Texts
+pub mod Rising
+pub mod Orders
+pub mod Names

@@ -3,4 +3,5 @@ pub mod Scope
 pub mod Rising
 pub mod Install
 pub mod Registry
+pub mod Refusal
 pub mod Label

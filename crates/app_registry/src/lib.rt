@@ -9,7 +9,9 @@ mod idents;
 mod installs;
 mod labels;
 mod lists;
+mod look_ups;
 mod name_sets;
+mod refusals;
 mod registry;
 mod users;
 
@@ -17,5 +19,6 @@ pub use idents::{IDENT_LIMIT, Ident, IdentRefusal};
 pub use installs::{Install, Scope};
 pub use labels::{install_label, package_label};
 pub use name_sets::NameSet;
+pub use refusals::{GRANT_LIMIT, INSTALL_LIMIT, PACKAGE_LIMIT, RegistryRefusal, USER_LIMIT};
 pub use registry::Registry;
 pub use users::{User, UserType};

@@ -4,7 +4,8 @@ ghost use Rattle.std.specs.Prelude.{◌≡◌, IfOk};
 ghost use Rattle.std.specs.Option.{option_copied};
 ghost use Rattle.app_registry.specs.Registry.{IsRegistry, no_entries, has_package, author_of};
 
-use crate::lists::{copies, first_of_package};
+use crate::lists::copies;
+use crate::look_ups::first_of_package;
 use crate::{Ident, Install, User};
 use std::alloc::{AllocError, Global};
 use std::marker::Model;
