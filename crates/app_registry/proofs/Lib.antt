@@ -2,3 +2,4 @@ pub mod Texts
 pub mod Rising
 pub mod Orders
 pub mod Names
+pub mod Changes

@@ -97,16 +97,21 @@ impl Install {
     pub fn copy(&self) -> Result<Install, AllocError>
         ensures { IfOk result (λ copy. copy ≡ self.now) }
     {
-        let author = match &self.author {
-            Some(author) => Some(author.copy()?),
-            None => None,
-        };
         Ok(Install {
             package: self.package.copy()?,
-            author,
+            author: self.author_copy()?,
             app: self.app.copy()?,
             scope: self.scope,
             privileges: self.privileges.copy()?,
         })
+    }
+
+    pub(crate) fn author_copy(&self) -> Result<Option<Ident>, AllocError>
+        ensures { IfOk result (λ author. author ≡ self.now.author) }
+    {
+        match &self.author {
+            Some(author) => Ok(Some(author.copy()?)),
+            None => Ok(None),
+        }
     }
 }

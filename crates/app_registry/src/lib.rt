@@ -8,6 +8,7 @@
 mod idents;
 mod installs;
 mod labels;
+mod limits;
 mod lists;
 mod look_ups;
 mod name_sets;
