@@ -3,3 +3,4 @@ pub mod Rising
 pub mod Orders
 pub mod Names
 pub mod Changes
+pub mod Grants

@@ -5,3 +5,4 @@ pub mod Install
 pub mod Registry
 pub mod Refusal
 pub mod Label
+pub mod Manifest

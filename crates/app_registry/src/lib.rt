@@ -11,6 +11,7 @@ mod labels;
 mod limits;
 mod lists;
 mod look_ups;
+mod manifests;
 mod name_sets;
 mod refusals;
 mod registry;
@@ -18,7 +19,7 @@ mod users;
 
 pub use idents::{IDENT_LIMIT, Ident, IdentRefusal};
 pub use installs::{Install, Scope};
-pub use labels::{install_label, package_label};
+pub use labels::{install_label, package_label, user_name};
 pub use name_sets::NameSet;
 pub use refusals::{GRANT_LIMIT, INSTALL_LIMIT, PACKAGE_LIMIT, RegistryRefusal, USER_LIMIT};
 pub use registry::Registry;

@@ -3,6 +3,7 @@
 ghost use Rattle.std.specs.Prelude.{◌≡◌, IfOk, IfErr, OnOk, None};
 ghost use Rattle.std.specs.Option.{option_copied};
 ghost use Rattle.app_registry.specs.Label.{label_of};
+ghost use Rattle.app_registry.specs.Manifest.{manifest_rows};
 ghost use Rattle.app_registry.specs.Refusal.{Refuses, owner_fault, user_set_fault, user_remove_fault, install_fault, uninstall_fault};
 ghost use Rattle.app_registry.specs.Registry.{IsRegistry, no_entries, has_package, author_of};
 ghost use Rattle.app_registry.specs.Registry.{with_user, without_user, with_install, without_install};
@@ -15,7 +16,9 @@ use crate::lists::{
 use crate::look_ups::{
     by_another, elsewhere, first_of_app, first_of_package, has_install, has_user,
 };
+use crate::manifests::manifest_rows;
 use crate::{Ident, Install, RegistryRefusal, Scope, User, UserType};
+use cynara_keys::Key;
 use smack_rules::Label;
 use std::alloc::{AllocError, Global};
 use std::marker::Model;
@@ -147,6 +150,14 @@ impl Registry {
         )?;
         let users = self.users_copy().map_err(RegistryRefusal::Memory)?;
         Ok(Registry { users, installs })
+    }
+
+    /// What the installs grant: for each privilege of each install the key of the install's label, the number of the
+    /// user in decimal or the wildcard for everyone, and the privilege, each key once and in the order of keys.
+    pub fn manifest_rows(&self) -> Result<Vec<Key>, AllocError>
+        ensures { IfOk result (λ rows. rows.items ≡ manifest_rows self.now) }
+    {
+        manifest_rows(self.alloc(), &self.installs)
     }
 
     /// The label with which the application runs, where it is installed.
