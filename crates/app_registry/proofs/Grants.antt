@@ -2,9 +2,9 @@
 use Rattle.std.proofs.Common.{◌≡◌, ℕ, ◌+◌, ◌<◌, true, List, [], ◌∷◌, ◌++◌, append_assoc, cond, decimal, get_or, length, map, take, refl, sym, ap, ◌∙◌, subst}
 use Rattle.std.specs.declared.cmp.Ordering.TheVariants.{Equal}
 use Rattle.std.specs.Cmp.{first_so, second_so}
-use Rattle.std.specs.List.{AllByRecursion}
+use Rattle.std.specs.List.{All, AllByRecursion, Contains}
 use Rattle.std.specs.List.Retain.{IsFiltered, DiffersFromLast}
-use Rattle.std.specs.List.Sorted.{IsPermutation, IsSorted}
+use Rattle.std.specs.List.Sorted.{IsPermutation, IsSorted, IsStrictlySortedBy}
 use Rattle.std.specs.Ordering.{is_eq}
 use Rattle.std.proofs.lemmas.Grind.{flat_map-append}
 use Rattle.std.proofs.lemmas.List.{append-nil, take_more, map-append}
@@ -21,7 +21,7 @@ use Rattle.app_registry.specs.Rising.{rising}
 use Rattle.app_registry.specs.declared.installs.Install.{Install}
 use Rattle.app_registry.specs.declared.installs.Scope.{Scope}
 use Rattle.app_registry.specs.declared.installs.Scope.TheVariants.{Everyone, One}
-use Rattle.app_registry.proofs.Rising.{AllByRecursion-append, rising_from_sort}
+use Rattle.app_registry.proofs.Rising.{AllByRecursion-append, rising_from_sort, rising_rises, all_given, all_there}
 use Rattle.app_registry.proofs.Texts.{decimal-no_wildcard}
 
 -- what each key of an install is: its client and its privilege are names, and its user is read back from its text
@@ -95,3 +95,20 @@ grants_more installs rows new i install within at before after =
     ∙ ap (λ list. grants (take i installs) ++ list) (append-nil (install_grants (get_or installs i install)))
     ∙ ap (λ other. grants (take i installs) ++ install_grants other) (sym at) in
     after ∙ ap (λ list. list ++ install_grants install) before ∙ sym one_more
+
+-- what a list is that is the rising list of all that is granted
+pub record IsRows (installs : List Install) (list : List Key) : Type 0 where
+  pub rows : list ≡ rising key_cmp (grants installs)
+  pub in_order : IsStrictlySortedBy key_cmp list
+  pub granted : All (Contains (grants installs)) list
+  pub complete : All (Contains list) (grants installs)
+
+pub rows_are : (installs : List Install) (rows : List Key) → rows ≡ rising key_cmp (grants installs) → IsRows installs rows
+rows_are installs rows is = record {
+  rows = is;
+  in_order = subst (IsStrictlySortedBy key_cmp) (sym is) (rising_rises key_total (grants installs));
+  granted = subst (All (Contains (grants installs))) (sym is) (all_given key_total (grants installs));
+  complete =
+      subst (λ list. All (Contains list) (grants installs)) (sym is)
+      (all_there key_total IsGrant same_grant (grants installs) (grants_are installs));
+}

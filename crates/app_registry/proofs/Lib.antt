@@ -2,5 +2,7 @@ pub mod Texts
 pub mod Rising
 pub mod Orders
 pub mod Names
+pub mod Filters
+pub mod Counts
 pub mod Changes
 pub mod Grants

@@ -4,11 +4,11 @@ use mathlib.Core.Bool.{true≢false}
 use Rattle.std.specs.declared.cmp.Ordering.{Ordering}
 use Rattle.std.specs.declared.cmp.Ordering.TheVariants.{Less, Equal, Greater}
 use Rattle.std.specs.Cmp.{IsTotalOrder}
-use Rattle.std.specs.List.{AllByRecursion, HoldsAt, filter, insert, list_any, dedup, dedup_from}
+use Rattle.std.specs.List.{All, AllByRecursion, Contains, HoldsAt, filter, insert, list_any, dedup, dedup_from}
 use Rattle.std.specs.List.Sorted.{IsStrictlySortedBy, IsSortedBy, IsSearchInRange, IsBinarySearchResult, IsPartitionPoint, IsPermutation, IsSorted}
 use Rattle.std.specs.Ordering.{is_lt, is_eq, eq_by_cmp, ordering_reverse}
 use Rattle.std.proofs.lemmas.Cmp.{tied_itself, tied_back, alike_right}
-use Rattle.std.proofs.lemmas.List.Elements.{recursion_from_All, All-from_recursion}
+use Rattle.std.proofs.lemmas.List.Elements.{recursion_from_All, All-from_recursion, All-contains_itself, Contains-append_right}
 use Rattle.std.proofs.lemmas.List.Sorted.{searchable_from_sorted, All-permutation, IsPermutation-sym, list_any-IsPermutation}
 use Rattle.std.proofs.lemmas.List.Filters.{All-dedup}
 use Rattle.std.proofs.lemmas.List.Kept.{IsStrictlySortedBy-dedup}
@@ -309,3 +309,47 @@ module _ {X : Type 0} {R : X → X → Ordering} (order : IsTotalOrder R) where
         (all_tied (dedup E ys) (rising R xs) (IsStrictlySortedBy-dedup order ties ys sorted) (rising_rises xs)
         (λ q. has-dedup ys q ∙ list_any-IsPermutation (eq_by_cmp R q) ys xs (IsPermutation-sym xs ys moved)
         ∙ sym (has-rising xs q)))
+
+  -- ---- the rising list of a list has its elements, and no others
+
+  pub all_given : (xs : List X) → All (Contains xs) (rising R xs)
+  all_given xs =
+      All-from_recursion (Contains xs) (rising R xs)
+      (AllByRecursion-rising (Contains xs) xs (recursion_from_All (Contains xs) xs (All-contains_itself xs)))
+
+  Contains-has-at : (P : X → Type 0) → ((x y : X) → P x → P y → R x y ≡ Equal → x ≡ y) → (q y : X) (ys : List X) (o : Ordering)
+      → R q y ≡ o → P q → P y → (has ys q ≡ true → Contains ys q) → (is_eq o || has ys q) ≡ true → Contains (y ∷ ys) q
+  Contains-has-at P same q y ys Equal at own other rest h = (0, omega arith, sym (same q y own other at))
+  Contains-has-at P same q y ys Less at own other rest h = Contains-append_right (y ∷ []) ys q (rest h)
+  Contains-has-at P same q y ys Greater at own other rest h = Contains-append_right (y ∷ []) ys q (rest h)
+
+  Contains-has : (P : X → Type 0) → ((x y : X) → P x → P y → R x y ≡ Equal → x ≡ y) → (ys : List X) (q : X)
+      → AllByRecursion P ys → P q → has ys q ≡ true → Contains ys q
+  Contains-has P same [] q all own h = absurd (true≢false (sym h))
+  Contains-has P same (y ∷ ys) q all own h =
+      Contains-has-at P same q y ys (R q y) refl own all.0 (Contains-has P same ys q all.1 own) h
+
+  or_true : (b : Bool) → (b || true) ≡ true
+  or_true true = refl
+  or_true false = refl
+
+  has_later : (y : X) (ys : List X) (q : X) → has ys q ≡ true → has (y ∷ ys) q ≡ true
+  has_later y ys q h = ap (λ b. is_eq (R q y) || b) h ∙ or_true (is_eq (R q y))
+
+  all_had : (xs : List X) → AllByRecursion (λ x. has xs x ≡ true) xs
+  all_had [] = tt
+  all_had (x ∷ xs) =
+      (has_itself x xs, AllByRecursion-weaker (λ y. has xs y ≡ true) (λ y. has (x ∷ xs) y ≡ true) (has_later x xs) xs (all_had xs))
+
+  there : (P : X → Type 0) → ((x y : X) → P x → P y → R x y ≡ Equal → x ≡ y) → (xs : List X) → AllByRecursion P (rising R xs)
+      → (ys : List X) → AllByRecursion P ys → AllByRecursion (λ x. has xs x ≡ true) ys → AllByRecursion (Contains (rising R xs)) ys
+  there P same xs all [] own had = tt
+  there P same xs all (y ∷ ys) own had =
+      (Contains-has P same (rising R xs) y all own.0 (has-rising xs y ∙ had.0), there P same xs all ys own.1 had.1)
+
+  -- elements of which those that tie are equal
+  pub all_there : (P : X → Type 0) → ((x y : X) → P x → P y → R x y ≡ Equal → x ≡ y) → (xs : List X) → AllByRecursion P xs
+      → All (Contains (rising R xs)) xs
+  all_there P same xs all =
+      All-from_recursion (Contains (rising R xs)) xs
+      (there P same xs (AllByRecursion-rising P xs all) xs all (all_had xs))

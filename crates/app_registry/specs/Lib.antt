@@ -4,5 +4,6 @@ pub mod Rising
 pub mod Install
 pub mod Registry
 pub mod Refusal
+pub mod Rules
 pub mod Label
 pub mod Manifest

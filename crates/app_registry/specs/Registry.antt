@@ -2,7 +2,6 @@
 use Rattle.std.specs.Prelude.{ℕ, Bool, ◌==◌, not, List, [], Option, find, filter, map, length, option_and_then}
 use Rattle.std.specs.declared.cmp.Ordering.{Ordering}
 use Rattle.std.specs.List.{dedup, list_any, sum_by}
-use Rattle.std.specs.List.Sorted.{IsStrictlySortedBy}
 use Rattle.std.specs.Ordering.{nat_cmp, on}
 use Rattle.cynara_keys.specs.Text.{same_text}
 use Rattle.app_registry.specs.Install.{install_cmp, is_of_package, is_install_of, is_for_user}
@@ -22,11 +21,6 @@ no_entries = record { users = []; installs = [] }
 
 abbrev pub user_cmp : User → User → Ordering
 user_cmp = on (λ user. user.uid) nat_cmp
-
--- each user and each install stands once, and before those behind it in the order
-pub record IsRegistry (users : List User) (installs : List Install) : Type 0 where
-  pub users_rise : IsStrictlySortedBy user_cmp users
-  pub installs_rise : IsStrictlySortedBy install_cmp installs
 
 -- ---- what a registry says
 

@@ -1,5 +1,7 @@
 // The rows of the manifests.
 ghost use Rattle.std.specs.Prelude.{◌≡◌, ◌++◌, map, IfOk, OnOk};
+ghost use Rattle.std.specs.List.{All, Contains};
+ghost use Rattle.std.specs.List.Sorted.{IsStrictlySortedBy};
 ghost use Rattle.app_registry.specs.Manifest.{grant, grants, install_grants, scope_field};
 ghost use Rattle.app_registry.specs.Rising.{rising};
 ghost use Rattle.cynara_keys.specs.Key.{key_cmp};
@@ -11,7 +13,10 @@ use std::alloc::{AllocError, Global};
 
 /// What the installs grant, each key once and in the order of keys.
 pub fn manifest_rows(alloc: Global, installs: &[Install]) -> Result<Vec<Key>, AllocError>
-    ensures { IfOk result (λ rows. rows.items ≡ rising key_cmp (grants installs.now)) }
+    ensures rows { IfOk result (λ rows. rows.items ≡ rising key_cmp (grants installs.now)) }
+    ensures rising { IfOk result (λ rows. IsStrictlySortedBy key_cmp rows.items) }
+    ensures granted { IfOk result (λ rows. All (Contains (grants installs.now)) rows.items) }
+    ensures all_there { IfOk result (λ rows. All (Contains rows.items) (grants installs.now)) }
 {
     let mut rows = Vec::new(alloc);
     for install in installs {

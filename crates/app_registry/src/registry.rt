@@ -1,11 +1,15 @@
 //! The users and the installs of a device.
 
 ghost use Rattle.std.specs.Prelude.{◌≡◌, IfOk, IfErr, OnOk, None};
+ghost use Rattle.std.specs.List.{All, Contains};
+ghost use Rattle.std.specs.List.Sorted.{IsStrictlySortedBy};
 ghost use Rattle.std.specs.Option.{option_copied};
+ghost use Rattle.cynara_keys.specs.Key.{key_cmp};
 ghost use Rattle.app_registry.specs.Label.{label_of};
-ghost use Rattle.app_registry.specs.Manifest.{manifest_rows};
+ghost use Rattle.app_registry.specs.Manifest.{grants, manifest_rows};
 ghost use Rattle.app_registry.specs.Refusal.{Refuses, owner_fault, user_set_fault, user_remove_fault, install_fault, uninstall_fault};
-ghost use Rattle.app_registry.specs.Registry.{IsRegistry, no_entries, has_package, author_of};
+ghost use Rattle.app_registry.specs.Registry.{no_entries, has_package, author_of};
+ghost use Rattle.app_registry.specs.Rules.{IsRegistry};
 ghost use Rattle.app_registry.specs.Registry.{with_user, without_user, with_install, without_install};
 
 use crate::labels::install_label;
@@ -32,7 +36,8 @@ pub struct Registry {
 }
 
 impl Model for Registry {
-    ghost use Rattle.app_registry.specs.Registry.{RegistryLists, IsRegistry};
+    ghost use Rattle.app_registry.specs.Registry.{RegistryLists};
+    ghost use Rattle.app_registry.specs.Rules.{IsRegistry};
 
     ghost Value = { RegistryLists };
 
@@ -155,7 +160,10 @@ impl Registry {
     /// What the installs grant: for each privilege of each install the key of the install's label, the number of the
     /// user in decimal or the wildcard for everyone, and the privilege, each key once and in the order of keys.
     pub fn manifest_rows(&self) -> Result<Vec<Key>, AllocError>
-        ensures { IfOk result (λ rows. rows.items ≡ manifest_rows self.now) }
+        ensures rows { IfOk result (λ rows. rows.items ≡ manifest_rows self.now) }
+        ensures rising { IfOk result (λ rows. IsStrictlySortedBy key_cmp rows.items) }
+        ensures granted { IfOk result (λ rows. All (Contains (grants self.now.installs)) rows.items) }
+        ensures all_there { IfOk result (λ rows. All (Contains rows.items) (grants self.now.installs)) }
     {
         manifest_rows(self.alloc(), &self.installs)
     }
