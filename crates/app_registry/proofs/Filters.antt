@@ -1,6 +1,7 @@
 -- What a test finds in a list, and in a part of it.
-use Rattle.std.proofs.Common.{◌≡◌, Bool, true, false, ◌||◌, cond, List, [], ◌∷◌, Option, Some, None, option_map, refl, sym, ap, ◌∙◌}
+use Rattle.std.proofs.Common.{◌≡◌, Bor, Bool, true, false, ◌||◌, cond, List, [], ◌∷◌, Option, Some, None, is_some, option_map, refl, sym, ap, ◌∙◌}
 use mathlib.Core.Bool.{true≢false}
+use Rattle.std.specs.Option.{option_copied}
 use Rattle.std.specs.List.{AllByRecursion, filter, find, list_any}
 
 -- what holds of the elements holds of those that pass, and they pass
@@ -59,3 +60,15 @@ module _ {X : Type 0} (p : X → Bool) where
     pub list_any-filter : (xs : List X) → list_any p (filter q xs) ≡ list_any p xs
     list_any-filter [] = refl
     list_any-filter (x ∷ xs) = list_any-filter-at x xs (q x) refl (list_any-filter xs)
+
+  some_or : (b : Bool) (x : X) (rest : Option X) → is_some (cond b (Some x) rest) ≡ (b || is_some rest)
+  some_or true x rest = refl
+  some_or false x rest = refl
+
+  pub is_some-find : (xs : List X) → is_some (find p xs) ≡ list_any p xs
+  is_some-find [] = refl
+  is_some-find (x ∷ xs) = some_or (p x) x (find p xs) ∙ ap (λ b. p x || b) (is_some-find xs)
+
+pub is_some-copied : {X : Type 0} (o : Option (Bor X)) → is_some o ≡ is_some (option_copied o)
+is_some-copied None = refl
+is_some-copied (Some x) = refl

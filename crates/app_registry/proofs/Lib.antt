@@ -4,5 +4,6 @@ pub mod Orders
 pub mod Names
 pub mod Filters
 pub mod Counts
+pub mod Search
 pub mod Changes
 pub mod Grants

@@ -1,7 +1,7 @@
 -- Installs: their order, and which are of a package, of an application, for a user.
 use Rattle.std.specs.Prelude.{ℕ, Bool, true, false, ◌&&◌, ◌==◌, not, List, Option, Some, None}
 use Rattle.std.specs.declared.cmp.Ordering.{Ordering}
-use Rattle.std.specs.Ordering.{on, then_cmp}
+use Rattle.std.specs.Ordering.{is_lt, on, then_cmp}
 use Rattle.cynara_keys.specs.Text.{same_text, text_cmp}
 use Rattle.app_registry.specs.Scope.{scope_cmp, same_scope}
 use Rattle.app_registry.specs.declared.installs.Scope.{Scope}
@@ -16,6 +16,10 @@ install_cmp =
 
 abbrev pub is_of_package : List ℕ → Install → Bool
 is_of_package name install = same_text install.package name
+
+-- the package of an install comes before the name
+abbrev pub comes_before : List ℕ → Install → Bool
+comes_before name install = is_lt (text_cmp install.package name)
 
 abbrev pub is_of_app : List ℕ → Install → Bool
 is_of_app app install = same_text install.app app

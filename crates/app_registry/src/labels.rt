@@ -25,14 +25,15 @@ pub fn package_label(alloc: Global, package: &Ident) -> Result<Label, AllocError
 pub fn install_label(alloc: Global, install: &Install) -> Result<Label, AllocError>
     ensures { IfOk result (λ label. label ≡ install_label install.now) }
 {
-    package_label(alloc, &install.package)
+    let text = install_text(alloc, install)?;
+    Label::of(alloc, &text)
 }
 
 /// The label of an install, as the client of its keys.
 pub(crate) fn install_client(alloc: Global, install: &Install) -> Result<Name, AllocError>
     ensures { IfOk result (λ name. name ≡ install_label install.now) }
 {
-    let text = package_text(alloc, &install.package)?;
+    let text = install_text(alloc, install)?;
     known_name(alloc, &text)
 }
 
@@ -41,6 +42,15 @@ pub fn user_name(alloc: Global, uid: u32) -> Result<Name, AllocError>
     ensures { IfOk result (λ name. name ≡ decimal uid) }
 {
     known_name(alloc, Buffer::new().format(uid).as_bytes())
+}
+
+// The text of the label of an install, which is made here alone.
+fn install_text(alloc: Global, install: &Install) -> Result<Vec<u8>, AllocError>
+    ensures text { IfOk result (λ text. text.items ≡ install_label install.now) }
+    ensures label { IfOk result (λ text. label_fault text.items ≡ None) }
+    ensures name { IfOk result (λ text. name_fault text.items ≡ None) }
+{
+    package_text(alloc, &install.package)
 }
 
 // The text of the label of the package.

@@ -1,18 +1,39 @@
 // What is found in lists of users and of installs.
-ghost use Rattle.std.specs.Prelude.{◌≡◌, find};
+ghost use Rattle.std.specs.Prelude.{◌≡◌, ◌≤◌, true, false, find, length};
+ghost use Rattle.std.specs.List.Sorted.{IsPartitionPoint, IsStrictlySortedBy};
 ghost use Rattle.std.specs.Option.{option_copied};
 ghost use Rattle.std.specs.List.{list_any};
-ghost use Rattle.app_registry.specs.Install.{is_of_app, is_install_of, is_of_package, same_author};
+ghost use Rattle.app_registry.specs.Install.{comes_before, install_cmp, is_of_app, is_install_of, is_of_package, same_author};
 ghost use Rattle.app_registry.specs.Refusal.{is_elsewhere, is_by_another};
 ghost use Rattle.app_registry.specs.Registry.{has_user};
 
 use crate::{Ident, Install, Scope, User};
 
-/// The first install of the package.
+/// The first install of the package, which a binary search finds.
 pub fn first_of_package<'a>(installs: &'a [Install], package: &Ident) -> Option<&'a Install>
+    requires { IsStrictlySortedBy install_cmp installs.now }
     ensures { option_copied result ≡ find (is_of_package «package».now) installs.now }
 {
-    installs.iter().find(|install| install.package == *package)
+    let at = place_of_package(installs, package);
+    let Some(install) = installs.get(at) else {
+        return None;
+    };
+    if install.package == *package {
+        Some(install)
+    } else {
+        None
+    }
+}
+
+// How many installs are of packages before this one.
+fn place_of_package(installs: &[Install], package: &Ident) -> usize
+    requires { IsStrictlySortedBy install_cmp installs.now }
+    ensures in_range { result ≤ length installs.now }
+    ensures parted { IsPartitionPoint
+        (λ install. comes_before «package».now install ≡ true)
+        (λ install. comes_before «package».now install ≡ false) installs.now result }
+{
+    installs.partition_point(|install| install.package.cmp(package).is_lt())
 }
 
 /// Whether the user is there.

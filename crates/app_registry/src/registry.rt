@@ -77,9 +77,7 @@ impl Registry {
     pub fn has_package(&self, package: &Ident) -> bool
         ensures { result ≡ has_package self.now «package».now }
     {
-        self.installs
-            .iter()
-            .any(|install| install.package == *package)
+        first_of_package(&self.installs, package).is_some()
     }
 
     /// The author of the package, where it is installed and has one.
