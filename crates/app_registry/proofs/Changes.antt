@@ -1,7 +1,7 @@
 -- What a change leaves is a registry.
 use Rattle.std.proofs.Common.{◌≡◌, ℕ, Bool, true, false, not, ◌&&◌, ◌||◌, ◌==◌, cond, List, [], ◌∷◌, length, Option, Some, None, option_map, refl, sym, ap, ◌∙◌, subst}
 use Rattle.std.specs.Cmp.{unsigned_ties}
-use Rattle.std.specs.List.{AllByRecursion, filter, list_any}
+use Rattle.std.specs.List.{AllByRecursion, filter}
 use Rattle.std.specs.List.Sorted.{IsStrictlySortedBy}
 use Rattle.std.specs.Ordering.{is_eq, nat_cmp}
 use borrow.Author.Tests.{eqb-true}
@@ -11,7 +11,7 @@ use Rattle.cynara_keys.specs.Text.{same_text}
 use Rattle.cynara_keys.specs.declared.limits.Counted.TheVariants.{Users}
 use Rattle.app_registry.specs.Install.{install_cmp, is_for_user, same_author}
 use Rattle.app_registry.specs.Refusal.{unknown_user, unknown_scope, is_elsewhere, other_package, is_by_another, other_author, over, installs_limit, owner_fault}
-use Rattle.app_registry.specs.Registry.{RegistryLists, user_cmp, has_user}
+use Rattle.app_registry.specs.Registry.{user_cmp, has_user}
 use Rattle.app_registry.specs.Rising.{placed}
 use Rattle.app_registry.specs.Rules.{IsRegistry}
 use Rattle.app_registry.specs.declared.installs.Install.{Install}

@@ -5,7 +5,6 @@ use Rattle.app_registry.specs.Scope.{scope_rank}
 use Rattle.app_registry.specs.Install.{install_cmp}
 use Rattle.app_registry.specs.Registry.{user_cmp}
 use Rattle.app_registry.specs.declared.installs.Install.{Install}
-use Rattle.app_registry.specs.declared.installs.Scope.{Scope}
 use Rattle.app_registry.specs.declared.users.User.{User}
 
 pub user_total : IsTotalOrder user_cmp

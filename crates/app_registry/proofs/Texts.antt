@@ -1,5 +1,5 @@
 -- Texts in which no byte is wrong: idents, the labels made of them, and numbers.
-use Rattle.std.proofs.Common.{◌≡◌, ℕ, ◌+◌, ◌/◌, ◌%◌, ◌^◌, ◌<◌, ◌≤◌, ◌==◌, ◌||◌, Bool, true, false, not, cond, ltb, eqb, List, [], ◌∷◌, ◌++◌, codes, decimal, length, Some, None, Option, position, zero, suc, refl, sym, ap, ◌∙◌, subst, arith}
+use Rattle.std.proofs.Common.{◌≡◌, ℕ, ◌+◌, ◌/◌, ◌%◌, ◌^◌, ◌<◌, ◌≤◌, ◌==◌, ◌||◌, Bool, true, false, not, cond, ltb, eqb, List, [], ◌∷◌, ◌++◌, codes, decimal, length, Some, None, Option, position, zero, suc, refl, ap, ◌∙◌, subst, arith}
 use Rattle.std.specs.List.{AllByRecursion, position_or_len}
 use Rattle.std.proofs.lemmas.Bool.{ltb-false}
 use Rattle.std.proofs.lemmas.Bool.Decides.{nat_tests}
@@ -11,10 +11,8 @@ use Rattle.cynara_keys.proofs.Order.{same_text-≡}
 use Rattle.cynara_keys.specs.Name.{name_fault, bad_byte_or, is_reserved}
 use Rattle.cynara_keys.specs.declared.names.NameRefusal.TheVariants.{Empty as NameEmpty, TooLong as NameTooLong, Reserved}
 use Rattle.smack_rules.specs.Label.{is_label_byte, label_fault, byte_fault as label_byte_fault}
-use Rattle.smack_rules.specs.declared.label.LabelRefusal.{LabelRefusal}
 use Rattle.smack_rules.specs.declared.label.LabelRefusal.TheVariants.{Empty as LabelEmpty, TooLong as LabelTooLong}
-use Rattle.app_registry.specs.declared.idents.IdentRefusal.{IdentRefusal}
-use Rattle.app_registry.specs.declared.idents.IdentRefusal.TheVariants.{Empty, TooLong, BadByte}
+use Rattle.app_registry.specs.declared.idents.IdentRefusal.TheVariants.{Empty, TooLong}
 use Rattle.app_registry.specs.Ident.{is_ident_byte, begins_with_mark, byte_fault, ident_fault}
 use Rattle.app_registry.specs.Label.{package_label}
 

@@ -1,5 +1,5 @@
 -- Installs: their order, and which are of a package, of an application, for a user.
-use Rattle.std.specs.Prelude.{ℕ, Bool, true, false, ◌&&◌, ◌==◌, not, List, Option, Some, None}
+use Rattle.std.specs.Prelude.{ℕ, Bool, true, false, ◌&&◌, ◌==◌, List, Option, Some, None}
 use Rattle.std.specs.declared.cmp.Ordering.{Ordering}
 use Rattle.std.specs.Ordering.{is_lt, on, then_cmp}
 use Rattle.cynara_keys.specs.Text.{same_text, text_cmp}

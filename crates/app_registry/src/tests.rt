@@ -22,29 +22,34 @@ fn name_set(alloc: Global, texts: &[&str]) -> Result<NameSet, Fail> {
     Ok(NameSet::of(names)?)
 }
 
-fn install(
-    alloc: Global,
-    (package, author, app, scope, privileges): Row<'_>,
-) -> Result<Install, Fail> {
-    let author = match author {
-        Some(author) => Some(ident(alloc, author)?),
-        None => None,
-    };
+fn author(alloc: Global, author: Option<&str>) -> Result<Option<Ident>, Fail> {
+    match author {
+        Some(author) => Ok(Some(ident(alloc, author)?)),
+        None => Ok(None),
+    }
+}
+
+fn install(alloc: Global, row: Row<'_>) -> Result<Install, Fail> {
     Ok(Install {
-        package: ident(alloc, package)?,
-        author,
-        app: ident(alloc, app)?,
-        scope,
-        privileges: name_set(alloc, privileges)?,
+        package: ident(alloc, row.0)?,
+        author: author(alloc, row.1)?,
+        app: ident(alloc, row.2)?,
+        scope: row.3,
+        privileges: name_set(alloc, row.4)?,
     })
 }
 
-// The registry with these users and then these installs.
-fn registry(alloc: Global, users: &[u32], rows: &[Row<'_>]) -> Result<Registry, Fail> {
+fn with_users(alloc: Global, users: &[u32]) -> Result<Registry, Fail> {
     let mut registry = Registry::fresh(alloc);
     for uid in users {
         registry = registry.user_set(*uid, UserType::Normal)?;
     }
+    Ok(registry)
+}
+
+// The registry with these users and then these installs.
+fn registry(alloc: Global, users: &[u32], rows: &[Row<'_>]) -> Result<Registry, Fail> {
+    let mut registry = with_users(alloc, users)?;
     for row in rows {
         registry = registry.install(&install(alloc, *row)?)?;
     }
