@@ -1,0 +1,9 @@
+pub mod Texts
+pub mod Rising
+pub mod Orders
+pub mod Names
+pub mod Filters
+pub mod Counts
+pub mod Search
+pub mod Changes
+pub mod Grants

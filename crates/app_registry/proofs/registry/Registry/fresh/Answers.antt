@@ -1,0 +1,5 @@
+use Rattle.app_registry.proofs.Changes.{IsRegistry-fresh, IsRegistry-same}
+use Rattle.app_registry.proofs.registry.Registry.fresh.Goals as goal
+
+pub invariant_of-result : goal.invariant_of-result
+invariant_of-result c = IsRegistry-same IsRegistry-fresh c.new.ensures.items c.new-2.ensures.items

@@ -1,0 +1,86 @@
+// What is found in lists of users and of installs.
+ghost use Rattle.std.specs.Prelude.{◌≡◌, ◌≤◌, true, false, find, length};
+ghost use Rattle.std.specs.List.Sorted.{IsPartitionPoint, IsStrictlySortedBy};
+ghost use Rattle.std.specs.Option.{option_copied};
+ghost use Rattle.std.specs.List.{list_any};
+ghost use Rattle.app_registry.specs.Install.{comes_before, install_cmp, is_of_app, is_install_of, is_of_package, same_author};
+ghost use Rattle.app_registry.specs.Refusal.{is_elsewhere, is_by_another};
+ghost use Rattle.app_registry.specs.Registry.{has_user};
+
+use crate::{Ident, Install, Scope, User};
+
+/// The first install of the package, which a binary search finds.
+pub fn first_of_package<'a>(installs: &'a [Install], package: &Ident) -> Option<&'a Install>
+    requires { IsStrictlySortedBy install_cmp installs.now }
+    ensures { option_copied result ≡ find (is_of_package «package».now) installs.now }
+{
+    let at = place_of_package(installs, package);
+    let Some(install) = installs.get(at) else {
+        return None;
+    };
+    if install.package == *package {
+        Some(install)
+    } else {
+        None
+    }
+}
+
+// How many installs are of packages before this one.
+fn place_of_package(installs: &[Install], package: &Ident) -> usize
+    requires { IsStrictlySortedBy install_cmp installs.now }
+    ensures in_range { result ≤ length installs.now }
+    ensures parted { IsPartitionPoint
+        (λ install. comes_before «package».now install ≡ true)
+        (λ install. comes_before «package».now install ≡ false) installs.now result }
+{
+    installs.partition_point(|install| install.package.cmp(package).is_lt())
+}
+
+/// Whether the user is there.
+pub fn has_user(users: &[User], uid: u32) -> bool
+    ensures { result ≡ has_user users.now uid }
+{
+    users.iter().any(|user| user.uid == uid)
+}
+
+/// The first install of the same application in another package.
+pub fn elsewhere<'a>(installs: &'a [Install], install: &Install) -> Option<&'a Install>
+    ensures { option_copied result ≡ find (is_elsewhere install.now) installs.now }
+{
+    installs.iter().find(|other| other.app == install.app && other.package != install.package)
+}
+
+/// The first install of the same package by another author.
+pub fn by_another<'a>(installs: &'a [Install], install: &Install) -> Option<&'a Install>
+    ensures { option_copied result ≡ find (is_by_another install.now) installs.now }
+{
+    installs.iter().find(|other| {
+        other.package == install.package && !same_author(&other.author, &install.author)
+    })
+}
+
+fn same_author(author: &Option<Ident>, other: &Option<Ident>) -> bool
+    ensures { result ≡ same_author author.now other.now }
+{
+    match (author, other) {
+        (Some(author), Some(other)) => author == other,
+        (None, None) => true,
+        _ => false,
+    }
+}
+
+/// The first install of the application.
+pub fn first_of_app<'a>(installs: &'a [Install], app: &Ident) -> Option<&'a Install>
+    ensures { option_copied result ≡ find (is_of_app app.now) installs.now }
+{
+    installs.iter().find(|install| install.app == *app)
+}
+
+/// Whether the application is installed for the scope.
+pub fn has_install(installs: &[Install], app: &Ident, scope: Scope) -> bool
+    ensures { result ≡ list_any (is_install_of app.now scope) installs.now }
+{
+    installs
+        .iter()
+        .any(|install| install.app == *app && install.scope == scope)
+}
