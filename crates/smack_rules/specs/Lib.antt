@@ -6,5 +6,6 @@ pub mod LabelRead
 pub mod Modes
 pub mod Rule
 pub mod RuleText
+pub mod Spelling
 pub mod Table
 pub mod Words

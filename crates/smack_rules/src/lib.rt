@@ -8,12 +8,14 @@ pub use label::{LABEL_LIMIT, Label, LabelRefusal, label_fault};
 pub use modes::{MODE_WORD_LIMIT, Modes};
 pub use rule::{LineRefusal, Rule};
 pub use table::{LoadRefusal, RuleTable, TEXT_LIMIT};
+pub use words::split_word;
 
 mod decision;
 mod effective;
 mod label;
 mod modes;
 mod rule;
+mod spelling;
 mod table;
 #[cfg(test)]
 mod tests;

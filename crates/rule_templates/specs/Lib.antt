@@ -1,0 +1,4 @@
+pub mod Placeholder
+pub mod Template
+pub mod TemplateLine
+pub mod TemplateRead
