@@ -2,3 +2,4 @@ pub mod Following
 pub mod Parts
 pub mod Requests
 pub mod Rows
+pub mod Spelled
