@@ -1,11 +1,15 @@
 ghost use Rattle.std.specs.Prelude.{◌≡◌, [], IfOk, IfErr, OnOk};
 ghost use Rattle.cynara_keys.specs.Metadata.{metadata_fault, Refuses};
-ghost use Rattle.cynara_keys.specs.Text.{same_text};
+ghost use Rattle.cynara_keys.specs.Text.{same_text, text_cmp};
+ghost use Rattle.std.specs.Prelude.{refl};
+ghost use Rattle.std.specs.Ordering.{as_partial_cmp};
 ghost use Rattle.std.specs.Cmp.{partial_equiv_from_equiv};
-ghost use Rattle.std.proofs.lemmas.Cmp.{nat_list_eq_equiv};
+ghost use Rattle.std.specs.Cmp.Lexicographic.{texts_ties, texts_po};
+ghost use Rattle.std.proofs.lemmas.Cmp.{nat_list_cmp_total, nat_list_eq_equiv};
 
 use crate::bytes::first_not_visible;
 use std::alloc::{AllocError, Global};
+use std::cmp::Ordering;
 use std::marker::Model;
 use thiserror::Error;
 
@@ -97,4 +101,28 @@ impl PartialEq for Metadata {
 
 impl Eq for Metadata {
     ghost laws = { nat_list_eq_equiv };
+}
+
+impl PartialOrd for Metadata {
+    ghost partial_cmp = { as_partial_cmp text_cmp };
+
+    ghost laws = { texts_po };
+
+    fn partial_cmp(&self, other: &Metadata) -> Option<Ordering> {
+        Some(self.cmp(other))
+    }
+}
+
+impl Ord for Metadata {
+    ghost cmp = { text_cmp };
+
+    ghost total = { nat_list_cmp_total };
+
+    ghost matches_partial_cmp = { λ x y. refl };
+
+    ghost matches_eq = { texts_ties };
+
+    fn cmp(&self, other: &Metadata) -> Ordering {
+        self.as_slice().cmp(other.as_slice())
+    }
 }

@@ -1,0 +1,21 @@
+//! Users, packages and installs, as security-manager keeps them, and what they grant.
+//!
+//! That an installer names a package, its author, an application and its privileges, and that the label of a package
+//! is `User::Pkg::` with its name, is security-manager's. The limits, the order of the lists and the order of the
+//! refusals are this project's profile.
+#![tactic(auto)]
+
+mod idents;
+mod installs;
+mod labels;
+mod lists;
+mod name_sets;
+mod registry;
+mod users;
+
+pub use idents::{IDENT_LIMIT, Ident, IdentRefusal};
+pub use installs::{Install, Scope};
+pub use labels::{install_label, package_label};
+pub use name_sets::NameSet;
+pub use registry::Registry;
+pub use users::{User, UserType};
