@@ -1,7 +1,7 @@
 //! Lines of a template: rules whose labels may be placeholders.
 
 ghost use Rattle.std.specs.Prelude.{◌≡◌, ◌∷◌, [], ◌++◌, Some, IsTrue, IfOk, OnOk, is_some};
-ghost use Rattle.rule_templates.specs.TemplateLine.{word_text, line_text, word_of};
+ghost use Rattle.rule_templates.specs.TemplateLine.{word_text, line_text, word_of, is_kept_word};
 
 use crate::placeholders::Placeholder;
 use smack_rules::{Label, Modes};
@@ -46,7 +46,8 @@ impl Word {
     /// The word in memory of its own.
     pub(crate) fn keep(alloc: Global, word: &[u8]) -> Result<Word, AllocError>
         requires { IsTrue (is_some (word_of word.now)) }
-        ensures { IfOk result (λ kept. word_of word.now ≡ Some kept) }
+        ensures word { IfOk result (λ kept. word_of word.now ≡ Some kept) }
+        ensures kept { IfOk result (λ kept. IsTrue (is_kept_word kept)) }
     {
         match Placeholder::of_word(word) {
             Some(placeholder) => Ok(Word::OfPackage(placeholder)),

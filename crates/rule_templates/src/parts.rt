@@ -2,7 +2,7 @@
 
 ghost use Rattle.std.specs.Prelude.{◌≡◌, [], ◌∷◌, Some, None, Ok, Err, IsTrue, IfOk, MatchOption, MatchResult, is_some};
 ghost use Rattle.smack_rules.specs.Words.{words_of};
-ghost use Rattle.rule_templates.specs.TemplateLine.{is_label_word, word_of, change_of, line_with, line_of};
+ghost use Rattle.rule_templates.specs.TemplateLine.{is_label_word, word_of, change_of, line_with, line_of, is_kept_line};
 
 use crate::lines::{Change, LineFault, TemplateLine, Word};
 use crate::placeholders::{Placeholder, begins_with_tilde};
@@ -10,6 +10,7 @@ use smack_rules::{Modes, label_fault, split_word};
 use std::alloc::{AllocError, Global};
 
 /// The words of a line that is right.
+#[derive(Clone, Copy)]
 pub(crate) struct Parts<'t> {
     subject: &'t [u8],
     object: &'t [u8],
@@ -21,8 +22,9 @@ pub(crate) struct Parts<'t> {
 impl Parts<'_> {
     /// The line in memory of its own.
     pub(crate) fn keep(&self, alloc: Global) -> Result<TemplateLine, AllocError>
-        ensures { IfOk result (λ line.
+        ensures line { IfOk result (λ line.
             line_with (word_of self.now.subject.now) (word_of self.now.object.now) (Some self.now.change) ≡ Ok line) }
+        ensures kept { IfOk result (λ line. IsTrue (is_kept_line line)) }
     {
         Ok(TemplateLine {
             subject: Word::keep(alloc, self.subject)?,

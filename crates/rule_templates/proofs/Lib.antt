@@ -1,0 +1,3 @@
+pub mod LineSpelled
+pub mod Reading
+pub mod TextSpelled
