@@ -1,3 +1,5 @@
+pub mod Expanded
+pub mod LabelsMade
 pub mod LineSpelled
 pub mod Reading
 pub mod TextSpelled

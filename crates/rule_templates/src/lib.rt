@@ -4,11 +4,17 @@
 //! this project's profile.
 #![tactic(auto)]
 
+mod expansion;
+mod labels;
 mod lines;
 mod parts;
 mod placeholders;
 mod templates;
+mod usual;
 
+pub use expansion::expand;
+pub use labels::{author_label, read_only_label};
 pub use lines::{Change, TemplateLine, Word};
 pub use placeholders::Placeholder;
 pub use templates::{LINE_LIMIT, Template, TemplateRefusal};
+pub use usual::USUAL_TEXT;

@@ -1,13 +1,18 @@
 //! Templates.
 
 ghost use Rattle.std.specs.Prelude.{◌≡◌, ◌≤◌, Some, List, Result, Ok, Err, IsOk, IsTrue, IfOk, IfErr, OnOk, MatchOption, MatchResult};
+ghost use Rattle.std.specs.Option.{option_copied};
 ghost use Rattle.rule_templates.specs.declared.lines.TemplateLine.{TemplateLine};
 ghost use Rattle.rule_templates.specs.declared.templates.TemplateRefusal.{TemplateRefusal};
 ghost use Rattle.rule_templates.specs.TemplateLine.{word_of, line_with, line_of, is_kept_line};
 ghost use Rattle.rule_templates.specs.Template.{with_front, with_line, template_of};
 
+use crate::expansion::append_rules;
+use crate::labels::PackageLabels;
 use crate::lines::{LineFault, TemplateLine};
 use crate::parts::{Parts, parts_of};
+use app_registry::Ident;
+use smack_rules::Rule;
 use std::alloc::{AllocError, Global};
 use std::marker::Model;
 use text_lines::split_line;
@@ -60,6 +65,7 @@ impl Model for Template {
 impl Template {
     ghost use Rattle.rule_templates.specs.Template.{is_template, template_text};
     ghost use Rattle.rule_templates.specs.TemplateRead.{ReadsAs, RefusesFreely};
+    ghost use Rattle.rule_templates.specs.Expansion.{expansion};
 
     /// Reads a template: a line a rule, whose words are parted by spaces or tabs. Refuses, at the first wrong line, a
     /// line of another form, a line that would be right but for a word that begins with `~` and is no placeholder, and
@@ -115,6 +121,24 @@ impl Template {
             lines.push(line.copy()?)?;
         }
         Ok(Template { lines })
+    }
+
+    /// The rules that the template gives for a package with an author, or with none: its lines in order, each
+    /// placeholder replaced by the package's label. A line with `~AUTHOR~` is left out without an author.
+    pub fn rules_for(
+        &self,
+        package: &Ident,
+        author: Option<&Ident>,
+    ) -> Result<Vec<Rule>, AllocError>
+        ensures { IfOk result (λ rules. rules.items ≡ expansion self.now «package».now (option_copied author.entry)) }
+    {
+        let alloc = *self.lines.allocator();
+        let labels = PackageLabels::of(alloc, package, author)?;
+        let mut rules = Vec::with_capacity(alloc, self.lines.len())?;
+        for line in &self.lines {
+            append_rules(&mut rules, &labels, line)?;
+        }
+        Ok(rules)
     }
 }
 
