@@ -1,5 +1,5 @@
--- What is spelled reads back: words parted by one space, and modes.
-use Rattle.std.proofs.Common.{◌≡◌, ℕ, ◌<◌, ◌==◌, Bool, true, false, cond, ltb, nat_lt, ◌&&◌, not, List, [], ◌∷◌, ◌++◌, length, get_or, position, Option, Some, None, refl, ap, ◌∙◌, arith}
+-- What is spelled reads back: words parted by one space, modes, and rules.
+use Rattle.std.proofs.Common.{◌≡◌, ℕ, ◌<◌, ◌==◌, Bool, true, false, cond, ltb, nat_lt, ◌&&◌, not, List, [], ◌∷◌, ◌++◌, length, get_or, position, Option, Some, None, is_none, Ok, Err, refl, ap, ◌∙◌, arith}
 use Rattle.std.specs.List.{list_all, filter, position_or_len, AllByRecursion}
 use Rattle.std.proofs.lemmas.Bool.{ltb-false, le-ltb}
 use Rattle.std.proofs.lemmas.List.Splits.{slice_split_none, slice_split_at}
@@ -9,7 +9,11 @@ use Rattle.smack_rules.specs.declared.label.LabelRefusal.{LabelRefusal}
 use Rattle.smack_rules.specs.declared.label.LabelRefusal.TheVariants.{Empty, TooLong}
 use Rattle.smack_rules.specs.Label.{is_label_byte, byte_fault, label_fault}
 use Rattle.smack_rules.specs.Modes.{spelling, modes_of, is_mode_word, stands_in, letters_that}
-use Rattle.smack_rules.specs.Spelling.{parted}
+use Rattle.smack_rules.specs.Rule.{is_label, line_rule, rule_of_words, rule_behind, set_rule, adjust_rule}
+use Rattle.smack_rules.specs.Spelling.{parted, rule_text}
+use Rattle.smack_rules.specs.declared.rule.Rule.{Rule}
+use Rattle.smack_rules.specs.declared.rule.Rule.TheVariants.{Set, Adjust}
+use Rattle.smack_rules.specs.declared.rule.LineRefusal.TheVariants.{Form}
 use Rattle.smack_rules.specs.Words.{is_blank, is_word, words_of}
 
 -- a word of bytes that may stand in a label, which blanks and newlines may not
@@ -161,3 +165,30 @@ words_of-parted (word ∷ next ∷ words) h =
     ap (filter is_word) (slice_split_at is_blank word 32 (parted (next ∷ words)) (no_blank word h.0.bytes) refl)
     ∙ ap (λ b. cond b (word ∷ rest) rest) h.0.some
     ∙ ap (λ words. word ∷ words) (words_of-parted (next ∷ words) h.1)
+
+-- A rule's line reads back.
+
+label_found : (word : List ℕ) → label_fault word ≡ None → is_label word ≡ true
+label_found word h = ap is_none h
+
+read_words : (subject object : List ℕ) (modes : List (List ℕ)) → label_fault subject ≡ None → label_fault object ≡ None
+    → AllByRecursion IsPlain modes
+    → line_rule (parted (subject ∷ object ∷ modes)) ≡ rule_behind subject object modes
+read_words subject object modes s o plain =
+    ap rule_of_words (words_of-parted (subject ∷ object ∷ modes) (IsPlain-label subject s, (IsPlain-label object o, plain)))
+    ∙ ap (λ b. cond (b && is_label object) (rule_behind subject object modes) (Err Form)) (label_found subject s)
+    ∙ ap (λ b. cond b (rule_behind subject object modes) (Err Form)) (label_found object o)
+
+pub line_rule-set : (subject object : List ℕ) (modes : Modes) → label_fault subject ≡ None → label_fault object ≡ None
+    → line_rule (rule_text (Set subject object modes)) ≡ Ok (Some (Set subject object modes))
+line_rule-set subject object modes s o =
+    read_words subject object (spelling modes ∷ []) s o (IsPlain-spelling modes, tt)
+    ∙ ap (set_rule subject object) (modes_of-spelling modes)
+
+pub line_rule-adjust : (subject object : List ℕ) (allow deny : Modes) → label_fault subject ≡ None → label_fault object ≡ None
+    → line_rule (rule_text (Adjust subject object allow deny)) ≡ Ok (Some (Adjust subject object allow deny))
+line_rule-adjust subject object allow deny s o =
+    read_words subject object (spelling allow ∷ spelling deny ∷ []) s o
+    (IsPlain-spelling allow, (IsPlain-spelling deny, tt))
+    ∙ ap (λ first. adjust_rule subject object first (modes_of (spelling deny))) (modes_of-spelling allow)
+    ∙ ap (adjust_rule subject object (Some allow)) (modes_of-spelling deny)
