@@ -10,6 +10,8 @@ mod lines;
 mod parts;
 mod placeholders;
 mod templates;
+#[cfg(test)]
+mod tests;
 mod usual;
 
 pub use expansion::expand;
