@@ -1,4 +1,5 @@
 pub mod Expanded
+pub mod Fixed
 pub mod LabelsMade
 pub mod LineSpelled
 pub mod Reading

@@ -1,5 +1,5 @@
 -- What a template is spelled as reads back as that template.
-use Rattle.std.proofs.Common.{◌≡◌, ℕ, ◌+◌, ◌≤◌, ◌&&◌, nat_le, true, false, Bool, List, [], ◌∷◌, ◌++◌, length, Ok, refl, sym, ap, ◌∙◌, append_assoc, arith}
+use Rattle.std.proofs.Common.{◌≡◌, ℕ, ◌+◌, ◌≤◌, ◌&&◌, nat_le, true, false, Bool, List, [], ◌∷◌, ◌++◌, length, Result, Ok, refl, subst, ap, ◌∙◌, append_assoc, arith}
 use Rattle.std.specs.List.{list_all, AllByRecursion}
 use Rattle.std.proofs.lemmas.Bool.{leb-true}
 use Rattle.text_lines.specs.Lines.{is_newline, HasNoNewline, lines_of}
@@ -8,6 +8,9 @@ use Rattle.smack_rules.specs.Label.{is_label_byte}
 use Rattle.smack_rules.specs.Spelling.{parted}
 use Rattle.smack_rules.proofs.Spelled.{IsPlain}
 use Rattle.rule_templates.specs.declared.lines.TemplateLine.{TemplateLine}
+use Rattle.rule_templates.specs.declared.templates.Template.{Template}
+use Rattle.rule_templates.specs.declared.templates.TemplateRefusal.{TemplateRefusal}
+use Rattle.rule_templates.specs.TemplateRead.{ReadsAs}
 use Rattle.rule_templates.specs.TemplateLine.{line_of, line_text, is_kept_line}
 use Rattle.rule_templates.specs.Template.{with_line, with_front, template_from, template_of, template_text, is_template}
 use Rattle.rule_templates.proofs.LineSpelled.{both, line_words, line_words-plain, line_of-line_text}
@@ -56,3 +59,9 @@ template_of-template_text lines sound =
     let parts = both (nat_le (length lines) 64) (list_all is_kept_line lines) sound in
     let few : length lines ≤ 64 = leb-true (length lines) 64 parts.0 in
     template_from-template_text 1 lines parts.1 (omega arith)
+
+-- What reads a text reads it so too, where it is the spelling of a template.
+pub reads_canonical : (result : Result Template TemplateRefusal) (text : List ℕ) (lines : List TemplateLine)
+    → ReadsAs result (template_of text) → is_template lines ≡ true → text ≡ template_text lines → ReadsAs result (Ok lines)
+reads_canonical result text lines reads sound is =
+    subst (ReadsAs result) (ap template_of is ∙ template_of-template_text lines sound) reads

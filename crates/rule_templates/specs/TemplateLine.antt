@@ -1,5 +1,5 @@
 -- Lines of a template: rules whose labels may be placeholders.
-use Rattle.std.specs.Prelude.{ℕ, Bool, true, not, ◌&&◌, ◌||◌, List, [], ◌∷◌, Option, Some, None, Result, Ok, Err, if◌then◌else◌}
+use Rattle.std.specs.Prelude.{ℕ, Bool, true, false, not, ◌&&◌, ◌||◌, List, [], ◌∷◌, Option, Some, None, Result, Ok, Err, if◌then◌else◌}
 use Rattle.std.specs.Option.{option_map}
 use Rattle.smack_rules.specs.declared.modes.Modes.{Modes}
 use Rattle.smack_rules.specs.Modes.{modes_of, spelling}
@@ -79,3 +79,11 @@ is_kept_word (OfPackage placeholder) = true
 
 abbrev pub is_kept_line : TemplateLine → Bool
 is_kept_line line = is_kept_word line.subject && is_kept_word line.object
+
+-- a line without placeholders
+abbrev pub is_fixed_word : Word → Bool
+is_fixed_word (Fixed label) = true
+is_fixed_word (OfPackage placeholder) = false
+
+abbrev pub is_fixed_line : TemplateLine → Bool
+is_fixed_line line = is_fixed_word line.subject && is_fixed_word line.object

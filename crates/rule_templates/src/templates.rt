@@ -6,6 +6,7 @@ ghost use Rattle.rule_templates.specs.declared.lines.TemplateLine.{TemplateLine}
 ghost use Rattle.rule_templates.specs.declared.templates.TemplateRefusal.{TemplateRefusal};
 ghost use Rattle.rule_templates.specs.TemplateLine.{word_of, line_with, line_of, is_kept_line};
 ghost use Rattle.rule_templates.specs.Template.{with_front, with_line, template_of};
+ghost use Rattle.rule_templates.specs.TemplateRead.{RefusesAs, RefusesFreely};
 
 use crate::expansion::append_rules;
 use crate::labels::PackageLabels;
@@ -63,22 +64,29 @@ impl Model for Template {
 }
 
 impl Template {
+    ghost use Rattle.std.specs.Prelude.{ℕ, Option};
+    ghost use Rattle.std.specs.List.{list_all};
+    ghost use Rattle.smack_rules.specs.RuleText.{rules_of};
+    ghost use Rattle.rule_templates.specs.TemplateLine.{is_fixed_line};
     ghost use Rattle.rule_templates.specs.Template.{is_template, template_text};
-    ghost use Rattle.rule_templates.specs.TemplateRead.{ReadsAs, RefusesFreely};
+    ghost use Rattle.rule_templates.specs.TemplateRead.{ReadsAs};
     ghost use Rattle.rule_templates.specs.Expansion.{expansion};
 
     /// Reads a template: a line a rule, whose words are parted by spaces or tabs. Refuses, at the first wrong line, a
     /// line of another form, a line that would be right but for a word that begins with `~` and is no placeholder, and
     /// a 65th line.
     pub fn read(alloc: Global, text: &[u8]) -> Result<Template, TemplateRefusal>
-        ensures { ReadsAs result (template_of text.now) }
+        ensures read { ReadsAs result (template_of text.now) }
+        // A text that a template was written as is read as that template.
+        ensures canonical { (lines : List TemplateLine) → IsTrue (is_template lines)
+            → text.now ≡ template_text lines → ReadsAs result (Ok lines) }
+        // Without placeholders, a package gets the rules that the text has as a rule text.
+        ensures rules { IfOk result (λ template. IsTrue (list_all is_fixed_line template)
+            → (name : List ℕ) (author : Option (List ℕ)) → rules_of text.now ≡ Ok (expansion template name author)) }
     {
         match Template::read_lines(alloc, text) {
-            Err(TemplateRefusal::Memory(error)) => match fault_of(text) {
-                Some(fault) => Err(fault),
-                None => Err(TemplateRefusal::Memory(error)),
-            },
-            answer => answer,
+            Ok(template) => Ok(template),
+            Err(refusal) => Err(before_memory(refusal, text)),
         }
     }
 
@@ -139,6 +147,20 @@ impl Template {
             append_rules(&mut rules, &labels, line)?;
         }
         Ok(rules)
+    }
+}
+
+/// The refusal of a text, or its first wrong line where memory was wanting before that was met. Takes no memory.
+fn before_memory(refusal: TemplateRefusal, text: &[u8]) -> TemplateRefusal
+    requires { RefusesFreely refusal (template_of text.now) }
+    ensures { RefusesAs result (template_of text.now) }
+{
+    match refusal {
+        TemplateRefusal::Memory(_) => match fault_of(text) {
+            Some(fault) => fault,
+            None => refusal,
+        },
+        fault => fault,
     }
 }
 
