@@ -1,8 +1,15 @@
--- Texts in which no byte is wrong: idents, and the labels made of them.
-use Rattle.std.proofs.Common.{◌≡◌, ℕ, ◌+◌, ◌<◌, ◌≤◌, Bool, true, false, not, cond, ltb, eqb, List, [], ◌∷◌, length, Some, None, Option, position, suc, refl, ap, ◌∙◌, arith}
+-- Texts in which no byte is wrong: idents, the labels made of them, and numbers.
+use Rattle.std.proofs.Common.{◌≡◌, ℕ, ◌+◌, ◌/◌, ◌%◌, ◌^◌, ◌<◌, ◌≤◌, ◌==◌, ◌||◌, Bool, true, false, not, cond, ltb, eqb, List, [], ◌∷◌, ◌++◌, codes, decimal, length, Some, None, Option, position, zero, suc, refl, sym, ap, ◌∙◌, subst, arith}
 use Rattle.std.specs.List.{AllByRecursion, position_or_len}
 use Rattle.std.proofs.lemmas.Bool.{ltb-false}
 use Rattle.std.proofs.lemmas.Bool.Decides.{nat_tests}
+use Rattle.std.proofs.lemmas.Fmt.{decimal_by_steps, decimal_nonempty, length-decimal-le}
+use Rattle.std.specs.Fmt.{digits, digits_onto, digit_glyph}
+use Rattle.cynara_keys.specs.Text.{is_visible, same_text}
+use Rattle.cynara_keys.specs.Field.{wildcard}
+use Rattle.cynara_keys.proofs.Order.{same_text-≡}
+use Rattle.cynara_keys.specs.Name.{name_fault, bad_byte_or, is_reserved}
+use Rattle.cynara_keys.specs.declared.names.NameRefusal.TheVariants.{Empty as NameEmpty, TooLong as NameTooLong, Reserved}
 use Rattle.smack_rules.specs.Label.{is_label_byte, label_fault, byte_fault as label_byte_fault}
 use Rattle.smack_rules.specs.declared.label.LabelRefusal.{LabelRefusal}
 use Rattle.smack_rules.specs.declared.label.LabelRefusal.TheVariants.{Empty as LabelEmpty, TooLong as LabelTooLong}
@@ -52,6 +59,92 @@ NonePass-weaker p q f (x ∷ xs) none = (f x none.0, NonePass-weaker p q f xs no
 is_label_byte-ident : (byte : ℕ) → not (is_ident_byte byte) ≡ false → not (is_label_byte byte) ≡ false
 is_label_byte-ident byte h = grind (arith, nat_tests)
 
+is_visible-ident : (byte : ℕ) → not (is_ident_byte byte) ≡ false → not (is_visible byte) ≡ false
+is_visible-ident byte h = grind (arith, nat_tests)
+
+NonePass-append : (p : ℕ → Bool) (xs ys : List ℕ) → NonePass p xs → NonePass p ys → NonePass p (xs ++ ys)
+NonePass-append p [] ys front back = back
+NonePass-append p (x ∷ xs) ys front back = (front.0, NonePass-append p xs ys front.1 back)
+
+-- a text with no fault of a name
+name_fault-none : (text : List ℕ) → eqb (length text) 0 ≡ false → ltb 255 (length text) ≡ false
+    → NonePass (λ byte. not (is_visible byte)) text → is_reserved text ≡ false → name_fault text ≡ None
+name_fault-none text some short visible free =
+    let last = cond (is_reserved text) (Some Reserved) None in
+    let bad = position (λ byte. not (is_visible byte)) text in
+    let rest = λ (long : Bool). cond long (Some NameTooLong) (bad_byte_or bad last) in
+    ap (λ empty. cond empty (Some NameEmpty) (rest (ltb 255 (length text)))) some
+    ∙ ap rest short
+    ∙ ap (λ at. bad_byte_or at last) (position-none _ _ visible)
+    ∙ ap (λ reserved. cond reserved (Some Reserved) None) free
+
+-- ---- numbers in decimal
+
+-- the marks that are no names
+abbrev is_mark : ℕ → Bool
+is_mark byte = byte == 42 || byte == 35
+
+abbrev Digits : ℕ → List ℕ → Type 0
+Digits n ds = NonePass (λ byte. not (is_visible byte)) ds × NonePass is_mark ds
+
+visible_digit : (d : ℕ) → d < 10 → not (is_visible (48 + d)) ≡ false
+visible_digit d h = grind (arith, nat_tests)
+
+no_mark : (d : ℕ) → d < 10 → is_mark (48 + d) ≡ false
+no_mark d h = grind (arith, nat_tests)
+
+decimal_digits : (n : ℕ) → n < 2 ^ 64 → Digits n (decimal n)
+decimal_digits n h =
+    decimal_by_steps Digits (λ d small. ((visible_digit d small, tt), (no_mark d small, tt)))
+    (λ d ds large front.
+    let small : d % 10 < 10 = omega arith in (
+      NonePass-append (λ byte. not (is_visible byte)) ds ((48 + d % 10) ∷ []) front.0 (visible_digit (d % 10) small, tt),
+      NonePass-append is_mark ds ((48 + d % 10) ∷ []) front.1 (no_mark (d % 10) small, tt),
+    )) n h
+
+not_reserved : (text : List ℕ) → NonePass is_mark text → is_reserved text ≡ false
+not_reserved [] none = refl
+not_reserved (byte ∷ []) none = none.0
+not_reserved (byte ∷ next ∷ text) none = refl
+
+pub name_fault-decimal : (n : ℕ) → n < 2 ^ 64 → name_fault (decimal n) ≡ None
+name_fault-decimal n h =
+    let digits = decimal_digits n h in
+    let some : 0 < length (decimal n) = decimal_nonempty n h in
+    let short : length (decimal n) ≤ 20 = length-decimal-le 20 n (omega arith) (omega arith) h in
+    name_fault-none (decimal n) (grind (arith, nat_tests)) (grind (arith, nat_tests)) digits.0 (not_reserved _ digits.1)
+
+-- whatever the number, no digit is the wildcard
+abbrev NoStar : List ℕ → Type 0
+NoStar = NonePass (λ byte. byte == 42)
+
+glyph_no_star : (few : Bool) (d : ℕ) → (cond few (48 + d) (87 + d) == 42) ≡ false
+glyph_no_star true d = grind (arith, nat_tests)
+glyph_no_star false d = grind (arith, nat_tests)
+
+no_star_either : (b : Bool) (xs ys : List ℕ) → NoStar xs → NoStar ys → NoStar (cond b xs ys)
+no_star_either true xs ys first second = first
+no_star_either false xs ys first second = second
+
+digits_onto-no_star : (k n : ℕ) (acc : List ℕ) → NoStar acc → NoStar (digits_onto k 10 false n acc)
+digits_onto-no_star zero n acc none = none
+digits_onto-no_star (suc k) n acc none =
+    let more : NoStar (digit_glyph false (n % 10) ∷ acc) = (glyph_no_star (ltb (n % 10) 10) (n % 10), none) in
+    no_star_either (n / 10 == 0) (digit_glyph false (n % 10) ∷ acc) (digits_onto k 10 false (n / 10) (digit_glyph false (n % 10) ∷ acc))
+    more (digits_onto-no_star k (n / 10) (digit_glyph false (n % 10) ∷ acc) more)
+
+decimal-no_star : (n : ℕ) → NoStar (decimal n)
+unfolding digits
+decimal-no_star n = digits_onto-no_star 64 n [] tt
+
+no_star_text : (text : List ℕ) (same : Bool) → same_text text wildcard ≡ same → NoStar text → same ≡ false
+no_star_text text true is none =
+    let star : NoStar wildcard = subst NoStar (same_text-≡ text wildcard is) none in star.0
+no_star_text text false is none = refl
+
+pub decimal-no_wildcard : (n : ℕ) → same_text (decimal n) wildcard ≡ false
+decimal-no_wildcard n = no_star_text (decimal n) (same_text (decimal n) wildcard) refl (decimal-no_star n)
+
 -- what the fault of an ident tests
 pub record IsSoundIdent (name : List ℕ) : Type 0 where
   pub short : length name ≤ 100
@@ -71,17 +164,36 @@ sound_ident name sound =
     let tests = tested _ _ (begins_with_mark name) (position (λ byte. not (is_ident_byte byte)) name) sound in
     record { short = ltb-false _ _ tests.0; none_wrong = none_from_position _ name tests.1 }
 
-pub label_fault-package_label : (name : List ℕ) → ident_fault name ≡ None → label_fault (package_label name) ≡ None
-label_fault-package_label name sound =
-    let ident = sound_ident name sound in
-    let bad = position (λ byte. not (is_label_byte byte)) (package_label name) in
-    let some : eqb (length (package_label name)) 0 ≡ false = grind (arith, nat_tests) in
-    let short : ltb 255 (length (package_label name)) ≡ false = grind (arith, nat_tests, ident.short) in
-    let behind = NonePass-weaker _ (λ byte. not (is_label_byte byte)) is_label_byte-ident name ident.none_wrong in
-    let none : bad ≡ None =
-    position-none (λ byte. not (is_label_byte byte)) (package_label name)
-    (refl, (refl, (refl, (refl, (refl, (refl, (refl, (refl, (refl, (refl, (refl, behind))))))))))) in
-    let rest = λ (long : Bool). cond long (Some LabelTooLong) (label_byte_fault (package_label name) bad) in
-    ap (λ empty. cond empty (Some LabelEmpty) (rest (ltb 255 (length (package_label name))))) some
-    ∙ ap rest short
-    ∙ ap (label_byte_fault (package_label name)) none
+-- the front of the label of a package, and then the name
+labelled : (p : ℕ → Bool) (name : List ℕ) → NonePass p (codes "User::Pkg::") → NonePass p name → NonePass p (package_label name)
+labelled p name front behind = NonePass-append p (codes "User::Pkg::") name front behind
+
+module _ (name : List ℕ) (sound : ident_fault name ≡ None) where
+  some : eqb (length (package_label name)) 0 ≡ false
+  some = grind (arith, nat_tests)
+
+  short : ltb 255 (length (package_label name)) ≡ false
+  short = let ident = sound_ident name sound in grind (arith, nat_tests, ident.short)
+
+  all_label_bytes : NonePass (λ byte. not (is_label_byte byte)) (package_label name)
+  all_label_bytes =
+      labelled (λ byte. not (is_label_byte byte)) name
+      (refl, (refl, (refl, (refl, (refl, (refl, (refl, (refl, (refl, (refl, (refl, tt)))))))))))
+      (NonePass-weaker _ (λ byte. not (is_label_byte byte)) is_label_byte-ident name (sound_ident name sound).none_wrong)
+
+  all_visible : NonePass (λ byte. not (is_visible byte)) (package_label name)
+  all_visible =
+      labelled (λ byte. not (is_visible byte)) name
+      (refl, (refl, (refl, (refl, (refl, (refl, (refl, (refl, (refl, (refl, (refl, tt)))))))))))
+      (NonePass-weaker _ (λ byte. not (is_visible byte)) is_visible-ident name (sound_ident name sound).none_wrong)
+
+  pub label_fault-package_label : label_fault (package_label name) ≡ None
+  label_fault-package_label =
+      let bad = position (λ byte. not (is_label_byte byte)) (package_label name) in
+      let rest = λ (long : Bool). cond long (Some LabelTooLong) (label_byte_fault (package_label name) bad) in
+      ap (λ empty. cond empty (Some LabelEmpty) (rest (ltb 255 (length (package_label name))))) some
+      ∙ ap rest short
+      ∙ ap (label_byte_fault (package_label name)) (position-none (λ byte. not (is_label_byte byte)) (package_label name) all_label_bytes)
+
+  pub name_fault-package_label : name_fault (package_label name) ≡ None
+  name_fault-package_label = name_fault-none (package_label name) some short all_visible refl

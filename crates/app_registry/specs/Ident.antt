@@ -29,7 +29,7 @@ ident_fault bytes =
     if length bytes == 0 then Some Empty
     else (if nat_lt IDENT_LIMIT (length bytes) then Some TooLong else byte_fault (first_bad_byte bytes))
 
--- The refusal names the fault. Want of memory says nothing of the bytes.
+-- The refusal names the fault. Want of memory comes only for bytes without one.
 abbrev pub Refuses : IdentRefusal → Option IdentRefusal → Type 0
-Refuses (Memory error) fault = Unit {0}
+Refuses (Memory error) fault = fault ≡ None
 Refuses refusal fault = fault ≡ Some refusal

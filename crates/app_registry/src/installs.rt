@@ -80,20 +80,38 @@ impl Ord for Scope {
 }
 
 impl Install {
+    ghost use Rattle.app_registry.specs.Install.{install_cmp};
+
+    /// How the places of two installs in a registry compare: by package, application and scope in turn. Installs that
+    /// agree in these have one place.
+    pub fn compare_place(&self, other: &Install) -> Ordering
+        ensures { result ≡ install_cmp self.now other.now }
+    {
+        self.package
+            .cmp(&other.package)
+            .then_with(|| self.app.cmp(&other.app))
+            .then_with(|| self.scope.cmp(&other.scope))
+    }
+
     /// An equal install, which shares the texts.
     pub fn copy(&self) -> Result<Install, AllocError>
         ensures { IfOk result (λ copy. copy ≡ self.now) }
     {
-        let author = match &self.author {
-            Some(author) => Some(author.copy()?),
-            None => None,
-        };
         Ok(Install {
             package: self.package.copy()?,
-            author,
+            author: self.author_copy()?,
             app: self.app.copy()?,
             scope: self.scope,
             privileges: self.privileges.copy()?,
         })
+    }
+
+    pub(crate) fn author_copy(&self) -> Result<Option<Ident>, AllocError>
+        ensures { IfOk result (λ author. author ≡ self.now.author) }
+    {
+        match &self.author {
+            Some(author) => Ok(Some(author.copy()?)),
+            None => Ok(None),
+        }
     }
 }

@@ -1,9 +1,13 @@
 //! The Smack labels of packages.
 
-ghost use Rattle.std.specs.Prelude.{IfOk, ◌≡◌};
+ghost use Rattle.std.specs.Prelude.{IfOk, None, decimal, ◌≡◌};
+ghost use Rattle.cynara_keys.specs.Name.{name_fault};
+ghost use Rattle.smack_rules.specs.Label.{label_fault};
 ghost use Rattle.app_registry.specs.Label.{package_label, install_label};
 
 use crate::{Ident, Install};
+use cynara_keys::{Name, NameRefusal};
+use itoa::Buffer;
 use smack_rules::Label;
 use std::alloc::{AllocError, Global};
 
@@ -13,10 +17,7 @@ const FRONT: &[u8] = b"User::Pkg::";
 pub fn package_label(alloc: Global, package: &Ident) -> Result<Label, AllocError>
     ensures { IfOk result (λ label. label ≡ package_label «package».now) }
 {
-    let name = package.as_slice();
-    let mut text = Vec::with_capacity(alloc, FRONT.len() + name.len())?;
-    text.extend_from_slice(FRONT)?;
-    text.extend_from_slice(name)?;
+    let text = package_text(alloc, package)?;
     Label::of(alloc, &text)
 }
 
@@ -25,4 +26,44 @@ pub fn install_label(alloc: Global, install: &Install) -> Result<Label, AllocErr
     ensures { IfOk result (λ label. label ≡ install_label install.now) }
 {
     package_label(alloc, &install.package)
+}
+
+/// The label of an install, as the client of its keys.
+pub(crate) fn install_client(alloc: Global, install: &Install) -> Result<Name, AllocError>
+    ensures { IfOk result (λ name. name ≡ install_label install.now) }
+{
+    let text = package_text(alloc, &install.package)?;
+    known_name(alloc, &text)
+}
+
+/// The number of a user in decimal, as the user of keys.
+pub fn user_name(alloc: Global, uid: u32) -> Result<Name, AllocError>
+    ensures { IfOk result (λ name. name ≡ decimal uid) }
+{
+    known_name(alloc, Buffer::new().format(uid).as_bytes())
+}
+
+// The text of the label of the package.
+fn package_text(alloc: Global, package: &Ident) -> Result<Vec<u8>, AllocError>
+    ensures text { IfOk result (λ text. text.items ≡ package_label «package».now) }
+    ensures label { IfOk result (λ text. label_fault text.items ≡ None) }
+    ensures name { IfOk result (λ text. name_fault text.items ≡ None) }
+{
+    let name = package.as_slice();
+    let mut text = Vec::with_capacity(alloc, FRONT.len() + name.len())?;
+    text.extend_from_slice(FRONT)?;
+    text.extend_from_slice(name)?;
+    Ok(text)
+}
+
+// The name with these bytes, which have no fault.
+fn known_name(alloc: Global, bytes: &[u8]) -> Result<Name, AllocError>
+    requires { name_fault bytes.now ≡ None }
+    ensures { IfOk result (λ name. name ≡ bytes.now) }
+{
+    match Name::read(alloc, bytes) {
+        Ok(name) => Ok(name),
+        Err(NameRefusal::Memory(error)) => Err(error),
+        Err(_) => unreachable!(),
+    }
 }

@@ -8,14 +8,22 @@
 mod idents;
 mod installs;
 mod labels;
+mod limits;
 mod lists;
+mod look_ups;
+mod manifests;
 mod name_sets;
+mod refusals;
 mod registry;
 mod users;
 
 pub use idents::{IDENT_LIMIT, Ident, IdentRefusal};
 pub use installs::{Install, Scope};
-pub use labels::{install_label, package_label};
+pub use labels::{install_label, package_label, user_name};
 pub use name_sets::NameSet;
+pub use refusals::{GRANT_LIMIT, INSTALL_LIMIT, PACKAGE_LIMIT, RegistryRefusal, USER_LIMIT};
 pub use registry::Registry;
 pub use users::{User, UserType};
+
+#[cfg(test)]
+mod tests;

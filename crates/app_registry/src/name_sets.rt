@@ -6,6 +6,7 @@ ghost use Rattle.std.specs.Cmp.{partial_equiv_from_equiv};
 ghost use Rattle.std.specs.Cmp.Lexicographic.{pointwise};
 ghost use Rattle.std.proofs.lemmas.Cmp.{lists_equiv, nat_list_eq_equiv};
 ghost use Rattle.cynara_keys.specs.Text.{same_text, text_cmp};
+ghost use Rattle.app_registry.specs.Rising.{rising};
 
 use cynara_keys::Name;
 use std::alloc::AllocError;
@@ -32,6 +33,15 @@ impl Model for NameSet {
 }
 
 impl NameSet {
+    /// The set of these names, each once however often it is given.
+    pub fn of(names: Vec<Name>) -> Result<NameSet, AllocError>
+        ensures { IfOk result (λ set. set ≡ rising text_cmp names.items) }
+    {
+        Ok(NameSet {
+            names: ArcSlice::from_vec(in_order(names))?,
+        })
+    }
+
     /// The names of the set, each before those of greater bytes.
     pub fn as_slice(&self) -> &[Name]
         ensures names { result.now ≡ self.now }
@@ -48,6 +58,16 @@ impl NameSet {
             names: self.names.clone()?,
         })
     }
+}
+
+// The names in the order of their bytes, each once.
+fn in_order(mut names: Vec<Name>) -> Vec<Name>
+    ensures names { result.items ≡ rising text_cmp names.items }
+    ensures rising { IsStrictlySortedBy text_cmp result.items }
+{
+    names.sort_unstable();
+    names.dedup();
+    names
 }
 
 impl PartialEq for NameSet {

@@ -1,11 +1,25 @@
 //! The users and the installs of a device.
 
-ghost use Rattle.std.specs.Prelude.{◌≡◌, IfOk};
+ghost use Rattle.std.specs.Prelude.{◌≡◌, IfOk, IfErr, OnOk, None};
 ghost use Rattle.std.specs.Option.{option_copied};
+ghost use Rattle.app_registry.specs.Label.{label_of};
+ghost use Rattle.app_registry.specs.Manifest.{manifest_rows};
+ghost use Rattle.app_registry.specs.Refusal.{Refuses, owner_fault, user_set_fault, user_remove_fault, install_fault, uninstall_fault};
 ghost use Rattle.app_registry.specs.Registry.{IsRegistry, no_entries, has_package, author_of};
+ghost use Rattle.app_registry.specs.Registry.{with_user, without_user, with_install, without_install};
 
-use crate::lists::{copies, first_of_package};
-use crate::{Ident, Install, User};
+use crate::labels::install_label;
+use crate::limits::{installs_limit, users_limit};
+use crate::lists::{
+    copies, with_install, with_user, without_install, without_installs_for, without_user,
+};
+use crate::look_ups::{
+    by_another, elsewhere, first_of_app, first_of_package, has_install, has_user,
+};
+use crate::manifests::manifest_rows;
+use crate::{Ident, Install, RegistryRefusal, Scope, User, UserType};
+use cynara_keys::Key;
+use smack_rules::Label;
 use std::alloc::{AllocError, Global};
 use std::marker::Model;
 
@@ -71,17 +85,135 @@ impl Registry {
         install.author.as_ref()
     }
 
+    /// The registry in which the user is of this kind, be the user new or there. Refuses `Limit` of `Users`.
+    pub fn user_set(&self, uid: u32, kind: UserType) -> Result<Registry, RegistryRefusal>
+        ensures registry { IfOk result (λ registry. registry ≡ with_user self.now uid kind) }
+        ensures accepted { OnOk result (user_set_fault self.now uid kind ≡ None) }
+        ensures refused { IfErr result (λ refusal. Refuses refusal (user_set_fault self.now uid kind)) }
+    {
+        let user = User { uid, kind };
+        let users = with_user(self.alloc(), &self.users, user).map_err(RegistryRefusal::Memory)?;
+        if let Some(fault) = users_limit(&users) {
+            return Err(fault);
+        }
+        let installs = self.installs_copy().map_err(RegistryRefusal::Memory)?;
+        Ok(Registry { users, installs })
+    }
+
+    /// The registry without the user, and without the installs for this user alone. Refuses `UnknownUser`.
+    pub fn user_remove(&self, uid: u32) -> Result<Registry, RegistryRefusal>
+        ensures registry { IfOk result (λ registry. registry ≡ without_user self.now uid) }
+        ensures accepted { OnOk result (user_remove_fault self.now uid ≡ None) }
+        ensures refused { IfErr result (λ refusal. Refuses refusal (user_remove_fault self.now uid)) }
+    {
+        if !has_user(&self.users, uid) {
+            return Err(RegistryRefusal::UnknownUser(uid));
+        }
+        let users = without_user(self.alloc(), &self.users, uid).map_err(RegistryRefusal::Memory)?;
+        let installs = without_installs_for(self.alloc(), &self.installs, uid).map_err(
+            RegistryRefusal::Memory,
+        )?;
+        Ok(Registry { users, installs })
+    }
+
+    /// The registry with this install, in place of one of the same application and scope. Refuses, in this order,
+    /// `UnknownUser` of the scope, `OtherPackage`, where the application is installed in another package, `OtherAuthor`,
+    /// where an install of the package has another author or only one of them has one, and `Limit` of `Packages`,
+    /// `Installs` and `Grants`.
+    pub fn install(&self, install: &Install) -> Result<Registry, RegistryRefusal>
+        ensures registry { IfOk result (λ registry. registry ≡ with_install self.now install.now) }
+        ensures accepted { OnOk result (install_fault self.now install.now ≡ None) }
+        ensures refused { IfErr result (λ refusal. Refuses refusal (install_fault self.now install.now)) }
+    {
+        self.check_owner(install)?;
+        let installs = with_install(self.alloc(), &self.installs, install).map_err(
+            RegistryRefusal::Memory,
+        )?;
+        if let Some(fault) = installs_limit(&installs) {
+            return Err(fault);
+        }
+        let users = self.users_copy().map_err(RegistryRefusal::Memory)?;
+        Ok(Registry { users, installs })
+    }
+
+    /// The registry without the install of the application for the scope. Refuses `NotInstalled`.
+    pub fn uninstall(&self, app: &Ident, scope: Scope) -> Result<Registry, RegistryRefusal>
+        ensures registry { IfOk result (λ registry. registry ≡ without_install self.now app.now scope) }
+        ensures accepted { OnOk result (uninstall_fault self.now app.now scope ≡ None) }
+        ensures refused { IfErr result (λ refusal. Refuses refusal (uninstall_fault self.now app.now scope)) }
+    {
+        if !has_install(&self.installs, app, scope) {
+            return Err(RegistryRefusal::NotInstalled);
+        }
+        let installs = without_install(self.alloc(), &self.installs, app, scope).map_err(
+            RegistryRefusal::Memory,
+        )?;
+        let users = self.users_copy().map_err(RegistryRefusal::Memory)?;
+        Ok(Registry { users, installs })
+    }
+
+    /// What the installs grant: for each privilege of each install the key of the install's label, the number of the
+    /// user in decimal or the wildcard for everyone, and the privilege, each key once and in the order of keys.
+    pub fn manifest_rows(&self) -> Result<Vec<Key>, AllocError>
+        ensures { IfOk result (λ rows. rows.items ≡ manifest_rows self.now) }
+    {
+        manifest_rows(self.alloc(), &self.installs)
+    }
+
+    /// The label with which the application runs, where it is installed.
+    pub fn label_of(&self, app: &Ident) -> Result<Option<Label>, AllocError>
+        ensures { IfOk result (λ label. label ≡ label_of self.now app.now) }
+    {
+        match first_of_app(&self.installs, app) {
+            Some(install) => Ok(Some(install_label(self.alloc(), install)?)),
+            None => Ok(None),
+        }
+    }
+
     /// An equal registry, which shares the texts.
     pub fn copy(&self) -> Result<Registry, AllocError>
         ensures { IfOk result (λ copy. copy ≡ self.now) }
     {
         Ok(Registry {
-            users: self.users.clone()?,
-            installs: copies(
-                *self.installs.allocator(),
-                &self.installs,
-                self.installs.len(),
-            )?,
+            users: Vec::from_slice(self.alloc(), &self.users)?,
+            installs: self.installs_copy()?,
         })
+    }
+
+    fn alloc(&self) -> Global {
+        *self.installs.allocator()
+    }
+
+    fn users_copy(&self) -> Result<Vec<User>, AllocError>
+        ensures { IfOk result (λ copies. copies.items ≡ self.now.users) }
+    {
+        Vec::from_slice(self.alloc(), &self.users)
+    }
+
+    fn installs_copy(&self) -> Result<Vec<Install>, AllocError>
+        ensures { IfOk result (λ copies. copies.items ≡ self.now.installs) }
+    {
+        copies(self.alloc(), &self.installs, self.installs.len())
+    }
+
+    // What stands against an install of this application, whatever is counted.
+    fn check_owner(&self, install: &Install) -> Result<(), RegistryRefusal>
+        ensures accepted { OnOk result (owner_fault self.now install.now ≡ None) }
+        ensures refused { IfErr result (λ refusal. Refuses refusal (owner_fault self.now install.now)) }
+    {
+        if let Scope::One(uid) = install.scope {
+            if !has_user(&self.users, uid) {
+                return Err(RegistryRefusal::UnknownUser(uid));
+            }
+        }
+        if let Some(other) = elsewhere(&self.installs, install) {
+            let package = other.package.copy().map_err(RegistryRefusal::Memory)?;
+            return Err(RegistryRefusal::OtherPackage(package));
+        }
+        if let Some(other) = by_another(&self.installs, install) {
+            let author = other.author_copy().map_err(RegistryRefusal::Memory)?;
+            return Err(RegistryRefusal::OtherAuthor(author));
+        }
+        Ok(())
     }
 }

@@ -1,0 +1,69 @@
+// Whether there is room for what a changed registry would hold.
+ghost use Rattle.std.specs.Prelude.{◌≡◌, length, nat_lt};
+ghost use Rattle.app_registry.specs.Refusal.{over, installs_limit};
+ghost use Rattle.app_registry.specs.Registry.{packages, grant_count};
+ghost use Rattle.app_registry.specs.declared.refusals.TheConstants.{GRANT_LIMIT, USER_LIMIT};
+ghost use Rattle.cynara_keys.specs.declared.limits.Counted.TheVariants.{Users};
+
+use crate::{
+    GRANT_LIMIT, INSTALL_LIMIT, Install, PACKAGE_LIMIT, RegistryRefusal, USER_LIMIT, User,
+};
+use cynara_keys::Counted;
+
+/// The refusal of more users than there is room for.
+pub fn users_limit(users: &[User]) -> Option<RegistryRefusal>
+    ensures { result ≡ over Users USER_LIMIT (length users.now) }
+{
+    if users.len() > USER_LIMIT {
+        return Some(RegistryRefusal::Limit(Counted::Users, USER_LIMIT as u64));
+    }
+    None
+}
+
+/// The first refusal of more packages, installs or privileges than there is room for.
+pub fn installs_limit(installs: &[Install]) -> Option<RegistryRefusal>
+    ensures { result ≡ installs_limit installs.now }
+{
+    if package_count(installs) > PACKAGE_LIMIT {
+        return Some(RegistryRefusal::Limit(Counted::Packages, PACKAGE_LIMIT as u64));
+    }
+    if installs.len() > INSTALL_LIMIT {
+        return Some(RegistryRefusal::Limit(Counted::Installs, INSTALL_LIMIT as u64));
+    }
+    if has_too_many_grants(installs) {
+        return Some(RegistryRefusal::Limit(Counted::Grants, GRANT_LIMIT as u64));
+    }
+    None
+}
+
+// How many packages there are: a package's installs stand together.
+fn package_count(installs: &[Install]) -> usize
+    ensures { result ≡ length (packages installs.now) }
+{
+    let Some((first, rest)) = installs.split_first() else {
+        return 0;
+    };
+    let mut count = 1;
+    let mut last = &first.package;
+    for install in rest {
+        if install.package != *last {
+            count += 1;
+            last = &install.package;
+        }
+    }
+    count
+}
+
+fn has_too_many_grants(installs: &[Install]) -> bool
+    ensures { result ≡ nat_lt GRANT_LIMIT (grant_count installs.now) }
+{
+    let mut count = 0;
+    for install in installs {
+        let more = install.privileges.as_slice().len();
+        if more > GRANT_LIMIT - count {
+            return true;
+        }
+        count += more;
+    }
+    false
+}

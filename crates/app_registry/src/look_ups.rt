@@ -1,0 +1,65 @@
+// What is found in lists of users and of installs.
+ghost use Rattle.std.specs.Prelude.{◌≡◌, find};
+ghost use Rattle.std.specs.Option.{option_copied};
+ghost use Rattle.std.specs.List.{list_any};
+ghost use Rattle.app_registry.specs.Install.{is_of_app, is_install_of, is_of_package, same_author};
+ghost use Rattle.app_registry.specs.Refusal.{is_elsewhere, is_by_another};
+ghost use Rattle.app_registry.specs.Registry.{has_user};
+
+use crate::{Ident, Install, Scope, User};
+
+/// The first install of the package.
+pub fn first_of_package<'a>(installs: &'a [Install], package: &Ident) -> Option<&'a Install>
+    ensures { option_copied result ≡ find (is_of_package «package».now) installs.now }
+{
+    installs.iter().find(|install| install.package == *package)
+}
+
+/// Whether the user is there.
+pub fn has_user(users: &[User], uid: u32) -> bool
+    ensures { result ≡ has_user users.now uid }
+{
+    users.iter().any(|user| user.uid == uid)
+}
+
+/// The first install of the same application in another package.
+pub fn elsewhere<'a>(installs: &'a [Install], install: &Install) -> Option<&'a Install>
+    ensures { option_copied result ≡ find (is_elsewhere install.now) installs.now }
+{
+    installs.iter().find(|other| other.app == install.app && other.package != install.package)
+}
+
+/// The first install of the same package by another author.
+pub fn by_another<'a>(installs: &'a [Install], install: &Install) -> Option<&'a Install>
+    ensures { option_copied result ≡ find (is_by_another install.now) installs.now }
+{
+    installs.iter().find(|other| {
+        other.package == install.package && !same_author(&other.author, &install.author)
+    })
+}
+
+fn same_author(author: &Option<Ident>, other: &Option<Ident>) -> bool
+    ensures { result ≡ same_author author.now other.now }
+{
+    match (author, other) {
+        (Some(author), Some(other)) => author == other,
+        (None, None) => true,
+        _ => false,
+    }
+}
+
+/// The first install of the application.
+pub fn first_of_app<'a>(installs: &'a [Install], app: &Ident) -> Option<&'a Install>
+    ensures { option_copied result ≡ find (is_of_app app.now) installs.now }
+{
+    installs.iter().find(|install| install.app == *app)
+}
+
+/// Whether the application is installed for the scope.
+pub fn has_install(installs: &[Install], app: &Ident, scope: Scope) -> bool
+    ensures { result ≡ list_any (is_install_of app.now scope) installs.now }
+{
+    installs
+        .iter()
+        .any(|install| install.app == *app && install.scope == scope)
+}

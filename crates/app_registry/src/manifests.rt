@@ -1,0 +1,66 @@
+// The rows of the manifests.
+ghost use Rattle.std.specs.Prelude.{◌≡◌, ◌++◌, map, IfOk, OnOk};
+ghost use Rattle.app_registry.specs.Manifest.{grant, grants, install_grants, scope_field};
+ghost use Rattle.app_registry.specs.Rising.{rising};
+ghost use Rattle.cynara_keys.specs.Key.{key_cmp};
+
+use crate::labels::{install_client, user_name};
+use crate::{Install, Scope};
+use cynara_keys::{Field, Key, Name};
+use std::alloc::{AllocError, Global};
+
+/// What the installs grant, each key once and in the order of keys.
+pub fn manifest_rows(alloc: Global, installs: &[Install]) -> Result<Vec<Key>, AllocError>
+    ensures { IfOk result (λ rows. rows.items ≡ rising key_cmp (grants installs.now)) }
+{
+    let mut rows = Vec::new(alloc);
+    for install in installs {
+        push_grants(alloc, &mut rows, install)?;
+    }
+    rows.sort_unstable();
+    rows.dedup();
+    Ok(rows)
+}
+
+// Puts the keys that an install grants behind the rows.
+fn push_grants(alloc: Global, rows: &mut Vec<Key>, install: &Install) -> Result<(), AllocError>
+    ensures { OnOk result (rows.new.items ≡ rows.old.items ++ install_grants install.now) }
+{
+    let client = Field::Exact(install_client(alloc, install)?);
+    let user = scope_field(alloc, install.scope)?;
+    push_each(rows, &client, &user, install.privileges.as_slice())
+}
+
+fn push_each(
+    rows: &mut Vec<Key>,
+    client: &Field,
+    user: &Field,
+    privileges: &[Name],
+) -> Result<(), AllocError>
+    ensures { OnOk result (rows.new.items ≡ rows.old.items ++ map (grant client.now user.now) privileges.now) }
+{
+    for privilege in privileges {
+        rows.push(grant(client, user, privilege)?)?;
+    }
+    Ok(())
+}
+
+// The key of one privilege, with equal parts.
+fn grant(client: &Field, user: &Field, privilege: &Name) -> Result<Key, AllocError>
+    ensures { IfOk result (λ key. key ≡ grant client.now user.now privilege.now) }
+{
+    Ok(Key {
+        client: client.copy()?,
+        user: user.copy()?,
+        privilege: Field::Exact(privilege.copy()?),
+    })
+}
+
+fn scope_field(alloc: Global, scope: Scope) -> Result<Field, AllocError>
+    ensures { IfOk result (λ field. field ≡ scope_field scope) }
+{
+    match scope {
+        Scope::Everyone => Ok(Field::Any),
+        Scope::One(uid) => Ok(Field::Exact(user_name(alloc, uid)?)),
+    }
+}
