@@ -1,6 +1,6 @@
 // What templates give for packages.
-use crate::{Template, author_label, read_only_label};
-use app_registry::Ident;
+use crate::{Template, author_label, expand, read_only_label};
+use app_registry::{Ident, Install, NameSet, Registry, Scope};
 use smack_rules::Rule;
 use std::alloc::Global;
 use std::process::Abort;
@@ -64,6 +64,54 @@ fn the_usual_rules_of_a_package(rt: HostRuntime) -> Result<(), Fail> {
     let mut want = WITHOUT_AUTHOR.as_bytes().to_vec(rt.alloc())?;
     want.extend_from_slice(b"User::Pkg::pk User::Author::au rwxatl\n")?;
     assert_eq!(rt; rules.as_slice(), want.as_slice());
+    Ok(())
+}
+
+/// An application of a package; no author is an empty text.
+fn application(alloc: Global, package: &str, author: &str, app: &str) -> Result<Install, Fail> {
+    let author = if author.is_empty() {
+        None
+    } else {
+        Some(Ident::read(alloc, author.as_bytes())?)
+    };
+    Ok(Install {
+        package: Ident::read(alloc, package.as_bytes())?,
+        author,
+        app: Ident::read(alloc, app.as_bytes())?,
+        scope: Scope::Everyone,
+        privileges: NameSet::of(Vec::new(alloc))?,
+    })
+}
+
+/// The lines of the rules of a package in a registry. `None` where it is not installed.
+fn expanded_in(alloc: Global, registry: &Registry, package: &str) -> Result<Option<Vec<u8>>, Fail> {
+    let package = Ident::read(alloc, package.as_bytes())?;
+    if !registry.has_package(&package) {
+        return Ok(None);
+    }
+    let template = Template::read(alloc, b"~PROCESS~ ~PATH_RO~ rxl\na ~AUTHOR~ r")?;
+    let rules = expand(alloc, &template, registry, &package)?;
+    Ok(Some(written(alloc, &rules)?))
+}
+
+const INSTALLED: [(&str, &str); 2] = [
+    ("pk", "User::Pkg::pk User::Pkg::pk::RO rxl\n"),
+    (
+        "qk",
+        "User::Pkg::qk User::Pkg::qk::RO rxl\na User::Author::au r\n",
+    ),
+];
+
+#[test]
+fn expands_an_installed_package(rt: HostRuntime) -> Result<(), Fail> {
+    let registry = Registry::fresh(rt.alloc())
+        .install(&application(rt.alloc(), "pk", "", "a1")?)?
+        .install(&application(rt.alloc(), "qk", "au", "a2")?)?;
+    for (package, want) in INSTALLED {
+        let rules = expanded_in(rt.alloc(), &registry, package)?.ok_or("not installed")?;
+        assert_eq!(rt; rules.as_slice(), want.as_bytes());
+    }
+    assert!(rt; expanded_in(rt.alloc(), &registry, "zk")?.is_none());
     Ok(())
 }
 
