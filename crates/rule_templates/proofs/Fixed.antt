@@ -1,13 +1,13 @@
 -- A template without placeholders gives each package the rules that its text has as a rule text.
 use Rattle.std.proofs.Common.{◌≡◌, ℕ, ◌+◌, nat_lt, cond, ◌&&◌, Bool, true, false, List, [], ◌∷◌, ◌++◌, Option, Some, None, Result, Ok, Err, refl, sym, ap, ◌∙◌}
 use Rattle.std.specs.List.{list_all}
-use Rattle.std.specs.Option.{option_map, option_to_list}
+use Rattle.std.specs.Option.{option_map}
 use Rattle.smack_rules.specs.declared.modes.Modes.{Modes}
 use Rattle.smack_rules.specs.declared.rule.Rule.{Rule}
 use Rattle.smack_rules.specs.declared.rule.LineRefusal.{LineRefusal}
 use Rattle.smack_rules.specs.declared.rule.LineRefusal.TheVariants.{Form as NoRule}
 use Rattle.smack_rules.specs.Modes.{modes_of}
-use Rattle.smack_rules.specs.Rule.{is_label, set_rule, adjust_rule, rule_behind, rule_of_words, line_rule}
+use Rattle.smack_rules.specs.Rule.{is_label, set_rule, adjust_rule, rule_behind, rule_of_words}
 use Rattle.smack_rules.specs.RuleText.{with_line as with_rule, rules_from}
 use Rattle.smack_rules.specs.Words.{words_of}
 use Rattle.rule_templates.specs.declared.lines.Word.{Word}

@@ -1,5 +1,5 @@
 -- The labels that are made of idents have no fault.
-use Rattle.std.proofs.Common.{◌≡◌, ℕ, ◌+◌, ◌≤◌, ◌==◌, nat_lt, cond, not, ◌&&◌, Bool, true, false, List, [], ◌∷◌, ◌++◌, length, length-append, position, Option, Some, None, codes, refl, ap, ◌∙◌, arith}
+use Rattle.std.proofs.Common.{◌≡◌, ℕ, ◌+◌, ◌≤◌, ◌==◌, nat_lt, cond, not, ◌&&◌, Bool, true, false, List, [], ◌∷◌, length, length-append, position, Option, Some, None, codes, refl, ap, ◌∙◌, arith}
 use Rattle.std.specs.List.{list_all}
 use Rattle.std.proofs.lemmas.Bool.{le-ltb}
 use Rattle.std.proofs.lemmas.Bool.Decides.{nat_tests}

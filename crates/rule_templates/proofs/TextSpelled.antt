@@ -1,5 +1,5 @@
 -- What a template is spelled as reads back as that template.
-use Rattle.std.proofs.Common.{◌≡◌, ℕ, ◌+◌, ◌≤◌, ◌&&◌, nat_le, true, false, Bool, List, [], ◌∷◌, ◌++◌, length, Result, Ok, refl, subst, ap, ◌∙◌, append_assoc, arith}
+use Rattle.std.proofs.Common.{◌≡◌, ℕ, ◌+◌, ◌≤◌, nat_le, true, false, List, [], ◌∷◌, ◌++◌, length, Result, Ok, refl, subst, ap, ◌∙◌, append_assoc, arith}
 use Rattle.std.specs.List.{list_all, AllByRecursion}
 use Rattle.std.proofs.lemmas.Bool.{leb-true}
 use Rattle.text_lines.specs.Lines.{is_newline, HasNoNewline, lines_of}
@@ -12,7 +12,7 @@ use Rattle.rule_templates.specs.declared.templates.Template.{Template}
 use Rattle.rule_templates.specs.declared.templates.TemplateRefusal.{TemplateRefusal}
 use Rattle.rule_templates.specs.TemplateRead.{ReadsAs}
 use Rattle.rule_templates.specs.TemplateLine.{line_of, line_text, is_kept_line}
-use Rattle.rule_templates.specs.Template.{with_line, with_front, template_from, template_of, template_text, is_template}
+use Rattle.rule_templates.specs.Template.{with_front, template_from, template_of, template_text, is_template}
 use Rattle.rule_templates.proofs.LineSpelled.{both, line_words, line_words-plain, line_of-line_text}
 use Rattle.rule_templates.proofs.Reading.{with_line-right}
 
