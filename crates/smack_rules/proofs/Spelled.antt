@@ -1,5 +1,5 @@
 -- What is spelled reads back: words parted by one space, modes, and rules.
-use Rattle.std.proofs.Common.{◌≡◌, ℕ, ◌<◌, ◌==◌, Bool, true, false, cond, ltb, nat_lt, ◌&&◌, not, List, [], ◌∷◌, ◌++◌, length, get_or, position, Option, Some, None, is_none, Ok, Err, refl, ap, ◌∙◌, arith}
+use Rattle.std.proofs.Common.{◌≡◌, ℕ, ◌<◌, ◌==◌, Bool, true, false, cond, ltb, nat_lt, ◌&&◌, not, List, [], ◌∷◌, length, get_or, position, Option, Some, None, is_none, Ok, Err, refl, ap, ◌∙◌, arith}
 use Rattle.std.specs.List.{list_all, filter, position_or_len, AllByRecursion}
 use Rattle.std.proofs.lemmas.Bool.{ltb-false, le-ltb}
 use Rattle.std.proofs.lemmas.List.Splits.{slice_split_none, slice_split_at}
@@ -11,7 +11,6 @@ use Rattle.smack_rules.specs.Label.{is_label_byte, byte_fault, label_fault}
 use Rattle.smack_rules.specs.Modes.{spelling, modes_of, is_mode_word, stands_in, letters_that}
 use Rattle.smack_rules.specs.Rule.{is_label, line_rule, rule_of_words, rule_behind, set_rule, adjust_rule}
 use Rattle.smack_rules.specs.Spelling.{parted, rule_text}
-use Rattle.smack_rules.specs.declared.rule.Rule.{Rule}
 use Rattle.smack_rules.specs.declared.rule.Rule.TheVariants.{Set, Adjust}
 use Rattle.smack_rules.specs.declared.rule.LineRefusal.TheVariants.{Form}
 use Rattle.smack_rules.specs.Words.{is_blank, is_word, words_of}
