@@ -11,7 +11,8 @@ use Rattle.rule_templates.specs.declared.templates.TemplateRefusal.{TemplateRefu
 use Rattle.rule_templates.specs.declared.templates.TemplateRefusal.TheVariants.{BadLine, BadPlaceholder, TooMany, Memory}
 use Rattle.rule_templates.specs.TemplateLine.{line_with, line_of}
 use Rattle.rule_templates.specs.Template.{with_front, with_line, template_from}
-use Rattle.rule_templates.specs.TemplateRead.{RefusesAs, RefusesFreely}
+use Rattle.rule_templates.specs.TemplateRead.{RefusesAs}
+use Rattle.rule_templates.specs.parts.Refusal.{RefusesFreely}
 
 -- what a text, or the lines that are left, may mean
 abbrev pub Meaning : Type 0

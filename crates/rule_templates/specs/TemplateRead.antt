@@ -14,8 +14,3 @@ RefusesAs refusal template = template ≡ Err refusal
 abbrev pub ReadsAs : Result Template TemplateRefusal → Result (List TemplateLine) TemplateRefusal → Type 0
 ReadsAs (Ok read) template = template ≡ Ok read
 ReadsAs (Err refusal) template = RefusesAs refusal template
-
--- The same, where memory may be wanting in any case.
-abbrev pub RefusesFreely : TemplateRefusal → Result (List TemplateLine) TemplateRefusal → Type 0
-RefusesFreely (Memory error) template = Unit {0}
-RefusesFreely refusal template = template ≡ Err refusal

@@ -6,7 +6,8 @@ ghost use Rattle.rule_templates.specs.declared.lines.TemplateLine.{TemplateLine}
 ghost use Rattle.rule_templates.specs.declared.templates.TemplateRefusal.{TemplateRefusal};
 ghost use Rattle.rule_templates.specs.TemplateLine.{word_of, line_with, line_of, is_kept_line};
 ghost use Rattle.rule_templates.specs.Template.{with_front, with_line, template_of};
-ghost use Rattle.rule_templates.specs.TemplateRead.{RefusesAs, RefusesFreely};
+ghost use Rattle.rule_templates.specs.TemplateRead.{RefusesAs};
+ghost use Rattle.rule_templates.specs.parts.Refusal.{RefusesFreely};
 
 use crate::expansion::append_rules;
 use crate::labels::PackageLabels;
