@@ -12,7 +12,6 @@ use Rattle.rule_templates.specs.declared.templates.TemplateRefusal.TheVariants.{
 use Rattle.rule_templates.specs.TemplateLine.{line_with, line_of}
 use Rattle.rule_templates.specs.Template.{with_front, with_line, template_from}
 use Rattle.rule_templates.specs.TemplateRead.{RefusesAs}
-use Rattle.rule_templates.specs.parts.Refusal.{RefusesFreely}
 
 -- what a text, or the lines that are left, may mean
 abbrev pub Meaning : Type 0
@@ -48,12 +47,6 @@ pub with_front-line : (front : List TemplateLine) (number : ℕ) (line : Result 
     → with_front front (with_line number line later) ≡ with_front (front ++ kept ∷ []) later
 with_front-line front number line kept later is within =
     ap (with_front front) (with_line-right number line kept later is within) ∙ with_front-append front (kept ∷ []) later
-
-pub refuses_freely : (refusal : TemplateRefusal) (meaning : Meaning) → meaning ≡ Err refusal → RefusesFreely refusal meaning
-refuses_freely (BadLine number) meaning h = h
-refuses_freely (BadPlaceholder number) meaning h = h
-refuses_freely (TooMany number) meaning h = h
-refuses_freely (Memory error) meaning h = tt
 
 -- No text means want of memory.
 
