@@ -6,3 +6,4 @@ pub mod RuleLines
 pub mod RuleLists
 pub mod RuleTexts
 pub mod SortedPairs
+pub mod Spelled

@@ -6,6 +6,7 @@ pub mod LabelRead
 pub mod Modes
 pub mod Rule
 pub mod RuleText
+pub mod Spelling
 pub mod Table
 pub mod Words
 pub mod parts

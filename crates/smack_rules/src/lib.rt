@@ -8,6 +8,7 @@ pub use label::{Label, LabelRefusal, MOST_LABEL_BYTES, label_fault};
 pub use modes::{MOST_MODE_WORD_BYTES, Modes};
 pub use rule::{LineRefusal, Rule};
 pub use table::{LoadRefusal, MOST_TEXT_BYTES, RuleTable};
+pub use words::split_word;
 
 mod changes;
 mod decision;
@@ -17,6 +18,7 @@ mod line_rule;
 mod modes;
 mod pair_key;
 mod rule;
+mod spelling;
 mod table;
 #[cfg(test)]
 mod tests;

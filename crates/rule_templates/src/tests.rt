@@ -1,0 +1,4 @@
+//! Worked texts and packages.
+
+mod expansions;
+mod texts;
