@@ -1,19 +1,27 @@
-//! What the product asks of the outside: traits of sources and sinks, and their forms in memory.
+//! What the product asks of the outside: traits of sources, sinks and disks, and their forms in memory.
 //!
 //! Each object of the outside has a count of faults that never falls. A call fails only where that count rose in it.
 //! An object may tell its content; the clauses on content hold where it does.
 #![tactic(auto)]
 
 mod byte_list;
+mod disks;
 mod fail_list;
+mod file_names;
+mod file_sets;
 mod mem_sink;
 mod mem_source;
+mod port_faults;
 mod streams;
 #[cfg(test)]
 mod tests;
 
 pub use byte_list::Bytes;
+pub use disks::Disk;
 pub use fail_list::FailList;
+pub use file_names::{FileName, FileNameRefusal};
+pub use file_sets::{FileSet, SetFile};
 pub use mem_sink::MemSink;
 pub use mem_source::MemSource;
+pub use port_faults::PortFault;
 pub use streams::{Failed, Sink, Source, write_all};
