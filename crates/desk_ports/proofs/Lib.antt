@@ -1,3 +1,4 @@
 pub mod Appends
 pub mod Moments
 pub mod Maps
+pub mod SameNames

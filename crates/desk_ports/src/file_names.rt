@@ -1,12 +1,15 @@
-ghost use Rattle.std.specs.Prelude.{◌≡◌, not, IfOk, IfErr, OnOk};
+ghost use Rattle.std.specs.Prelude.{◌≡◌, not, Some, refl, IfOk, IfErr, OnOk};
+ghost use Rattle.std.specs.Ordering.{nat_cmp};
 ghost use Rattle.std.specs.Cmp.{partial_equiv_from_equiv};
+ghost use Rattle.std.specs.Cmp.Lexicographic.{slice_cmp, texts_po, texts_ties};
 ghost use Rattle.std.specs.List.{position};
 ghost use Rattle.std.specs.Str.{bytes_eq};
-ghost use Rattle.std.proofs.lemmas.Cmp.{nat_list_eq_equiv};
+ghost use Rattle.std.proofs.lemmas.Cmp.{nat_list_eq_equiv, nat_list_cmp_total};
 ghost use Rattle.desk_ports.specs.FileName.{file_name_fault, IsFileName, RefusesName};
 ghost use Rattle.desk_ports.specs.FileName as word;
 
 use std::alloc::{AllocError, Global};
+use std::cmp::Ordering;
 use std::marker::Model;
 use thiserror::Error;
 
@@ -95,6 +98,30 @@ impl PartialEq for FileName {
 
 impl Eq for FileName {
     ghost laws = { nat_list_eq_equiv };
+}
+
+impl PartialOrd for FileName {
+    ghost partial_cmp = { λ name other. Some (slice_cmp nat_cmp name other) };
+
+    ghost laws = { texts_po };
+
+    fn partial_cmp(&self, other: &FileName) -> Option<Ordering> {
+        Some(self.cmp(other))
+    }
+}
+
+impl Ord for FileName {
+    ghost cmp = { slice_cmp nat_cmp };
+
+    ghost total = { nat_list_cmp_total };
+
+    ghost matches_partial_cmp = { λ name other. refl };
+
+    ghost matches_eq = { texts_ties };
+
+    fn cmp(&self, other: &FileName) -> Ordering {
+        self.as_slice().cmp(other.as_slice())
+    }
 }
 
 // The place of the first byte that no file name has.

@@ -11,6 +11,7 @@ mod file_names;
 mod file_sets;
 mod mem_sink;
 mod mem_source;
+mod name_order;
 mod port_faults;
 mod streams;
 #[cfg(test)]
@@ -23,5 +24,6 @@ pub use file_names::{FileName, FileNameRefusal};
 pub use file_sets::{FileSet, SetFile};
 pub use mem_sink::MemSink;
 pub use mem_source::MemSource;
+pub use name_order::names_in_order;
 pub use port_faults::PortFault;
 pub use streams::{Failed, Sink, Source, write_all};
