@@ -2,3 +2,6 @@ pub mod Appends
 pub mod Moments
 pub mod Maps
 pub mod SameNames
+pub mod Recording
+pub mod Contents
+pub mod Answering

@@ -6,3 +6,7 @@ pub mod FileMap
 pub mod Disk
 pub mod Moments
 pub mod PortFault
+pub mod DiskCalls
+pub mod MemDisk
+pub mod MemDiskLaws
+pub mod DiskContent

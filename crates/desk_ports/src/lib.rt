@@ -5,10 +5,13 @@
 #![tactic(auto)]
 
 mod byte_list;
+mod disk_calls;
+mod disk_replays;
 mod disks;
 mod fail_list;
 mod file_names;
 mod file_sets;
+mod mem_disk;
 mod mem_sink;
 mod mem_source;
 mod name_order;
@@ -18,10 +21,12 @@ mod streams;
 mod tests;
 
 pub use byte_list::Bytes;
+pub use disk_calls::{DiskCall, RecordedCall};
 pub use disks::Disk;
 pub use fail_list::FailList;
 pub use file_names::{FileName, FileNameRefusal};
 pub use file_sets::{FileSet, SetFile};
+pub use mem_disk::MemDisk;
 pub use mem_sink::MemSink;
 pub use mem_source::MemSource;
 pub use name_order::names_in_order;

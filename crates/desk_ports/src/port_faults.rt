@@ -1,3 +1,6 @@
+ghost use Rattle.std.specs.Prelude.{◌≡◌};
+ghost use Rattle.desk_ports.specs.declared.port_faults.PortFault.TheVariants.{Memory};
+
 use std::alloc::AllocError;
 use thiserror::Error;
 
@@ -10,4 +13,12 @@ pub enum PortFault {
     /// No memory was found. The object's count of faults stays.
     #[error("out of memory")]
     Memory(AllocError),
+}
+
+impl From<AllocError> for PortFault {
+    ghost from_gives = { λ error fault. fault ≡ Memory error };
+
+    fn from(error: AllocError) -> Self {
+        PortFault::Memory(error)
+    }
 }
