@@ -1,11 +1,11 @@
 -- A disk in memory does at each of its calls what the trait says.
-use Rattle.std.proofs.Common.{◌≡◌, ◌⊎◌, inl, inr, ℕ, true, List, length, Option, Some, None, Result, Ok, Err, OnOk, OnErr, sym, ◌∙◌, ap, refl}
-use Rattle.desk_ports.specs.FileMap.{FileMap}
+use Rattle.std.proofs.Common.{◌≡◌, inl, inr, ℕ, true, List, length, Some, Result, Ok, Err, IfOk, OnOk, OnErr, ◌∙◌, ap, subst}
 use Rattle.desk_ports.specs.Disk.{DiskState, WhereTold, KeepsState, Disturbs}
 use Rattle.desk_ports.specs.Moments.{Elapses}
 use Rattle.desk_ports.specs.PortFault.{count_after, count_after_call}
 use Rattle.desk_ports.specs.DiskCalls.{after_done, after_failed, with_only_touched}
-use Rattle.desk_ports.specs.MemDisk.{RecordedDisk, with_call, IsFailedCall, IsCallWithoutMemory, AnswersCall, AnswersChange, state_of, LeftSince}
+use Rattle.desk_ports.specs.MemDisk.{RecordedDisk, with_call, IsFailedCall, AnswersCall, AnswersChange, state_of, LeftSince}
+use Rattle.desk_ports.specs.MemDiskLaws.{told_state}
 use Rattle.desk_ports.proofs.Recording.{told-done, told-failed, Disturbs-failed, Elapses-done, Elapses-failed, Elapses-without_memory}
 use Rattle.desk_ports.specs.declared.streams.Failed.{Failed}
 use Rattle.desk_ports.specs.declared.port_faults.PortFault.{PortFault}
@@ -71,3 +71,11 @@ module _ {T : Type 0} (old new : RecordedDisk) (call : DiskCall) where
   keeps-call (Err fault.Failed) keeps also is = keeps-failed old new call also is
   keeps-call (Err (Memory error)) keeps also (inl is) = keeps-done old new call keeps is
   keeps-call (Err (Memory error)) keeps also (inr is) = λ before told. ap (λ disk. Some (state_of disk)) is ∙ told
+
+  -- what is read after a call that changes nothing is what was there before
+  pub told-call : (P : T → DiskState → Type 0) (result : Result T PortFault) → ((state : DiskState) → after_done state call ≡ state)
+      → AnswersCall result old call new → IfOk result (λ value. P value (state_of new))
+      → IfOk result (λ value. WhereTold (Some (state_of old)) (P value))
+  told-call P (Ok value) keeps is read = λ state told.
+      subst (P value) (told_state new state (told-done old new call is state told ∙ ap Some (keeps state))) read
+  told-call P (Err refusal) keeps is read = tt

@@ -5,3 +5,4 @@ pub mod SameNames
 pub mod Recording
 pub mod Contents
 pub mod Answering
+pub mod Holding

@@ -1,11 +1,9 @@
 -- What maps hold after a change, and what a stop may leave after a call of a disk.
-use Rattle.std.proofs.Common.{◌≡◌, ◌≢◌, ℕ, true, false, List, Option, cond, sym, ◌∙◌, ap, refl}
+use Rattle.std.proofs.Common.{◌≡◌, ℕ, true, false, List, Option, cond, ◌∙◌, ap}
 use Rattle.std.proofs.lemmas.Bool.{or_parts}
-use Rattle.std.proofs.lemmas.Slice.Eq.{bytes_eq-Decides}
-use Rattle.std.specs.Cmp.Lexicographic.{told_text}
 use Rattle.std.specs.Str.{bytes_eq}
 use Rattle.desk_ports.specs.FileMap.{FileMap, NameSet, with_content, with_name, AgreeOutside}
-use Rattle.desk_ports.specs.Disk.{DiskState, MayLeave, IsDisturbedAt, with_touched}
+use Rattle.desk_ports.specs.Disk.{DiskState, MayLeave, IsDisturbedAt}
 
 -- a name outside a larger set is another name, and outside the set
 pub with_name-false : (names : NameSet) (name other : List ℕ) → with_name names name other ≡ false

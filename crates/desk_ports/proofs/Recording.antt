@@ -1,14 +1,12 @@
 -- What a recorded call does to the state and to the moments of a disk in memory.
-use Rattle.std.proofs.Common.{◌≡◌, ◌||◌, ◌⊎◌, ⊎_elim, ◌≤◌, ◌+◌, inl, inr, ℕ, Bool, true, false, List, [], ◌∷◌, ◌++◌, length, take, Option, Some, None, sym, ◌∙◌, ap, subst, refl, arith, length-append}
+use Rattle.std.proofs.Common.{◌≡◌, ◌||◌, ⊎_elim, ◌≤◌, inl, inr, ℕ, Bool, true, false, List, [], ◌∷◌, length, Option, Some, sym, ◌∙◌, ap, subst, refl, arith, length-append}
 use Rattle.std.proofs.Math.Nat.{eq-or-lt_of_le}
 use Rattle.std.proofs.lemmas.List.{take-append-le}
 use Rattle.std.proofs.lemmas.List.Sums.{fold-append}
-use Rattle.std.specs.Str.{bytes_eq}
-use Rattle.desk_ports.specs.FileMap.{FileMap, with_name}
 use Rattle.desk_ports.specs.Disk.{DiskState, WhereTold, MayLeave, IsDisturbedAt, Disturbs}
 use Rattle.desk_ports.specs.Moments.{Elapses}
 use Rattle.desk_ports.specs.DiskCalls.{fresh_state, after_done, after_failed, after_call, after_calls, with_only_touched}
-use Rattle.desk_ports.specs.MemDisk.{RecordedDisk, with_number, with_call, with_fault, IsFailedCall, IsCallWithoutMemory, state_of, state_after, LeftSince}
+use Rattle.desk_ports.specs.MemDisk.{RecordedDisk, with_call, with_fault, IsFailedCall, IsCallWithoutMemory, state_of, state_after, LeftSince}
 use Rattle.desk_ports.specs.MemDiskLaws.{told_state, last_moment}
 use Rattle.desk_ports.specs.declared.disk_calls.DiskCall.{DiskCall}
 

@@ -1,5 +1,5 @@
 -- What calls make of a disk's state, one after another.
-use Rattle.std.specs.Prelude.{ℕ, Bool, if◌then◌else◌, List, fold, Some, None}
+use Rattle.std.specs.Prelude.{ℕ, if◌then◌else◌, List, fold, Some, None}
 use Rattle.desk_ports.specs.FileMap.{no_names, with_name, map_of}
 use Rattle.desk_ports.specs.Disk.{DiskState, with_touched, with_all_durable}
 use Rattle.desk_ports.specs.declared.file_sets.SetFile.{SetFile}

@@ -10,3 +10,4 @@ pub mod DiskCalls
 pub mod MemDisk
 pub mod MemDiskLaws
 pub mod DiskContent
+pub mod parts

@@ -1,10 +1,10 @@
 -- A disk in memory keeps the laws of disks.
-use Rattle.std.specs.Prelude.{◌≡◌, ◌≤◌, ℕ, Bool, true, false, if◌then◌else◌, List, [], ◌∷◌, length, take, fold, Option, Some, None, refl}
+use Rattle.std.specs.Prelude.{◌≡◌, ◌≤◌, ℕ, true, false, if◌then◌else◌, List, [], ◌∷◌, length, fold, Option, Some, None, refl}
 use Rattle.std.proofs.Common.{sym, ◌∙◌, ap, subst, cond, arith}
 use Rattle.std.proofs.Math.Seq.{take-length}
 use Rattle.std.proofs.lemmas.Bool.{or_parts}
 use Rattle.std.specs.Str.{bytes_eq}
-use Rattle.desk_ports.specs.FileMap.{FileMap, with_name}
+use Rattle.desk_ports.specs.FileMap.{FileMap}
 use Rattle.desk_ports.specs.Disk.{DiskState, IsTouchedOnly, MayLeave}
 use Rattle.desk_ports.specs.DiskCalls.{fresh_state, after_done, after_failed, after_call, after_calls}
 use Rattle.desk_ports.specs.MemDisk.{RecordedDisk, state_of, state_after, LeftSince}

@@ -1,14 +1,21 @@
-ghost use Rattle.std.specs.Prelude.{◌≡◌, ◌⊎◌, false, true, [], ◌∷◌, ◌++◌, length, Some, IsTrue, IfOk, OnOk, OnErr, IsErr};
+ghost use Rattle.std.specs.Prelude.{◌≡◌, ℕ, List, is_some, ◌⊎◌, false, true, [], ◌∷◌, ◌++◌, length, Some, None, IsTrue, IfOk, OnOk, OnErr, IsErr};
 ghost use Rattle.std.specs.List.{Contains};
 ghost use Rattle.desk_ports.specs.Faults.{next_count};
+ghost use Rattle.desk_ports.specs.PortFault.{count_after, count_after_call};
+ghost use Rattle.desk_ports.specs.Disk.{WhereTold, KeepsState, Gives, Disturbs, MakesDurable, ListsNames, Reads};
+ghost use Rattle.desk_ports.specs.Moments.{Elapses};
+ghost use Rattle.desk_ports.specs.parts.NamesHeld.{has_name};
+ghost use Rattle.desk_ports.specs.FileMap.{AreNamesOf, NamesRise};
 ghost use Rattle.desk_ports.specs.MemDisk.{next_number, with_number, with_call, with_fault, AnswersCall, AnswersChange, state_of, LeftSince};
 ghost use Rattle.desk_ports.specs.MemDiskLaws.{touched_only_of, counts_now_of, only_now_of};
 
-use crate::disk_replays::content_of;
+use crate::disk_replays::{content_of, held_names};
+use crate::name_order::names_of_set;
 use crate::{
     Bytes, Disk, DiskCall, FailList, Failed, FileName, FileSet, PortFault, RecordedCall, SetFile,
 };
 use std::alloc::{AllocError, Global};
+use std::collections::BTreeSet;
 use std::marker::Model;
 
 /// A disk in memory, for tests. It tells its state. It keeps a record of its calls, and fails at the listed calls and
@@ -90,6 +97,26 @@ impl MemDisk {
         if is_done { Ok(()) } else { Err(self.fail()) }
     }
 
+    fn write_file(&mut self, name: &FileName, bytes: &[u8]) -> Result<(), Failed>
+        ensures answered { AnswersChange result self.old (DiskCall.Write (record { name = name.now; bytes = bytes.now })) self.new }
+        ensures listed { Contains self.old.fails (next_number self.old) → IsErr result }
+    {
+        let Ok(call) = write_call(*self.calls.allocator(), name, bytes) else {
+            return Err(self.refuse());
+        };
+        self.change(call)
+    }
+
+    fn remove_file(&mut self, name: &FileName) -> Result<(), Failed>
+        ensures answered { AnswersChange result self.old (DiskCall.Remove name.now) self.new }
+        ensures listed { Contains self.old.fails (next_number self.old) → IsErr result }
+    {
+        let Ok(removed) = name.copy() else {
+            return Err(self.refuse());
+        };
+        self.change(DiskCall::Remove(removed))
+    }
+
     // Makes a call for which no memory was found.
     fn refuse(&mut self) -> Failed
         ensures { self.new ≡ with_fault (with_number self.old) }
@@ -115,6 +142,25 @@ impl MemDisk {
         }
     }
 
+    // Lists the names of the files.
+    fn list_names(&mut self) -> Result<Vec<FileName>, PortFault>
+        ensures answered { AnswersCall result self.old DiskCall.Names self.new }
+        ensures listed { Contains self.old.fails (next_number self.old) → IsErr result }
+        ensures names { IfOk result (λ names. AreNamesOf (state_of self.new).current names.items) }
+        ensures rising { IfOk result (λ names. NamesRise names.items) }
+    {
+        self.look(DiskCall::Names)?;
+        let names = self.held()?;
+        Ok(names_of_set(*self.calls.allocator(), names)?)
+    }
+
+    // The names that have a file.
+    fn held(&self) -> Result<BTreeSet<FileName>, AllocError>
+        ensures { IfOk result (λ names. (name : List ℕ) → has_name names name ≡ is_some ((state_of self.now).current name)) }
+    {
+        held_names(*self.calls.allocator(), self.files.as_slice(), &self.calls)
+    }
+
     // Makes a call that only reads.
     fn look(&mut self, call: DiskCall) -> Result<(), PortFault>
         ensures answered { AnswersCall result self.old call self.new }
@@ -127,6 +173,88 @@ impl MemDisk {
         }
         let Failed = self.fail();
         Err(PortFault::Failed)
+    }
+}
+
+impl Disk for MemDisk {
+    ghost faults = { λ disk. disk.faults };
+
+    ghost state = { λ disk. Some (state_of disk) };
+
+    ghost moment = { λ disk. length disk.calls };
+
+    ghost left_since = { LeftSince };
+
+    ghost touched_only = { touched_only_of };
+
+    ghost counts_now = { counts_now_of };
+
+    ghost only_now = { only_now_of };
+
+    fn names(&mut self) -> Result<Vec<FileName>, PortFault>
+        ensures rising { IfOk result (λ names. NamesRise names.items) }
+        ensures listed { IfOk result (λ names. ListsNames (Some (state_of self.old)) names.items) }
+        ensures kept { KeepsState (Some (state_of self.old)) (Some (state_of self.new)) }
+        ensures time { WhereTold (Some (state_of self.new)) (Elapses (length self.old.calls) (length self.new.calls) (LeftSince self.old) (LeftSince self.new)) }
+        ensures count { self.new.faults ≡ count_after result self.old.faults }
+
+        // More than any disk promises: what stands in the record, and which calls fail.
+        ensures answered { AnswersCall result self.old DiskCall.Names self.new }
+        ensures failing { Contains self.old.fails (next_number self.old) → IsErr result }
+    {
+        self.list_names()
+    }
+
+    fn read(&mut self, name: &FileName) -> Result<Option<Bytes>, PortFault>
+        ensures content { IfOk result (λ content. Reads (Some (state_of self.old)) name.now content) }
+        ensures kept { KeepsState (Some (state_of self.old)) (Some (state_of self.new)) }
+        ensures time { WhereTold (Some (state_of self.new)) (Elapses (length self.old.calls) (length self.new.calls) (LeftSince self.old) (LeftSince self.new)) }
+        ensures count { self.new.faults ≡ count_after result self.old.faults }
+
+        ensures answered { AnswersCall result self.old (DiskCall.Read name.now) self.new }
+        ensures failing { Contains self.old.fails (next_number self.old) → IsErr result }
+    {
+        self.read_file(name)
+    }
+
+    fn write(&mut self, name: &FileName, bytes: &[u8]) -> Result<(), Failed>
+        ensures written { OnOk result (Gives (Some (state_of self.old)) name.now (Some bytes.now) (Some (state_of self.new))) }
+        ensures disturbed { OnErr result (Disturbs (Some (state_of self.old)) name.now (Some (state_of self.new))) }
+        ensures time { WhereTold (Some (state_of self.new)) (Elapses (length self.old.calls) (length self.new.calls) (LeftSince self.old) (LeftSince self.new)) }
+        ensures count { self.new.faults ≡ count_after_call result self.old.faults }
+
+        ensures answered { AnswersChange result self.old (DiskCall.Write (record { name = name.now; bytes = bytes.now })) self.new }
+        ensures failing { Contains self.old.fails (next_number self.old) → IsErr result }
+    {
+        self.write_file(name, bytes)
+    }
+
+    fn remove(&mut self, name: &FileName) -> Result<(), Failed>
+        ensures removed { OnOk result (Gives (Some (state_of self.old)) name.now None (Some (state_of self.new))) }
+        ensures disturbed { OnErr result (Disturbs (Some (state_of self.old)) name.now (Some (state_of self.new))) }
+        ensures time { WhereTold (Some (state_of self.new)) (Elapses (length self.old.calls) (length self.new.calls) (LeftSince self.old) (LeftSince self.new)) }
+        ensures count { self.new.faults ≡ count_after_call result self.old.faults }
+
+        ensures answered { AnswersChange result self.old (DiskCall.Remove name.now) self.new }
+        ensures failing { Contains self.old.fails (next_number self.old) → IsErr result }
+    {
+        self.remove_file(name)
+    }
+
+    fn sync(&mut self) -> Result<(), Failed>
+        ensures durable { OnOk result (MakesDurable (Some (state_of self.old)) (Some (state_of self.new))) }
+        ensures kept { OnErr result (KeepsState (Some (state_of self.old)) (Some (state_of self.new))) }
+        ensures time { WhereTold (Some (state_of self.new)) (Elapses (length self.old.calls) (length self.new.calls) (LeftSince self.old) (LeftSince self.new)) }
+        ensures count { self.new.faults ≡ count_after_call result self.old.faults }
+
+        ensures answered { AnswersChange result self.old DiskCall.Sync self.new }
+        ensures failing { Contains self.old.fails (next_number self.old) → IsErr result }
+    {
+        self.change(DiskCall::Sync)
+    }
+
+    fn faults(&self) -> u64 {
+        self.faults
     }
 }
 

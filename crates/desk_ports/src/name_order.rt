@@ -26,7 +26,11 @@ fn set_of_names(alloc: Global, names: Vec<FileName>) -> Result<BTreeSet<FileName
     names.into_iter().collect(alloc)
 }
 
-fn names_of_set(alloc: Global, set: BTreeSet<FileName>) -> Result<Vec<FileName>, AllocError>
+/// The names of the set, rising strictly.
+pub(crate) fn names_of_set(
+    alloc: Global,
+    set: BTreeSet<FileName>,
+) -> Result<Vec<FileName>, AllocError>
     ensures keys { IfOk result (λ names. names.items ≡ set.keys) }
     ensures rising { IfOk result (λ names. NamesRise names.items) }
 {
