@@ -11,3 +11,4 @@ pub mod MemDisk
 pub mod MemDiskLaws
 pub mod DiskContent
 pub mod parts
+pub mod Stopping

@@ -104,7 +104,8 @@ fn follow_name(names: &mut BTreeSet<FileName>, made: &RecordedCall) -> Result<()
     }
 }
 
-fn put_name(names: &mut BTreeSet<FileName>, name: &FileName) -> Result<(), AllocError>
+/// Adds the name.
+pub(crate) fn put_name(names: &mut BTreeSet<FileName>, name: &FileName) -> Result<(), AllocError>
     ensures { OnOk result ((other : List ℕ) → has_name names.new other ≡ (if bytes_eq name.now other then true else has_name names.old other)) }
 {
     names.insert(name.copy()?)?;

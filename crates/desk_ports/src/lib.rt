@@ -16,6 +16,7 @@ mod mem_sink;
 mod mem_source;
 mod name_order;
 mod port_faults;
+mod stops;
 mod streams;
 #[cfg(test)]
 mod tests;

@@ -24,3 +24,14 @@ is_held_after_done Sync name was = was
 -- whether it has one after a call: one that failed changes nothing
 abbrev pub is_held_after : RecordedCall → List ℕ → Bool → Bool
 is_held_after made name was = if made.is_done then is_held_after_done made.call name was else was
+
+-- whether the name is touched after a call
+abbrev pub is_touched_after : RecordedCall → List ℕ → Bool → Bool
+is_touched_after made name was = touched_by made.call
+  where
+    touched_by : DiskCall → Bool
+    touched_by Names = was
+    touched_by (Read read) = was
+    touched_by (Write file) = if bytes_eq file.name name then true else was
+    touched_by (Remove removed) = if bytes_eq removed name then true else was
+    touched_by Sync = if made.is_done then false else was
