@@ -6,3 +6,4 @@ pub mod Recording
 pub mod Contents
 pub mod Answering
 pub mod Holding
+pub mod Listing

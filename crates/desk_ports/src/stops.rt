@@ -1,16 +1,16 @@
 // What a stop may leave of a disk in memory.
-ghost use Rattle.std.specs.Prelude.{◌≡◌, ◌≤◌, ℕ, List, true, false, if◌then◌else◌, length, take, Some, IfOk, OnOk};
+ghost use Rattle.std.specs.Prelude.{◌≡◌, ◌≤◌, ℕ, List, map, if◌then◌else◌, length, take, Some, None, IfOk, OnOk};
 ghost use Rattle.std.specs.Option.{option_copied};
 ghost use Rattle.std.specs.Ordering.{nat_cmp};
 ghost use Rattle.std.specs.Cmp.Lexicographic.{slice_cmp};
-ghost use Rattle.std.specs.BTreeMap.{get};
+ghost use Rattle.std.specs.BTreeMap.{get, keys};
 ghost use Rattle.std.specs.Str.{bytes_eq};
 ghost use Rattle.desk_ports.specs.declared.file_sets.SetFile.{SetFile};
 ghost use Rattle.desk_ports.specs.DiskCalls.{after_calls};
 ghost use Rattle.desk_ports.specs.DiskContent.{content_after};
-ghost use Rattle.desk_ports.specs.FileMap.{map_of};
+ghost use Rattle.desk_ports.specs.FileMap.{NamesRise, map_of, with_content};
 ghost use Rattle.desk_ports.specs.Stopping as word;
-ghost use Rattle.desk_ports.specs.Stopping.{given_after, last_given};
+ghost use Rattle.desk_ports.specs.Stopping.{given_after, last_given, meant_bytes, picked_map};
 ghost use Rattle.desk_ports.specs.parts.NamesHeld.{has_name, is_touched_after};
 
 use crate::disk_replays::{content_of, put_name};
@@ -97,4 +97,120 @@ fn picked(alloc: Global, digit: u32, bytes: &[u8]) -> Result<Option<Bytes>, Allo
         2 => Ok(Some(Bytes::of(bytes[..bytes.len() / 2].to_vec(alloc)?))),
         _ => Ok(Some(Bytes::of(bytes.to_vec(alloc)?))),
     }
+}
+
+/// The files that are read after the calls, from these on.
+pub(crate) fn files_after(alloc: Global, files: &[SetFile], calls: &[RecordedCall]) -> Result<BTreeMap<FileName, Bytes>, AllocError>
+    ensures { IfOk result (λ held. (name : List ℕ) → get (slice_cmp nat_cmp) held name ≡ (after_calls files.now calls.now).current name) }
+{
+    let mut held = first_files(alloc, files)?;
+    for made in calls {
+        follow_file(&mut held, made)?;
+    }
+    Ok(held)
+}
+
+fn first_files(alloc: Global, files: &[SetFile]) -> Result<BTreeMap<FileName, Bytes>, AllocError>
+    ensures { IfOk result (λ held. (name : List ℕ) → get (slice_cmp nat_cmp) held name ≡ map_of files.now name) }
+{
+    let mut held = BTreeMap::new(alloc);
+    for file in files.iter().rev() {
+        put_file(&mut held, &file.name, file.bytes.copy()?)?;
+    }
+    Ok(held)
+}
+
+// Follows what one call more does to the files that are read.
+fn follow_file(held: &mut BTreeMap<FileName, Bytes>, made: &RecordedCall) -> Result<(), AllocError>
+    ensures { OnOk result ((name : List ℕ) → get (slice_cmp nat_cmp) held.new name ≡ content_after made.now name (get (slice_cmp nat_cmp) held.old name)) }
+{
+    if !made.is_done {
+        return Ok(());
+    }
+    match &made.call {
+        DiskCall::Write(file) => put_file(held, &file.name, file.bytes.copy()?),
+        DiskCall::Remove(removed) => {
+            drop_file(held, removed);
+            Ok(())
+        }
+        DiskCall::Names | DiskCall::Read(_) | DiskCall::Sync => Ok(()),
+    }
+}
+
+fn put_file(held: &mut BTreeMap<FileName, Bytes>, name: &FileName, bytes: Bytes) -> Result<(), AllocError>
+    ensures { OnOk result ((other : List ℕ) → get (slice_cmp nat_cmp) held.new other
+        ≡ (if bytes_eq name.now other then Some bytes else get (slice_cmp nat_cmp) held.old other)) }
+{
+    held.insert(name.copy()?, bytes)?;
+    Ok(())
+}
+
+fn drop_file(held: &mut BTreeMap<FileName, Bytes>, name: &FileName)
+    ensures { (other : List ℕ) → get (slice_cmp nat_cmp) held.new other
+        ≡ (if bytes_eq name.now other then None else get (slice_cmp nat_cmp) held.old other) }
+{
+    held.remove(name);
+}
+
+/// The files of a map, in order of name.
+pub(crate) fn set_of(alloc: Global, held: BTreeMap<FileName, Bytes>) -> Result<FileSet, AllocError>
+    ensures { IfOk result (λ set. (name : List ℕ) → map_of set name ≡ get (slice_cmp nat_cmp) held name) }
+{
+    let files = listed_files(alloc, held)?;
+    Ok(FileSet::of(files))
+}
+
+fn listed_files(alloc: Global, held: BTreeMap<FileName, Bytes>) -> Result<Vec<SetFile>, AllocError>
+    ensures items { IfOk result (λ files. files.items ≡ map (λ entry. record { name = entry.0; bytes = entry.1 }) held.entries) }
+    ensures ordered { OnOk result (NamesRise (keys held)) }
+{
+    held.into_iter()
+        .map(|(name, bytes)| SetFile { name, bytes })
+        .collect(alloc)
+}
+
+/// The bytes that are meant for the name after the calls.
+fn meant<'a>(
+    files: &'a [SetFile],
+    calls: &'a [RecordedCall],
+    name: &FileName,
+) -> &'a [u8]
+    ensures { result.now ≡ meant_bytes calls.now (after_calls files.now calls.now).durable name.now }
+{
+    if let Some(bytes) = bytes_given(calls, name) {
+        return bytes.as_slice();
+    }
+    match content_of(files, &calls[..durable_calls(calls)], name) {
+        Some(bytes) => bytes.as_slice(),
+        None => &[],
+    }
+}
+
+// Gives the name this content.
+fn set_content(held: &mut BTreeMap<FileName, Bytes>, name: &FileName, content: Option<Bytes>) -> Result<(), AllocError>
+    ensures { OnOk result ((other : List ℕ) → get (slice_cmp nat_cmp) held.new other
+        ≡ with_content (get (slice_cmp nat_cmp) held.old) name.now content other) }
+{
+    match content {
+        Some(bytes) => put_file(held, name, bytes),
+        None => {
+            drop_file(held, name);
+            Ok(())
+        }
+    }
+}
+
+/// What a stop after the calls leaves, from these files on: each touched name takes a digit of the number.
+pub(crate) fn left_files(alloc: Global, files: &[SetFile], calls: &[RecordedCall], touched: &[FileName], pick: u32) -> Result<BTreeMap<FileName, Bytes>, AllocError>
+    ensures { IfOk result (λ left. (name : List ℕ) → get (slice_cmp nat_cmp) left name
+        ≡ picked_map pick (meant_bytes calls.now (after_calls files.now calls.now).durable) (after_calls files.now calls.now).durable touched.now name) }
+{
+    let mut left = files_after(alloc, files, &calls[..durable_calls(calls)])?;
+    let mut digits = pick;
+    for name in touched {
+        let content = picked(alloc, digits % 4, meant(files, calls, name))?;
+        set_content(&mut left, name, content)?;
+        digits /= 4;
+    }
+    Ok(left)
 }
