@@ -7,3 +7,4 @@ pub mod Contents
 pub mod Answering
 pub mod Holding
 pub mod Listing
+pub mod Picks

@@ -4,7 +4,7 @@ use Rattle.std.specs.List.{Contains}
 use Rattle.std.specs.Str.{bytes_eq}
 use Rattle.desk_ports.specs.FileMap.{FileMap, NamesRise, with_content, map_of}
 use Rattle.desk_ports.specs.Disk.{DiskState}
-use Rattle.desk_ports.specs.MemDisk.{RecordedDisk, state_after}
+use Rattle.desk_ports.specs.declared.file_sets.SetFile.{SetFile}
 use Rattle.desk_ports.specs.declared.disk_calls.DiskCall.{DiskCall}
 use Rattle.desk_ports.specs.declared.disk_calls.DiskCall.TheVariants.{Names, Read, Write, Remove, Sync}
 use Rattle.desk_ports.specs.declared.disk_calls.RecordedCall.{RecordedCall}
@@ -62,12 +62,10 @@ pick_next meant picking name = record {
 abbrev pub picked_map : ℕ → (List ℕ → List ℕ) → FileMap → List (List ℕ) → FileMap
 picked_map pick meant durable names = (fold (pick_next meant) (record { digits = pick; left = durable }) names).left
 
--- The disk that a stop after so many calls leaves, as the number says: the touched names, in order, take its digits to the
--- base 4, the lowest first. It starts with no call made.
-pub record IsLeftBy (disk : RecordedDisk) (after pick : ℕ) (left : RecordedDisk) : Type 0 where
+-- These files are what a stop leaves in this state, after these calls, as the number says: the touched names, in order, take
+-- its digits to the base 4, the lowest first, and each other name holds what is durable.
+pub record AreLeftBy (state : DiskState) (calls : List RecordedCall) (pick : ℕ) (files : List SetFile) : Type 0 where
   pub touched : List (List ℕ)
   pub rising : NamesRise touched
-  pub all : (name : List ℕ) → Contains touched name ↔ ((state_after disk after).touched name ≡ true)
-  pub held : (name : List ℕ) → map_of left.files name
-      ≡ picked_map pick (meant_bytes (take after disk.calls) (state_after disk after).durable) (state_after disk after).durable touched name
-  pub fresh : left ≡ record { files = left.files; calls = []; made = 0; fails = []; faults = 0 }
+  pub all : (name : List ℕ) → Contains touched name ↔ (state.touched name ≡ true)
+  pub held : (name : List ℕ) → map_of files name ≡ picked_map pick (meant_bytes calls state.durable) state.durable touched name

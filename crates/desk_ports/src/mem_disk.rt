@@ -1,16 +1,18 @@
-ghost use Rattle.std.specs.Prelude.{◌≡◌, ℕ, List, is_some, ◌⊎◌, false, true, [], ◌∷◌, ◌++◌, length, Some, None, IsTrue, IfOk, OnOk, OnErr, IsErr};
+ghost use Rattle.std.specs.Prelude.{◌≡◌, ℕ, List, is_some, ◌⊎◌, false, true, [], ◌∷◌, ◌++◌, length, take, Some, None, IsTrue, IfOk, OnOk, OnErr, IsErr};
 ghost use Rattle.std.specs.List.{Contains};
 ghost use Rattle.desk_ports.specs.Faults.{next_count};
 ghost use Rattle.desk_ports.specs.PortFault.{count_after, count_after_call};
-ghost use Rattle.desk_ports.specs.Disk.{WhereTold, KeepsState, Gives, Disturbs, MakesDurable, ListsNames, Reads};
+ghost use Rattle.desk_ports.specs.Disk.{WhereTold, MayLeave, KeepsState, Gives, Disturbs, MakesDurable, ListsNames, Reads};
 ghost use Rattle.desk_ports.specs.Moments.{Elapses};
 ghost use Rattle.desk_ports.specs.parts.NamesHeld.{has_name};
-ghost use Rattle.desk_ports.specs.FileMap.{AreNamesOf, NamesRise};
-ghost use Rattle.desk_ports.specs.MemDisk.{next_number, with_number, with_call, with_fault, AnswersCall, AnswersChange, state_of, LeftSince};
+ghost use Rattle.desk_ports.specs.FileMap.{AreNamesOf, NamesRise, map_of};
+ghost use Rattle.desk_ports.specs.MemDisk.{next_number, with_number, with_call, with_fault, AnswersCall, AnswersChange, state_of, state_after, LeftSince};
+ghost use Rattle.desk_ports.specs.Stopping.{AreLeftBy};
 ghost use Rattle.desk_ports.specs.MemDiskLaws.{touched_only_of, counts_now_of, only_now_of};
 
 use crate::disk_replays::{content_of, held_names};
 use crate::name_order::names_of_set;
+use crate::stops::files_left;
 use crate::{
     Bytes, Disk, DiskCall, FailList, Failed, FileName, FileSet, PortFault, RecordedCall, SetFile,
 };
@@ -56,6 +58,42 @@ impl MemDisk {
         ensures { result.now ≡ self.now.calls }
     {
         &self.calls
+    }
+
+    /// The disk that a stop after so many calls may leave, with all calls where there are fewer. Each touched name is absent,
+    /// empty, cut in half or whole, as the digits of `pick` to the base 4 say, the lowest first, in order of name. What is
+    /// halved or whole are the bytes that the last write of the name, done or failed, was given since the last sync that was
+    /// done, or else its durable bytes, or else none. A half is rounded down. The new disk starts with no call made, and with
+    /// none that is to fail.
+    pub fn stopped(&self, after: usize, pick: u32) -> Result<MemDisk, AllocError>
+        ensures left { IfOk result (λ left. AreLeftBy (state_after self.now after) (take after self.now.calls) pick left.files) }
+        ensures may { IfOk result (λ left. MayLeave (state_after self.now after) (map_of left.files)) }
+        ensures fresh { IfOk result (λ left. left ≡ record { files = left.files; calls = []; made = 0; fails = []; faults = 0 }) }
+    {
+        let alloc = *self.calls.allocator();
+        let files = self.files_left(after, pick)?;
+        let disk = MemDisk::new(alloc, files, FailList::of(Vec::new(alloc)))?;
+        Ok(disk)
+    }
+
+    // The files that a stop leaves.
+    fn files_left(&self, after: usize, pick: u32) -> Result<FileSet, AllocError>
+        ensures left { IfOk result (λ files. AreLeftBy (state_after self.now after) (take after self.now.calls) pick files) }
+        ensures may { IfOk result (λ files. MayLeave (state_after self.now after) (map_of files)) }
+    {
+        files_left(
+            *self.calls.allocator(),
+            self.files.as_slice(),
+            self.first_calls(after),
+            pick,
+        )
+    }
+
+    // The first so many calls, or all where there are fewer.
+    fn first_calls(&self, count: usize) -> &[RecordedCall]
+        ensures { result.now ≡ take count self.now.calls }
+    {
+        &self.calls[..count.min(self.calls.len())]
     }
 
     // Gives the next call its number. Whether it is to be done: it is to fail where its number is listed.

@@ -10,10 +10,12 @@ ghost use Rattle.desk_ports.specs.DiskCalls.{after_calls};
 ghost use Rattle.desk_ports.specs.DiskContent.{content_after};
 ghost use Rattle.desk_ports.specs.FileMap.{NamesRise, map_of, with_content};
 ghost use Rattle.desk_ports.specs.Stopping as word;
-ghost use Rattle.desk_ports.specs.Stopping.{given_after, last_given, meant_bytes, picked_map};
+ghost use Rattle.desk_ports.specs.Stopping.{given_after, last_given, meant_bytes, picked_map, AreLeftBy};
+ghost use Rattle.desk_ports.specs.Disk.{MayLeave};
 ghost use Rattle.desk_ports.specs.parts.NamesHeld.{has_name, is_touched_after};
 
 use crate::disk_replays::{content_of, put_name};
+use crate::name_order::names_of_set;
 use crate::{Bytes, DiskCall, FileName, FileSet, RecordedCall, SetFile};
 use std::alloc::{AllocError, Global};
 use std::collections::{BTreeMap, BTreeSet};
@@ -24,8 +26,8 @@ fn is_done_sync(made: &RecordedCall) -> bool
     matches!(made.call, DiskCall::Sync) && made.is_done
 }
 
-/// How many of the calls stand before the last sync that was done, with that sync: what was read then is durable now.
-pub(crate) fn durable_calls(calls: &[RecordedCall]) -> usize
+// How many of the calls stand before the last sync that was done, with that sync: what was read then is durable now.
+fn durable_calls(calls: &[RecordedCall]) -> usize
     ensures within { result ≤ length calls.now }
     ensures durable { (files : List SetFile) → (after_calls files calls.now).durable ≡ (after_calls files (take result calls.now)).current }
 {
@@ -38,8 +40,8 @@ pub(crate) fn durable_calls(calls: &[RecordedCall]) -> usize
     durable
 }
 
-/// The names that are touched after the calls.
-pub(crate) fn touched_names(alloc: Global, calls: &[RecordedCall]) -> Result<BTreeSet<FileName>, AllocError>
+// The names that are touched after the calls.
+fn touched_names(alloc: Global, calls: &[RecordedCall]) -> Result<BTreeSet<FileName>, AllocError>
     ensures { IfOk result (λ names. (files : List SetFile) (name : List ℕ) → has_name names name ≡ (after_calls files calls.now).touched name) }
 {
     let mut names = BTreeSet::new(alloc);
@@ -66,8 +68,8 @@ fn follow_touched(names: &mut BTreeSet<FileName>, made: &RecordedCall) -> Result
     }
 }
 
-/// The bytes that the last write of the name was given, done or failed, since the last sync that was done.
-pub(crate) fn bytes_given<'a>(calls: &'a [RecordedCall], name: &FileName) -> Option<&'a Bytes>
+// The bytes that the last write of the name was given, done or failed, since the last sync that was done.
+fn bytes_given<'a>(calls: &'a [RecordedCall], name: &FileName) -> Option<&'a Bytes>
     ensures { option_copied result ≡ last_given calls.now name.now }
 {
     let mut given = None;
@@ -77,7 +79,11 @@ pub(crate) fn bytes_given<'a>(calls: &'a [RecordedCall], name: &FileName) -> Opt
     given
 }
 
-fn next_given<'a>(made: &'a RecordedCall, name: &FileName, given: Option<&'a Bytes>) -> Option<&'a Bytes>
+fn next_given<'a>(
+    made: &'a RecordedCall,
+    name: &FileName,
+    given: Option<&'a Bytes>,
+) -> Option<&'a Bytes>
     ensures { option_copied result ≡ given_after name.now (option_copied given.entry) made.now }
 {
     match &made.call {
@@ -99,8 +105,12 @@ fn picked(alloc: Global, digit: u32, bytes: &[u8]) -> Result<Option<Bytes>, Allo
     }
 }
 
-/// The files that are read after the calls, from these on.
-pub(crate) fn files_after(alloc: Global, files: &[SetFile], calls: &[RecordedCall]) -> Result<BTreeMap<FileName, Bytes>, AllocError>
+// The files that are read after the calls, from these on.
+fn files_after(
+    alloc: Global,
+    files: &[SetFile],
+    calls: &[RecordedCall],
+) -> Result<BTreeMap<FileName, Bytes>, AllocError>
     ensures { IfOk result (λ held. (name : List ℕ) → get (slice_cmp nat_cmp) held name ≡ (after_calls files.now calls.now).current name) }
 {
     let mut held = first_files(alloc, files)?;
@@ -137,7 +147,11 @@ fn follow_file(held: &mut BTreeMap<FileName, Bytes>, made: &RecordedCall) -> Res
     }
 }
 
-fn put_file(held: &mut BTreeMap<FileName, Bytes>, name: &FileName, bytes: Bytes) -> Result<(), AllocError>
+fn put_file(
+    held: &mut BTreeMap<FileName, Bytes>,
+    name: &FileName,
+    bytes: Bytes,
+) -> Result<(), AllocError>
     ensures { OnOk result ((other : List ℕ) → get (slice_cmp nat_cmp) held.new other
         ≡ (if bytes_eq name.now other then Some bytes else get (slice_cmp nat_cmp) held.old other)) }
 {
@@ -152,8 +166,8 @@ fn drop_file(held: &mut BTreeMap<FileName, Bytes>, name: &FileName)
     held.remove(name);
 }
 
-/// The files of a map, in order of name.
-pub(crate) fn set_of(alloc: Global, held: BTreeMap<FileName, Bytes>) -> Result<FileSet, AllocError>
+// The files of a map, in order of name.
+fn set_of(alloc: Global, held: BTreeMap<FileName, Bytes>) -> Result<FileSet, AllocError>
     ensures { IfOk result (λ set. (name : List ℕ) → map_of set name ≡ get (slice_cmp nat_cmp) held name) }
 {
     let files = listed_files(alloc, held)?;
@@ -169,12 +183,8 @@ fn listed_files(alloc: Global, held: BTreeMap<FileName, Bytes>) -> Result<Vec<Se
         .collect(alloc)
 }
 
-/// The bytes that are meant for the name after the calls.
-fn meant<'a>(
-    files: &'a [SetFile],
-    calls: &'a [RecordedCall],
-    name: &FileName,
-) -> &'a [u8]
+// The bytes that are meant for the name after the calls.
+fn meant<'a>(files: &'a [SetFile], calls: &'a [RecordedCall], name: &FileName) -> &'a [u8]
     ensures { result.now ≡ meant_bytes calls.now (after_calls files.now calls.now).durable name.now }
 {
     if let Some(bytes) = bytes_given(calls, name) {
@@ -187,7 +197,11 @@ fn meant<'a>(
 }
 
 // Gives the name this content.
-fn set_content(held: &mut BTreeMap<FileName, Bytes>, name: &FileName, content: Option<Bytes>) -> Result<(), AllocError>
+fn set_content(
+    held: &mut BTreeMap<FileName, Bytes>,
+    name: &FileName,
+    content: Option<Bytes>,
+) -> Result<(), AllocError>
     ensures { OnOk result ((other : List ℕ) → get (slice_cmp nat_cmp) held.new other
         ≡ with_content (get (slice_cmp nat_cmp) held.old) name.now content other) }
 {
@@ -200,8 +214,14 @@ fn set_content(held: &mut BTreeMap<FileName, Bytes>, name: &FileName, content: O
     }
 }
 
-/// What a stop after the calls leaves, from these files on: each touched name takes a digit of the number.
-pub(crate) fn left_files(alloc: Global, files: &[SetFile], calls: &[RecordedCall], touched: &[FileName], pick: u32) -> Result<BTreeMap<FileName, Bytes>, AllocError>
+// What a stop after the calls leaves, from these files on: each touched name takes a digit of the number.
+fn left_files(
+    alloc: Global,
+    files: &[SetFile],
+    calls: &[RecordedCall],
+    touched: &[FileName],
+    pick: u32,
+) -> Result<BTreeMap<FileName, Bytes>, AllocError>
     ensures { IfOk result (λ left. (name : List ℕ) → get (slice_cmp nat_cmp) left name
         ≡ picked_map pick (meant_bytes calls.now (after_calls files.now calls.now).durable) (after_calls files.now calls.now).durable touched.now name) }
 {
@@ -212,5 +232,22 @@ pub(crate) fn left_files(alloc: Global, files: &[SetFile], calls: &[RecordedCall
         set_content(&mut left, name, content)?;
         digits /= 4;
     }
+    Ok(left)
+}
+
+/// The files that a stop after the calls leaves, from these files on.
+pub(crate) fn files_left(
+    alloc: Global,
+    files: &[SetFile],
+    calls: &[RecordedCall],
+    pick: u32,
+) -> Result<FileSet, AllocError>
+    ensures left { IfOk result (λ left. AreLeftBy (after_calls files.now calls.now) calls.now pick left) }
+    ensures may { IfOk result (λ left. MayLeave (after_calls files.now calls.now) (map_of left)) }
+{
+    let names = touched_names(alloc, calls)?;
+    let touched = names_of_set(alloc, names)?;
+    let held = left_files(alloc, files, calls, &touched, pick)?;
+    let left = set_of(alloc, held)?;
     Ok(left)
 }
