@@ -32,4 +32,5 @@ pub use mem_sink::MemSink;
 pub use mem_source::MemSource;
 pub use name_order::names_in_order;
 pub use port_faults::PortFault;
+pub use stops::set_in_order;
 pub use streams::{Failed, Sink, Source, write_all};

@@ -251,3 +251,12 @@ pub(crate) fn files_left(
     let left = set_of(alloc, held)?;
     Ok(left)
 }
+
+/// The files in order of name. Where a name stands twice, its first file counts.
+pub fn set_in_order(alloc: Global, files: &[SetFile]) -> Result<FileSet, AllocError>
+    ensures { IfOk result (λ set. (name : List ℕ) → map_of set name ≡ map_of files.now name) }
+{
+    let held = first_files(alloc, files)?;
+    let set = set_of(alloc, held)?;
+    Ok(set)
+}
