@@ -7,6 +7,8 @@
 mod files;
 mod folder_disk;
 mod paths;
+#[cfg(test)]
+mod tests;
 
 pub use files::MOST_FILE_BYTES;
 pub use folder_disk::FolderDisk;
