@@ -42,7 +42,9 @@ def micros(program, folder, commits=COMMITS):
 
 
 def calls(program, folder):
-    """The system calls on files of one commit behind another, by kind."""
+    """The system calls of one commit behind another, by kind: those of three commits without those of two, in a folder that a
+    commit has filled before."""
+    micros(program, folder, 1)
     counts = {}
     for commits, sign in ((3, 1), (2, -1)):
         log = folder.with_suffix(".log")

@@ -17,7 +17,7 @@ module _ (old new : RecordedDisk) (call : DiskCall) where
   -- a failed call that touches no name keeps the state
   keeps-failed : ((state : DiskState) → after_failed state call ≡ state) → IsFailedCall old call new
       → KeepsState (Some (state_of old)) (Some (state_of new))
-  keeps-failed keeps (inl is) before told = told-failed old new call is before told ∙ ap Some (keeps before)
+  keeps-failed keeps (inl is) before told = told-failed old new call is.1 before told ∙ ap Some (keeps before)
   keeps-failed keeps (inr is) before told = ap (λ disk. Some (state_of disk)) is ∙ told
 
   -- a call that was done and changes nothing keeps the state
@@ -27,7 +27,7 @@ module _ (old new : RecordedDisk) (call : DiskCall) where
 module _ {T : Type 0} (old new : RecordedDisk) (call : DiskCall) where
   pub count-change : (result : Result T Failed) → AnswersChange result old call new → new.faults ≡ count_after_call result old.faults
   count-change (Ok value) is = ap (λ disk. disk.faults) is
-  count-change (Err failed) (inl is) = ap (λ disk. disk.faults) is
+  count-change (Err failed) (inl is) = ap (λ disk. disk.faults) is.1
   count-change (Err failed) (inr is) = ap (λ disk. disk.faults) is
 
   pub time-change : (result : Result T Failed) → AnswersChange result old call new
@@ -53,7 +53,7 @@ module _ {T : Type 0} (old new : RecordedDisk) (call : DiskCall) where
 
   pub count-call : (result : Result T PortFault) → AnswersCall result old call new → new.faults ≡ count_after result old.faults
   count-call (Ok value) is = ap (λ disk. disk.faults) is
-  count-call (Err fault.Failed) (inl is) = ap (λ disk. disk.faults) is
+  count-call (Err fault.Failed) (inl is) = ap (λ disk. disk.faults) is.1
   count-call (Err fault.Failed) (inr is) = ap (λ disk. disk.faults) is
   count-call (Err (Memory error)) (inl is) = ap (λ disk. disk.faults) is
   count-call (Err (Memory error)) (inr is) = ap (λ disk. disk.faults) is

@@ -45,7 +45,7 @@ pub Disturbs-failed : (old new : RecordedDisk) (call : DiskCall) (name : List �
     → Disturbs (Some (state_of old)) name (Some (state_of new))
 Disturbs-failed old new call name touches (inl is) before told = (
   with_only_touched before name,
-  told-failed old new call is before told ∙ ap Some (touches before),
+  told-failed old new call is.1 before told ∙ ap Some (touches before),
   only_touched-disturbs before name,
 )
 Disturbs-failed old new call name touches (inr is) before told =
@@ -104,7 +104,7 @@ Elapses-done old new call is_done is =
 -- over a call that failed
 pub Elapses-failed : (old new : RecordedDisk) (call : DiskCall) → IsFailedCall old call new
     → WhereTold (Some (state_of new)) (Elapses (length old.calls) (length new.calls) (LeftSince old) (LeftSince new))
-Elapses-failed old new call (inl is) = told-goes_on old new (subst (GoesOn old) (sym is) (elapses-with_call old call false))
+Elapses-failed old new call (inl is) = told-goes_on old new (subst (GoesOn old) (sym is.1) (elapses-with_call old call false))
 Elapses-failed old new call (inr is) = told-goes_on old new (subst (GoesOn old) (sym is) (elapses-none old))
 
 -- over a call that wanted memory

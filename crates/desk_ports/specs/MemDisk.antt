@@ -1,5 +1,6 @@
 -- A disk in memory, as contracts see it.
 use Rattle.std.specs.Prelude.{◌≡◌, ◌⊎◌, ◌≤◌, ℕ, Bool, true, false, List, [], ◌∷◌, ◌++◌, length, take, Result, Ok, Err}
+use Rattle.std.specs.List.{Contains}
 use Rattle.desk_ports.specs.Faults.{next_count}
 use Rattle.desk_ports.specs.FileMap.{FileMap}
 use Rattle.desk_ports.specs.Disk.{DiskState, MayLeave}
@@ -39,9 +40,12 @@ with_call disk call is_done = record disk {
 abbrev pub with_fault : RecordedDisk → RecordedDisk
 with_fault disk = record disk { faults = next_count disk.faults }
 
--- A call failed: it stands in the record as a call that failed, or it found no memory to be recorded.
+-- A call failed: its number is listed, and it stands in the record as a call that failed, or it found no memory to be
+-- recorded.
 abbrev pub IsFailedCall : RecordedDisk → DiskCall → RecordedDisk → Type 0
-IsFailedCall old call new = (new ≡ with_fault (with_call old call false)) ⊎ (new ≡ with_fault (with_number old))
+IsFailedCall old call new =
+    (Contains old.fails (next_number old) × (new ≡ with_fault (with_call old call false)))
+    ⊎ (new ≡ with_fault (with_number old))
 
 -- A call wanted memory: it stands in the record as a call that was done, or it found no memory to be recorded.
 abbrev pub IsCallWithoutMemory : RecordedDisk → DiskCall → RecordedDisk → Type 0

@@ -67,7 +67,8 @@ pub(crate) fn held_names(
     files: &[SetFile],
     calls: &[RecordedCall],
 ) -> Result<BTreeSet<FileName>, AllocError>
-    ensures { IfOk result (λ names. (name : List ℕ) → has_name names name ≡ is_some ((after_calls files.now calls.now).current name)) }
+    ensures { IfOk result (λ names. (name : List ℕ)
+        → has_name names name ≡ is_some ((after_calls files.now calls.now).current name)) }
 {
     let mut names = first_names(alloc, files)?;
     for made in calls {
@@ -78,7 +79,8 @@ pub(crate) fn held_names(
 
 // The names of the files.
 fn first_names(alloc: Global, files: &[SetFile]) -> Result<BTreeSet<FileName>, AllocError>
-    ensures { IfOk result (λ names. (name : List ℕ) → has_name names name ≡ is_some (map_of files.now name)) }
+    ensures { IfOk result (λ names. (name : List ℕ)
+        → has_name names name ≡ is_some (map_of files.now name)) }
 {
     let mut names = BTreeSet::new(alloc);
     for file in files {
@@ -89,7 +91,8 @@ fn first_names(alloc: Global, files: &[SetFile]) -> Result<BTreeSet<FileName>, A
 
 // Follows what one call more does to the names that have a file.
 fn follow_name(names: &mut BTreeSet<FileName>, made: &RecordedCall) -> Result<(), AllocError>
-    ensures { OnOk result ((name : List ℕ) → has_name names.new name ≡ is_held_after made.now name (has_name names.old name)) }
+    ensures { OnOk result ((name : List ℕ)
+        → has_name names.new name ≡ is_held_after made.now name (has_name names.old name)) }
 {
     if !made.is_done {
         return Ok(());
@@ -106,14 +109,16 @@ fn follow_name(names: &mut BTreeSet<FileName>, made: &RecordedCall) -> Result<()
 
 /// Adds the name.
 pub(crate) fn put_name(names: &mut BTreeSet<FileName>, name: &FileName) -> Result<(), AllocError>
-    ensures { OnOk result ((other : List ℕ) → has_name names.new other ≡ (if bytes_eq name.now other then true else has_name names.old other)) }
+    ensures { OnOk result ((other : List ℕ)
+        → has_name names.new other ≡ (if bytes_eq name.now other then true else has_name names.old other)) }
 {
     names.insert(name.copy()?)?;
     Ok(())
 }
 
 fn drop_name(names: &mut BTreeSet<FileName>, name: &FileName)
-    ensures { (other : List ℕ) → has_name names.new other ≡ (if bytes_eq name.now other then false else has_name names.old other) }
+    ensures { (other : List ℕ)
+        → has_name names.new other ≡ (if bytes_eq name.now other then false else has_name names.old other) }
 {
     names.remove(name);
 }

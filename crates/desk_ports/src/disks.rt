@@ -28,14 +28,16 @@ pub trait Disk {
         ensures rising { IfOk result (λ names. NamesRise names.items) }
         ensures listed { IfOk result (λ names. ListsNames (state self.old) names.items) }
         ensures kept { KeepsState (state self.old) (state self.new) }
-        ensures time { WhereTold (state self.new) (Elapses (moment self.old) (moment self.new) (left_since self.old) (left_since self.new)) }
+        ensures time { WhereTold (state self.new)
+            (Elapses (moment self.old) (moment self.new) (left_since self.old) (left_since self.new)) }
         ensures count { faults self.new ≡ count_after result (faults self.old) };
 
     /// All bytes of a file, or nothing where there is none of this name.
     fn read(&mut self, name: &FileName) -> Result<Option<Bytes>, PortFault>
         ensures content { IfOk result (λ content. Reads (state self.old) name.now content) }
         ensures kept { KeepsState (state self.old) (state self.new) }
-        ensures time { WhereTold (state self.new) (Elapses (moment self.old) (moment self.new) (left_since self.old) (left_since self.new)) }
+        ensures time { WhereTold (state self.new)
+            (Elapses (moment self.old) (moment self.new) (left_since self.old) (left_since self.new)) }
         ensures count { faults self.new ≡ count_after result (faults self.old) };
 
     /// Makes a file of these bytes, or replaces the whole file. Touches the name. After a failure the name may hold
@@ -43,7 +45,8 @@ pub trait Disk {
     fn write(&mut self, name: &FileName, bytes: &[u8]) -> Result<(), Failed>
         ensures written { OnOk result (Gives (state self.old) name.now (Some bytes.now) (state self.new)) }
         ensures disturbed { OnErr result (Disturbs (state self.old) name.now (state self.new)) }
-        ensures time { WhereTold (state self.new) (Elapses (moment self.old) (moment self.new) (left_since self.old) (left_since self.new)) }
+        ensures time { WhereTold (state self.new)
+            (Elapses (moment self.old) (moment self.new) (left_since self.old) (left_since self.new)) }
         ensures count { faults self.new ≡ count_after_call result (faults self.old) };
 
     /// Removes a file. Without a file of this name there is nothing to do. Touches the name. After a failure the name
@@ -51,14 +54,16 @@ pub trait Disk {
     fn remove(&mut self, name: &FileName) -> Result<(), Failed>
         ensures removed { OnOk result (Gives (state self.old) name.now None (state self.new)) }
         ensures disturbed { OnErr result (Disturbs (state self.old) name.now (state self.new)) }
-        ensures time { WhereTold (state self.new) (Elapses (moment self.old) (moment self.new) (left_since self.old) (left_since self.new)) }
+        ensures time { WhereTold (state self.new)
+            (Elapses (moment self.old) (moment self.new) (left_since self.old) (left_since self.new)) }
         ensures count { faults self.new ≡ count_after_call result (faults self.old) };
 
     /// Makes durable what is read now. After a failure nothing has changed.
     fn sync(&mut self) -> Result<(), Failed>
         ensures durable { OnOk result (MakesDurable (state self.old) (state self.new)) }
         ensures kept { OnErr result (KeepsState (state self.old) (state self.new)) }
-        ensures time { WhereTold (state self.new) (Elapses (moment self.old) (moment self.new) (left_since self.old) (left_since self.new)) }
+        ensures time { WhereTold (state self.new)
+            (Elapses (moment self.old) (moment self.new) (left_since self.old) (left_since self.new)) }
         ensures count { faults self.new ≡ count_after_call result (faults self.old) };
 
     /// How often it has failed. The count stands still at its last value.
@@ -69,7 +74,8 @@ pub trait Disk {
     ghost touched_only: { (disk : Self) → WhereTold (state disk) IsTouchedOnly };
 
     /// This moment is one of those since an earlier one.
-    ghost counts_now: { (disk : Self) (t : ℕ) (left : FileMap) → t ≤ moment disk → WhereTold (state disk) (λ now. MayLeave now left → left_since disk t left) };
+    ghost counts_now: { (disk : Self) (t : ℕ) (left : FileMap) → t ≤ moment disk
+        → WhereTold (state disk) (λ now. MayLeave now left → left_since disk t left) };
 
     /// Since this moment there is no other.
     ghost only_now: { (disk : Self) (left : FileMap) → WhereTold (state disk) (λ now. left_since disk (moment disk) left → MayLeave now left) };

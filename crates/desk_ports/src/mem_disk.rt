@@ -1,4 +1,5 @@
-ghost use Rattle.std.specs.Prelude.{◌≡◌, ℕ, List, is_some, ◌⊎◌, false, true, [], ◌∷◌, ◌++◌, length, take, Some, None, IsTrue, IfOk, OnOk, OnErr, IsErr};
+ghost use Rattle.std.specs.Prelude.{◌≡◌, ℕ, List, is_some, false, true, [], ◌∷◌, ◌++◌, length, take, Some, None, IfOk, OnOk, OnErr, IsErr};
+ghost use Rattle.std.specs.Bool.{OnFalse};
 ghost use Rattle.std.specs.List.{Contains};
 ghost use Rattle.desk_ports.specs.Faults.{next_count};
 ghost use Rattle.desk_ports.specs.PortFault.{count_after, count_after_call};
@@ -42,7 +43,8 @@ impl Model for MemDisk {
 impl MemDisk {
     /// A disk with these files, all of them durable, and no call made yet.
     pub fn new(alloc: Global, files: FileSet, fails: FailList) -> Result<MemDisk, AllocError>
-        ensures { IfOk result (λ disk. disk ≡ record { files = files; calls = []; made = 0; fails = fails; faults = 0 }) }
+        ensures { IfOk result
+            (λ disk. disk ≡ record { files = files; calls = []; made = 0; fails = fails; faults = 0 }) }
     {
         Ok(MemDisk {
             files,
@@ -66,9 +68,11 @@ impl MemDisk {
     /// done, or else its durable bytes, or else none. A half is rounded down. The new disk starts with no call made, and with
     /// none that is to fail.
     pub fn stopped(&self, after: usize, pick: u32) -> Result<MemDisk, AllocError>
-        ensures left { IfOk result (λ left. AreLeftBy (state_after self.now after) (take after self.now.calls) pick left.files) }
+        ensures left { IfOk result
+            (λ left. AreLeftBy (state_after self.now after) (take after self.now.calls) pick left.files) }
         ensures may { IfOk result (λ left. MayLeave (state_after self.now after) (map_of left.files)) }
-        ensures fresh { IfOk result (λ left. left ≡ record { files = left.files; calls = []; made = 0; fails = []; faults = 0 }) }
+        ensures fresh { IfOk result
+            (λ left. left ≡ record { files = left.files; calls = []; made = 0; fails = []; faults = 0 }) }
     {
         let alloc = *self.calls.allocator();
         let files = self.files_left(after, pick)?;
@@ -78,7 +82,8 @@ impl MemDisk {
 
     // The files that a stop leaves.
     fn files_left(&self, after: usize, pick: u32) -> Result<FileSet, AllocError>
-        ensures left { IfOk result (λ files. AreLeftBy (state_after self.now after) (take after self.now.calls) pick files) }
+        ensures left { IfOk result
+            (λ files. AreLeftBy (state_after self.now after) (take after self.now.calls) pick files) }
         ensures may { IfOk result (λ files. MayLeave (state_after self.now after) (map_of files)) }
     {
         files_left(
@@ -100,7 +105,7 @@ impl MemDisk {
     fn number(&mut self) -> bool
         ensures made { self.new ≡ with_number self.old }
         ensures listed { Contains self.old.fails (next_number self.old) → result ≡ false }
-        ensures unlisted { IsTrue result ⊎ Contains self.old.fails (next_number self.old) }
+        ensures unlisted { OnFalse result (Contains self.old.fails (next_number self.old)) }
     {
         self.made = self.made.saturating_add(1);
         !self.fails.fails(self.made)
@@ -108,7 +113,8 @@ impl MemDisk {
 
     // Records a call.
     fn keep(&mut self, call: DiskCall, is_done: bool) -> Result<(), AllocError>
-        ensures ok { OnOk result (self.new ≡ record self.old { calls = self.old.calls ++ record { call = call; is_done = is_done } ∷ [] }) }
+        ensures ok { OnOk result (self.new
+            ≡ record self.old { calls = self.old.calls ++ record { call = call; is_done = is_done } ∷ [] }) }
         ensures err { OnErr result (self.new ≡ self.old) }
     {
         self.calls.push(RecordedCall { call, is_done })?;
@@ -136,7 +142,8 @@ impl MemDisk {
     }
 
     fn write_file(&mut self, name: &FileName, bytes: &[u8]) -> Result<(), Failed>
-        ensures answered { AnswersChange result self.old (DiskCall.Write (record { name = name.now; bytes = bytes.now })) self.new }
+        ensures answered { AnswersChange result self.old
+            (DiskCall.Write (record { name = name.now; bytes = bytes.now })) self.new }
         ensures listed { Contains self.old.fails (next_number self.old) → IsErr result }
     {
         let Ok(call) = write_call(*self.calls.allocator(), name, bytes) else {
@@ -170,7 +177,7 @@ impl MemDisk {
         ensures content { IfOk result (λ content. content ≡ (state_of self.new).current name.now) }
     {
         let Ok(asked) = name.copy() else {
-            let _unnumbered = self.number();
+            let _is_done = self.number();
             return Err(PortFault::Memory(AllocError));
         };
         self.look(DiskCall::Read(asked))?;
@@ -194,7 +201,8 @@ impl MemDisk {
 
     // The names that have a file.
     fn held(&self) -> Result<BTreeSet<FileName>, AllocError>
-        ensures { IfOk result (λ names. (name : List ℕ) → has_name names name ≡ is_some ((state_of self.now).current name)) }
+        ensures { IfOk result (λ names. (name : List ℕ)
+            → has_name names name ≡ is_some ((state_of self.now).current name)) }
     {
         held_names(*self.calls.allocator(), self.files.as_slice(), &self.calls)
     }
@@ -233,7 +241,8 @@ impl Disk for MemDisk {
         ensures rising { IfOk result (λ names. NamesRise names.items) }
         ensures listed { IfOk result (λ names. ListsNames (Some (state_of self.old)) names.items) }
         ensures kept { KeepsState (Some (state_of self.old)) (Some (state_of self.new)) }
-        ensures time { WhereTold (Some (state_of self.new)) (Elapses (length self.old.calls) (length self.new.calls) (LeftSince self.old) (LeftSince self.new)) }
+        ensures time { WhereTold (Some (state_of self.new))
+            (Elapses (length self.old.calls) (length self.new.calls) (LeftSince self.old) (LeftSince self.new)) }
         ensures count { self.new.faults ≡ count_after result self.old.faults }
 
         // More than any disk promises: what stands in the record, and which calls fail.
@@ -246,7 +255,8 @@ impl Disk for MemDisk {
     fn read(&mut self, name: &FileName) -> Result<Option<Bytes>, PortFault>
         ensures content { IfOk result (λ content. Reads (Some (state_of self.old)) name.now content) }
         ensures kept { KeepsState (Some (state_of self.old)) (Some (state_of self.new)) }
-        ensures time { WhereTold (Some (state_of self.new)) (Elapses (length self.old.calls) (length self.new.calls) (LeftSince self.old) (LeftSince self.new)) }
+        ensures time { WhereTold (Some (state_of self.new))
+            (Elapses (length self.old.calls) (length self.new.calls) (LeftSince self.old) (LeftSince self.new)) }
         ensures count { self.new.faults ≡ count_after result self.old.faults }
 
         ensures answered { AnswersCall result self.old (DiskCall.Read name.now) self.new }
@@ -256,12 +266,15 @@ impl Disk for MemDisk {
     }
 
     fn write(&mut self, name: &FileName, bytes: &[u8]) -> Result<(), Failed>
-        ensures written { OnOk result (Gives (Some (state_of self.old)) name.now (Some bytes.now) (Some (state_of self.new))) }
+        ensures written { OnOk result
+            (Gives (Some (state_of self.old)) name.now (Some bytes.now) (Some (state_of self.new))) }
         ensures disturbed { OnErr result (Disturbs (Some (state_of self.old)) name.now (Some (state_of self.new))) }
-        ensures time { WhereTold (Some (state_of self.new)) (Elapses (length self.old.calls) (length self.new.calls) (LeftSince self.old) (LeftSince self.new)) }
+        ensures time { WhereTold (Some (state_of self.new))
+            (Elapses (length self.old.calls) (length self.new.calls) (LeftSince self.old) (LeftSince self.new)) }
         ensures count { self.new.faults ≡ count_after_call result self.old.faults }
 
-        ensures answered { AnswersChange result self.old (DiskCall.Write (record { name = name.now; bytes = bytes.now })) self.new }
+        ensures answered { AnswersChange result self.old
+            (DiskCall.Write (record { name = name.now; bytes = bytes.now })) self.new }
         ensures failing { Contains self.old.fails (next_number self.old) → IsErr result }
     {
         self.write_file(name, bytes)
@@ -270,7 +283,8 @@ impl Disk for MemDisk {
     fn remove(&mut self, name: &FileName) -> Result<(), Failed>
         ensures removed { OnOk result (Gives (Some (state_of self.old)) name.now None (Some (state_of self.new))) }
         ensures disturbed { OnErr result (Disturbs (Some (state_of self.old)) name.now (Some (state_of self.new))) }
-        ensures time { WhereTold (Some (state_of self.new)) (Elapses (length self.old.calls) (length self.new.calls) (LeftSince self.old) (LeftSince self.new)) }
+        ensures time { WhereTold (Some (state_of self.new))
+            (Elapses (length self.old.calls) (length self.new.calls) (LeftSince self.old) (LeftSince self.new)) }
         ensures count { self.new.faults ≡ count_after_call result self.old.faults }
 
         ensures answered { AnswersChange result self.old (DiskCall.Remove name.now) self.new }
@@ -282,7 +296,8 @@ impl Disk for MemDisk {
     fn sync(&mut self) -> Result<(), Failed>
         ensures durable { OnOk result (MakesDurable (Some (state_of self.old)) (Some (state_of self.new))) }
         ensures kept { OnErr result (KeepsState (Some (state_of self.old)) (Some (state_of self.new))) }
-        ensures time { WhereTold (Some (state_of self.new)) (Elapses (length self.old.calls) (length self.new.calls) (LeftSince self.old) (LeftSince self.new)) }
+        ensures time { WhereTold (Some (state_of self.new))
+            (Elapses (length self.old.calls) (length self.new.calls) (LeftSince self.old) (LeftSince self.new)) }
         ensures count { self.new.faults ≡ count_after_call result self.old.faults }
 
         ensures answered { AnswersChange result self.old DiskCall.Sync self.new }

@@ -29,7 +29,8 @@ fn is_done_sync(made: &RecordedCall) -> bool
 // How many of the calls stand before the last sync that was done, with that sync: what was read then is durable now.
 fn durable_calls(calls: &[RecordedCall]) -> usize
     ensures within { result ≤ length calls.now }
-    ensures durable { (files : List SetFile) → (after_calls files calls.now).durable ≡ (after_calls files (take result calls.now)).current }
+    ensures durable { (files : List SetFile) → (after_calls files calls.now).durable
+        ≡ (after_calls files (take result calls.now)).current }
 {
     let mut durable = 0;
     for (at, made) in calls.iter().enumerate() {
@@ -42,7 +43,8 @@ fn durable_calls(calls: &[RecordedCall]) -> usize
 
 // The names that are touched after the calls.
 fn touched_names(alloc: Global, calls: &[RecordedCall]) -> Result<BTreeSet<FileName>, AllocError>
-    ensures { IfOk result (λ names. (files : List SetFile) (name : List ℕ) → has_name names name ≡ (after_calls files calls.now).touched name) }
+    ensures { IfOk result (λ names. (files : List SetFile) (name : List ℕ)
+        → has_name names name ≡ (after_calls files calls.now).touched name) }
 {
     let mut names = BTreeSet::new(alloc);
     for made in calls {
@@ -53,7 +55,8 @@ fn touched_names(alloc: Global, calls: &[RecordedCall]) -> Result<BTreeSet<FileN
 
 // Follows what one call more does to the touched names.
 fn follow_touched(names: &mut BTreeSet<FileName>, made: &RecordedCall) -> Result<(), AllocError>
-    ensures { OnOk result ((name : List ℕ) → has_name names.new name ≡ is_touched_after made.now name (has_name names.old name)) }
+    ensures { OnOk result ((name : List ℕ)
+        → has_name names.new name ≡ is_touched_after made.now name (has_name names.old name)) }
 {
     match &made.call {
         DiskCall::Write(file) => put_name(names, &file.name),
@@ -111,7 +114,8 @@ fn files_after(
     files: &[SetFile],
     calls: &[RecordedCall],
 ) -> Result<BTreeMap<FileName, Bytes>, AllocError>
-    ensures { IfOk result (λ held. (name : List ℕ) → get (slice_cmp nat_cmp) held name ≡ (after_calls files.now calls.now).current name) }
+    ensures { IfOk result (λ held. (name : List ℕ)
+        → get (slice_cmp nat_cmp) held name ≡ (after_calls files.now calls.now).current name) }
 {
     let mut held = first_files(alloc, files)?;
     for made in calls {
@@ -132,7 +136,8 @@ fn first_files(alloc: Global, files: &[SetFile]) -> Result<BTreeMap<FileName, By
 
 // Follows what one call more does to the files that are read.
 fn follow_file(held: &mut BTreeMap<FileName, Bytes>, made: &RecordedCall) -> Result<(), AllocError>
-    ensures { OnOk result ((name : List ℕ) → get (slice_cmp nat_cmp) held.new name ≡ content_after made.now name (get (slice_cmp nat_cmp) held.old name)) }
+    ensures { OnOk result ((name : List ℕ)
+        → get (slice_cmp nat_cmp) held.new name ≡ content_after made.now name (get (slice_cmp nat_cmp) held.old name)) }
 {
     if !made.is_done {
         return Ok(());
@@ -175,7 +180,8 @@ fn set_of(alloc: Global, held: BTreeMap<FileName, Bytes>) -> Result<FileSet, All
 }
 
 fn listed_files(alloc: Global, held: BTreeMap<FileName, Bytes>) -> Result<Vec<SetFile>, AllocError>
-    ensures items { IfOk result (λ files. files.items ≡ map (λ entry. record { name = entry.0; bytes = entry.1 }) held.entries) }
+    ensures items { IfOk result (λ files. files.items
+        ≡ map (λ entry. record { name = entry.0; bytes = entry.1 }) held.entries) }
     ensures ordered { OnOk result (NamesRise (keys held)) }
 {
     held.into_iter()
@@ -223,7 +229,8 @@ fn left_files(
     pick: u32,
 ) -> Result<BTreeMap<FileName, Bytes>, AllocError>
     ensures { IfOk result (λ left. (name : List ℕ) → get (slice_cmp nat_cmp) left name
-        ≡ picked_map pick (meant_bytes calls.now (after_calls files.now calls.now).durable) (after_calls files.now calls.now).durable touched.now name) }
+        ≡ picked_map pick (meant_bytes calls.now (after_calls files.now calls.now).durable)
+        (after_calls files.now calls.now).durable touched.now name) }
 {
     let mut left = files_after(alloc, files, &calls[..durable_calls(calls)])?;
     let mut digits = pick;
