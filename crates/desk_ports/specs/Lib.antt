@@ -1,3 +1,14 @@
 pub mod Faults
 pub mod Content
 pub mod Memory
+pub mod FileName
+pub mod FileMap
+pub mod Disk
+pub mod Moments
+pub mod PortFault
+pub mod DiskCalls
+pub mod MemDisk
+pub mod MemDiskLaws
+pub mod DiskContent
+pub mod parts
+pub mod Stopping

@@ -1,19 +1,36 @@
-//! What the product asks of the outside: traits of sources and sinks, and their forms in memory.
+//! What the product asks of the outside: traits of sources, sinks and disks, and their forms in memory.
 //!
 //! Each object of the outside has a count of faults that never falls. A call fails only where that count rose in it.
 //! An object may tell its content; the clauses on content hold where it does.
 #![tactic(auto)]
 
 mod byte_list;
+mod disk_calls;
+mod disk_replays;
+mod disks;
 mod fail_list;
+mod file_names;
+mod file_sets;
+mod mem_disk;
 mod mem_sink;
 mod mem_source;
+mod name_order;
+mod port_faults;
+mod stops;
 mod streams;
 #[cfg(test)]
 mod tests;
 
 pub use byte_list::Bytes;
+pub use disk_calls::{DiskCall, RecordedCall};
+pub use disks::Disk;
 pub use fail_list::FailList;
+pub use file_names::{FileName, FileNameRefusal};
+pub use file_sets::{FileSet, SetFile};
+pub use mem_disk::MemDisk;
 pub use mem_sink::MemSink;
 pub use mem_source::MemSource;
+pub use name_order::names_in_order;
+pub use port_faults::PortFault;
+pub use stops::set_in_order;
 pub use streams::{Failed, Sink, Source, write_all};

@@ -4,6 +4,8 @@ use crate::{Bytes, FailList, Failed, MemSink, MemSource, Sink, Source, write_all
 use std::alloc::{AllocError, Global};
 use std::test::Fail;
 
+mod disks;
+
 /// A sink that takes one byte a call.
 #[derive(Drop)]
 struct SlowSink {

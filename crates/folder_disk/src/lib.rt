@@ -1,0 +1,14 @@
+//! A folder of the machine as a disk.
+//!
+//! What the machine's calls give and take, no clause can say: this crate is part of what is trusted. It tells nothing of what
+//! its files hold; proved of it are the counts of failures, and that names come in order.
+#![tactic(auto)]
+
+mod files;
+mod folder_disk;
+mod paths;
+#[cfg(test)]
+mod tests;
+
+pub use files::MOST_FILE_BYTES;
+pub use folder_disk::FolderDisk;

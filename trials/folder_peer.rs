@@ -1,0 +1,91 @@
+//! The commits of `folder_commit.rt` as one would write them in Rust without proofs, by the same system calls in the same
+//! order. The peer that the speed of a commit is measured against.
+use std::fs::{self, File, OpenOptions};
+use std::io::{self, ErrorKind, Write};
+use std::os::unix::fs::{MetadataExt, OpenOptionsExt};
+use std::path::{Path, PathBuf};
+use std::time::Instant;
+use std::{collections::BTreeSet, env};
+
+const BYTES: &[u8] = b"; a line of a policy file, as long as most of them are;1;\n; and a second one, which is much like it;1;\n";
+
+fn seen(path: &Path, options: &OpenOptions) -> io::Result<Option<File>> {
+    match fs::symlink_metadata(path) {
+        Ok(seen) if seen.is_file() => {
+            let file = options.open(path)?;
+            let opened = file.metadata()?;
+            assert!(opened.dev() == seen.dev() && opened.ino() == seen.ino());
+            Ok(Some(file))
+        }
+        Ok(_) => Err(io::Error::from(ErrorKind::InvalidInput)),
+        Err(error) if error.kind() == ErrorKind::NotFound => Ok(None),
+        Err(error) => Err(error),
+    }
+}
+
+struct Folder {
+    path: PathBuf,
+    touched: BTreeSet<String>,
+}
+
+impl Folder {
+    fn write(&mut self, name: &str, bytes: &[u8]) -> io::Result<()> {
+        self.touched.insert(name.to_owned());
+        let path = self.path.join(name);
+        let mut file = match seen(&path, OpenOptions::new().write(true))? {
+            Some(file) => file,
+            None => OpenOptions::new().write(true).create_new(true).mode(0o600).open(&path)?,
+        };
+        file.write_all(bytes)?;
+        file.set_len(bytes.len() as u64)
+    }
+
+    fn remove(&self, name: &str) -> io::Result<()> {
+        fs::remove_file(self.path.join(name))
+    }
+
+    fn sync(&mut self) -> io::Result<()> {
+        for name in &self.touched {
+            if let Some(file) = seen(&self.path.join(name), OpenOptions::new().read(true))? {
+                file.sync_all()?;
+            }
+        }
+        self.touched.clear();
+        File::open(&self.path)?.sync_all()
+    }
+
+    fn commit(&mut self, primaries: &[String], backups: &[String]) -> io::Result<()> {
+        for name in backups {
+            self.write(name, BYTES)?;
+        }
+        self.sync()?;
+        self.write("guard", b"")?;
+        self.sync()?;
+        for name in primaries {
+            self.write(name, BYTES)?;
+        }
+        self.sync()?;
+        self.remove("guard")?;
+        self.sync()?;
+        for name in backups {
+            self.remove(name)?;
+        }
+        Ok(())
+    }
+}
+
+fn main() -> io::Result<()> {
+    let words: Vec<String> = env::args().collect();
+    let count: u32 = words[2].parse().unwrap();
+    let primaries: Vec<String> = (0..15).map(|number| format!("_{number}")).collect();
+    let backups: Vec<String> = (0..15).map(|number| format!("_{number}~")).collect();
+    let _made = fs::create_dir(&words[1]);
+    let mut folder = Folder { path: PathBuf::from(&words[1]), touched: BTreeSet::new() };
+    folder.sync()?;
+    let start = Instant::now();
+    for _ in 0..count {
+        folder.commit(&primaries, &backups)?;
+    }
+    println!("{}", start.elapsed().as_micros());
+    Ok(())
+}
