@@ -1,0 +1,5 @@
+pub mod OwnName
+pub mod ListFile
+pub mod Recovery
+pub mod Holding
+pub mod parts

@@ -1,0 +1,8 @@
+//! A store for a set of files that a stop at any moment cannot break: it holds the old set or the new one.
+#![tactic(auto)]
+
+mod laws;
+mod own_names;
+
+pub use laws::agreement_keeps_recovery;
+pub use own_names::{is_backup, is_guard, is_list, is_listable, is_own};
