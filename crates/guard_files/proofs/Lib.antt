@@ -2,3 +2,4 @@ pub mod Alike
 pub mod Names
 pub mod Lists
 pub mod Sets
+pub mod Rows

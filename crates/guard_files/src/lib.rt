@@ -3,6 +3,8 @@
 
 mod laws;
 mod own_names;
+mod steps;
 
 pub use laws::agreement_keeps_recovery;
 pub use own_names::{is_backup, is_guard, is_list, is_listable, is_own};
+pub use steps::{lower_guard, raise_guard, remove_files, write_backups, write_primaries};
