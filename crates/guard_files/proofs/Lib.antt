@@ -3,3 +3,4 @@ pub mod Names
 pub mod Lists
 pub mod Sets
 pub mod Rows
+pub mod Stages
