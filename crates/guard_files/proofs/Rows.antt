@@ -162,6 +162,20 @@ module _ {D : Type 0} (state : D → Option DiskState) (moment : D → ℕ) (lef
       AddsOnly-then moment left_since old now next P (so_far.moments before told)
       (AddsOnly-call moment left_since now next P (after all before) (time _ there) (λ left may. may))
 
+  -- a row from the start on
+  pub IsAfter-first : (row rest : List Change) (old now : D)
+      → WhereTold (state old) (λ before. state now ≡ Some (after row before))
+      → WhereTold (state old) (λ before. AddsOnly moment left_since old now (MayLeave (after row before)))
+      → IsAfter (row ++ rest) row old now
+  IsAfter-first row rest old now reached moments =
+      IsAfter-row (row ++ rest) [] row rest old old now refl (IsAfter-none (row ++ rest) old) reached moments
+
+  pub IsAfter-first_failed : (row rest : List Change) (old now : D)
+      → WhereTold (state old) (λ before. AddsOnly moment left_since old now (MayLeave (after row before)))
+      → WhereTold (state old) (λ before. AddsOnly moment left_since old now (MayLeave (after (row ++ rest) before)))
+  IsAfter-first_failed row rest old now moments =
+      IsAfter-row_failed (row ++ rest) [] row rest old old now refl (IsAfter-none (row ++ rest) old) moments
+
 -- a row that is one change for each item, at the item of a loop
 module _ {X : Type 0} (f : X → Change) where
   pub row_so_far : (items : List X) (i : ℕ) (x : X) → i < length items → x ≡ get_or items i x

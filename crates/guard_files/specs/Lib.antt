@@ -2,4 +2,5 @@ pub mod OwnName
 pub mod ListFile
 pub mod Recovery
 pub mod Holding
+pub mod Settled
 pub mod parts

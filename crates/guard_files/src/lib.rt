@@ -7,4 +7,4 @@ mod steps;
 
 pub use laws::agreement_keeps_recovery;
 pub use own_names::{is_backup, is_guard, is_list, is_listable, is_own};
-pub use steps::{lower_guard, raise_guard, remove_files, write_backups, write_primaries};
+pub use steps::{drop_backups, save_backups, save_primaries, lower_guard, raise_guard, remove_files, write_backups, write_primaries};

@@ -6,7 +6,8 @@ ghost use Rattle.desk_ports.specs.FileMap.{names_of};
 ghost use Rattle.desk_ports.specs.Disk.{WhereTold, MayLeave, with_all_durable};
 ghost use Rattle.desk_ports.specs.Moments.{AddsOnly};
 ghost use Rattle.guard_files.specs.OwnName.{guard_name, list_name, primary_name, backup_name};
-ghost use Rattle.guard_files.specs.parts.Changes.{after, writes, removals, guard_up, guard_down};
+ghost use Rattle.guard_files.specs.ListFile.{list_text};
+ghost use Rattle.guard_files.specs.parts.Changes.{after, writes, removals, set_writes, primary_changes, guard_up, guard_down, backups_away};
 
 use desk_ports::{Disk, Failed, FileName, SetFile};
 
@@ -67,4 +68,60 @@ pub fn lower_guard<D: Disk>(disk: &mut D, guard: &FileName) -> Result<(), Failed
 {
     disk.remove(guard)?;
     disk.sync()
+}
+
+/// Writes the backup of each file of a set and then that of their list, and makes them durable: the first two steps of a
+/// save.
+pub fn save_backups<D: Disk>(
+    disk: &mut D,
+    backups: &[FileName],
+    files: &[SetFile],
+    list_backup: &FileName,
+    list: &[u8],
+) -> Result<(), Failed>
+    requires names { backups.now ≡ map backup_name (names_of files.now) }
+    requires list_name { list_backup.now ≡ backup_name list_name }
+    requires list { list.now ≡ list_text (names_of files.now) }
+    ensures done { OnOk result (WhereTold (D.state disk.old) (λ before. D.state disk.new ≡ Some (with_all_durable (after (set_writes backup_name files.now) before)))) }
+    ensures moments { WhereTold (D.state disk.old) (λ before. AddsOnly D.moment D.left_since disk.old disk.new (MayLeave (after (set_writes backup_name files.now) before))) }
+    ensures count { D.faults disk.new ≡ count_after_call result (D.faults disk.old) }
+{
+    write_backups(disk, backups, files)?;
+    disk.write(list_backup, list)?;
+    disk.sync()?;
+    Ok(())
+}
+
+/// Removes the files that the set has not, writes each file of the set under its own name and then the list of their
+/// names, and makes that durable: steps five and six of a save, and a part of a mount.
+pub fn save_primaries<D: Disk>(
+    disk: &mut D,
+    gone: &[FileName],
+    files: &[SetFile],
+    list_file: &FileName,
+    list: &[u8],
+) -> Result<(), Failed>
+    requires list_name { list_file.now ≡ list_name }
+    requires list { list.now ≡ list_text (names_of files.now) }
+    ensures done { OnOk result (WhereTold (D.state disk.old) (λ before. D.state disk.new ≡ Some (with_all_durable (after (primary_changes gone.now files.now) before)))) }
+    ensures moments { WhereTold (D.state disk.old) (λ before. AddsOnly D.moment D.left_since disk.old disk.new (MayLeave (after (primary_changes gone.now files.now) before))) }
+    ensures count { D.faults disk.new ≡ count_after_call result (D.faults disk.old) }
+{
+    remove_files(disk, gone)?;
+    write_primaries(disk, files)?;
+    disk.write(list_file, list)?;
+    disk.sync()?;
+    Ok(())
+}
+
+/// Removes the backup of the list and then that of each file: the last step of a save. No sync follows.
+pub fn drop_backups<D: Disk>(disk: &mut D, list_backup: &FileName, backups: &[FileName]) -> Result<(), Failed>
+    requires { list_backup.now ≡ backup_name list_name }
+    ensures done { OnOk result (WhereTold (D.state disk.old) (λ before. D.state disk.new ≡ Some (after (backups_away backups.now) before))) }
+    ensures moments { WhereTold (D.state disk.old) (λ before. AddsOnly D.moment D.left_since disk.old disk.new (MayLeave (after (backups_away backups.now) before))) }
+    ensures count { D.faults disk.new ≡ count_after_call result (D.faults disk.old) }
+{
+    disk.remove(list_backup)?;
+    remove_files(disk, backups)?;
+    Ok(())
 }

@@ -55,9 +55,9 @@ guard_up = (guard_name, Some []) ∷ []
 abbrev pub guard_down : List Change
 guard_down = (guard_name, None) ∷ []
 
--- the backups of the set are removed, their list first
-abbrev pub backups_away : List SetFile → List Change
-backups_away set = (backup_name list_name, None) ∷ removals (map backup_name (names_of set))
+-- the backups of these names are removed, that of the list first
+abbrev pub backups_away : List (List ℕ) → List Change
+backups_away backups = (backup_name list_name, None) ∷ removals backups
 
 -- the set stands where it is placed: each of its files, and the list of their names
 pub record Holds (place : List ℕ → List ℕ) (set : List SetFile) (files : FileMap) : Type 0 where
