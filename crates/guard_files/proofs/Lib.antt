@@ -4,3 +4,7 @@ pub mod Lists
 pub mod Sets
 pub mod Rows
 pub mod Stages
+pub mod Primaries
+pub mod Reading
+pub mod Among
+pub mod Save

@@ -39,15 +39,15 @@ backups_backup : (names : List (List ℕ)) → AllByRecursion (λ name. is_backu
 backups_backup [] = tt
 backups_backup (name ∷ names) = (is_backup-backup name, backups_backup names)
 
-list_plain : is_backup list_name ≡ false
+pub list_plain : is_backup list_name ≡ false
 unfolding is_backup
 list_plain = refl
 
-guard_plain : is_backup guard_name ≡ false
+pub guard_plain : is_backup guard_name ≡ false
 unfolding is_backup
 guard_plain = refl
 
-list_not_guard : list_name ≢ guard_name
+pub list_not_guard : list_name ≢ guard_name
 list_not_guard same = true≢false (ap (bytes_eq list_name) same)
 
 -- the names that the primaries rest on are plain, and those that the backups rest on are backups' names
@@ -110,7 +110,7 @@ primaries_apart changes in_primaries [] backup = tt
 primaries_apart changes in_primaries (name ∷ names) backup =
     (apart_from_primaries changes in_primaries name backup.0, primaries_apart changes in_primaries names backup.1)
 
-all_untouched : (names : List (List ℕ)) → AllByRecursion (λ name. no_names name ≡ false) names
+pub all_untouched : (names : List (List ℕ)) → AllByRecursion (λ name. no_names name ≡ false) names
 all_untouched [] = tt
 all_untouched (name ∷ names) = (refl, all_untouched names)
 
