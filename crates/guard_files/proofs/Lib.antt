@@ -7,4 +7,5 @@ pub mod Stages
 pub mod Primaries
 pub mod Reading
 pub mod Among
-pub mod Save
+pub mod Saving
+pub mod SaveMoments

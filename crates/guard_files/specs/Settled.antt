@@ -29,3 +29,7 @@ pub record Save : Type 0 where
 -- the map recovers to the set before or to the set after
 abbrev pub IsBeforeOrAfter : Option (List SetFile) → Option (List SetFile) → FileMap → Type 0
 IsBeforeOrAfter before next left = (recover left ≡ Ok before) ⊎ (recover left ≡ Ok next)
+
+-- the disk tells a store at rest that holds this set
+abbrev pub EndsSettled : List SetFile → Option DiskState → Type 0
+EndsSettled set told = (after : DiskState) × (told ≡ Some after) × IsSettled (Some set) after

@@ -3,8 +3,12 @@
 
 mod laws;
 mod own_names;
+mod save;
 mod steps;
+mod store_names;
 
 pub use laws::agreement_keeps_recovery;
 pub use own_names::{is_backup, is_guard, is_list, is_listable, is_own};
-pub use steps::{drop_backups, save_backups, save_primaries, lower_guard, raise_guard, remove_files, write_backups, write_primaries};
+pub use save::save_set;
+pub use steps::{drop_backups, lower_guard, raise_guard, remove_files, save_backups, save_primaries, write_backups, write_primaries};
+pub use store_names::{StoreNames, fixed_name};
