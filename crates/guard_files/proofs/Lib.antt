@@ -9,3 +9,4 @@ pub mod Reading
 pub mod Among
 pub mod Saving
 pub mod SaveMoments
+pub mod FileNames

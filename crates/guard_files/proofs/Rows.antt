@@ -200,3 +200,9 @@ placed_at place names files i name file are within name_is file_is =
     name_is ∙ ap (λ names. get_or names i name) are
     ∙ get_or-map place (names_of files) i file.name name within_names
     ∙ ap place (get_or-map (λ (file : SetFile). file.name) files i file file.name within ∙ ap (λ file. file.name) (sym file_is))
+
+-- the names of the files so far
+pub named_so_far : (files : List SetFile) (i : ℕ) (file : SetFile) → i < length files → file ≡ get_or files i file
+    → names_of (take (i + 1) files) ≡ names_of (take i files) ++ file.name ∷ []
+named_so_far files i file within is =
+    ap names_of (take_more files i file within ∙ ap (λ y. take i files ++ y ∷ []) (sym is)) ∙ map-append (λ (file : SetFile). file.name) (take i files) (file ∷ [])
