@@ -10,3 +10,4 @@ pub mod Among
 pub mod Saving
 pub mod SaveMoments
 pub mod FileNames
+pub mod ListReading

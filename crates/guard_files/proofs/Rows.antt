@@ -206,3 +206,13 @@ pub named_so_far : (files : List SetFile) (i : ℕ) (file : SetFile) → i < len
     → names_of (take (i + 1) files) ≡ names_of (take i files) ++ file.name ∷ []
 named_so_far files i file within is =
     ap names_of (take_more files i file within ∙ ap (λ y. take i files ++ y ∷ []) (sym is)) ∙ map-append (λ (file : SetFile). file.name) (take i files) (file ∷ [])
+
+-- the items so far, and those that are left
+pub items_so_far : {X : Type 0} (items : List X) (i : ℕ) (x : X) → i < length items → x ≡ get_or items i x → take (i + 1) items ≡ take i items ++ x ∷ []
+items_so_far items i x within is = take_more items i x within ∙ ap (λ y. take i items ++ y ∷ []) (sym is)
+
+pub items_split : {X : Type 0} (items : List X) (i : ℕ) (x : X) → i < length items → x ≡ get_or items i x
+    → items ≡ take i items ++ x ∷ drop (i + 1) items
+items_split items i x within is =
+    sym (take-append-drop (i + 1) items) ∙ ap (λ front. front ++ drop (i + 1) items) (items_so_far items i x within is)
+    ∙ append_assoc (take i items) (x ∷ []) (drop (i + 1) items)
