@@ -16,7 +16,7 @@ apart_name : (name other : List ℕ) → bytes_eq other name ≡ false → other
 apart_name name other differs same = both_ways (bytes_eq other name) differs (same-same other name same)
 
 -- removed where it was not, a name stays without a file
-removals-none : (names : List (List ℕ)) (files : FileMap) (name : List ℕ) → files name ≡ None → changed (removals names) files name ≡ None
+pub removals-none : (names : List (List ℕ)) (files : FileMap) (name : List ℕ) → files name ≡ None → changed (removals names) files name ≡ None
 removals-none [] files name none = none
 removals-none (first ∷ names) files name none =
     removals-none names (with_content files first None) name (at_first (bytes_eq first name))

@@ -11,3 +11,5 @@ pub mod Saving
 pub mod SaveMoments
 pub mod FileNames
 pub mod ListReading
+pub mod Leaving
+pub mod Mounting

@@ -26,7 +26,7 @@ names_of-files_at place files [] (file ∷ set) is = absurd (cc)
 names_of-files_at place files (name ∷ names) set is =
     one_more name names (files (place name)) (files_at place files names) set (names_of-files_at place files names) is
 
-set_of-Ok : (read : Result (List SetFile) (List ℕ)) (set : List SetFile) → set_of read ≡ Ok (Some set) → read ≡ Ok set
+pub set_of-Ok : (read : Result (List SetFile) (List ℕ)) (set : List SetFile) → set_of read ≡ Ok (Some set) → read ≡ Ok set
 set_of-Ok (Ok files) set is = cc
 set_of-Ok (Err absent) set is = absurd (cc)
 

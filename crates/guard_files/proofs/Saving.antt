@@ -27,7 +27,7 @@ unguarded_free : (P : List ℕ → Type 0) (found : Option (List ℕ)) (first se
 unguarded_free P None first second none all = all
 unguarded_free P (Some bytes) first second none all = absurd (cc)
 
-free_unguarded : (P : List ℕ → Type 0) (found : Option (List ℕ)) (first second : List (List ℕ)) → found ≡ None
+pub free_unguarded : (P : List ℕ → Type 0) (found : Option (List ℕ)) (first second : List (List ℕ)) → found ≡ None
     → AllByRecursion P second → AllByRecursion P (cond (is_some found) first second)
 free_unguarded P None first second none all = all
 free_unguarded P (Some bytes) first second none all = absurd (cc)
@@ -71,7 +71,7 @@ names_plain (name ∷ names) all =
     let is = listable name both.0 in (record { plain = is.plain; not_guard = is.not_guard }, names_plain names both.1)
 
 -- primaries are placed under their own names
-as_placed : (names : List (List ℕ)) (name : List ℕ) → is_among (list_name ∷ names) name ≡ false
+pub as_placed : (names : List (List ℕ)) (name : List ℕ) → is_among (list_name ∷ names) name ≡ false
     → is_among (primary_name list_name ∷ map primary_name names) name ≡ false
 as_placed names name absent = ap (λ found. bytes_eq list_name name || found) (placed names) ∙ absent
   where

@@ -98,7 +98,7 @@ agree_as_durable changes state left (name ∷ names) apart untouched may =
     (sym (left_as_durable changes state left name apart.0 untouched.0 may),
     agree_as_durable changes state left names apart.1 untouched.1 may)
 
-backups_apart : (changes : List Change) → InBackups changes → (names : List (List ℕ)) → AllByRecursion IsPlain names
+pub backups_apart : (changes : List Change) → InBackups changes → (names : List (List ℕ)) → AllByRecursion IsPlain names
     → AllByRecursion (Apart changes) names
 backups_apart changes in_backups [] plain = tt
 backups_apart changes in_backups (name ∷ names) plain =
