@@ -13,3 +13,4 @@ pub mod FileNames
 pub mod ListReading
 pub mod Leaving
 pub mod Mounting
+pub mod MountMoments

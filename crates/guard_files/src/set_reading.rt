@@ -1,5 +1,5 @@
 // The set that a folder holds, read from its backups or from its primaries.
-ghost use Rattle.std.specs.Prelude.{◌≡◌, true, [], ◌∷◌, ◌++◌, Ok, Err, IfOk, IfErr, OnOk};
+ghost use Rattle.std.specs.Prelude.{◌≡◌, true, [], ◌∷◌, ◌++◌, Ok, Err, IsSome, IfOk, IfErr, OnOk};
 ghost use Rattle.std.specs.List.{list_all};
 ghost use Rattle.desk_ports.specs.FileMap.{names_of};
 ghost use Rattle.desk_ports.specs.Disk.{WhereTold, KeepsState, MayLeave, Reads};
@@ -113,6 +113,7 @@ fn list_file(names: &StoreNames, guarded: bool) -> Result<FileName, AllocError>
 /// Reads the set of the backups where the guard stands, else that of the primaries. One disk call for the list file, and
 /// one for each file that it names, up to the first that is absent.
 pub fn read_set<D: Disk>(alloc: Global, disk: &mut D, names: &StoreNames, guarded: bool) -> Result<Option<FileSet>, VaultRefusal>
+    ensures some { IfOk result (λ held. guarded ≡ true → IsSome held) }
     ensures read { IfOk result (λ held. WhereTold (D.state disk.old) (λ before. set_read guarded before.current ≡ Ok held)) }
     ensures damaged { IfErr result (λ refusal. IfDamaged refusal (λ file. WhereTold (D.state disk.old) (λ before. set_read guarded before.current ≡ Err file))) }
     ensures kept { KeepsState (D.state disk.old) (D.state disk.new) }

@@ -1,5 +1,5 @@
 // A mount: what the folder holds is read, and made whole where a stop left a part.
-ghost use Rattle.std.specs.Prelude.{◌≡◌, List, ℕ, filter, Some, None, Ok, Err, IfOk, IfErr, OnOk};
+ghost use Rattle.std.specs.Prelude.{◌≡◌, List, ℕ, true, filter, Some, None, Ok, Err, IsSome, IfOk, IfErr, OnOk};
 ghost use Rattle.desk_ports.specs.FileMap.{AreNamesOf};
 ghost use Rattle.std.specs.List.{list_any};
 ghost use Rattle.std.specs.Str.{bytes_eq};
@@ -179,6 +179,7 @@ struct Survey {
 
 // Makes all durable, and reads what the folder holds.
 fn survey_of<D: Disk>(alloc: Global, disk: &mut D, names: &StoreNames) -> Result<Survey, VaultRefusal>
+    ensures some { IfOk result (λ found. found.guarded ≡ true → IsSome found.held) }
     ensures done { IfOk result (λ found. WhereTold (D.state disk.old) (λ before. (D.state disk.new ≡ Some (with_all_durable before))
         × IsSurvey before.current found.held found.guarded found.listing.items)) }
     ensures damaged { IfErr result (λ refusal. IfDamaged refusal (λ file. WhereTold (D.state disk.old) (λ before. (recover before.current ≡ Err file)
@@ -229,11 +230,12 @@ pub fn settle<D: Disk>(alloc: Global, disk: &mut D, names: &StoreNames) -> Resul
         listing,
     } = found;
     if guarded {
-        if let Some(set) = &held {
-            match finish_guarded(alloc, disk, names, &held, set, &listing) {
-                Ok(()) => return Ok(held),
-                Err(refusal) => return Err(refusal),
-            }
+        let Some(set) = &held else {
+            unreachable!();
+        };
+        match finish_guarded(alloc, disk, names, &held, set, &listing) {
+            Ok(()) => return Ok(held),
+            Err(refusal) => return Err(refusal),
         }
     }
     match finish(alloc, disk, &held, &listing) {
