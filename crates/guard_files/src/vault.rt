@@ -1,14 +1,18 @@
-ghost use Rattle.std.specs.Prelude.{◌≡◌, true, false, Some, IfOk, OnOk, OnErr};
+ghost use Rattle.std.specs.Prelude.{◌≡◌, true, false, Some, Ok, Err, IfOk, IfErr, OnOk, OnErr};
 ghost use Rattle.std.specs.Option.{option_copied};
 ghost use Rattle.std.specs.List.{AllPass};
 ghost use Rattle.desk_ports.specs.Faults.{next_count};
 ghost use Rattle.desk_ports.specs.FileMap.{names_of};
-ghost use Rattle.desk_ports.specs.Disk.{WhereTold};
+ghost use Rattle.desk_ports.specs.Disk.{WhereTold, with_all_durable};
 ghost use Rattle.desk_ports.specs.Moments.{LeavesOnly};
 ghost use Rattle.guard_files.specs.OwnName.{is_listable};
+ghost use Rattle.guard_files.specs.Recovery.{recover};
+ghost use Rattle.guard_files.specs.Mounted.{IfDamaged, count_after_mount, RecoversAsAllowed, EndsAtRest};
 ghost use Rattle.guard_files.specs.Settled.{IsSettled, gone_names, IsBeforeOrAfter, EndsSettled};
 
 use crate::prepared::Prepared;
+use crate::refusals::VaultRefusal;
+use crate::settling::settle;
 use crate::store_names::StoreNames;
 use desk_ports::{Disk, FileSet};
 use std::alloc::{AllocError, Global};
@@ -29,6 +33,61 @@ pub struct Vault<'d, D: Disk> {
 }
 
 impl<'d, D: Disk> Vault<'d, D> {
+    /// Mounts the folder, by the calls of `settle`. Refuses `StoreFault`, where a call of the disk failed; `Damaged`, with the
+    /// file, and then nothing in the folder was changed; and `Memory`.
+    pub fn mount(alloc: Global, disk: &'d mut D) -> Result<Vault<'d, D>, VaultRefusal>
+        ensures decided { IfOk result (λ vault. vault.decided ≡ true) }
+        ensures held { IfOk result (λ vault. WhereTold (D.state disk.old) (λ before. recover before.current ≡ Ok vault.held)) }
+
+        // The store is at rest then, and a stop meanwhile left what recovers as something that a stop at entry may leave.
+        ensures settled { IfOk result (λ vault. WhereTold (D.state disk.old) (λ before. EndsAtRest vault.held (D.state vault.disk.now))) }
+        ensures moments { IfOk result (λ vault. WhereTold (D.state disk.old) (λ before. LeavesOnly D.moment D.left_since disk.old vault.disk.now
+            (RecoversAsAllowed before))) }
+        ensures damaged { IfErr result (λ refusal. IfDamaged refusal (λ file. WhereTold (D.state disk.old) (λ before. recover before.current ≡ Err file))) }
+        ensures count { IfOk result (λ vault. D.faults vault.disk.now ≡ D.faults disk.old) }
+        ensures same_disk { IfOk result (λ vault. vault.disk.ghost_name ≡ disk.entry.ghost_name) }
+    {
+        let names = match StoreNames::new(alloc) {
+            Ok(names) => names,
+            Err(error) => return Err(VaultRefusal::Memory(error)),
+        };
+        let held = match settle(alloc, disk, &names) {
+            Ok(held) => held,
+            Err(refusal) => return Err(refusal),
+        };
+        Ok(Vault {
+            disk,
+            alloc,
+            names,
+            held,
+            decided: true,
+        })
+    }
+
+    /// Settles what the store holds, as a mount does, from whatever state. A refusal leaves the vault undecided.
+    pub fn remount(&mut self) -> Result<(), VaultRefusal>
+        ensures decided { OnOk result (self.new.decided ≡ true) }
+        ensures undecided { OnErr result (self.new.decided ≡ false) }
+        ensures held { OnOk result (WhereTold (D.state self.old.disk.now) (λ before. recover before.current ≡ Ok self.new.held)) }
+        ensures settled { OnOk result (WhereTold (D.state self.old.disk.now) (λ before. EndsAtRest self.new.held (D.state self.new.disk.now))) }
+        ensures moments { WhereTold (D.state self.old.disk.now) (λ before. LeavesOnly D.moment D.left_since self.old.disk.now self.new.disk.now
+            (RecoversAsAllowed before)) }
+        ensures damaged { IfErr result (λ refusal. IfDamaged refusal (λ file. WhereTold (D.state self.old.disk.now) (λ before. (recover before.current ≡ Err file)
+            × (D.state self.new.disk.now ≡ Some (with_all_durable before))))) }
+        ensures count { D.faults self.new.disk.now ≡ count_after_mount result (D.faults self.old.disk.now) }
+        ensures same_disk { self.new.disk.ghost_name ≡ self.old.disk.ghost_name }
+    {
+        self.decided = false;
+        match settle(self.alloc, self.disk, &self.names) {
+            Ok(held) => {
+                self.held = held;
+                self.decided = true;
+                Ok(())
+            }
+            Err(refusal) => Err(refusal),
+        }
+    }
+
     /// Whether it is decided which set the store holds. After a failed save only `remount` may be called.
     pub fn is_decided(&self) -> bool
         ensures { result ≡ self.now.decided }
