@@ -1,6 +1,6 @@
 -- Maps that agree where a recovery reads recover alike.
 use Rattle.std.proofs.Common.{◌≡◌, ℕ, Bool, true, false, List, [], ◌∷◌, map, Option, Some, None, is_some, cond, refl, sym, ◌∙◌, ap}
-use Rattle.desk_ports.specs.FileMap.{FileMap, with_content, names_of}
+use Rattle.desk_ports.specs.FileMap.{FileMap}
 use Rattle.guard_files.specs.OwnName.{guard_name, list_name, primary_name, backup_name}
 use Rattle.guard_files.specs.ListFile.{listed}
 use Rattle.guard_files.specs.Recovery.{Recovered, with_file, files_at, set_of, set_named, set_listed, backup_set, primary_set, recover, names_or_none, named_by, names_at, protected, AgreeAt, RecoversAlike}

@@ -1,15 +1,14 @@
 -- Which names stand among others, and what that tells of rows of changes.
-use Rattle.std.proofs.Common.{◌≡◌, ◌≢◌, ◌⊎◌, ℕ, Bool, true, false, not, ◌||◌, List, [], ◌∷◌, ◌++◌, map, filter, Option, Some, None, IsSome, cond, inl, inr, refl, sym, ◌∙◌, ap, subst}
-use Rattle.std.proofs.lemmas.Bool.{and_parts, both_ways, cases_Bool, or_parts, or_cases, false≢true}
-use Rattle.std.specs.List.{AllByRecursion, list_all}
+use Rattle.std.proofs.Common.{◌≡◌, ◌≢◌, ℕ, Bool, true, false, ◌||◌, List, [], ◌∷◌, ◌++◌, map, filter, Option, Some, None, IsSome, cond, inl, inr, refl, sym, ◌∙◌, ap, subst}
+use Rattle.std.proofs.lemmas.Bool.{both_ways, cases_Bool, or_parts, or_cases, false≢true}
+use Rattle.std.specs.List.{AllByRecursion}
 use Rattle.std.specs.Str.{bytes_eq}
 use Rattle.desk_ports.specs.declared.file_sets.SetFile.{SetFile}
 use Rattle.desk_ports.specs.FileMap.{FileMap, with_content, names_of}
-use Rattle.guard_files.specs.OwnName.{list_name, primary_name, backup_name, is_backup}
+use Rattle.guard_files.specs.OwnName.{list_name, primary_name, is_backup}
 use Rattle.guard_files.specs.Holding.{is_among}
 use Rattle.guard_files.specs.parts.Changes.{Change, changed, writes, removals, list_write, set_writes, Holds}
 use Rattle.guard_files.proofs.Names.{same-same, same-true}
-use Rattle.guard_files.proofs.Sets.{changed-other, content-same, content-other}
 use Rattle.guard_files.proofs.Stages.{IsPlain, Apart}
 
 apart_name : (name other : List ℕ) → bytes_eq other name ≡ false → other ≢ name

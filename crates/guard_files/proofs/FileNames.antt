@@ -1,10 +1,9 @@
 -- Names that may stand in a list are file names, and so are those of their backups.
-use Rattle.std.proofs.Common.{◌≡◌, ◌≤◌, ◌<◌, ℕ, suc, ◌+◌, Bool, true, false, not, ◌&&◌, ◌==◌, List, [], ◌∷◌, ◌++◌, length, Option, Some, None, cond, refl, sym, ◌∙◌, ap, arith, length-append}
+use Rattle.std.proofs.Common.{◌≡◌, ◌≤◌, ◌<◌, ℕ, suc, ◌+◌, true, false, not, ◌==◌, List, [], ◌∷◌, ◌++◌, length, Some, None, cond, refl, ◌∙◌, ap, arith, length-append}
 use Rattle.std.specs.Prelude.{nat_lt}
 use Rattle.std.proofs.lemmas.Bool.{and_parts, and_from, le-ltb, leb-true, not-true, ne_eqb, eqb-false}
 use Rattle.std.specs.List.{list_all, position, position_or_len}
-use Rattle.desk_ports.specs.FileName.{is_file_name_byte, bad_byte_at, file_name_fault, IsFileName}
-use Rattle.desk_ports.specs.declared.file_names.FileNameRefusal.{FileNameRefusal}
+use Rattle.desk_ports.specs.FileName.{is_file_name_byte, bad_byte_at, IsFileName}
 use Rattle.desk_ports.specs.declared.file_names.FileNameRefusal.TheVariants.{Empty, TooLong}
 use Rattle.guard_files.specs.OwnName.{backup_name, is_listable}
 

@@ -1,29 +1,24 @@
 -- A mount: the primaries are renewed where the guard stood, and what is left over is removed. Whatever a stop leaves recovers
 -- as what was read.
-use Rattle.std.proofs.Common.{◌≡◌, ◌≢◌, ◌⊎◌, ℕ, zero, suc, ◌<◌, Bool, true, false, not, ◌&&◌, ◌||◌, List, [], ◌∷◌, ◌++◌, map, filter, length, get_or, Option, Some, None, IsSome, is_some, Result, Ok, Err, cond, inl, inr, refl, sym, ◌∙◌, ap, subst, arith}
-use Rattle.std.proofs.lemmas.Bool.{and_parts, and_from, and_cases, both_ways, cases_Bool, or_parts, or_cases, not-true, false≢true, true≢false}
+use Rattle.std.proofs.Common.{◌≡◌, ◌⊎◌, ℕ, Bool, true, false, List, [], ◌∷◌, filter, get_or, Option, Some, None, IsSome, Ok, cond, inl, inr, refl, sym, ◌∙◌, ap, subst}
+use Rattle.std.proofs.lemmas.Bool.{and_parts, both_ways, not-true}
 use Rattle.std.proofs.lemmas.List.Recursion.{or_at}
-use Rattle.std.specs.List.{AllByRecursion, list_all, list_any, Contains}
+use Rattle.std.specs.List.{AllByRecursion}
 use Rattle.std.specs.Str.{bytes_eq}
 use Rattle.desk_ports.specs.declared.file_sets.SetFile.{SetFile}
-use Rattle.desk_ports.specs.FileMap.{FileMap, no_names, with_content, names_of, AreNamesOf}
-use Rattle.desk_ports.specs.Disk.{DiskState, MayLeave, IsTouchedOnly, with_all_durable}
-use Rattle.guard_files.specs.OwnName.{guard_name, list_name, primary_name, backup_name, is_backup, is_listable, is_own}
-use Rattle.guard_files.specs.ListFile.{are_listable, listed}
-use Rattle.guard_files.specs.Recovery.{Recovered, backup_set, primary_set, recover, names_at, named_by, names_or_none, protected, files_at, with_file, set_of, set_named, set_listed}
+use Rattle.desk_ports.specs.FileMap.{FileMap, AreNamesOf}
+use Rattle.desk_ports.specs.Disk.{DiskState, MayLeave, with_all_durable}
+use Rattle.guard_files.specs.OwnName.{guard_name, primary_name}
+use Rattle.guard_files.specs.Recovery.{primary_set, recover, names_at, protected}
 use Rattle.guard_files.specs.Holding.{is_among, own_names, OwnNamesAre}
 use Rattle.guard_files.specs.Settled.{IsSettled}
-use Rattle.guard_files.specs.Mounted.{set_read, goes, is_left_over, set_names}
-use Rattle.guard_files.specs.parts.Changes.{Change, changed, touching, after, writes, removals, set_writes, primary_changes, guard_down, Holds}
-use Rattle.guard_files.proofs.Names.{same-same, same-true, same-other, names_cases}
+use Rattle.guard_files.specs.Mounted.{goes}
+use Rattle.guard_files.specs.parts.Changes.{after, removals}
+use Rattle.guard_files.proofs.Names.{same-same}
 use Rattle.guard_files.proofs.Rows.{touched_only-after}
-use Rattle.guard_files.proofs.Sets.{changed-append, changed-other, touching-other, content-same, content-other, primaries_read}
 use Rattle.guard_files.proofs.Alike.{primaries_alike}
-use Rattle.guard_files.proofs.Stages.{IsPlain, InBackups, InPrimaries, Apart, names_at-primary, LeavesPrimaries, PrimariesStand, left_as_durable, agree_as_durable, recover-unguarded, recover-guarded, apart_from_backups, apart_from_primaries, guard_plain, all_untouched}
-use Rattle.guard_files.proofs.Primaries.{primary_changes-plain, removals_backups, durable_only, renewed, lowered, left_while_renewed, left_while_lowered, lowered_guard, lowered_holds, lowered_stands, lowered_recovers, holds_plain}
-use Rattle.guard_files.proofs.Reading.{names_of-files_at, set_of-Ok, backups_may, primaries_may}
-use Rattle.guard_files.proofs.Among.{removals-none, removals-among, removals-apart, set_writes-apart, among-filter, holds_there}
-use Rattle.guard_files.proofs.Saving.{as_placed, free_unguarded}
+use Rattle.guard_files.proofs.Stages.{IsPlain, Apart, PrimariesStand, left_as_durable, agree_as_durable, recover-unguarded, all_untouched}
+use Rattle.guard_files.proofs.Primaries.{durable_only}
 
 -- a name that a folder has is among its names
 pub among-listed : (files : FileMap) (names : List (List ℕ)) (name : List ℕ) → AreNamesOf files names → IsSome (files name) → is_among names name ≡ true
@@ -73,8 +68,8 @@ module _ (state : DiskState) (held : Option (List SetFile)) (extra : List (List 
   left_while_tidied left leaves =
       let unguarded = left_as_durable (removals extra) (with_all_durable state) left guard_name guard_apart refl leaves ∙ stands.unguarded in
       let same = primaries_alike state.current left
-          (agree_as_durable (removals extra) (with_all_durable state) left (names_at primary_name state.current) apart
-          (all_untouched (names_at primary_name state.current)) leaves) in
+      (agree_as_durable (removals extra) (with_all_durable state) left (names_at primary_name state.current) apart
+      (all_untouched (names_at primary_name state.current)) leaves) in
       recover-unguarded left unguarded ∙ same ∙ reads
 
   pub tidied_leaves : MayLeave tidied tidied.current

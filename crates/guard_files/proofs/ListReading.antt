@@ -1,13 +1,12 @@
 -- How a list file is read line by line.
-use Rattle.std.proofs.Common.{◌≡◌, ◌<◌, ◌≤◌, ℕ, zero, suc, ◌+◌, Bool, true, false, not, ◌&&◌, ◌==◌, List, [], ◌∷◌, ◌++◌, take, drop, length, Option, Some, None, cond, refl, sym, ◌∙◌, ap, subst, arith, append_assoc, length-append}
+use Rattle.std.proofs.Common.{◌≡◌, ◌<◌, ◌≤◌, ℕ, zero, suc, ◌+◌, Bool, true, false, not, ◌==◌, List, [], ◌∷◌, ◌++◌, take, drop, length, Option, Some, None, cond, refl, sym, ◌∙◌, ap, arith, append_assoc, length-append}
 use Rattle.std.proofs.lemmas.List.{append-nil}
-use Rattle.std.proofs.lemmas.Bool.{and_parts, and_from, both_ways, false≢true, cases_Bool, not-true, eqb-true, eqb-false, ltb-true, ltb-false}
+use Rattle.std.proofs.lemmas.Bool.{and_parts, and_from, both_ways, false≢true, not-true, eqb-true, eqb-false, ltb-true, ltb-false}
 use Rattle.std.proofs.Math.Numerals.{add-one}
 use Rattle.std.specs.Prelude.{nat_lt}
 use Rattle.std.specs.List.{list_all, position, position_or_len}
 use Rattle.std.specs.Ordering.{nat_cmp, is_lt}
 use Rattle.std.specs.Cmp.Lexicographic.{slice_cmp}
-use Rattle.std.specs.Cmp.{IsTotalOrder}
 use Rattle.std.specs.declared.cmp.Ordering.{Ordering}
 use Rattle.std.specs.declared.cmp.Ordering.TheVariants.{Less, Equal, Greater}
 use Rattle.std.proofs.lemmas.Cmp.{nat_list_cmp_total}
@@ -121,11 +120,11 @@ no_newline (byte ∷ bytes) past = at_byte (byte == 10) refl (no_newline bytes)
         → list_all (λ byte. not (byte == 10)) (byte ∷ bytes) ≡ true
     at_byte true is others =
         let first : position_or_len (λ byte. byte == 10) (byte ∷ bytes) ≡ 0 =
-            ap (λ test. cond (not test) (1 + position_or_len (λ byte. byte == 10) bytes) 0) is in
+        ap (λ test. cond (not test) (1 + position_or_len (λ byte. byte == 10) bytes) 0) is in
         absurd (omega (arith, past, first))
     at_byte false is others =
         let more : position_or_len (λ byte. byte == 10) (byte ∷ bytes) ≡ 1 + position_or_len (λ byte. byte == 10) bytes =
-            ap (λ test. cond (not test) (1 + position_or_len (λ byte. byte == 10) bytes) 0) is in
+        ap (λ test. cond (not test) (1 + position_or_len (λ byte. byte == 10) bytes) 0) is in
         and_from _ _ (ap not is) (others (omega (arith, past, more)))
 
 found_none : (test : Bool) (place : ℕ) → cond test (Some place) None ≡ None → test ≡ false
@@ -146,7 +145,7 @@ listed-cut bytes names (byte ∷ rest) may is some none =
     none_where (listed bytes) (λ found listing.
     let past = ltb-past (position_or_len (λ byte. byte == 10) (byte ∷ rest)) (length (byte ∷ rest)) (found_none _ _ none) in
     let whole = names_are bytes (byte ∷ rest) names found may is listing
-        ∙ ap (λ more. names ++ more) (lines_of-cut byte rest (no_newline (byte ∷ rest) past)) in
+    ∙ ap (λ more. names ++ more) (lines_of-cut byte rest (no_newline (byte ∷ rest) past)) in
     longer (list_text names ++ byte ∷ rest)
     (sym (list_text-push names (byte ∷ rest)) ∙ ap list_text (sym whole) ∙ (text-listed bytes found listing).0 ∙ sym is))
   where
@@ -172,15 +171,15 @@ first_line (byte ∷ bytes) end is within = at_byte (byte == 10) refl end is wit
     }
     at_byte true newline (suc end) is within others =
         let first : position_or_len (λ byte. byte == 10) (byte ∷ bytes) ≡ 0 =
-            ap (λ test. cond (not test) (1 + position_or_len (λ byte. byte == 10) bytes) 0) newline in
+        ap (λ test. cond (not test) (1 + position_or_len (λ byte. byte == 10) bytes) 0) newline in
         absurd (omega (arith, is, first))
     at_byte false other zero is within others =
         let more : position_or_len (λ byte. byte == 10) (byte ∷ bytes) ≡ 1 + position_or_len (λ byte. byte == 10) bytes =
-            ap (λ test. cond (not test) (1 + position_or_len (λ byte. byte == 10) bytes) 0) other in
+        ap (λ test. cond (not test) (1 + position_or_len (λ byte. byte == 10) bytes) 0) other in
         absurd (omega (arith, is, more))
     at_byte false other (suc end) is within others =
         let more : position_or_len (λ byte. byte == 10) (byte ∷ bytes) ≡ 1 + position_or_len (λ byte. byte == 10) bytes =
-            ap (λ test. cond (not test) (1 + position_or_len (λ byte. byte == 10) bytes) 0) other in
+        ap (λ test. cond (not test) (1 + position_or_len (λ byte. byte == 10) bytes) 0) other in
         let rest = others end (omega (arith, is, more)) (omega arith) in
         record {
           split = ap (λ more. byte ∷ more) rest.split;

@@ -1,7 +1,7 @@
 -- A list file and the names in it.
-use Rattle.std.proofs.Common.{◌≡◌, ◌≢◌, ℕ, ◌+◌, Bool, true, false, ◌&&◌, ◌==◌, List, [], ◌∷◌, ◌++◌, Option, Some, None, length, cond, inl, inr, refl, sym, ◌∙◌, ap, arith, append_assoc, get_or, ◌<◌, ◌||◌}
+use Rattle.std.proofs.Common.{◌≡◌, ℕ, Bool, true, false, ◌&&◌, ◌==◌, List, [], ◌∷◌, ◌++◌, Some, None, length, cond, refl, sym, ◌∙◌, ap, append_assoc, get_or, ◌<◌, ◌||◌}
 use Rattle.std.proofs.lemmas.List.{append-nil}
-use Rattle.std.proofs.lemmas.Bool.{and_parts, and_from, both_ways, cases_Bool, cases_eq, ne_eqb, true≢false, false≢true}
+use Rattle.std.proofs.lemmas.Bool.{and_parts, and_from, both_ways, ne_eqb, false≢true}
 use Rattle.std.specs.List.{list_all, list_any, AllPass, AllByRecursion}
 use Rattle.std.specs.List.Sorted.{IsStrictlySortedBy}
 use Rattle.std.specs.Ordering.{nat_cmp, is_lt}
@@ -12,7 +12,7 @@ use Rattle.std.specs.Str.{bytes_eq}
 use Rattle.std.proofs.lemmas.List.Recursion.{and_at, and_from_places}
 use Rattle.desk_ports.specs.declared.file_sets.SetFile.{SetFile}
 use Rattle.desk_ports.specs.FileName.{is_file_name_byte}
-use Rattle.desk_ports.specs.FileMap.{FileMap, with_content, names_of, NamesRise}
+use Rattle.desk_ports.specs.FileMap.{names_of, NamesRise}
 use Rattle.guard_files.specs.OwnName.{is_listable}
 use Rattle.guard_files.specs.Holding.{is_among}
 use Rattle.guard_files.specs.ListFile.{list_text, in_front, lines_of, rises, are_listable, listed}

@@ -1,25 +1,24 @@
 -- A mount at each moment, over plain disks.
-use Rattle.std.proofs.Common.{◌≡◌, ℕ, Bool, true, false, List, [], ◌∷◌, filter, Option, Some, None, IsSome, is_some, Result, Ok, Err, cond, inl, inr, refl, sym, ◌∙◌, ap, subst}
+use Rattle.std.proofs.Common.{◌≡◌, ℕ, Bool, true, false, List, filter, Option, Some, None, IsSome, is_some, Ok, inl, inr, refl, sym, ◌∙◌, ap, subst}
 use Rattle.std.proofs.lemmas.Bool.{cases_Bool, true≢false}
-use Rattle.std.specs.List.{AllByRecursion, list_any}
+use Rattle.std.specs.List.{AllByRecursion}
 use Rattle.std.specs.Str.{bytes_eq}
 use Rattle.desk_ports.specs.declared.file_sets.SetFile.{SetFile}
 use Rattle.desk_ports.specs.FileMap.{FileMap, AreNamesOf}
 use Rattle.desk_ports.specs.Disk.{DiskState, MayLeave, WhereTold, with_all_durable}
 use Rattle.desk_ports.specs.Moments.{AddsOnly}
-use Rattle.desk_ports.proofs.Moments.{AddsOnly-then, AddsOnly-more}
-use Rattle.std.specs.List.{Contains}
+use Rattle.desk_ports.proofs.Moments.{AddsOnly-more}
 use Rattle.guard_files.specs.OwnName.{guard_name}
 use Rattle.guard_files.specs.Recovery.{Recovered, backup_set, primary_set, recover}
 use Rattle.guard_files.specs.Holding.{is_among}
-use Rattle.guard_files.specs.Mounted.{goes, is_left_over, set_read, EndsAtRest, IsSurvey}
+use Rattle.guard_files.specs.Mounted.{goes, is_left_over, set_read, EndsAtRest}
 use Rattle.guard_files.specs.parts.Changes.{after, removals, primary_changes, guard_down}
 use Rattle.std.proofs.lemmas.Map.Views.{Contains-from_any}
 use Rattle.guard_files.proofs.Names.{same-true}
 use Rattle.guard_files.proofs.Stages.{IsPlain}
-use Rattle.guard_files.proofs.Primaries.{renewed, lowered, left_while_renewed, left_while_lowered}
+use Rattle.guard_files.proofs.Primaries.{left_while_renewed, left_while_lowered}
 use Rattle.guard_files.proofs.Reading.{backups_may}
-use Rattle.guard_files.proofs.Leaving.{among-listed, all_filtered, goes_plain, tidied, left_while_tidied, tidied_settled}
+use Rattle.guard_files.proofs.Leaving.{among-listed, all_filtered, goes_plain, left_while_tidied, tidied_settled}
 use Rattle.guard_files.proofs.Mounting.{leftover, low, low_stands, low_reads, low_guard_apart, low_apart, low_own, rest, rest_stands, rest_guard_apart, rest_apart, rest_own}
 
 -- what the guard's name among the names tells
@@ -105,13 +104,14 @@ module _ {D : Type 0} (state : D → Option DiskState) (moment : D → ℕ) (lef
     pub ends_guarded : (new : D) (extra : List (List ℕ)) → extra ≡ filter (is_left_over true (Some set)) names
         → state new ≡ Some (with_all_durable (after (removals extra) (with_all_durable (low base bytes set names guarded backups are))))
         → EndsAtRest (Some set) (state new)
-    ends_guarded new extra extra_is told =
-        (with_all_durable (after (removals (leftover base bytes set names guarded backups are)) (with_all_durable (low base bytes set names guarded backups are))),
-        subst (λ (extra : List (List ℕ)). state new ≡ Some (with_all_durable (after (removals extra) (with_all_durable (low base bytes set names guarded backups are))))) extra_is told,
-        tidied_settled (low base bytes set names guarded backups are) (Some set) (leftover base bytes set names guarded backups are)
-        (low_stands base bytes set names guarded backups are) (low_reads base bytes set names guarded backups are)
-        (low_guard_apart base bytes set names guarded backups are) (low_apart base bytes set names guarded backups are)
-        (low_own base bytes set names guarded backups are))
+    ends_guarded new extra extra_is told = (
+      with_all_durable (after (removals (leftover base bytes set names guarded backups are)) (with_all_durable (low base bytes set names guarded backups are))),
+      subst (λ (extra : List (List ℕ)). state new ≡ Some (with_all_durable (after (removals extra) (with_all_durable (low base bytes set names guarded backups are))))) extra_is told,
+      tidied_settled (low base bytes set names guarded backups are) (Some set) (leftover base bytes set names guarded backups are)
+          (low_stands base bytes set names guarded backups are) (low_reads base bytes set names guarded backups are)
+          (low_guard_apart base bytes set names guarded backups are) (low_apart base bytes set names guarded backups are)
+          (low_own base bytes set names guarded backups are),
+    )
 
 module _ {D : Type 0} (state : D → Option DiskState) (moment : D → ℕ) (left_since : D → ℕ → FileMap → Type 0)
     (base : DiskState) (held : Option (List SetFile)) (names : List (List ℕ)) (unguarded : base.current guard_name ≡ None)
@@ -129,9 +129,10 @@ module _ {D : Type 0} (state : D → Option DiskState) (moment : D → ℕ) (lef
 
   pub ends_unguarded : (new : D) (extra : List (List ℕ)) → extra ≡ filter (is_left_over false held) names
       → state new ≡ Some (with_all_durable (after (removals extra) (with_all_durable base))) → EndsAtRest held (state new)
-  ends_unguarded new extra extra_is told =
-      (with_all_durable (after (removals (rest base held names unguarded reads are)) (with_all_durable base)),
-      subst (λ (extra : List (List ℕ)). state new ≡ Some (with_all_durable (after (removals extra) (with_all_durable base)))) extra_is told,
-      tidied_settled base held (rest base held names unguarded reads are) (rest_stands base held names unguarded reads are) reads
-      (rest_guard_apart base held names unguarded reads are) (rest_apart base held names unguarded reads are)
-      (rest_own base held names unguarded reads are))
+  ends_unguarded new extra extra_is told = (
+    with_all_durable (after (removals (rest base held names unguarded reads are)) (with_all_durable base)),
+    subst (λ (extra : List (List ℕ)). state new ≡ Some (with_all_durable (after (removals extra) (with_all_durable base)))) extra_is told,
+    tidied_settled base held (rest base held names unguarded reads are) (rest_stands base held names unguarded reads are) reads
+        (rest_guard_apart base held names unguarded reads are) (rest_apart base held names unguarded reads are)
+        (rest_own base held names unguarded reads are),
+  )

@@ -1,25 +1,25 @@
 -- A mount from what was read, where the guard stood and where it did not.
-use Rattle.std.proofs.Common.{◌≡◌, ◌≢◌, ◌⊎◌, ℕ, Bool, true, false, not, ◌&&◌, ◌||◌, List, [], ◌∷◌, ◌++◌, map, filter, Option, Some, None, IsSome, is_some, Result, Ok, Err, cond, inl, inr, refl, sym, ◌∙◌, ap, subst}
+use Rattle.std.proofs.Common.{◌≡◌, ◌≢◌, ◌⊎◌, ℕ, Bool, true, false, not, ◌&&◌, ◌||◌, List, [], ◌∷◌, map, filter, Option, Some, None, IsSome, Result, Ok, Err, inl, inr, refl, sym, ◌∙◌, ap, subst}
 use Rattle.std.proofs.lemmas.Bool.{and_parts, and_from, both_ways, cases_Bool, or_parts, false≢true}
-use Rattle.std.specs.List.{AllByRecursion, list_all}
+use Rattle.std.specs.List.{AllByRecursion}
 use Rattle.std.specs.Str.{bytes_eq}
 use Rattle.desk_ports.specs.declared.file_sets.SetFile.{SetFile}
 use Rattle.desk_ports.specs.FileMap.{FileMap, names_of, AreNamesOf}
-use Rattle.desk_ports.specs.Disk.{DiskState, MayLeave, with_all_durable}
-use Rattle.guard_files.specs.OwnName.{guard_name, list_name, primary_name, backup_name, is_backup, is_own}
+use Rattle.desk_ports.specs.Disk.{DiskState, with_all_durable}
+use Rattle.guard_files.specs.OwnName.{guard_name, list_name, primary_name, is_backup, is_own}
 use Rattle.guard_files.specs.ListFile.{are_listable, listed}
-use Rattle.guard_files.specs.Recovery.{Recovered, backup_set, primary_set, recover, names_at, named_by, names_or_none, files_at, with_file, set_of, set_named, set_listed}
+use Rattle.guard_files.specs.Recovery.{backup_set, primary_set, names_at, named_by, names_or_none, files_at, with_file, set_of, set_named, set_listed}
 use Rattle.guard_files.specs.Holding.{is_among, own_names, OwnNamesAre}
 use Rattle.guard_files.specs.Mounted.{goes, is_left_over, set_names}
-use Rattle.guard_files.specs.parts.Changes.{changed, removals, set_writes, primary_changes, Holds}
-use Rattle.guard_files.proofs.Names.{same-same, same-other, same-true, names_cases}
+use Rattle.guard_files.specs.parts.Changes.{changed, removals, set_writes, primary_changes}
+use Rattle.guard_files.proofs.Names.{same-same, same-other, names_cases}
 use Rattle.guard_files.proofs.Sets.{changed-append, changed-other, content-other, primaries_read}
 use Rattle.guard_files.proofs.Stages.{IsPlain, InBackups, InPrimaries, Apart, names_at-primary, backups_apart, PrimariesStand, apart_from_backups, apart_from_primaries, guard_plain, all_untouched}
-use Rattle.guard_files.proofs.Primaries.{primary_changes-plain, removals_backups, renewed, lowered, lowered_guard, lowered_holds, lowered_stands, holds_plain}
-use Rattle.guard_files.proofs.Reading.{names_of-files_at, set_of-Ok, backups_may}
+use Rattle.guard_files.proofs.Primaries.{primary_changes-plain, removals_backups, lowered, lowered_guard, lowered_holds, lowered_stands, holds_plain}
+use Rattle.guard_files.proofs.Reading.{names_of-files_at, backups_may}
 use Rattle.guard_files.proofs.Among.{removals-none, removals-among, set_writes-apart, among-filter, holds_there}
 use Rattle.guard_files.proofs.Saving.{as_placed}
-use Rattle.guard_files.proofs.Leaving.{none_or_listed, all_filtered, filtered_apart, tidied, goes_plain}
+use Rattle.guard_files.proofs.Leaving.{none_or_listed, all_filtered, filtered_apart, goes_plain}
 
 -- a name of neither the list nor the set
 not_own : (held : Option (List SetFile)) (name : List ℕ) → bytes_eq name list_name ≡ false → is_among (set_names held) name ≡ false → is_own name ≡ true
@@ -182,9 +182,10 @@ or_right false b is = is
 all_among : (names : List (List ℕ)) (P : List ℕ → Type 0) → ((name : List ℕ) → is_among names name ≡ true → P name)
     → AllByRecursion P (map primary_name names)
 all_among [] P gives = tt
-all_among (first ∷ names) P gives =
-    (gives first (or_left (bytes_eq first first) (is_among names first) (same-same first first refl)),
-    all_among names P (λ name is. gives name (or_right (bytes_eq first name) (is_among names name) is)))
+all_among (first ∷ names) P gives = (
+  gives first (or_left (bytes_eq first first) (is_among names first) (same-same first first refl)),
+  all_among names P (λ name is. gives name (or_right (bytes_eq first name) (is_among names name) is)),
+)
 
 kept_there : (files others : FileMap) (names : List (List ℕ)) → AllByRecursion (λ name. others name ≡ files name) names
     → AllByRecursion (λ name. IsSome (files name)) names → AllByRecursion (λ name. IsSome (others name)) names
@@ -213,10 +214,11 @@ module _ (before : DiskState) (held : Option (List SetFile)) (names : List (List
 
   pub rest_apart : AllByRecursion (Apart (removals rest)) (names_at primary_name before.current)
   unfolding names_at
-  rest_apart =
-      (list_apart,
-      subst (λ (names : List (List ℕ)). AllByRecursion (Apart (removals rest)) (map primary_name names)) (sym (is_read before.current held reads).named)
-      (all_among (set_names held) (Apart (removals rest)) held_apart))
+  rest_apart = (
+    list_apart,
+    subst (λ (names : List (List ℕ)). AllByRecursion (Apart (removals rest)) (map primary_name names)) (sym (is_read before.current held reads).named)
+        (all_among (set_names held) (Apart (removals rest)) held_apart),
+  )
 
   kept_names : (held_names : List (List ℕ)) → AllByRecursion (Apart (removals rest)) (map primary_name held_names)
       → AllByRecursion (λ name. changed (removals rest) before.current name ≡ before.current name) held_names

@@ -1,16 +1,14 @@
 -- What the tests of names tell.
-use Rattle.std.proofs.Common.{◌≡◌, ◌≢◌, ℕ, suc, ◌+◌, Bool, true, false, not, ◌&&◌, ◌==◌, List, [], ◌∷◌, ◌++◌, length, inl, inr, ◌⊎◌, refl, sym, ◌∙◌, ap, subst, arith, length-append}
-use Rattle.std.proofs.lemmas.Bool.{true≢false, and_parts, and_from, or_cases, not-true, both_ways, cases_Bool, cases_eq, eq-eqb, ne_eqb}
+use Rattle.std.proofs.Common.{◌≡◌, ◌≢◌, ℕ, true, false, not, List, [], ◌∷◌, inl, inr, ◌⊎◌, refl, sym, ◌∙◌, ap, arith, length-append}
+use Rattle.std.proofs.lemmas.Bool.{and_parts, not-true, both_ways, cases_Bool}
 use Rattle.std.specs.List.{list_all}
-use Rattle.std.proofs.Math.Numerals.{add-one}
 use Rattle.std.proofs.lemmas.List.{take_at}
 use Rattle.std.proofs.lemmas.Slice.Eq.{ends_is}
 use Rattle.std.proofs.lemmas.Bool.Decides.{Decides-eqb}
 use lib.Pointwise.{bytes_decides}
 use Rattle.std.specs.Str.{bytes_eq}
 use Rattle.desk_ports.specs.FileName.{is_file_name_byte}
-use Rattle.desk_ports.specs.FileMap.{FileMap, with_content, names_of}
-use Rattle.guard_files.specs.OwnName.{guard_name, list_name, backup_name, is_backup, front, is_desk_name, is_primary, is_own, is_listable}
+use Rattle.guard_files.specs.OwnName.{guard_name, list_name, backup_name, is_backup, front, is_own, is_listable}
 
 pub same-true : (xs ys : List ℕ) → bytes_eq xs ys ≡ true → xs ≡ ys
 same-true xs ys = (bytes_decides xs ys).0

@@ -1,19 +1,19 @@
 -- The primaries are made those of the set in the backups, and the guard is taken away: whatever a stop leaves stands for that
 -- set.
-use Rattle.std.proofs.Common.{◌≡◌, ◌≢◌, ◌⊎◌, ℕ, Bool, true, false, List, [], ◌∷◌, ◌++◌, map, Option, Some, None, is_some, Result, Ok, Err, cond, inl, inr, refl, sym, ◌∙◌, ap, subst}
-use Rattle.std.proofs.lemmas.Bool.{and_parts, both_ways}
+use Rattle.std.proofs.Common.{◌≡◌, ℕ, true, List, [], ◌∷◌, ◌++◌, map, Some, None, Ok, inl, inr, refl, sym, ◌∙◌, subst}
+use Rattle.std.proofs.lemmas.Bool.{and_parts}
 use Rattle.std.specs.List.{AllByRecursion, list_all}
 use Rattle.desk_ports.specs.declared.file_sets.SetFile.{SetFile}
-use Rattle.desk_ports.specs.FileMap.{FileMap, no_names, with_content, names_of}
+use Rattle.desk_ports.specs.FileMap.{FileMap, names_of}
 use Rattle.desk_ports.specs.Disk.{DiskState, MayLeave, IsTouchedOnly, with_all_durable}
 use Rattle.guard_files.specs.OwnName.{guard_name, list_name, primary_name, backup_name, is_backup, is_listable}
 use Rattle.guard_files.specs.ListFile.{are_listable}
-use Rattle.guard_files.specs.Recovery.{Recovered, backup_set, primary_set, recover, names_at, protected}
-use Rattle.guard_files.specs.parts.Changes.{Change, changed, touching, after, writes, removals, list_write, set_writes, primary_changes, guard_up, guard_down, backups_away, Holds}
+use Rattle.guard_files.specs.Recovery.{backup_set, recover, names_at}
+use Rattle.guard_files.specs.parts.Changes.{Change, changed, after, writes, removals, list_write, set_writes, primary_changes, guard_down, Holds}
 use Rattle.guard_files.proofs.Names.{listable, is_backup-backup}
 use Rattle.guard_files.proofs.Rows.{touched_only-after}
-use Rattle.guard_files.proofs.Sets.{changed-append, changed-other, touching-other, content-same, content-other, primary-same, holds_written, primaries_read}
-use Rattle.guard_files.proofs.Stages.{IsPlain, InBackups, InPrimaries, Apart, names_at-primary, left_in_backups, left_in_primaries, left_at_guard, PrimariesStand, recover-unguarded, recover-guarded, recover-either, apart_from_backups, guard_plain, list_plain, list_not_guard, all_untouched}
+use Rattle.guard_files.proofs.Sets.{changed-append, content-same, content-other, primary-same, holds_written, primaries_read}
+use Rattle.guard_files.proofs.Stages.{IsPlain, InBackups, InPrimaries, left_in_primaries, left_at_guard, PrimariesStand, recover-unguarded, recover-guarded, recover-either, list_plain, list_not_guard, all_untouched}
 
 -- changes of a set's files, of names that are removed
 pub in_primaries-append : (first second : List Change) → InPrimaries first → InPrimaries second → InPrimaries (first ++ second)

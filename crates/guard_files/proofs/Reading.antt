@@ -1,5 +1,5 @@
 -- What a set that was read tells of its names.
-use Rattle.std.proofs.Common.{◌≡◌, ℕ, Bool, true, false, List, [], ◌∷◌, map, Option, Some, None, Result, Ok, Err, ◌++◌, refl, sym, ◌∙◌, ap}
+use Rattle.std.proofs.Common.{◌≡◌, ℕ, Bool, true, false, List, [], ◌∷◌, Option, Some, None, Result, Ok, Err, ◌++◌, refl, sym, ◌∙◌, ap}
 use Rattle.desk_ports.specs.declared.file_sets.SetFile.{SetFile}
 use Rattle.desk_ports.specs.FileMap.{FileMap, names_of}
 use Rattle.guard_files.specs.OwnName.{list_name, primary_name, backup_name}

@@ -1,16 +1,16 @@
 -- How the state of a disk goes on over a row of changes, and what stops in the row leave.
-use Rattle.std.proofs.Common.{◌≡◌, ◌≤◌, ℕ, ◌+◌, Bool, true, false, ◌||◌, List, [], ◌∷◌, ◌++◌, map, Option, Some, None, refl, sym, ◌∙◌, ap, subst, cond, inl, inr, take, drop, length, get_or, ◌<◌, append_assoc}
+use Rattle.std.proofs.Common.{◌≡◌, ℕ, ◌+◌, Bool, true, false, ◌||◌, List, [], ◌∷◌, ◌++◌, map, Option, Some, refl, sym, ◌∙◌, ap, subst, cond, take, drop, length, get_or, ◌<◌, append_assoc}
 use Rattle.std.proofs.lemmas.List.{take_more, take-append-drop, map-append, get_or-map}
 use Rattle.std.proofs.Math.ListN.{length-map}
-use Rattle.std.proofs.lemmas.Bool.{cases_Bool, both_ways, true≢false}
+use Rattle.std.proofs.lemmas.Bool.{true≢false}
 use Rattle.desk_ports.specs.declared.file_sets.SetFile.{SetFile}
 use Rattle.desk_ports.specs.FileMap.{FileMap, NameSet, with_name, names_of}
 use Rattle.desk_ports.specs.Disk.{DiskState, MayLeave, WhereTold, Gives, Disturbs, KeepsState, MakesDurable, IsTouchedOnly, with_all_durable, with_touched, IsDisturbedAt}
 use Rattle.desk_ports.specs.Moments.{Elapses, AddsOnly}
 use Rattle.desk_ports.proofs.Moments.{AddsOnly-none, AddsOnly-call, AddsOnly-then, AddsOnly-more}
 use Rattle.std.specs.Str.{bytes_eq}
-use Rattle.guard_files.specs.parts.Changes.{Change, changed, touching, after}
-use Rattle.guard_files.proofs.Sets.{touching-append, after-append, content-other}
+use Rattle.guard_files.specs.parts.Changes.{Change, touching, after}
+use Rattle.guard_files.proofs.Sets.{touching-append, after-append}
 
 or_left : (a b : Bool) → (a || b) ≡ false → a ≡ false
 or_left false b none = refl

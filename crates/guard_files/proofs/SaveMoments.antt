@@ -1,5 +1,5 @@
 -- What a stop leaves at each moment of a save.
-use Rattle.std.proofs.Common.{◌≡◌, ℕ, true, List, [], ◌∷◌, map, Option, Some, Result, Ok, inl, inr, refl, sym, ◌∙◌, subst}
+use Rattle.std.proofs.Common.{◌≡◌, ℕ, true, List, [], map, Option, Some, Ok, inl, inr, ◌∙◌, subst}
 use Rattle.desk_ports.specs.declared.file_sets.SetFile.{SetFile}
 use Rattle.desk_ports.specs.FileMap.{FileMap, names_of}
 use Rattle.desk_ports.specs.Disk.{DiskState, MayLeave, WhereTold, IsTouchedOnly, with_all_durable}
@@ -11,7 +11,7 @@ use Rattle.guard_files.specs.Recovery.{recover}
 use Rattle.guard_files.specs.Settled.{IsSettled, gone_names, IsBeforeOrAfter, EndsSettled}
 use Rattle.guard_files.specs.parts.Changes.{after, set_writes, primary_changes, guard_up, guard_down, backups_away}
 use Rattle.guard_files.proofs.Stages.{left_in_backups, recover-unguarded}
-use Rattle.guard_files.proofs.Primaries.{renewed, lowered, left_while_renewed, left_while_lowered}
+use Rattle.guard_files.proofs.Primaries.{renewed, left_while_renewed, left_while_lowered}
 use Rattle.guard_files.proofs.Saving.{settled_stands, settled_primaries, backed, raised, last, cleared, left_while_backed, left_while_raised, left_while_cleared, raised_guard, raised_backups, gone_is_plain, cleared_settled}
 
 -- a stop of a store at rest leaves its set
@@ -100,10 +100,11 @@ module _ {D : Type 0} (state : D → Option DiskState) (moment : D → ℕ) (lef
       → state old ≡ Some (with_all_durable (last held set before settled only may))
       → WhereTold (state old) (λ before. state new ≡ Some (after (backups_away backups) before))
       → EndsSettled set (state new)
-  told_cleared old new backups are told done =
-      (cleared held set before settled only may,
-      subst (λ backups. state new ≡ Some (after (backups_away backups) (with_all_durable (last held set before settled only may)))) are (done _ told),
-      cleared_settled held set before settled only may)
+  told_cleared old new backups are told done = (
+    cleared held set before settled only may,
+    subst (λ backups. state new ≡ Some (after (backups_away backups) (with_all_durable (last held set before settled only may)))) are (done _ told),
+    cleared_settled held set before settled only may,
+  )
 
   -- from a store at rest on
   pub from_rest : (old new : D) → ((left : FileMap) → left_since old (moment old) left → MayLeave before left) → leaves old new

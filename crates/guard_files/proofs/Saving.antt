@@ -1,23 +1,23 @@
 -- A save from a store at rest: what each stop in it leaves recovers to the set before or to the set after, and at its end the
 -- store is at rest with the set after.
-use Rattle.std.proofs.Common.{◌≡◌, ◌≢◌, ◌⊎◌, ℕ, Bool, true, false, not, ◌||◌, List, [], ◌∷◌, ◌++◌, map, filter, Option, Some, None, IsSome, is_some, Result, Ok, Err, cond, inl, inr, refl, sym, ◌∙◌, ap, subst}
-use Rattle.std.proofs.lemmas.Bool.{and_parts, both_ways, cases_Bool, or_parts, false≢true}
-use Rattle.std.specs.List.{AllByRecursion, list_all, list_any}
+use Rattle.std.proofs.Common.{◌≡◌, ◌≢◌, ℕ, Bool, true, false, not, ◌||◌, List, [], ◌∷◌, map, filter, Option, Some, None, IsSome, is_some, Ok, cond, inl, inr, refl, sym, ◌∙◌, ap}
+use Rattle.std.proofs.lemmas.Bool.{and_parts, both_ways, cases_Bool, or_parts}
+use Rattle.std.specs.List.{AllByRecursion, list_all}
 use Rattle.std.specs.Str.{bytes_eq}
 use Rattle.desk_ports.specs.declared.file_sets.SetFile.{SetFile}
-use Rattle.desk_ports.specs.FileMap.{FileMap, no_names, with_content, names_of}
+use Rattle.desk_ports.specs.FileMap.{FileMap, no_names, names_of}
 use Rattle.desk_ports.specs.Disk.{DiskState, MayLeave, IsTouchedOnly, with_all_durable}
 use Rattle.guard_files.specs.OwnName.{guard_name, list_name, primary_name, backup_name, is_backup, is_listable, is_own}
 use Rattle.guard_files.specs.ListFile.{are_listable}
-use Rattle.guard_files.specs.Recovery.{Recovered, backup_set, primary_set, recover, names_at, protected}
+use Rattle.guard_files.specs.Recovery.{backup_set, primary_set, recover, names_at, protected}
 use Rattle.guard_files.specs.Holding.{is_among, own_names, OwnNamesAre}
 use Rattle.guard_files.specs.Settled.{IsSettled, gone_names, IsBeforeOrAfter}
-use Rattle.guard_files.specs.parts.Changes.{Change, changed, touching, after, writes, removals, list_write, set_writes, primary_changes, guard_up, guard_down, backups_away, Holds}
-use Rattle.guard_files.proofs.Names.{listable, is_backup-backup, same-same, same-true, same-other, names_cases, backup-same}
+use Rattle.guard_files.specs.parts.Changes.{changed, after, removals, set_writes, primary_changes, guard_up, backups_away}
+use Rattle.guard_files.proofs.Names.{listable, is_backup-backup, names_cases, backup-same}
 use Rattle.guard_files.proofs.Rows.{touched_only-after}
 use Rattle.guard_files.proofs.Sets.{changed-append, changed-other, touching-other, content-same, content-other, holds_written, backups_read, primaries_read}
-use Rattle.guard_files.proofs.Stages.{IsPlain, InBackups, InPrimaries, Apart, names_at-primary, left_in_backups, left_in_primaries, left_at_guard, PrimariesStand, recover-unguarded, recover-guarded, recover-either, apart_from_backups, apart_from_primaries, guard_plain, list_plain, list_not_guard, all_untouched}
-use Rattle.guard_files.proofs.Primaries.{set_writes-backups, primary_changes-plain, names_backups, removals_backups, durable_only, holds_plain, renewed, lowered, left_while_renewed, left_while_lowered, renewed_guard, lowered_guard, lowered_holds, lowered_stands, lowered_recovers}
+use Rattle.guard_files.proofs.Stages.{IsPlain, InBackups, InPrimaries, names_at-primary, left_in_backups, left_at_guard, PrimariesStand, recover-unguarded, recover-either, apart_from_backups, apart_from_primaries, guard_plain, list_plain, list_not_guard}
+use Rattle.guard_files.proofs.Primaries.{set_writes-backups, primary_changes-plain, names_backups, removals_backups, durable_only, holds_plain, lowered, lowered_guard, lowered_holds, lowered_stands, lowered_recovers}
 use Rattle.guard_files.proofs.Reading.{primaries_may}
 use Rattle.guard_files.proofs.Among.{removals-among, removals-apart, set_writes-apart, plain_not_among, among-filter, holds_there}
 
@@ -157,19 +157,21 @@ module _ (held : Option (List SetFile)) (set : List SetFile) (before : DiskState
 
   untouched_after : (names : List (List ℕ)) → AllByRecursion IsPlain names → AllByRecursion (λ name. cleared.touched name ≡ false) names
   untouched_after [] plain = tt
-  untouched_after (name ∷ names) plain =
-      (touching-other (backups_away (map backup_name (names_of set))) no_names name
-      (apart_from_backups (backups_away (map backup_name (names_of set))) away_backups name plain.0.plain),
-      untouched_after names plain.1)
+  untouched_after (name ∷ names) plain = (
+    touching-other (backups_away (map backup_name (names_of set))) no_names name
+        (apart_from_backups (backups_away (map backup_name (names_of set))) away_backups name plain.0.plain),
+    untouched_after names plain.1,
+  )
 
   pub cleared_untouched : AllByRecursion (λ name. cleared.touched name ≡ false) (protected last.current)
   unfolding protected
-  cleared_untouched =
-      (touching-other (backups_away (map backup_name (names_of set))) no_names guard_name
-      (apart_from_backups (backups_away (map backup_name (names_of set))) away_backups guard_name guard_plain),
-      free_unguarded (λ name. cleared.touched name ≡ false) (last.current guard_name) (names_at backup_name last.current)
-      (names_at primary_name last.current) last_stands.unguarded
-      (untouched_after (names_at primary_name last.current) (names_at-primary last.current)))
+  cleared_untouched = (
+    touching-other (backups_away (map backup_name (names_of set))) no_names guard_name
+        (apart_from_backups (backups_away (map backup_name (names_of set))) away_backups guard_name guard_plain),
+    free_unguarded (λ name. cleared.touched name ≡ false) (last.current guard_name) (names_at backup_name last.current)
+        (names_at primary_name last.current) last_stands.unguarded
+        (untouched_after (names_at primary_name last.current) (names_at-primary last.current)),
+  )
 
   -- the own names that the store has at the end
   cleared_there : AllByRecursion (λ name. IsSome (cleared.current name)) (own_names (Some set))

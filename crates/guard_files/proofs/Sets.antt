@@ -1,6 +1,6 @@
 -- A set that is written where it is placed is read there.
-use Rattle.std.proofs.Common.{◌≡◌, ◌≢◌, ℕ, Bool, true, false, ◌&&◌, List, [], ◌∷◌, ◌++◌, map, Option, Some, None, Result, Ok, Err, cond, inl, inr, refl, sym, ◌∙◌, ap, subst, ◌||◌}
-use Rattle.std.proofs.lemmas.Bool.{and_parts, both_ways, false≢true}
+use Rattle.std.proofs.Common.{◌≡◌, ◌≢◌, ℕ, true, List, [], ◌∷◌, ◌++◌, Option, Some, Ok, cond, refl, sym, ◌∙◌, ap, subst, ◌||◌}
+use Rattle.std.proofs.lemmas.Bool.{and_parts, false≢true}
 use Rattle.std.specs.List.{AllByRecursion, list_all}
 use Rattle.std.specs.Ordering.{nat_cmp, is_lt, is_eq}
 use Rattle.std.specs.declared.cmp.Ordering.{Ordering}
@@ -10,12 +10,11 @@ use Rattle.std.specs.Cmp.Lexicographic.{slice_cmp}
 use Rattle.desk_ports.specs.declared.file_sets.SetFile.{SetFile}
 use Rattle.desk_ports.specs.FileMap.{FileMap, NameSet, with_name, with_content, names_of}
 use Rattle.desk_ports.specs.Disk.{DiskState}
-use Rattle.guard_files.specs.OwnName.{guard_name, list_name, primary_name, backup_name, is_listable}
-use Rattle.guard_files.specs.ListFile.{list_text, rises, are_listable, listed}
-use Rattle.guard_files.specs.Recovery.{Recovered, with_file, files_at, set_of, set_named, set_listed, backup_set, primary_set, recover}
-use Rattle.guard_files.specs.Holding.{is_among}
+use Rattle.guard_files.specs.OwnName.{list_name, primary_name, backup_name, is_listable}
+use Rattle.guard_files.specs.ListFile.{list_text, rises, are_listable}
+use Rattle.guard_files.specs.Recovery.{Recovered, with_file, files_at, set_of, set_named, set_listed, backup_set, primary_set}
 use Rattle.guard_files.specs.parts.Changes.{Change, changed, touching, after, writes, list_write, set_writes, Holds}
-use Rattle.guard_files.proofs.Names.{same-true, same-same, same-other, backup-same, listable}
+use Rattle.guard_files.proofs.Names.{same-same, same-other, listable}
 use Rattle.guard_files.proofs.Lists.{listed-text}
 
 files_read : (place : List ℕ → List ℕ) (set : List SetFile) (files : FileMap)
@@ -107,11 +106,12 @@ pub written-each : (place : List ℕ → List ℕ) (injective : (a b : List ℕ)
 written-each place injective [] files rising = tt
 written-each place injective (file ∷ rest) files rising =
     let both = and_parts _ _ rising in
-    let next = with_content files (place file.name) (Some file.bytes) in
-    (changed-other (writes place rest) next (place file.name)
-        (all_other place (place file.name) rest (later_apart place injective file.name rest both.0))
-        ∙ content-same files (place file.name) (Some file.bytes),
-    written-each place injective rest next both.1)
+    let next = with_content files (place file.name) (Some file.bytes) in (
+      changed-other (writes place rest) next (place file.name)
+          (all_other place (place file.name) rest (later_apart place injective file.name rest both.0))
+          ∙ content-same files (place file.name) (Some file.bytes),
+      written-each place injective rest next both.1,
+    )
 
 pub primary-same : (name other : List ℕ) → primary_name name ≡ primary_name other → name ≡ other
 primary-same name other same = same

@@ -1,19 +1,18 @@
 -- What a folder stands for at each stage of a save, whatever a stop leaves of it.
-use Rattle.std.proofs.Common.{◌≡◌, ◌≢◌, ◌⊎◌, ℕ, Bool, true, false, ◌&&◌, ◌||◌, List, [], ◌∷◌, ◌++◌, map, Option, Some, None, is_some, Result, Ok, Err, cond, inl, inr, refl, sym, ◌∙◌, ap, subst}
-use Rattle.std.proofs.lemmas.Bool.{and_parts, both_ways, true≢false, false≢true, cases_Bool}
+use Rattle.std.proofs.Common.{◌≡◌, ◌≢◌, ◌⊎◌, ℕ, true, false, List, [], ◌∷◌, map, Option, Some, None, is_some, cond, inl, inr, refl, sym, ◌∙◌, ap}
+use Rattle.std.proofs.lemmas.Bool.{and_parts, both_ways, true≢false}
 use Rattle.std.specs.List.{AllByRecursion, list_all}
 use Rattle.std.specs.Str.{bytes_eq}
-use Rattle.desk_ports.specs.declared.file_sets.SetFile.{SetFile}
-use Rattle.desk_ports.specs.FileMap.{FileMap, NameSet, no_names, with_content, with_name, names_of}
-use Rattle.desk_ports.specs.Disk.{DiskState, MayLeave, IsTouchedOnly, with_all_durable}
+use Rattle.desk_ports.specs.FileMap.{FileMap, no_names}
+use Rattle.desk_ports.specs.Disk.{DiskState, MayLeave, with_all_durable}
 use Rattle.guard_files.specs.OwnName.{guard_name, list_name, primary_name, backup_name, is_backup, is_listable}
-use Rattle.guard_files.specs.ListFile.{list_text, are_listable, listed}
-use Rattle.guard_files.specs.Recovery.{Recovered, backup_set, primary_set, recover, names_or_none, named_by, names_at, protected, AgreeAt}
-use Rattle.guard_files.specs.parts.Changes.{Change, changed, touching, after, writes, removals, list_write, set_writes, primary_changes, guard_up, guard_down, backups_away, Holds}
-use Rattle.guard_files.proofs.Alike.{backups_alike, primaries_alike, recovers_alike}
-use Rattle.guard_files.proofs.Names.{same-other, is_backup-backup, not_backup, backup-same, listable}
+use Rattle.guard_files.specs.ListFile.{listed}
+use Rattle.guard_files.specs.Recovery.{backup_set, primary_set, recover, names_or_none, named_by, names_at, AgreeAt}
+use Rattle.guard_files.specs.parts.Changes.{Change, after}
+use Rattle.guard_files.proofs.Alike.{backups_alike, primaries_alike}
+use Rattle.guard_files.proofs.Names.{is_backup-backup, listable}
 use Rattle.guard_files.proofs.Lists.{text-listed}
-use Rattle.guard_files.proofs.Sets.{changed-append, changed-other, touching-other, content-same, content-other, primary-same, holds_written, backups_read, primaries_read}
+use Rattle.guard_files.proofs.Sets.{touching-other}
 
 -- the names that a list file names may stand in one
 named_listable : (list : Option (List ℕ)) → list_all is_listable (named_by list) ≡ true
@@ -53,9 +52,10 @@ list_not_guard same = true≢false (ap (bytes_eq list_name) same)
 -- the names that the primaries rest on are plain, and those that the backups rest on are backups' names
 pub names_at-primary : (files : FileMap) → AllByRecursion IsPlain (names_at primary_name files)
 unfolding names_at
-names_at-primary files =
-    (record { plain = list_plain; not_guard = list_not_guard },
-    primaries_plain (named_by (files list_name)) (named_listable (files list_name)))
+names_at-primary files = (
+  record { plain = list_plain; not_guard = list_not_guard },
+  primaries_plain (named_by (files list_name)) (named_listable (files list_name)),
+)
 
 pub names_at-backup : (files : FileMap) → AllByRecursion (λ name. is_backup name ≡ true) (names_at backup_name files)
 unfolding names_at
@@ -94,9 +94,10 @@ pub agree_as_durable : (changes : List Change) (state : DiskState) (left : FileM
     → AllByRecursion (Apart changes) names → AllByRecursion (λ name. state.touched name ≡ false) names
     → MayLeave (after changes state) left → AgreeAt names state.durable left
 agree_as_durable changes state left [] apart untouched may = tt
-agree_as_durable changes state left (name ∷ names) apart untouched may =
-    (sym (left_as_durable changes state left name apart.0 untouched.0 may),
-    agree_as_durable changes state left names apart.1 untouched.1 may)
+agree_as_durable changes state left (name ∷ names) apart untouched may = (
+  sym (left_as_durable changes state left name apart.0 untouched.0 may),
+  agree_as_durable changes state left names apart.1 untouched.1 may,
+)
 
 pub backups_apart : (changes : List Change) → InBackups changes → (names : List (List ℕ)) → AllByRecursion IsPlain names
     → AllByRecursion (Apart changes) names

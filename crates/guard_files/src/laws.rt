@@ -4,5 +4,4 @@ ghost use Rattle.guard_files.specs.Recovery.{RecoversAlike};
 /// Two maps that agree at the protected names of one of them have the same recovery.
 pub fn agreement_keeps_recovery()
     ensures alike { RecoversAlike }
-{
-}
+{}

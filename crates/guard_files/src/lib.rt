@@ -23,6 +23,9 @@ pub use refusals::{VaultRefusal, refusal_of};
 pub use save::save_set;
 pub use set_reading::{read_files, read_placed, read_set};
 pub use settling::settle;
-pub use steps::{drop_backups, lower_guard, raise_guard, remove_files, save_backups, save_primaries, write_backups, write_primaries};
+pub use steps::{
+    drop_backups, lower_guard, raise_guard, remove_files, save_backups, save_primaries,
+    write_backups, write_primaries,
+};
 pub use store_names::{StoreNames, fixed_name};
 pub use vault::{StoreFault, Vault};

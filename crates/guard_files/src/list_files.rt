@@ -60,7 +60,11 @@ pub fn has_name(files: &[SetFile], name: &FileName) -> bool
 }
 
 /// The names of the first files that the second have not, in their order.
-pub fn names_without(alloc: Global, files: &[SetFile], others: &[SetFile]) -> Result<Vec<FileName>, AllocError>
+pub fn names_without(
+    alloc: Global,
+    files: &[SetFile],
+    others: &[SetFile],
+) -> Result<Vec<FileName>, AllocError>
     ensures { IfOk result (λ names. names.items ≡ filter (λ name. not (is_among (names_of others.now) name)) (names_of files.now)) }
 {
     let mut names = Vec::new(alloc);

@@ -6,15 +6,25 @@ ghost use Rattle.desk_ports.specs.FileName.{is_file_name_byte};
 ghost use Rattle.guard_files.specs.OwnName as own;
 
 const GUARD: &[u8] = b"guard";
+
 const LIST: &[u8] = b"list";
+
 const STAMP: &[u8] = b"stamp";
+
 const BUCKETS: &[u8] = b"buckets";
+
 const USERS: &[u8] = b"users";
+
 const APPS: &[u8] = b"apps";
+
 const TEMPLATE: &[u8] = b"template";
+
 const BUCKET: &[u8] = b"_";
+
 const RULES: &[u8] = b"r.";
+
 const TILDE: &[u8] = b"~";
+
 const MOST_LISTABLE: usize = 254;
 
 /// Whether the name is the guard's.

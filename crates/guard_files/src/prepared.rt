@@ -72,12 +72,23 @@ impl Prepared {
             backups,
             list,
         } = self;
-        save_set(disk, names, set.as_slice(), &backups, &gone, list.as_slice())?;
+        save_set(
+            disk,
+            names,
+            set.as_slice(),
+            &backups,
+            &gone,
+            list.as_slice(),
+        )?;
         Ok(set)
     }
 }
 
-fn gone_of(alloc: Global, held: &Option<FileSet>, set: &FileSet) -> Result<Vec<FileName>, AllocError>
+fn gone_of(
+    alloc: Global,
+    held: &Option<FileSet>,
+    set: &FileSet,
+) -> Result<Vec<FileName>, AllocError>
     ensures { IfOk result (λ gone. gone.items ≡ gone_names held.now set.now) }
 {
     match held {

@@ -16,7 +16,12 @@ use desk_ports::{Bytes, Disk, FileName, FileSet, SetFile};
 use std::alloc::{AllocError, Global};
 
 /// Reads a file of a set, or its backup. One disk call.
-pub fn read_placed<D: Disk>(alloc: Global, disk: &mut D, guarded: bool, name: &FileName) -> Result<Option<Bytes>, VaultRefusal>
+pub fn read_placed<D: Disk>(
+    alloc: Global,
+    disk: &mut D,
+    guarded: bool,
+    name: &FileName,
+) -> Result<Option<Bytes>, VaultRefusal>
     requires { is_listable name.now ≡ true }
     ensures content { IfOk result (λ content. Reads (D.state disk.old) (placed guarded name.now) content) }
     ensures undamaged { IfErr result (λ refusal. IfDamaged refusal (λ file. ⊥)) }
@@ -42,7 +47,12 @@ pub fn read_placed<D: Disk>(alloc: Global, disk: &mut D, guarded: bool, name: &F
 }
 
 /// Reads the files of these names, or their backups. One disk call for each, up to the first that is absent.
-pub fn read_files<D: Disk>(alloc: Global, disk: &mut D, guarded: bool, list: &[FileName]) -> Result<Vec<SetFile>, VaultRefusal>
+pub fn read_files<D: Disk>(
+    alloc: Global,
+    disk: &mut D,
+    guarded: bool,
+    list: &[FileName],
+) -> Result<Vec<SetFile>, VaultRefusal>
     requires { list_all is_listable list.now ≡ true }
     ensures named { IfOk result (λ files. names_of files.items ≡ list.now) }
     ensures read { IfOk result (λ files. WhereTold (D.state disk.old) (λ before. files_at (placed guarded) before.current list.now ≡ Ok files.items)) }
@@ -79,7 +89,11 @@ fn push_file(files: &mut Vec<SetFile>, file: SetFile) -> Result<(), AllocError>
 }
 
 // Reads the list, or its backup. One disk call.
-fn list_content<D: Disk>(disk: &mut D, names: &StoreNames, guarded: bool) -> Result<Option<Bytes>, VaultRefusal>
+fn list_content<D: Disk>(
+    disk: &mut D,
+    names: &StoreNames,
+    guarded: bool,
+) -> Result<Option<Bytes>, VaultRefusal>
     ensures content { IfOk result (λ content. Reads (D.state disk.old) (placed guarded list_name) content) }
     ensures undamaged { IfErr result (λ refusal. IfDamaged refusal (λ file. ⊥)) }
     ensures kept { KeepsState (D.state disk.old) (D.state disk.new) }
@@ -112,7 +126,12 @@ fn list_file(names: &StoreNames, guarded: bool) -> Result<FileName, AllocError>
 
 /// Reads the set of the backups where the guard stands, else that of the primaries. One disk call for the list file, and
 /// one for each file that it names, up to the first that is absent.
-pub fn read_set<D: Disk>(alloc: Global, disk: &mut D, names: &StoreNames, guarded: bool) -> Result<Option<FileSet>, VaultRefusal>
+pub fn read_set<D: Disk>(
+    alloc: Global,
+    disk: &mut D,
+    names: &StoreNames,
+    guarded: bool,
+) -> Result<Option<FileSet>, VaultRefusal>
     ensures some { IfOk result (λ held. guarded ≡ true → IsSome held) }
     ensures read { IfOk result (λ held. WhereTold (D.state disk.old) (λ before. set_read guarded before.current ≡ Ok held)) }
     ensures damaged { IfErr result (λ refusal. IfDamaged refusal (λ file. WhereTold (D.state disk.old) (λ before. set_read guarded before.current ≡ Err file))) }

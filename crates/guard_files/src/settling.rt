@@ -41,7 +41,8 @@ fn goes(held: &Option<FileSet>, name: &FileName) -> bool
     ensures { result ≡ does_go held.now name.now }
 {
     let bytes = name.as_slice();
-    (!is_backup(bytes) && !is_guard(bytes)) && ((!is_list(bytes) && !is_held(held, name)) && is_own(bytes))
+    (!is_backup(bytes) && !is_guard(bytes))
+        && ((!is_list(bytes) && !is_held(held, name)) && is_own(bytes))
 }
 
 fn is_left_over(guarded: bool, held: &Option<FileSet>, name: &FileName) -> bool
@@ -56,7 +57,11 @@ fn is_left_over(guarded: bool, held: &Option<FileSet>, name: &FileName) -> bool
 }
 
 // The names that go before the primaries are written, in their order.
-fn going(alloc: Global, held: &Option<FileSet>, names: &[FileName]) -> Result<Vec<FileName>, AllocError>
+fn going(
+    alloc: Global,
+    held: &Option<FileSet>,
+    names: &[FileName],
+) -> Result<Vec<FileName>, AllocError>
     ensures { IfOk result (λ gone. gone.items ≡ filter (does_go held.now) names.now) }
 {
     let mut gone = Vec::new(alloc);
@@ -69,7 +74,12 @@ fn going(alloc: Global, held: &Option<FileSet>, names: &[FileName]) -> Result<Ve
 }
 
 // The names that are left over at the end, in their order.
-fn leftover(alloc: Global, guarded: bool, held: &Option<FileSet>, names: &[FileName]) -> Result<Vec<FileName>, AllocError>
+fn leftover(
+    alloc: Global,
+    guarded: bool,
+    held: &Option<FileSet>,
+    names: &[FileName],
+) -> Result<Vec<FileName>, AllocError>
     ensures { IfOk result (λ rest. rest.items ≡ filter (left_over guarded held.now) names.now) }
 {
     let mut rest = Vec::new(alloc);
@@ -97,7 +107,14 @@ fn tidy<D: Disk>(disk: &mut D, rest: &[FileName]) -> Result<(), Failed>
 }
 
 // Makes the primaries those of the set in the backups, and takes the guard away. All was durable before.
-fn restore<D: Disk>(alloc: Global, disk: &mut D, names: &StoreNames, held: &Option<FileSet>, set: &FileSet, listing: &[FileName]) -> Result<(), VaultRefusal>
+fn restore<D: Disk>(
+    alloc: Global,
+    disk: &mut D,
+    names: &StoreNames,
+    held: &Option<FileSet>,
+    set: &FileSet,
+    listing: &[FileName],
+) -> Result<(), VaultRefusal>
     requires { held.now ≡ Some set.now }
     ensures done { OnOk result ((base : DiskState) → D.state disk.old ≡ Some (with_all_durable base) → D.state disk.new ≡ Some (with_all_durable
         (after guard_down (with_all_durable (after (primary_changes (filter (does_go (Some set.now)) listing.now) set.now) (with_all_durable base)))))) }
@@ -125,7 +142,14 @@ fn restore<D: Disk>(alloc: Global, disk: &mut D, names: &StoreNames, held: &Opti
 }
 
 // Where the guard stood: the primaries are renewed from the backups, and what is left over is removed.
-fn finish_guarded<D: Disk>(alloc: Global, disk: &mut D, names: &StoreNames, held: &Option<FileSet>, set: &FileSet, listing: &[FileName]) -> Result<(), VaultRefusal>
+fn finish_guarded<D: Disk>(
+    alloc: Global,
+    disk: &mut D,
+    names: &StoreNames,
+    held: &Option<FileSet>,
+    set: &FileSet,
+    listing: &[FileName],
+) -> Result<(), VaultRefusal>
     requires { held.now ≡ Some set.now }
     ensures done { OnOk result ((base : DiskState) (bytes : List ℕ) → D.state disk.old ≡ Some (with_all_durable base) → base.current guard_name ≡ Some bytes
         → backup_set base.current ≡ Ok (Some set.now) → AreNamesOf base.current listing.now → EndsAtRest (Some set.now) (D.state disk.new)) }
@@ -150,7 +174,12 @@ fn finish_guarded<D: Disk>(alloc: Global, disk: &mut D, names: &StoreNames, held
 }
 
 // Where no guard stood: what is left over is removed.
-fn finish<D: Disk>(alloc: Global, disk: &mut D, held: &Option<FileSet>, listing: &[FileName]) -> Result<(), VaultRefusal>
+fn finish<D: Disk>(
+    alloc: Global,
+    disk: &mut D,
+    held: &Option<FileSet>,
+    listing: &[FileName],
+) -> Result<(), VaultRefusal>
     ensures done { OnOk result ((base : DiskState) → D.state disk.old ≡ Some (with_all_durable base) → base.current guard_name ≡ None
         → primary_set base.current ≡ Ok held.now → AreNamesOf base.current listing.now → EndsAtRest held.now (D.state disk.new)) }
     ensures undamaged { IfErr result (λ refusal. IfDamaged refusal (λ file. ⊥)) }
@@ -178,7 +207,11 @@ struct Survey {
 }
 
 // Makes all durable, and reads what the folder holds.
-fn survey_of<D: Disk>(alloc: Global, disk: &mut D, names: &StoreNames) -> Result<Survey, VaultRefusal>
+fn survey_of<D: Disk>(
+    alloc: Global,
+    disk: &mut D,
+    names: &StoreNames,
+) -> Result<Survey, VaultRefusal>
     ensures some { IfOk result (λ found. found.guarded ≡ true → IsSome found.held) }
     ensures done { IfOk result (λ found. WhereTold (D.state disk.old) (λ before. (D.state disk.new ≡ Some (with_all_durable before))
         × IsSurvey before.current found.held found.guarded found.listing.items)) }
@@ -210,7 +243,11 @@ fn survey_of<D: Disk>(alloc: Global, disk: &mut D, names: &StoreNames) -> Result
 /// makes all durable and reads the names; it reads the set from the backups where the guard stands, else from the primaries.
 /// Where the guard stood it renews the primaries and takes the guard away. Then it removes what is left over of the own
 /// names. A damaged folder is left as it is. It may be stopped too, at any moment.
-pub fn settle<D: Disk>(alloc: Global, disk: &mut D, names: &StoreNames) -> Result<Option<FileSet>, VaultRefusal>
+pub fn settle<D: Disk>(
+    alloc: Global,
+    disk: &mut D,
+    names: &StoreNames,
+) -> Result<Option<FileSet>, VaultRefusal>
     ensures held { IfOk result (λ held. WhereTold (D.state disk.old) (λ before. recover before.current ≡ Ok held)) }
     ensures settled { IfOk result (λ held. WhereTold (D.state disk.old) (λ before. EndsAtRest held (D.state disk.new))) }
     ensures damaged { IfErr result (λ refusal. IfDamaged refusal (λ file. WhereTold (D.state disk.old) (λ before. (recover before.current ≡ Err file)

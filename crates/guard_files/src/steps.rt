@@ -36,7 +36,11 @@ pub fn write_primaries<D: Disk>(disk: &mut D, files: &[SetFile]) -> Result<(), F
 }
 
 /// Writes the backup of each file of a set. The names are those of the backups, in the files' order. One disk call for each.
-pub fn write_backups<D: Disk>(disk: &mut D, names: &[FileName], files: &[SetFile]) -> Result<(), Failed>
+pub fn write_backups<D: Disk>(
+    disk: &mut D,
+    names: &[FileName],
+    files: &[SetFile],
+) -> Result<(), Failed>
     requires { names.now ≡ map backup_name (names_of files.now) }
     ensures done { OnOk result (WhereTold (D.state disk.old) (λ before. D.state disk.new ≡ Some (after (writes backup_name files.now) before))) }
     ensures moments { WhereTold (D.state disk.old) (λ before. AddsOnly D.moment D.left_since disk.old disk.new (MayLeave (after (writes backup_name files.now) before))) }
@@ -115,7 +119,11 @@ pub fn save_primaries<D: Disk>(
 }
 
 /// Removes the backup of the list and then that of each file: the last step of a save. No sync follows.
-pub fn drop_backups<D: Disk>(disk: &mut D, list_backup: &FileName, backups: &[FileName]) -> Result<(), Failed>
+pub fn drop_backups<D: Disk>(
+    disk: &mut D,
+    list_backup: &FileName,
+    backups: &[FileName],
+) -> Result<(), Failed>
     requires { list_backup.now ≡ backup_name list_name }
     ensures done { OnOk result (WhereTold (D.state disk.old) (λ before. D.state disk.new ≡ Some (after (backups_away backups.now) before))) }
     ensures moments { WhereTold (D.state disk.old) (λ before. AddsOnly D.moment D.left_since disk.old disk.new (MayLeave (after (backups_away backups.now) before))) }

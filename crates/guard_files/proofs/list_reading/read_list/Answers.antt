@@ -1,5 +1,4 @@
-use Rattle.std.proofs.Common.{◌≡◌, ◌+◌, ◌++◌, [], ◌∷◌, suc, take, drop, true, false, Some, sym, ◌∙◌, ap, subst, refl, is_lt, nat_cmp}
-use Rattle.std.specs.List.{position}
+use Rattle.std.proofs.Common.{◌≡◌, ◌++◌, [], ◌∷◌, suc, take, drop, true, sym, ◌∙◌, ap, refl, is_lt, nat_cmp}
 use Rattle.std.specs.Cmp.Lexicographic.{slice_cmp}
 use Rattle.guard_files.specs.OwnName.{is_listable}
 use Rattle.guard_files.specs.ListFile.{list_text, are_listable}
@@ -36,7 +35,7 @@ loop-last-preserved c =
     let line = first_line-at c.loop-last.rest.now c.in-Some.end (sym c.newline_in.ensures ∙ c.in-Some.is) in
     let listable : is_listable (take c.in-Some.end c.loop-last.rest.now) ≡ true = sym c.is_listable.ensures ∙ c.if-not-is_listable.false in
     let items : c.push.new.self.items ≡ c.loop-last.names.items ++ take c.in-Some.end c.loop-last.rest.now ∷ [] =
-        c.in_ok-push.ensures.items ∙ ap (λ name. c.loop-last.names.items ++ name ∷ []) c.in_ok-fixed_name.ensures in
+    c.in_ok-push.ensures.items ∙ ap (λ name. c.loop-last.names.items ++ name ∷ []) c.in_ok-fixed_name.ensures in
     record {
       read =
           read_more c.loop-last.names.items c.push.new.self.items c.loop-last.rest.now c.args.bytes.now (take c.in-Some.end c.loop-last.rest.now)

@@ -1,15 +1,15 @@
-use Rattle.std.proofs.Common.{◌≡◌, List, ℕ, Bool, true, false, Option, Some, None, Ok, Err, sym, ◌∙◌, ap, subst}
+use Rattle.std.proofs.Common.{◌≡◌, List, ℕ, Some, None, Ok, Err, sym, ◌∙◌, ap, subst}
 use Rattle.std.specs.Prelude.{Vec}
 use Rattle.std.specs.declared.alloc.Global.{Global}
 use Rattle.std.specs.Option.{option_map}
 use Rattle.std.specs.List.{list_all}
 use Rattle.std.proofs.lemmas.Bool.{and_parts}
 use Rattle.desk_ports.specs.declared.file_sets.SetFile.{SetFile}
-use Rattle.desk_ports.specs.FileMap.{NamesRise, names_of}
+use Rattle.desk_ports.specs.FileMap.{NamesRise}
 use Rattle.desk_ports.specs.Disk.{WhereTold}
 use Rattle.guard_files.specs.OwnName.{list_name, is_listable}
 use Rattle.guard_files.specs.ListFile.{listed}
-use Rattle.guard_files.specs.Recovery.{Recovered, files_at}
+use Rattle.guard_files.specs.Recovery.{files_at}
 use Rattle.guard_files.specs.Mounted.{placed, set_read}
 use Rattle.guard_files.proofs.Lists.{text-listed, NamesRise-from}
 use Rattle.guard_files.proofs.Reading.{unlisted, set_read-unlisted, set_read-bad_list, set_read-whole, set_read-absent, IfDamaged-more}
@@ -31,7 +31,7 @@ pub returns-in_default-read-clause-damaged : goal.returns-in_default-read-clause
 returns-in_default-read-clause-damaged g c before told =
     let some = sym (c.in-Ok-list_content.ensures.content before told) ∙ c.in-Some.is in
     let none : listed c.in-Some.bytes ≡ None =
-        ap listed (sym c.as_slice.ensures) ∙ sym c.in-Ok-read_list.ensures ∙ ap (option_map (λ (names : Vec (List ℕ) Global). names.items)) c.in_default-read.is in
+    ap listed (sym c.as_slice.ensures) ∙ sym c.in-Ok-read_list.ensures ∙ ap (option_map (λ (names : Vec (List ℕ) Global). names.items)) c.in_default-read.is in
     set_read-bad_list c.args.guarded before.current c.in-Some.bytes some none ∙ ap Err (sym c.in-Ok.ensures)
 
 pub read_files-requires : goal.read_files-requires

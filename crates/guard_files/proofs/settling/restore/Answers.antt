@@ -1,10 +1,7 @@
-use Rattle.std.proofs.Common.{◌≡◌, List, ℕ, Option, filter, Some, None, Ok, Err, refl, sym, ◌∙◌, ap, subst}
-use Rattle.desk_ports.specs.declared.file_sets.SetFile.{SetFile}
-use Rattle.desk_ports.proofs.Moments.{AddsOnly-then, AddsOnly-more, LeavesOnly-from}
-use Rattle.desk_ports.specs.FileMap.{FileMap}
-use Rattle.desk_ports.specs.Disk.{DiskState, MayLeave, WhereTold, with_all_durable}
-use Rattle.guard_files.specs.Recovery.{backup_set, primary_set, recover}
-use Rattle.guard_files.specs.Mounted.{goes, is_left_over, set_read, RecoversAsAllowed, EndsAtRest, IsSurvey, IfDamaged}
+use Rattle.std.proofs.Common.{◌≡◌, filter, Some, Ok, ◌∙◌, ap}
+use Rattle.desk_ports.proofs.Moments.{AddsOnly-then}
+use Rattle.guard_files.specs.Recovery.{recover}
+use Rattle.guard_files.specs.Mounted.{goes}
 use Rattle.guard_files.proofs.MountMoments.{over_renewal, told_renewal, over_fall}
 use Rattle.guard_files.proofs.settling.restore.Goals as goal
 

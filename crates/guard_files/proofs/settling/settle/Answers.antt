@@ -1,4 +1,4 @@
-use Rattle.std.proofs.Common.{◌≡◌, List, ℕ, Bool, Option, Some, None, Ok, Err, refl, sym, ◌∙◌, ap, subst}
+use Rattle.std.proofs.Common.{◌≡◌, List, ℕ, Option, Some, Ok, refl, sym, ◌∙◌, ap, subst}
 use Rattle.desk_ports.specs.declared.file_sets.SetFile.{SetFile}
 use Rattle.desk_ports.proofs.Moments.{AddsOnly-then, AddsOnly-more, LeavesOnly-from}
 use Rattle.desk_ports.specs.FileMap.{FileMap, AreNamesOf}
@@ -36,7 +36,7 @@ returns-in-Ok-finish_guarded-clause-moments g c before told =
     let found = c.in-Ok.ensures.done before told in
     let bytes = some_bytes (before.current guard_name) (sym found.1.guard ∙ c.if-guarded.true) in
     let backups : backup_set before.current ≡ Ok (Some c.in-Some.set) =
-        ap (λ guarded. set_read guarded before.current) (sym c.if-guarded.true) ∙ found.1.read ∙ ap Ok c.in-Some.is in
+    ap (λ guarded. set_read guarded before.current) (sym c.if-guarded.true) ∙ found.1.read ∙ ap Ok c.in-Some.is in
     let are : AreNamesOf before.current c.deref.result.now = subst (λ (names : List (List ℕ)). AreNamesOf before.current names) (sym c.deref.ensures.value) found.1.listed in
     let whole : recover before.current ≡ Ok c.in-Ok.found.held = recover-read before.current c.in-Ok.found.guarded (Ok c.in-Ok.found.held) found.1.guard found.1.read in
     from_entry g.D.Disk.moment g.D.Disk.left_since before (g.met.D.Disk.touched_only c.args.disk.now before told) c.args.disk.now c.finish_guarded.new.disk (λ left was. g.met.D.Disk.only_now c.args.disk.now left before told was)
@@ -49,7 +49,7 @@ returns-in-Err-finish_guarded-clause-moments g c before told =
     let found = c.in-Ok.ensures.done before told in
     let bytes = some_bytes (before.current guard_name) (sym found.1.guard ∙ c.if-guarded.true) in
     let backups : backup_set before.current ≡ Ok (Some c.in-Some.set) =
-        ap (λ guarded. set_read guarded before.current) (sym c.if-guarded.true) ∙ found.1.read ∙ ap Ok c.in-Some.is in
+    ap (λ guarded. set_read guarded before.current) (sym c.if-guarded.true) ∙ found.1.read ∙ ap Ok c.in-Some.is in
     let are : AreNamesOf before.current c.deref.result.now = subst (λ (names : List (List ℕ)). AreNamesOf before.current names) (sym c.deref.ensures.value) found.1.listed in
     let whole : recover before.current ≡ Ok c.in-Ok.found.held = recover-read before.current c.in-Ok.found.guarded (Ok c.in-Ok.found.held) found.1.guard found.1.read in
     from_entry g.D.Disk.moment g.D.Disk.left_since before (g.met.D.Disk.touched_only c.args.disk.now before told) c.args.disk.now c.finish_guarded.new.disk (λ left was. g.met.D.Disk.only_now c.args.disk.now left before told was)
@@ -62,7 +62,7 @@ returns-in-Ok-finish_guarded-clause-held g c before told =
     let found = c.in-Ok.ensures.done before told in
     let bytes = some_bytes (before.current guard_name) (sym found.1.guard ∙ c.if-guarded.true) in
     let backups : backup_set before.current ≡ Ok (Some c.in-Some.set) =
-        ap (λ guarded. set_read guarded before.current) (sym c.if-guarded.true) ∙ found.1.read ∙ ap Ok c.in-Some.is in
+    ap (λ guarded. set_read guarded before.current) (sym c.if-guarded.true) ∙ found.1.read ∙ ap Ok c.in-Some.is in
     let are : AreNamesOf before.current c.deref.result.now = subst (λ (names : List (List ℕ)). AreNamesOf before.current names) (sym c.deref.ensures.value) found.1.listed in
     let whole : recover before.current ≡ Ok c.in-Ok.found.held = recover-read before.current c.in-Ok.found.guarded (Ok c.in-Ok.found.held) found.1.guard found.1.read in
     whole
@@ -72,7 +72,7 @@ returns-in-Ok-finish_guarded-clause-settled g c before told =
     let found = c.in-Ok.ensures.done before told in
     let bytes = some_bytes (before.current guard_name) (sym found.1.guard ∙ c.if-guarded.true) in
     let backups : backup_set before.current ≡ Ok (Some c.in-Some.set) =
-        ap (λ guarded. set_read guarded before.current) (sym c.if-guarded.true) ∙ found.1.read ∙ ap Ok c.in-Some.is in
+    ap (λ guarded. set_read guarded before.current) (sym c.if-guarded.true) ∙ found.1.read ∙ ap Ok c.in-Some.is in
     let are : AreNamesOf before.current c.deref.result.now = subst (λ (names : List (List ℕ)). AreNamesOf before.current names) (sym c.deref.ensures.value) found.1.listed in
     let whole : recover before.current ≡ Ok c.in-Ok.found.held = recover-read before.current c.in-Ok.found.guarded (Ok c.in-Ok.found.held) found.1.guard found.1.read in
     subst (λ (held : Option (List SetFile)). EndsAtRest held (g.D.Disk.state c.finish_guarded.new.disk)) (sym c.in-Some.is)

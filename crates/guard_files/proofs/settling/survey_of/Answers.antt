@@ -1,10 +1,7 @@
-use Rattle.std.proofs.Common.{◌≡◌, List, ℕ, Option, filter, Some, None, Ok, Err, refl, sym, ◌∙◌, ap, subst}
-use Rattle.desk_ports.specs.declared.file_sets.SetFile.{SetFile}
-use Rattle.desk_ports.proofs.Moments.{AddsOnly-then, AddsOnly-more, LeavesOnly-from}
-use Rattle.desk_ports.specs.FileMap.{FileMap}
-use Rattle.desk_ports.specs.Disk.{DiskState, MayLeave, WhereTold, with_all_durable}
-use Rattle.guard_files.specs.Recovery.{backup_set, primary_set, recover}
-use Rattle.guard_files.specs.Mounted.{goes, is_left_over, set_read, RecoversAsAllowed, EndsAtRest, IsSurvey, IfDamaged}
+use Rattle.std.proofs.Common.{◌≡◌, List, ℕ, Some, Err, ◌∙◌, ap}
+use Rattle.desk_ports.specs.Disk.{WhereTold, with_all_durable}
+use Rattle.guard_files.specs.Recovery.{recover}
+use Rattle.guard_files.specs.Mounted.{set_read}
 use Rattle.guard_files.specs.OwnName.{guard_name}
 use Rattle.guard_files.specs.Holding.{is_among}
 use Rattle.guard_files.proofs.Reading.{IfDamaged-more}
@@ -16,9 +13,10 @@ returns-in-Ok-read_set-clause-done g c before told =
     let told_1 = c.in-Ok.ensures.durable before told in
     let told_2 = c.in-Ok-names.ensures.kept (with_all_durable before) told_1 in
     let listed = c.in-Ok-names.ensures.listed (with_all_durable before) told_1 in
-    let guard = c.has_guard-guarded.ensures ∙ ap (λ (names : List (List ℕ)). is_among names guard_name) c.deref.ensures.value ∙ guard_is before.current c.in-Ok-names.listing.items listed in
-    (c.in-Ok-read_set.ensures.kept (with_all_durable before) told_2,
-    record { listed = listed; guard = guard; read = c.in-Ok-read_set.ensures.read (with_all_durable before) told_2 })
+    let guard = c.has_guard-guarded.ensures ∙ ap (λ (names : List (List ℕ)). is_among names guard_name) c.deref.ensures.value ∙ guard_is before.current c.in-Ok-names.listing.items listed in (
+      c.in-Ok-read_set.ensures.kept (with_all_durable before) told_2,
+      record { listed = listed; guard = guard; read = c.in-Ok-read_set.ensures.read (with_all_durable before) told_2 },
+    )
 
 pub returns-in-Err-read_set-clause-damaged : goal.returns-in-Err-read_set-clause-damaged
 returns-in-Err-read_set-clause-damaged g c =
@@ -29,7 +27,8 @@ returns-in-Err-read_set-clause-damaged g c =
     let told_1 = c.in-Ok.ensures.durable before told in
     let told_2 = c.in-Ok-names.ensures.kept (with_all_durable before) told_1 in
     let listed = c.in-Ok-names.ensures.listed (with_all_durable before) told_1 in
-    let guard = c.has_guard-guarded.ensures ∙ ap (λ (names : List (List ℕ)). is_among names guard_name) c.deref.ensures.value ∙ guard_is before.current c.in-Ok-names.listing.items listed in
-    (recover-read before.current c.has_guard-guarded.result (Err file) guard (is (with_all_durable before) told_2),
-    c.read_set.ensures.kept (with_all_durable before) told_2))
+    let guard = c.has_guard-guarded.ensures ∙ ap (λ (names : List (List ℕ)). is_among names guard_name) c.deref.ensures.value ∙ guard_is before.current c.in-Ok-names.listing.items listed in (
+      recover-read before.current c.has_guard-guarded.result (Err file) guard (is (with_all_durable before) told_2),
+      c.read_set.ensures.kept (with_all_durable before) told_2,
+    ))
     c.in-Err-read_set.ensures.damaged

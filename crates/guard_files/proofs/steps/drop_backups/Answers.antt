@@ -1,4 +1,4 @@
-use Rattle.std.proofs.Common.{[], ◌∷◌, ◌++◌, Some, None, subst, sym, refl}
+use Rattle.std.proofs.Common.{[], ◌∷◌, None, subst, sym, refl}
 use Rattle.std.proofs.lemmas.List.{append-nil}
 use Rattle.desk_ports.specs.Disk.{Gives, Disturbs}
 use Rattle.guard_files.specs.OwnName.{backup_name, list_name}

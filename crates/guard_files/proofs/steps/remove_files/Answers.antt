@@ -1,4 +1,4 @@
-use Rattle.std.proofs.Common.{◌+◌, List, ℕ, Option, Some, None, take, drop, map, subst, sym, ◌∙◌}
+use Rattle.std.proofs.Common.{◌+◌, List, ℕ, None, take, drop, subst, sym, ◌∙◌}
 use Rattle.guard_files.specs.parts.Changes.{Change, removals}
 use Rattle.guard_files.proofs.Rows.{IsAfter, IsAfter-more, IsAfter-failed, row_so_far, row_split}
 use Rattle.guard_files.proofs.steps.remove_files.Goals as goal

@@ -1,4 +1,4 @@
-use Rattle.std.proofs.Common.{[], ◌∷◌, ◌++◌, Some, subst, refl}
+use Rattle.std.proofs.Common.{[], ◌∷◌, Some, subst, refl}
 use Rattle.desk_ports.specs.FileMap.{names_of}
 use Rattle.desk_ports.specs.Disk.{Gives, Disturbs}
 use Rattle.guard_files.specs.OwnName.{backup_name, list_name}

@@ -1,4 +1,4 @@
-use Rattle.std.proofs.Common.{[], ◌∷◌, ◌++◌, Some, subst, sym, refl, append_assoc}
+use Rattle.std.proofs.Common.{[], ◌∷◌, ◌++◌, Some, subst, sym, append_assoc}
 use Rattle.desk_ports.specs.FileMap.{names_of}
 use Rattle.desk_ports.specs.Disk.{Gives, Disturbs}
 use Rattle.guard_files.specs.OwnName.{primary_name, list_name}

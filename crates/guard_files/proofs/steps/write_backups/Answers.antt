@@ -1,6 +1,5 @@
-use Rattle.std.proofs.Common.{◌≡◌, ◌+◌, ◌<◌, List, ℕ, Option, Some, None, take, drop, map, length, subst, sym, ◌∙◌, ap}
+use Rattle.std.proofs.Common.{◌+◌, Some, take, drop, subst, sym, ◌∙◌, ap}
 use Rattle.desk_ports.specs.declared.file_sets.SetFile.{SetFile}
-use Rattle.desk_ports.specs.FileMap.{names_of}
 use Rattle.desk_ports.specs.Disk.{Gives, Disturbs}
 use Rattle.guard_files.specs.OwnName.{backup_name}
 use Rattle.guard_files.specs.parts.Changes.{Change, writes}

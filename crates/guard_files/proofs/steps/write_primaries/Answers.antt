@@ -1,4 +1,4 @@
-use Rattle.std.proofs.Common.{◌+◌, List, ℕ, Option, Some, None, take, drop, map, subst, sym, ◌∙◌, ap}
+use Rattle.std.proofs.Common.{◌+◌, Some, take, drop, subst, sym, ◌∙◌}
 use Rattle.desk_ports.specs.declared.file_sets.SetFile.{SetFile}
 use Rattle.desk_ports.specs.Disk.{Gives}
 use Rattle.guard_files.specs.OwnName.{primary_name}
