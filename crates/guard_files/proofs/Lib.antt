@@ -1,0 +1,16 @@
+pub mod Alike
+pub mod Names
+pub mod Lists
+pub mod Sets
+pub mod Rows
+pub mod Stages
+pub mod Primaries
+pub mod Reading
+pub mod Among
+pub mod Saving
+pub mod SaveMoments
+pub mod FileNames
+pub mod ListReading
+pub mod Leaving
+pub mod Mounting
+pub mod MountMoments

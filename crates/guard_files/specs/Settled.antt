@@ -1,0 +1,35 @@
+-- A store at rest: what it holds, and what a save is made of.
+use Rattle.std.specs.Prelude.{◌≡◌, ◌⊎◌, ℕ, false, not, List, [], filter, Option, Some, None, Ok}
+use Rattle.std.specs.List.{AllByRecursion}
+use Rattle.desk_ports.specs.declared.file_sets.SetFile.{SetFile}
+use Rattle.desk_ports.specs.FileMap.{FileMap, names_of}
+use Rattle.desk_ports.specs.Disk.{DiskState}
+use Rattle.guard_files.specs.OwnName.{guard_name}
+use Rattle.guard_files.specs.Recovery.{recover, protected}
+use Rattle.guard_files.specs.Holding.{is_among, own_names, OwnNamesAre}
+
+-- The store holds this set, or none. What is durable recovers to it, no guard stands, and what the recovery rests on is
+-- untouched, so that a stop leaves it. The own names of the folder are those of the set.
+pub record IsSettled (held : Option (List SetFile)) (state : DiskState) : Type 0 where
+  pub recovers : recover state.durable ≡ Ok held
+  pub unguarded : state.durable guard_name ≡ None
+  pub untouched : AllByRecursion (λ name. state.touched name ≡ false) (protected state.durable)
+  pub own : OwnNamesAre (own_names held) state.current
+
+-- the names of the held set that the next one has not, in their order
+abbrev pub gone_names : Option (List SetFile) → List SetFile → List (List ℕ)
+gone_names None next = []
+gone_names (Some files) next = filter (λ name. not (is_among (names_of next) name)) (names_of files)
+
+-- A save: the next set, and the names that it takes away.
+pub record Save : Type 0 where
+  pub set : List SetFile
+  pub gone : List (List ℕ)
+
+-- the map recovers to the set before or to the set after
+abbrev pub IsBeforeOrAfter : Option (List SetFile) → Option (List SetFile) → FileMap → Type 0
+IsBeforeOrAfter before next left = (recover left ≡ Ok before) ⊎ (recover left ≡ Ok next)
+
+-- the disk tells a store at rest that holds this set
+abbrev pub EndsSettled : List SetFile → Option DiskState → Type 0
+EndsSettled set told = (after : DiskState) × (told ≡ Some after) × IsSettled (Some set) after

@@ -1,0 +1,7 @@
+// Laws about the definitions alone, each the contract of a function that does nothing.
+ghost use Rattle.guard_files.specs.Recovery.{RecoversAlike};
+
+/// Two maps that agree at the protected names of one of them have the same recovery.
+pub fn agreement_keeps_recovery()
+    ensures alike { RecoversAlike }
+{}

@@ -1,0 +1,282 @@
+// A mount: what the folder holds is read, and made whole where a stop left a part.
+ghost use Rattle.std.specs.Prelude.{◌≡◌, List, ℕ, true, filter, Some, None, Ok, Err, IsSome, IfOk, IfErr, OnOk};
+ghost use Rattle.desk_ports.specs.FileMap.{AreNamesOf};
+ghost use Rattle.std.specs.List.{list_any};
+ghost use Rattle.std.specs.Str.{bytes_eq};
+ghost use Rattle.desk_ports.specs.PortFault.{count_after_call};
+ghost use Rattle.desk_ports.specs.Disk.{DiskState, WhereTold, MayLeave, with_all_durable};
+ghost use Rattle.desk_ports.specs.Moments.{AddsOnly, LeavesOnly};
+ghost use Rattle.guard_files.specs.OwnName.{guard_name};
+ghost use Rattle.guard_files.specs.Recovery.{backup_set, primary_set, recover};
+ghost use Rattle.guard_files.specs.Holding.{is_among};
+ghost use Rattle.guard_files.specs.Mounted.{IfDamaged, count_after_mount, goes as does_go, is_left_over as left_over, set_names, RecoversAsAllowed, EndsAtRest, IsSurvey};
+ghost use Rattle.guard_files.specs.parts.Changes.{after, removals, primary_changes, guard_down};
+
+use crate::list_files::{has_name, list_bytes};
+use crate::own_names::{is_backup, is_guard, is_list, is_own};
+use crate::refusals::{VaultRefusal, refusal_of};
+use crate::set_reading::read_set;
+use crate::steps::{lower_guard, remove_files, save_primaries};
+use crate::store_names::StoreNames;
+use desk_ports::{Disk, Failed, FileName, FileSet};
+use std::alloc::{AllocError, Global};
+
+fn has_guard(names: &[FileName]) -> bool
+    ensures { result ≡ list_any (λ name. bytes_eq name guard_name) names.now }
+{
+    names.iter().any(|name| is_guard(name.as_slice()))
+}
+
+// Whether a set has a file of this name.
+fn is_held(held: &Option<FileSet>, name: &FileName) -> bool
+    ensures { result ≡ is_among (set_names held.now) name.now }
+{
+    match held {
+        Some(files) => has_name(files.as_slice(), name),
+        None => false,
+    }
+}
+
+fn goes(held: &Option<FileSet>, name: &FileName) -> bool
+    ensures { result ≡ does_go held.now name.now }
+{
+    let bytes = name.as_slice();
+    (!is_backup(bytes) && !is_guard(bytes))
+        && ((!is_list(bytes) && !is_held(held, name)) && is_own(bytes))
+}
+
+fn is_left_over(guarded: bool, held: &Option<FileSet>, name: &FileName) -> bool
+    ensures { result ≡ left_over guarded held.now name.now }
+{
+    let bytes = name.as_slice();
+    if guarded {
+        is_backup(bytes) && is_own(bytes)
+    } else {
+        !is_guard(bytes) && ((!is_list(bytes) && !is_held(held, name)) && is_own(bytes))
+    }
+}
+
+// The names that go before the primaries are written, in their order.
+fn going(
+    alloc: Global,
+    held: &Option<FileSet>,
+    names: &[FileName],
+) -> Result<Vec<FileName>, AllocError>
+    ensures { IfOk result (λ gone. gone.items ≡ filter (does_go held.now) names.now) }
+{
+    let mut gone = Vec::new(alloc);
+    for name in names {
+        if goes(held, name) {
+            gone.push(name.copy()?)?;
+        }
+    }
+    Ok(gone)
+}
+
+// The names that are left over at the end, in their order.
+fn leftover(
+    alloc: Global,
+    guarded: bool,
+    held: &Option<FileSet>,
+    names: &[FileName],
+) -> Result<Vec<FileName>, AllocError>
+    ensures { IfOk result (λ rest. rest.items ≡ filter (left_over guarded held.now) names.now) }
+{
+    let mut rest = Vec::new(alloc);
+    for name in names {
+        if is_left_over(guarded, held, name) {
+            rest.push(name.copy()?)?;
+        }
+    }
+    Ok(rest)
+}
+
+// Removes these files, and makes that durable where there was one. All was durable before.
+fn tidy<D: Disk>(disk: &mut D, rest: &[FileName]) -> Result<(), Failed>
+    ensures done { OnOk result ((base : DiskState) → D.state disk.old ≡ Some (with_all_durable base)
+        → D.state disk.new ≡ Some (with_all_durable (after (removals rest.now) (with_all_durable base)))) }
+    ensures moments { WhereTold (D.state disk.old) (λ before. AddsOnly D.moment D.left_since disk.old disk.new (MayLeave (after (removals rest.now) before))) }
+    ensures count { D.faults disk.new ≡ count_after_call result (D.faults disk.old) }
+{
+    remove_files(disk, rest)?;
+    if rest.is_empty() {
+        return Ok(());
+    }
+    disk.sync()?;
+    Ok(())
+}
+
+// Makes the primaries those of the set in the backups, and takes the guard away. All was durable before.
+fn restore<D: Disk>(
+    alloc: Global,
+    disk: &mut D,
+    names: &StoreNames,
+    held: &Option<FileSet>,
+    set: &FileSet,
+    listing: &[FileName],
+) -> Result<(), VaultRefusal>
+    requires { held.now ≡ Some set.now }
+    ensures done { OnOk result ((base : DiskState) → D.state disk.old ≡ Some (with_all_durable base) → D.state disk.new ≡ Some (with_all_durable
+        (after guard_down (with_all_durable (after (primary_changes (filter (does_go (Some set.now)) listing.now) set.now) (with_all_durable base)))))) }
+    ensures undamaged { IfErr result (λ refusal. IfDamaged refusal (λ file. ⊥)) }
+    ensures moments { (base : DiskState) (bytes : List ℕ) → D.state disk.old ≡ Some (with_all_durable base) → base.current guard_name ≡ Some bytes
+        → backup_set base.current ≡ Ok (Some set.now) → AddsOnly D.moment D.left_since disk.old disk.new (λ left. recover left ≡ Ok (Some set.now)) }
+    ensures count { D.faults disk.new ≡ count_after_mount result (D.faults disk.old) }
+{
+    let gone = match going(alloc, held, listing) {
+        Ok(gone) => gone,
+        Err(error) => return Err(VaultRefusal::Memory(error)),
+    };
+    let list = match list_bytes(alloc, set.as_slice()) {
+        Ok(list) => list,
+        Err(error) => return Err(VaultRefusal::Memory(error)),
+    };
+    match save_primaries(disk, &gone, set.as_slice(), &names.list, list.as_slice()) {
+        Ok(()) => {}
+        Err(_) => return Err(VaultRefusal::StoreFault),
+    }
+    match lower_guard(disk, &names.guard) {
+        Ok(()) => Ok(()),
+        Err(_) => Err(VaultRefusal::StoreFault),
+    }
+}
+
+// Where the guard stood: the primaries are renewed from the backups, and what is left over is removed.
+fn finish_guarded<D: Disk>(
+    alloc: Global,
+    disk: &mut D,
+    names: &StoreNames,
+    held: &Option<FileSet>,
+    set: &FileSet,
+    listing: &[FileName],
+) -> Result<(), VaultRefusal>
+    requires { held.now ≡ Some set.now }
+    ensures done { OnOk result ((base : DiskState) (bytes : List ℕ) → D.state disk.old ≡ Some (with_all_durable base) → base.current guard_name ≡ Some bytes
+        → backup_set base.current ≡ Ok (Some set.now) → AreNamesOf base.current listing.now → EndsAtRest (Some set.now) (D.state disk.new)) }
+    ensures undamaged { IfErr result (λ refusal. IfDamaged refusal (λ file. ⊥)) }
+    ensures moments { (base : DiskState) (bytes : List ℕ) → D.state disk.old ≡ Some (with_all_durable base) → base.current guard_name ≡ Some bytes
+        → backup_set base.current ≡ Ok (Some set.now) → AreNamesOf base.current listing.now
+        → AddsOnly D.moment D.left_since disk.old disk.new (λ left. recover left ≡ Ok (Some set.now)) }
+    ensures count { D.faults disk.new ≡ count_after_mount result (D.faults disk.old) }
+{
+    let rest = match leftover(alloc, true, held, listing) {
+        Ok(rest) => rest,
+        Err(error) => return Err(VaultRefusal::Memory(error)),
+    };
+    match restore(alloc, disk, names, held, set, listing) {
+        Ok(()) => {}
+        Err(refusal) => return Err(refusal),
+    }
+    match tidy(disk, &rest) {
+        Ok(()) => Ok(()),
+        Err(_) => Err(VaultRefusal::StoreFault),
+    }
+}
+
+// Where no guard stood: what is left over is removed.
+fn finish<D: Disk>(
+    alloc: Global,
+    disk: &mut D,
+    held: &Option<FileSet>,
+    listing: &[FileName],
+) -> Result<(), VaultRefusal>
+    ensures done { OnOk result ((base : DiskState) → D.state disk.old ≡ Some (with_all_durable base) → base.current guard_name ≡ None
+        → primary_set base.current ≡ Ok held.now → AreNamesOf base.current listing.now → EndsAtRest held.now (D.state disk.new)) }
+    ensures undamaged { IfErr result (λ refusal. IfDamaged refusal (λ file. ⊥)) }
+    ensures moments { (base : DiskState) → D.state disk.old ≡ Some (with_all_durable base) → base.current guard_name ≡ None
+        → primary_set base.current ≡ Ok held.now → AreNamesOf base.current listing.now
+        → AddsOnly D.moment D.left_since disk.old disk.new (λ left. recover left ≡ Ok held.now) }
+    ensures count { D.faults disk.new ≡ count_after_mount result (D.faults disk.old) }
+{
+    let rest = match leftover(alloc, false, held, listing) {
+        Ok(rest) => rest,
+        Err(error) => return Err(VaultRefusal::Memory(error)),
+    };
+    match tidy(disk, &rest) {
+        Ok(()) => Ok(()),
+        Err(_) => Err(VaultRefusal::StoreFault),
+    }
+}
+
+// What a folder was found to hold, once all is durable.
+#[derive(Debug, Drop)]
+struct Survey {
+    held: Option<FileSet>,
+    guarded: bool,
+    listing: Vec<FileName>,
+}
+
+// Makes all durable, and reads what the folder holds.
+fn survey_of<D: Disk>(
+    alloc: Global,
+    disk: &mut D,
+    names: &StoreNames,
+) -> Result<Survey, VaultRefusal>
+    ensures some { IfOk result (λ found. found.guarded ≡ true → IsSome found.held) }
+    ensures done { IfOk result (λ found. WhereTold (D.state disk.old) (λ before. (D.state disk.new ≡ Some (with_all_durable before))
+        × IsSurvey before.current found.held found.guarded found.listing.items)) }
+    ensures damaged { IfErr result (λ refusal. IfDamaged refusal (λ file. WhereTold (D.state disk.old) (λ before. (recover before.current ≡ Err file)
+        × (D.state disk.new ≡ Some (with_all_durable before))))) }
+    ensures moments { WhereTold (D.state disk.old) (λ before. AddsOnly D.moment D.left_since disk.old disk.new (MayLeave before)) }
+    ensures count { D.faults disk.new ≡ count_after_mount result (D.faults disk.old) }
+{
+    match disk.sync() {
+        Ok(()) => {}
+        Err(_) => return Err(VaultRefusal::StoreFault),
+    }
+    let listing = match disk.names() {
+        Ok(listing) => listing,
+        Err(fault) => return Err(refusal_of(fault)),
+    };
+    let guarded = has_guard(&listing);
+    match read_set(alloc, disk, names, guarded) {
+        Ok(held) => Ok(Survey {
+            held,
+            guarded,
+            listing,
+        }),
+        Err(refusal) => Err(refusal),
+    }
+}
+
+/// Brings a folder to rest, whatever a stop made of it, and gives the set that it holds, or nothing where it holds none. It
+/// makes all durable and reads the names; it reads the set from the backups where the guard stands, else from the primaries.
+/// Where the guard stood it renews the primaries and takes the guard away. Then it removes what is left over of the own
+/// names. A damaged folder is left as it is. It may be stopped too, at any moment.
+pub fn settle<D: Disk>(
+    alloc: Global,
+    disk: &mut D,
+    names: &StoreNames,
+) -> Result<Option<FileSet>, VaultRefusal>
+    ensures held { IfOk result (λ held. WhereTold (D.state disk.old) (λ before. recover before.current ≡ Ok held)) }
+    ensures settled { IfOk result (λ held. WhereTold (D.state disk.old) (λ before. EndsAtRest held (D.state disk.new))) }
+    ensures damaged { IfErr result (λ refusal. IfDamaged refusal (λ file. WhereTold (D.state disk.old) (λ before. (recover before.current ≡ Err file)
+        × (D.state disk.new ≡ Some (with_all_durable before))))) }
+
+    // A stop at any moment leaves what recovers as something that a stop at entry may leave.
+    ensures moments { WhereTold (D.state disk.old) (λ before. LeavesOnly D.moment D.left_since disk.old disk.new (RecoversAsAllowed before)) }
+    ensures count { D.faults disk.new ≡ count_after_mount result (D.faults disk.old) }
+{
+    let found = match survey_of(alloc, disk, names) {
+        Ok(found) => found,
+        Err(refusal) => return Err(refusal),
+    };
+    let Survey {
+        held,
+        guarded,
+        listing,
+    } = found;
+    if guarded {
+        let Some(set) = &held else {
+            unreachable!();
+        };
+        match finish_guarded(alloc, disk, names, &held, set, &listing) {
+            Ok(()) => return Ok(held),
+            Err(refusal) => return Err(refusal),
+        }
+    }
+    match finish(alloc, disk, &held, &listing) {
+        Ok(()) => Ok(held),
+        Err(refusal) => Err(refusal),
+    }
+}
