@@ -1,0 +1,5 @@
+pub mod Lists
+pub mod Walks
+pub mod Searching
+pub mod Kept
+pub mod Sound
