@@ -94,7 +94,7 @@ pub names-rise-same : (change : Bucket → Bucket) → ((bucket : Bucket) → (c
     → IsStrictlySortedBy bucket_cmp buckets → IsStrictlySortedBy bucket_cmp (map change buckets)
 names-rise-same = names-rise-map
 
-Contains-filter : {X : Type 0} (test : X → Bool) (xs : List X) (x : X) → Contains (filter test xs) x → Contains xs x
+pub Contains-filter : {X : Type 0} (test : X → Bool) (xs : List X) (x : X) → Contains (filter test xs) x → Contains xs x
 Contains-filter test xs x there =
     All-contains (Contains xs) (filter test xs) x
     (All-from_recursion (Contains xs) (filter test xs)

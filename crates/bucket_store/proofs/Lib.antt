@@ -3,3 +3,5 @@ pub mod Walks
 pub mod Searching
 pub mod Kept
 pub mod Sound
+pub mod Removing
+pub mod Heading

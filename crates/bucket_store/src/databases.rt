@@ -10,9 +10,11 @@ ghost use Rattle.bucket_store.specs.parts.Naming.{NamesAbsent};
 
 use crate::StoreRefusal;
 use crate::buckets::Bucket;
-use crate::copies::{admitted, all_buckets};
+use crate::copies::{admitted, all_buckets, not_admitted};
+use crate::edits::{has_room, is_bad, with_heading, with_policies, without_bucket};
+use crate::limits::MOST_BUCKETS;
 use crate::searches::place_of_bucket;
-use cynara_keys::{BucketName, Filter, Kind, Policy, PolicyResult};
+use cynara_keys::{BucketName, Counted, Filter, Kind, Policy, PolicyResult};
 use std::alloc::{AllocError, Global};
 use std::marker::Model;
 
@@ -94,6 +96,72 @@ impl Database {
         let bucket = &self.buckets[place];
         match admitted(*self.buckets.allocator(), bucket.policies(), filter) {
             Ok(policies) => Ok(policies),
+            Err(error) => Err(StoreRefusal::Memory(error)),
+        }
+    }
+
+    /// Makes a bucket with this fallback and no policies, or changes the fallback of the one that is there. Refuses, in this
+    /// order, `BadKind` and `Limit`.
+    pub fn set_bucket(&self, name: &BucketName, fallback: &PolicyResult) -> Result<Database, StoreRefusal>
+        ensures next { IfOk result (λ next. next ≡ (request.set_bucket name.now fallback.now self.now).next) }
+        ensures accepted { OnOk result (fault self.now (request.set_bucket name.now fallback.now self.now) ≡ None) }
+        ensures refused { IfErr result (Refuses self.now (request.set_bucket name.now fallback.now self.now)) }
+    {
+        if is_bad(name, fallback) {
+            return Err(StoreRefusal::BadKind(fallback.kind()));
+        }
+        let place = place_of_bucket(&self.buckets, name);
+        if !has_room(&self.buckets, &place) {
+            return Err(StoreRefusal::Limit(Counted::Buckets, MOST_BUCKETS as u64));
+        }
+        match with_heading(*self.buckets.allocator(), &self.buckets, place, name, fallback) {
+            Ok(buckets) => Ok(Database { buckets }),
+            Err(error) => Err(StoreRefusal::Memory(error)),
+        }
+    }
+
+    /// Removes a bucket with its policies, and the policies of all buckets that point to it. Refuses, in this order,
+    /// `NoBucket` and `RootBucket`.
+    pub fn remove_bucket(&self, name: &BucketName) -> Result<Database, StoreRefusal>
+        ensures next { IfOk result (λ next. next ≡ (request.remove_bucket name.now self.now).next) }
+        ensures accepted { OnOk result (fault self.now (request.remove_bucket name.now self.now) ≡ None) }
+        ensures refused { IfErr result (Refuses self.now (request.remove_bucket name.now self.now)) }
+    {
+        let Ok(_) = place_of_bucket(&self.buckets, name) else {
+            return Err(no_bucket(name));
+        };
+        if name.as_slice().is_empty() {
+            return Err(StoreRefusal::RootBucket);
+        }
+        match without_bucket(*self.buckets.allocator(), &self.buckets, name) {
+            Ok(buckets) => Ok(Database { buckets }),
+            Err(error) => Err(StoreRefusal::Memory(error)),
+        }
+    }
+
+    /// Erases the policies of the bucket whose keys the filter admits. Refuses `NoBucket`.
+    pub fn erase(&self, name: &BucketName, filter: &Filter) -> Result<Erased, StoreRefusal>
+        ensures next { IfOk result
+            (λ erased. erased.database ≡ (request.erase name.now filter.now self.now).next) }
+        ensures count { IfOk result (λ erased. erased.count ≡ length (listed name.now filter.now self.now)) }
+        ensures accepted { OnOk result (fault self.now (request.erase name.now filter.now self.now) ≡ None) }
+        ensures refused { IfErr result (Refuses self.now (request.erase name.now filter.now self.now)) }
+    {
+        let Ok(place) = place_of_bucket(&self.buckets, name) else {
+            return Err(no_bucket(name));
+        };
+        let alloc = *self.buckets.allocator();
+        let bucket = &self.buckets[place];
+        let left = match not_admitted(alloc, bucket.policies(), filter) {
+            Ok(left) => left,
+            Err(error) => return Err(StoreRefusal::Memory(error)),
+        };
+        let count = (bucket.policies().len() - left.len()) as u32;
+        match with_policies(alloc, &self.buckets, place, left) {
+            Ok(buckets) => Ok(Erased {
+                database: Database { buckets },
+                count,
+            }),
             Err(error) => Err(StoreRefusal::Memory(error)),
         }
     }

@@ -7,11 +7,14 @@
 mod buckets;
 mod copies;
 mod databases;
+mod edits;
+mod limits;
 mod policy_changes;
 mod refusals;
 mod searches;
 
 pub use buckets::Bucket;
 pub use databases::{Database, Erased};
+pub use limits::{MOST_BUCKETS, MOST_POLICIES};
 pub use policy_changes::{Change, Changes};
 pub use refusals::StoreRefusal;
