@@ -5,3 +5,5 @@ pub mod Kept
 pub mod Sound
 pub mod Removing
 pub mod Heading
+pub mod Closing
+pub mod Leading

@@ -135,7 +135,7 @@ module _ {K : Type 0} {cmp : K → K → Ordering} (order : IsTotalOrder cmp) wh
     IsSortedBy-strictly (x ∷ y ∷ xs) rising (suc k) d ge lt =
         rw add-one (rw add-one at (IsSortedBy-strictly (y ∷ xs) rising.1 k d (omega arith) (omega arith)))
 
-    found : (sought : K) (xs : List X) (place : ℕ) → IsStrictlySortedBy (on key cmp) xs → place < length xs
+    pub found : (sought : K) (xs : List X) (place : ℕ) → IsStrictlySortedBy (on key cmp) xs → place < length xs
         → HoldsAt (λ x. cmp (key x) sought ≡ Equal) xs place → StandsAt (λ x. cmp (key x) sought) xs place
     unfolding IsStrictlySortedBy
     found sought [] place rising lt equal = absurd (omega arith)

@@ -172,11 +172,11 @@ place-absent name buckets at belongs =
 
 -- ---- whether a bucket is there
 
-any-front : {X : Type 0} (test : X → Bool) (xs : List X) (x : X) (ys : List X) → test x ≡ true → list_any test (xs ++ x ∷ ys) ≡ true
+pub any-front : {X : Type 0} (test : X → Bool) (xs : List X) (x : X) (ys : List X) → test x ≡ true → list_any test (xs ++ x ∷ ys) ≡ true
 any-front test [] x ys h = or_left _ _ h
 any-front test (y ∷ xs) x ys h = or_right _ _ (any-front test xs x ys h)
 
-any-none : {X : Type 0} (test : X → Bool) (xs : List X) → AllByRecursion (λ x. test x ≡ false) xs → list_any test xs ≡ false
+pub any-none : {X : Type 0} (test : X → Bool) (xs : List X) → AllByRecursion (λ x. test x ≡ false) xs → list_any test xs ≡ false
 any-none test [] all = refl
 any-none test (x ∷ xs) all = ap (λ b. b || list_any test xs) all.0 ∙ any-none test xs all.1
 

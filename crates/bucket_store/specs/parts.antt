@@ -1,3 +1,4 @@
 pub mod Search
 pub mod Naming
 pub mod Edit
+pub mod Closure

@@ -6,6 +6,7 @@
 
 mod buckets;
 mod copies;
+mod cycles;
 mod databases;
 mod edits;
 mod limits;
