@@ -187,3 +187,212 @@ module _ (buckets : List Bucket) (rise : IsStrictlySortedBy bucket_cmp buckets)
       → leads (closed k (link_rows buckets)) i j ≡ true
   kept-true zero i j le within h = h
   kept-true (suc k) i j le within h = direct k i j (omega arith) within (kept-true k i j (omega arith) within h)
+
+  -- ---- what a flag says of policies
+
+  own_test : List ℕ → (Policy → Bool) → Placed → Bool
+  own_test own test step = same_text step.bucket own && test step.policy
+
+  stands : (i : ℕ) → i < length buckets
+      → StandsAt (λ (bucket : Bucket). text_cmp bucket.name (get_or buckets i (bucket_of [] (record { kind = 0; metadata = [] }) [])).name) buckets i
+  stands i lt =
+      found text_total (λ (bucket : Bucket). bucket.name) (get_or buckets i (bucket_of [] (record { kind = 0; metadata = [] }) [])).name buckets i rise lt
+      (λ d. ap (λ (bucket : Bucket). text_cmp bucket.name (get_or buckets i (bucket_of [] (record { kind = 0; metadata = [] }) [])).name)
+      (get_or_default buckets i d (bucket_of [] (record { kind = 0; metadata = [] }) []) lt)
+      ∙ tied_itself text_total (get_or buckets i (bucket_of [] (record { kind = 0; metadata = [] }) [])).name)
+
+  any-placed : (own : List ℕ) (test : Policy → Bool) (name : List ℕ) (policies : List Policy) → same_text name own ≡ true
+      → list_any (λ (step : Placed). same_text step.bucket own && test step.policy)
+      (map (λ policy. let placed : Placed = record { bucket = name; policy = policy } in placed) policies) ≡ list_any test policies
+  any-placed own test name [] same = refl
+  any-placed own test name (policy ∷ policies) same =
+      λ i. (ap (λ b. b && test policy) same) i || any-placed own test name policies same i
+
+  -- the policies of a bucket, among all
+  any-own : (own : List ℕ) (test : Policy → Bool) (i : ℕ) (at : StandsAt (λ (bucket : Bucket). text_cmp bucket.name own) buckets i)
+      → list_any (λ (step : Placed). same_text step.bucket own && test step.policy) (flat_map placed_of buckets)
+      ≡ list_any test at.element.policies
+  any-own own test i at =
+      let tests : Placed → Bool = λ step. same_text step.bucket own && test step.policy in
+      let none : (xs : List Bucket) → AllByRecursion (λ (bucket : Bucket). same_text bucket.name own ≡ false) xs
+      → list_any tests (flat_map placed_of xs) ≡ false =
+      λ xs apart. any-none tests (flat_map placed_of xs)
+      (All-flat (λ step. tests step ≡ false) (λ bucket. same_text bucket.name own ≡ false)
+      (λ bucket no policy. ap (λ b. b && test policy) no) xs apart) in
+      ap (λ list. list_any tests (flat_map placed_of list)) at.parts
+      ∙ ap (list_any tests) (flat_map-append placed_of at.front (at.element ∷ at.back))
+      ∙ list_any-append tests (flat_map placed_of at.front) (placed_of at.element ++ flat_map placed_of at.back)
+      ∙ ap (λ b. b || list_any tests (placed_of at.element ++ flat_map placed_of at.back)) (none at.front (others-apart own at.front at.before))
+      ∙ list_any-append tests (placed_of at.element) (flat_map placed_of at.back)
+      ∙ ap (λ b. list_any tests (placed_of at.element) || b) (none at.back (others-apart' own at.back at.behind))
+      ∙ or_false (list_any tests (placed_of at.element))
+      ∙ any-placed own test at.element.name at.element.policies (tied-same own at.element at.ties)
+    where
+      or_false : (b : Bool) → (b || false) ≡ b
+      or_false true = refl
+      or_false false = refl
+
+  link : (i j : ℕ) → i < length buckets → j < length buckets
+      → leads (link_rows buckets) i j
+      ≡ list_any (λ (step : Placed). same_text step.bucket (get_or buckets i (bucket_of [] (record { kind = 0; metadata = [] }) [])).name
+      && points_to (get_or buckets j (bucket_of [] (record { kind = 0; metadata = [] }) [])).name step.policy) (flat_map placed_of buckets)
+  link i j within there =
+      let blank : Bucket = bucket_of [] (record { kind = 0; metadata = [] }) [] in
+      let bucket = get_or buckets i blank in
+      let to = (get_or buckets j blank).name in
+      let row : Bucket → List Bool = λ own. linked buckets own.policies in
+      let test : Bucket → Bool = λ other. list_any (points_to other.name) bucket.policies in
+      let at = stands i within in
+      let is : bucket ≡ at.element =
+      ap (λ xs. get_or xs i blank) at.parts ∙ get_or_at at.front at.element at.back blank i at.length_front in
+      let long = length-link_rows buckets in
+      let wide = length-map buckets test in
+      ap (λ r. flag r j) (get_or_default (map row buckets) i [] (row blank) (omega (arith, long)) ∙ get_or-map row buckets i blank)
+      ∙ get_or_default (map test buckets) j false (test blank) (omega (arith, wide))
+      ∙ get_or-map test buckets j blank
+      ∙ ap (λ (own : Bucket). list_any (points_to to) own.policies) is
+      ∙ sym (any-own bucket.name (points_to to) i at)
+
+  -- ---- a flag is a walk
+
+  flag-Leads : (k i j : ℕ) → k ≤ length buckets → i < length buckets → j < length buckets
+      → leads (closed k (link_rows buckets)) i j ≡ true
+      → Leads (flat_map placed_of buckets) (get_or buckets i (bucket_of [] (record { kind = 0; metadata = [] }) [])).name
+      (get_or buckets j (bucket_of [] (record { kind = 0; metadata = [] }) [])).name
+  flag-Leads zero i j le within there h =
+      let blank : Bucket = bucket_of [] (record { kind = 0; metadata = [] }) [] in
+      let from = (get_or buckets i blank).name in
+      let to = (get_or buckets j blank).name in
+      let at =
+      Any-from_list_any (λ (step : Placed). same_text step.bucket from && points_to to step.policy) (flat_map placed_of buckets)
+      (sym (link i j within there) ∙ h) in
+      let step = at.1 in
+      let own = and_parts (same_text step.bucket from) (points_to to step.policy) at.4 in
+      let aim = and_parts (points step.policy) (same_text (target step.policy) to) own.1 in
+      subst (Leads (flat_map placed_of buckets) from) (same_text-≡ (target step.policy) to aim.1)
+      (Leads-step (flat_map placed_of buckets) from step
+      (record { there = (at.0, at.2, at.3); points = aim.0; own = same_text-≡ step.bucket from own.0 }))
+  flag-Leads (suc k) i j le within there h =
+      let short : k < length buckets = omega arith in
+      let blank : Bucket = bucket_of [] (record { kind = 0; metadata = [] }) [] in
+      ⊎_elim (λ before. flag-Leads k i j (omega arith) within there before)
+      (λ by. Leads-append (flat_map placed_of buckets) (get_or buckets i blank).name (get_or buckets k blank).name (get_or buckets j blank).name
+      (flag-Leads k i k (omega arith) within short by.0) (flag-Leads k k j (omega arith) short there by.1))
+      (came k i j short within h)
+
+  -- ---- a walk is a flag
+
+  -- the place of a bucket that is there
+  place_of : (own : List ℕ) → has_bucket own (database_of buckets) ≡ true
+      → (i : ℕ) × (i < length buckets) × ((get_or buckets i (bucket_of [] (record { kind = 0; metadata = [] }) [])).name ≡ own)
+  place_of own has =
+      let blank : Bucket = bucket_of [] (record { kind = 0; metadata = [] }) [] in
+      let at =
+      Any-from_list_any (λ (bucket : Bucket). same_text bucket.name own) buckets
+      (sym (any-map (λ (heading : Heading). same_text heading.name own) heading_of buckets) ∙ has) in
+      (at.0, at.2,
+      ap (λ (bucket : Bucket). bucket.name) (get_or_default buckets at.0 blank at.1 at.2 ∙ at.3) ∙ same_text-≡ at.1.name own at.4)
+
+  abbrev Reached : ℕ → List ℕ → Type 0
+  Reached i to =
+      (j : ℕ) × (j < length buckets) × ((get_or buckets j (bucket_of [] (record { kind = 0; metadata = [] }) [])).name ≡ to)
+      × (leads (closed (length buckets) (link_rows buckets)) i j ≡ true)
+
+  step-flag : (i m : ℕ) → i < length buckets → m < length buckets → (step : Placed)
+      → IsStep (flat_map placed_of buckets) (get_or buckets i (bucket_of [] (record { kind = 0; metadata = [] }) [])).name step
+      → (get_or buckets m (bucket_of [] (record { kind = 0; metadata = [] }) [])).name ≡ target step.policy
+      → leads (closed (length buckets) (link_rows buckets)) i m ≡ true
+  step-flag i m within there step is aim =
+      let blank : Bucket = bucket_of [] (record { kind = 0; metadata = [] }) [] in
+      let from = (get_or buckets i blank).name in
+      let to = (get_or buckets m blank).name in
+      kept-true (length buckets) i m (omega arith) within
+      (link i m within there
+      ∙ list_any-from_Any (λ (other : Placed). same_text other.bucket from && points_to to other.policy) (flat_map placed_of buckets)
+      (is.there.0, step, is.there.1, is.there.2,
+      and_from _ _ (≡-same_text step.bucket from is.own)
+      (and_from _ _ is.points (≡-same_text (target step.policy) to (sym aim)))))
+
+  walk-flag : (i : ℕ) → i < length buckets → (from to : List ℕ) (step : Placed) (steps : List Placed)
+      → (get_or buckets i (bucket_of [] (record { kind = 0; metadata = [] }) [])).name ≡ from
+      → IsWalk (flat_map placed_of buckets) from (step ∷ steps) → end_of from (step ∷ steps) ≡ to → Reached i to
+  walk-flag i within from to step [] is walks ends =
+      let rooted_step = All-contains (IsRooted (database_of buckets)) (flat_map placed_of buckets) step (All-from_recursion (IsRooted (database_of buckets)) (flat_map placed_of buckets) rooted) walks.0.there in
+      let m = place_of (target step.policy) (rooted_step.target walks.0.points) in
+      let here : IsStep (flat_map placed_of buckets) (get_or buckets i (bucket_of [] (record { kind = 0; metadata = [] }) [])).name step =
+      record { there = walks.0.there; points = walks.0.points; own = walks.0.own ∙ sym is } in
+      (m.0, m.1, m.2 ∙ ends, step-flag i m.0 within m.1 step here m.2)
+  walk-flag i within from to step (next ∷ steps) is walks ends =
+      let rooted_step = All-contains (IsRooted (database_of buckets)) (flat_map placed_of buckets) step (All-from_recursion (IsRooted (database_of buckets)) (flat_map placed_of buckets) rooted) walks.0.there in
+      let m = place_of (target step.policy) (rooted_step.target walks.0.points) in
+      let here : IsStep (flat_map placed_of buckets) (get_or buckets i (bucket_of [] (record { kind = 0; metadata = [] }) [])).name step =
+      record { there = walks.0.there; points = walks.0.points; own = walks.0.own ∙ sym is } in
+      let first = step-flag i m.0 within m.1 step here m.2 in
+      let rest = walk-flag m.0 m.1 (target step.policy) to next steps m.2 walks.1 ends in
+      (rest.0, rest.1, rest.2, along (length buckets) (omega arith) m.0 i rest.0 m.1 within rest.1 first rest.3)
+
+  -- names are at one place each
+  one_place : (i j : ℕ) → i < length buckets → j < length buckets
+      → (get_or buckets j (bucket_of [] (record { kind = 0; metadata = [] }) [])).name ≡ (get_or buckets i (bucket_of [] (record { kind = 0; metadata = [] }) [])).name
+      → j ≡ i
+  one_place i j within there same =
+      let own = (get_or buckets i (bucket_of [] (record { kind = 0; metadata = [] }) [])).name in
+      let first = position-StandsAt (λ (bucket : Bucket). text_cmp bucket.name own) (stands i within) in
+      let second =
+      position-StandsAt (λ (bucket : Bucket). text_cmp bucket.name own)
+      (subst (λ name. StandsAt (λ (bucket : Bucket). text_cmp bucket.name name) buckets j) same (stands j there)) in
+      let both : Some j ≡ Some i = sym second ∙ first in
+      cc
+
+  pub flag-back : (own : List ℕ) → Leads (flat_map placed_of buckets) own own
+      → (i : ℕ) × (i < length buckets) × (leads (closed (length buckets) (link_rows buckets)) i i ≡ true)
+  flag-back own lead =
+      let rooted_step = All-contains (IsRooted (database_of buckets)) (flat_map placed_of buckets) lead.first (All-from_recursion (IsRooted (database_of buckets)) (flat_map placed_of buckets) rooted) lead.walks.0.there in
+      let at = place_of own (ap (λ name. has_bucket name (database_of buckets)) (sym lead.walks.0.own) ∙ rooted_step.own) in
+      let reached = walk-flag at.0 at.1 own own lead.first lead.others at.2 lead.walks lead.ends in
+      let same = one_place at.0 reached.0 at.1 reached.1 (reached.2 ∙ sym at.2) in
+      (at.0, at.1, subst (λ j. leads (closed (length buckets) (link_rows buckets)) at.0 j ≡ true) same reached.3)
+
+  -- the flag of a bucket to itself is the test for a cycle
+  pub flag-cycle : (i : ℕ) → i < length buckets
+      → is_on_cycle (database_of buckets) (get_or buckets i (bucket_of [] (record { kind = 0; metadata = [] }) [])).name
+      ≡ leads (closed (length buckets) (link_rows buckets)) i i
+  flag-cycle i within = parts (leads (closed (length buckets) (link_rows buckets)) i i) refl
+    where
+      parts : (b : Bool) → leads (closed (length buckets) (link_rows buckets)) i i ≡ b
+          → is_on_cycle (database_of buckets) (get_or buckets i (bucket_of [] (record { kind = 0; metadata = [] }) [])).name ≡ b
+      parts true is =
+          is_on_cycle-Leads (database_of buckets) rooted (get_or buckets i (bucket_of [] (record { kind = 0; metadata = [] }) [])).name
+          (flag-Leads (length buckets) i i (omega arith) within within is)
+      parts false is =
+          false_from_ne_true (is_on_cycle (database_of buckets) (get_or buckets i (bucket_of [] (record { kind = 0; metadata = [] }) [])).name) (λ on.
+          let own = (get_or buckets i (bucket_of [] (record { kind = 0; metadata = [] }) [])).name in
+          let lead = Leads-reaches (flat_map placed_of buckets) (length (map heading_of buckets)) own own on in
+          let reached = walk-flag i within own own lead.first lead.others refl lead.walks lead.ends in
+          let same = one_place i reached.0 within reached.1 reached.2 in
+          true≢false (sym (subst (λ j. leads (closed (length buckets) (link_rows buckets)) i j ≡ true) same reached.3) ∙ is))
+
+  -- ---- what the first bucket that leads to itself is
+
+  pub no-loop : IsFirstLoop (closed (length buckets) (link_rows buckets)) (length buckets) None → NoCycle (flat_map placed_of buckets)
+  no-loop none own lead =
+      let at = flag-back own lead in
+      true≢false (sym at.2 ∙ none at.0 at.1)
+
+  find-first : (test : List ℕ → Bool) (xs : List Bucket) (at : ℕ) (d : Bucket) → at < length xs → test (get_or xs at d).name ≡ true
+      → ((k : ℕ) → k < at → test (get_or xs k d).name ≡ false)
+      → find test (map (λ (heading : Heading). heading.name) (map heading_of xs)) ≡ Some (get_or xs at d).name
+  find-first test [] at d lt on before = absurd (omega arith)
+  find-first test (x ∷ xs) zero d lt on before =
+      ap (λ b. cond b (Some x.name) (find test (map (λ (heading : Heading). heading.name) (map heading_of xs)))) on
+  find-first test (x ∷ xs) (suc at) d lt on before =
+      ap (λ b. cond b (Some x.name) (find test (map (λ (heading : Heading). heading.name) (map heading_of xs)))) (before zero (omega arith))
+      ∙ find-first test xs at d (omega arith) on (λ k less. before (suc k) (omega arith))
+
+  pub first-loop : (at : ℕ) → IsFirstLoop (closed (length buckets) (link_rows buckets)) (length buckets) (Some at)
+      → cycle (database_of buckets) ≡ Some (Cycle (get_or buckets at (bucket_of [] (record { kind = 0; metadata = [] }) [])).name)
+  first-loop at is =
+      let blank : Bucket = bucket_of [] (record { kind = 0; metadata = [] }) [] in
+      ap (option_map (λ name. Cycle name))
+      (find-first (is_on_cycle (database_of buckets)) buckets at blank is.0 (flag-cycle at is.0 ∙ is.1)
+      (λ k less. flag-cycle k (omega (arith, is.0)) ∙ is.2 k less))
