@@ -7,3 +7,5 @@ pub mod Removing
 pub mod Heading
 pub mod Closing
 pub mod Leading
+pub mod Changing
+pub mod Accepting

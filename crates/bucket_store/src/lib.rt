@@ -4,12 +4,14 @@
 //! of the refusals and that no bucket may reach itself are this project's profile.
 #![tactic(auto)]
 
+mod batches;
 mod buckets;
 mod copies;
 mod cycles;
 mod databases;
 mod edits;
 mod limits;
+mod named;
 mod policy_changes;
 mod refusals;
 mod searches;
