@@ -1,4 +1,5 @@
 pub mod Elements
+mod Best
 pub mod Decisions
 pub mod Reordered
 pub mod Rising

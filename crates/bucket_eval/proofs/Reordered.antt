@@ -1,5 +1,5 @@
 -- What holds alike of lists with the same elements.
-use Rattle.std.proofs.Common.{◌≡◌, Bool, true, false, not, cond, List, [], ◌∷◌, ◌++◌, suc, length, Option, refl, ap, ◌∙◌}
+use Rattle.std.proofs.Common.{◌≡◌, Bool, true, false, not, cond, List, [], ◌∷◌, ◌++◌, suc, length, Some, refl, ap, ◌∙◌}
 use Rattle.std.specs.List.{AllByRecursion, filter}
 use Rattle.cynara_keys.specs.Key.{same_key}
 use Rattle.cynara_keys.specs.declared.keys.Key.{Key}
@@ -8,7 +8,8 @@ use Rattle.cynara_keys.specs.declared.keys.Question.{Question}
 use Rattle.cynara_keys.proofs.Order.{same_key_equiv}
 use Rattle.bucket_eval.specs.Reordered.{Reordered, nothing, kept, exchanged, joined, HaveOwnKeys}
 use Rattle.bucket_eval.specs.Rising.{HasNoKey}
-use Rattle.bucket_eval.specs.Least.{counts, lesser, least_policy}
+use Rattle.cynara_keys.specs.Minimum.{lesser, first_least}
+use Rattle.bucket_eval.specs.Least.{counts, decision_cmp, least_policy}
 use Rattle.bucket_eval.proofs.Elements.{AllByRecursion-append, AllByRecursion-filter}
 use Rattle.bucket_eval.proofs.Decisions.{lesser-swap}
 
@@ -82,24 +83,32 @@ HaveOwnKeys-Reordered (exchanged {x} {y}) own =
     ((same_key_equiv.symm y.key x.key ∙ own.0.0, own.1.0), (own.0.1, own.1.1))
 HaveOwnKeys-Reordered (joined h k) own = HaveOwnKeys-Reordered k (HaveOwnKeys-Reordered h own)
 
-least-exchanged : (first second : Bool) (x y : Policy) (rest : Option Policy) → same_key x.key y.key ≡ false
-    → cond first (lesser x (cond second (lesser y rest) rest)) (cond second (lesser y rest) rest)
-    ≡ cond second (lesser y (cond first (lesser x rest) rest)) (cond first (lesser x rest) rest)
-least-exchanged true true x y rest apart = lesser-swap x y rest apart
-least-exchanged true false x y rest apart = refl
-least-exchanged false true x y rest apart = refl
-least-exchanged false false x y rest apart = refl
+own-cond : (policy : Policy) (passed : List Policy) (passes : Bool)
+    → AllByRecursion (λ other. same_key policy.key other.key ≡ false) passed → HaveOwnKeys passed
+    → HaveOwnKeys (cond passes (policy ∷ passed) passed)
+own-cond policy passed true others own = (others, own)
+own-cond policy passed false others own = own
+
+HaveOwnKeys-filter : (test : Policy → Bool) (policies : List Policy) → HaveOwnKeys policies → HaveOwnKeys (filter test policies)
+HaveOwnKeys-filter test [] own = own
+HaveOwnKeys-filter test (policy ∷ policies) own =
+    own-cond policy (filter test policies) (test policy)
+    (AllByRecursion-filter (λ other. same_key policy.key other.key ≡ false) test policies own.0)
+    (HaveOwnKeys-filter test policies own.1)
+
+first_least-Reordered : {xs ys : List Policy} → HaveOwnKeys xs → Reordered xs ys
+    → first_least decision_cmp xs ≡ first_least decision_cmp ys
+first_least-Reordered own nothing = refl
+first_least-Reordered own (kept {x} h) = ap (λ rest. Some (lesser decision_cmp x rest)) (first_least-Reordered own.1 h)
+first_least-Reordered own (exchanged {x} {y} {xs}) = ap Some (lesser-swap x y (first_least decision_cmp xs) own.0.0)
+first_least-Reordered own (joined h k) =
+    first_least-Reordered own h ∙ first_least-Reordered (HaveOwnKeys-Reordered h own) k
 
 -- policies with keys of their own decide alike in any order
 pub least_policy-Reordered : {xs ys : List Policy} (question : Question) → HaveOwnKeys xs → Reordered xs ys
     → least_policy question xs ≡ least_policy question ys
-least_policy-Reordered question own nothing = refl
-least_policy-Reordered question own (kept {x} h) =
-    ap (λ rest. cond (counts question x) (lesser x rest) rest) (least_policy-Reordered question own.1 h)
-least_policy-Reordered question own (exchanged {x} {y} {xs}) =
-    least-exchanged (counts question x) (counts question y) x y (least_policy question xs) own.0.0
-least_policy-Reordered question own (joined h k) =
-    least_policy-Reordered question own h ∙ least_policy-Reordered question (HaveOwnKeys-Reordered h own) k
+least_policy-Reordered {xs = xs} question own h =
+    first_least-Reordered (HaveOwnKeys-filter (counts question) xs own) (filter-Reordered (counts question) h)
 
 -- ---- lists that a policy is put into
 

@@ -1,9 +1,9 @@
 -- Which policy of a bucket decides a question.
-use Rattle.std.specs.Prelude.{◌≡◌, Bool, true, false, not, ◌&&◌, ◌==◌, if◌then◌else◌, List, [], ◌∷◌, Option, Some, None}
+use Rattle.std.specs.Prelude.{◌≡◌, Bool, true, false, not, ◌&&◌, ◌==◌, List, Option, All, filter}
 use Rattle.std.specs.declared.cmp.Ordering.{Ordering}
-use Rattle.std.specs.List.{AllByRecursion}
 use Rattle.std.specs.Ordering.{on, then_cmp, is_gt}
 use Rattle.cynara_keys.specs.Key.{key_matches, key_cmp}
+use Rattle.cynara_keys.specs.Minimum.{first_least}
 use Rattle.cynara_keys.specs.PolicyResult.{none, result_cmp}
 use Rattle.cynara_keys.specs.declared.keys.Policy.{Policy}
 use Rattle.cynara_keys.specs.declared.keys.Question.{Question}
@@ -16,23 +16,16 @@ counts question policy = key_matches policy.key question && not (policy.result.k
 abbrev pub decision_cmp : Policy → Policy → Ordering
 decision_cmp = then_cmp (on (λ policy. policy.result) result_cmp) (on (λ policy. policy.key) key_cmp)
 
+-- the least of the policies that have a say
+abbrev pub least_policy : Question → List Policy → Option Policy
+least_policy question policies = first_least decision_cmp (filter (counts question) policies)
+
 -- the policy has a say, and no policy that has a say decides before it
 abbrev pub DecidesAmong : Question → List Policy → Policy → Type 0
 DecidesAmong question policies policy =
     (counts question policy ≡ true)
-    × AllByRecursion (λ other. counts question other ≡ true → is_gt (decision_cmp policy other) ≡ false) policies
+    × All (λ other. is_gt (decision_cmp policy other) ≡ false) (filter (counts question) policies)
 
 -- no policy has a say
 abbrev pub NoneCounts : Question → List Policy → Type 0
-NoneCounts question policies = AllByRecursion (λ policy. counts question policy ≡ false) policies
-
--- the lesser of a policy and another, if there is another
-abbrev pub lesser : Policy → Option Policy → Option Policy
-lesser policy None = Some policy
-lesser policy (Some other) = if is_gt (decision_cmp policy other) then Some other else Some policy
-
--- the least of the policies that have a say
-abbrev pub least_policy : Question → List Policy → Option Policy
-least_policy question [] = None
-least_policy question (policy ∷ policies) =
-    if counts question policy then lesser policy (least_policy question policies) else least_policy question policies
+NoneCounts question policies = All (λ policy. counts question policy ≡ false) policies

@@ -1,6 +1,3 @@
-ghost use Rattle.std.specs.Prelude.{OnOk};
-ghost use Rattle.bucket_eval.specs.Rising.{IsRising};
-
 use super::*;
 use cynara_keys::{Field, Metadata, Name, PolicyResult};
 use std::alloc::Global;
@@ -41,12 +38,22 @@ fn policies(alloc: Global, rows: &[Row<'_>]) -> Result<Vec<Policy>, Fail> {
     Ok(policies)
 }
 
-fn question(alloc: Global) -> Result<Question, Fail> {
-    Ok(Question {
+// The place that decides whether `c` may use `p` for `u`.
+fn place(alloc: Global, rows: &[Row<'_>]) -> Result<Option<usize>, Fail> {
+    let question = Question {
         client: Name::read(alloc, b"c")?,
         user: Name::read(alloc, b"u")?,
         privilege: Name::read(alloc, b"p")?,
-    })
+    };
+    let policies = policies(alloc, rows)?;
+    if policies
+        .iter()
+        .all(|policy| policy.result.kind() != Kind::BUCKET)
+    {
+        Ok(least(&policies, &question))
+    } else {
+        Ok(Some(usize::MAX))
+    }
 }
 
 const OWN: [&str; 3] = ["c", "u", "p"];
@@ -88,52 +95,8 @@ const CASES: [(&[Row<'static>], Option<usize>); 11] = [
 
 #[test]
 fn the_least_result_decides(rt: HostRuntime) -> Result<(), Fail> {
-    let question = question(rt.alloc())?;
     for (at, (rows, want)) in CASES.iter().enumerate() {
-        let policies = policies(rt.alloc(), rows)?;
-        assert!(rt;
-            policies
-                .iter()
-                .all(|policy| policy.result.kind() != Kind::BUCKET)
-        );
-        assert_eq!(rt; least(&policies, &question), *want, "case {at}");
-    }
-    Ok(())
-}
-
-// Puts a policy of this key at its place, if none has the key.
-fn put(alloc: Global, policies: &mut Vec<Policy>, fields: [&str; 3]) -> Result<(), Fail>
-    requires { IsRising policies.old.items }
-    ensures { OnOk result (IsRising policies.new.items) }
-{
-    let policy = policy(alloc, (fields, DENY, ""))?;
-    if let Err(place) = place_of(policies, &policy.key) {
-        policies.insert(place, policy)?;
-    }
-    Ok(())
-}
-
-#[test]
-fn finds_the_place_of_a_key(rt: HostRuntime) -> Result<(), Fail> {
-    let mut policies = Vec::new(rt.alloc());
-    let first = key(rt.alloc(), ["b", "u", "p"])?;
-    assert_eq!(rt; place_of(&policies, &first), Err(0));
-    for client in ["d", "b", "f", "d"] {
-        put(rt.alloc(), &mut policies, [client, "u", "p"])?;
-    }
-    let places = [
-        (["a", "u", "p"], Err(0)),
-        (["b", "u", "p"], Ok(0)),
-        (["c", "u", "p"], Err(1)),
-        (["d", "u", "p"], Ok(1)),
-        (["d", "u", "q"], Err(2)),
-        (["d", "*", "p"], Err(1)),
-        (["f", "u", "p"], Ok(2)),
-        (["g", "u", "p"], Err(3)),
-    ];
-    for (fields, want) in places {
-        let key = key(rt.alloc(), fields)?;
-        assert_eq!(rt; place_of(&policies, &key), want);
+        assert_eq!(rt; place(rt.alloc(), rows)?, *want, "case {at}");
     }
     Ok(())
 }

@@ -1,8 +1,9 @@
 pub mod Text
+pub mod Minimum
 pub mod Name
 pub mod BucketName
 pub mod Metadata
 pub mod Field
-pub mod Short
 pub mod Key
 pub mod PolicyResult
+pub mod parts

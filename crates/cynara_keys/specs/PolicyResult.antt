@@ -5,7 +5,7 @@ use Rattle.std.specs.Ordering.{on, then_cmp, nat_cmp, eq_of_both}
 use Rattle.cynara_keys.specs.Text.{same_text, text_cmp}
 use Rattle.cynara_keys.specs.BucketName.{is_bucket_name}
 
--- The numbers of the kinds are this project's profile. Those from 2 to 65533 are agents'.
+-- The numbers of the kinds are this project's profile.
 abbrev pub deny : ℕ
 deny = 0
 
@@ -18,8 +18,14 @@ bucket = 65534
 abbrev pub allow : ℕ
 allow = 65535
 
+abbrev pub first_agent : ℕ
+first_agent = 2
+
+abbrev pub last_agent : ℕ
+last_agent = 65533
+
 abbrev pub is_agent : ℕ → Bool
-is_agent kind = nat_le 2 kind && nat_le kind 65533
+is_agent kind = nat_le first_agent kind && nat_le kind last_agent
 
 -- a result, as contracts see it
 pub record Ruling : Type 0 where

@@ -8,12 +8,12 @@ ghost use Rattle.std.specs.Cmp.Lexicographic.{texts_ties, texts_po};
 ghost use Rattle.std.proofs.lemmas.Cmp.{nat_list_cmp_total, nat_list_eq_equiv};
 
 use crate::bytes::first_no_word_byte;
+use crate::limits::MOST_BUCKET_NAME_BYTES;
+use crate::shared::Shared;
 use std::alloc::{AllocError, Global};
 use std::cmp::Ordering;
 use std::marker::Model;
 use thiserror::Error;
-
-const MOST_BYTES: usize = 64;
 
 /// Why a text is no bucket's name: the first rule that it breaks.
 #[derive(Clone, Copy, Debug, PartialEq, Eq, Error)]
@@ -27,10 +27,11 @@ pub enum BucketNameRefusal {
     Memory(AllocError),
 }
 
-/// The name of a bucket: 0 to 64 letters, digits, `_` or `-`. The empty one names the root bucket.
+/// The name of a bucket: 0 to 64 letters, digits, `_` or `-`. The empty one names the root bucket. Buckets' names are in
+/// the order of their bytes.
 #[derive(Debug, Drop)]
 pub struct BucketName {
-    bytes: Vec<u8>,
+    bytes: Shared,
 }
 
 impl Model for BucketName {
@@ -39,34 +40,35 @@ impl Model for BucketName {
 
     ghost Value = { List ℕ };
 
-    ghost view = { λ text. text.bytes.items };
+    ghost view = { λ text. text.bytes };
 
-    ghost invariant = { λ text. bucket_name_fault text.bytes.items ≡ None };
+    ghost invariant = { λ text. bucket_name_fault text.bytes ≡ None };
 }
 
 impl BucketName {
-    /// The name of the root bucket, which is empty.
-    pub fn root(alloc: Global) -> BucketName
+    /// The name of the root bucket, which is empty. Takes no memory.
+    pub fn root(_alloc: Global) -> BucketName
         ensures { result ≡ [] }
     {
         BucketName {
-            bytes: Vec::new(alloc),
+            bytes: Shared::empty(),
         }
     }
 
-    /// Reads a bucket's name from its bytes, all of them. Refuses, in this order, `TooLong` and `BadByte`.
+    /// Reads a bucket's name from its bytes, all of them. Refuses, in this order, `TooLong` and `BadByte`, and `Memory`
+    /// only for bytes that are a bucket's name. One pass; a few bytes take no memory.
     pub fn read(alloc: Global, bytes: &[u8]) -> Result<BucketName, BucketNameRefusal>
         ensures text { IfOk result (λ text. text ≡ bytes.now) }
         ensures accepted { OnOk result (bucket_name_fault bytes.now ≡ None) }
         ensures refused { IfErr result (λ refusal. Refuses refusal (bucket_name_fault bytes.now)) }
     {
-        if bytes.len() > MOST_BYTES {
+        if bytes.len() > MOST_BUCKET_NAME_BYTES {
             return Err(BucketNameRefusal::TooLong);
         }
         if let Some(at) = first_no_word_byte(bytes) {
             return Err(BucketNameRefusal::BadByte(at));
         }
-        let bytes = bytes.to_vec(alloc).map_err(BucketNameRefusal::Memory)?;
+        let bytes = Shared::of(alloc, bytes).map_err(BucketNameRefusal::Memory)?;
         Ok(BucketName { bytes })
     }
 
@@ -75,15 +77,16 @@ impl BucketName {
         ensures bytes { result.now ≡ self.now }
         ensures text { bucket_name_fault self.now ≡ None }
     {
-        &self.bytes
+        self.bytes.as_slice()
     }
 
-    /// An equal name in memory of its own.
+    /// An equal name, which shares the bytes: no memory is asked for. Refused only where they have as many owners already
+    /// as can be counted, which is 2^63.
     pub fn copy(&self) -> Result<BucketName, AllocError>
         ensures { IfOk result (λ copy. copy ≡ self.now) }
     {
         Ok(BucketName {
-            bytes: self.bytes.clone()?,
+            bytes: self.bytes.copy()?,
         })
     }
 }
@@ -92,7 +95,7 @@ impl BucketName {
 pub fn is_bucket_name(bytes: &[u8]) -> bool
     ensures { result ≡ is_bucket_name bytes.now }
 {
-    bytes.len() <= MOST_BYTES && first_no_word_byte(bytes).is_none()
+    bytes.len() <= MOST_BUCKET_NAME_BYTES && first_no_word_byte(bytes).is_none()
 }
 
 impl PartialEq for BucketName {

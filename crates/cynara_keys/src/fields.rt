@@ -19,9 +19,10 @@ pub enum Field {
 }
 
 impl Field {
-    /// Reads `*` or a name, which is refused as by `Name::read`.
+    /// Reads `*` or a name, which is refused as by `Name::read`. The field has the text that it was read from.
     pub fn read(alloc: Global, text: &[u8]) -> Result<Field, NameRefusal>
         ensures field { IfOk result (λ field. field ≡ field_of text.now) }
+        ensures text { IfOk result (λ field. field_text field ≡ text.now) }
         ensures accepted { OnOk result (field_fault text.now ≡ None) }
         ensures refused { IfErr result (λ refusal. Refuses refusal (field_fault text.now)) }
     {
@@ -31,9 +32,11 @@ impl Field {
         Ok(Field::Exact(Name::read(alloc, text)?))
     }
 
-    /// The one text of the field: `*` for the wildcard, and else the name.
+    /// The one text of the field: `*` for the wildcard, and else the name. It reads back as this field.
     pub fn as_slice(&self) -> &[u8]
-        ensures { result.now ≡ field_text self.now }
+        ensures text { result.now ≡ field_text self.now }
+        ensures reads_back { field_of result.now ≡ self.now }
+        ensures accepted { field_fault result.now ≡ None }
     {
         match self {
             Field::Any => b"*",
@@ -51,7 +54,7 @@ impl Field {
         }
     }
 
-    /// An equal field in memory of its own.
+    /// An equal field, which shares the name's bytes. Refused only as `Name::copy` is.
     pub fn copy(&self) -> Result<Field, AllocError>
         ensures { IfOk result (λ copy. copy ≡ self.now) }
     {
@@ -109,9 +112,10 @@ pub enum FilterField {
 }
 
 impl FilterField {
-    /// Reads `#`, `*` or a name, which is refused as by `Name::read`.
+    /// Reads `#`, `*` or a name, which is refused as by `Name::read`. The field has the text that it was read from.
     pub fn read(alloc: Global, text: &[u8]) -> Result<FilterField, NameRefusal>
         ensures field { IfOk result (λ field. field ≡ filter_field_of text.now) }
+        ensures text { IfOk result (λ field. filter_field_text field ≡ text.now) }
         ensures accepted { OnOk result (filter_field_fault text.now ≡ None) }
         ensures refused { IfErr result (λ refusal. Refuses refusal (filter_field_fault text.now)) }
     {
@@ -124,9 +128,12 @@ impl FilterField {
         Ok(FilterField::Exact(Name::read(alloc, text)?))
     }
 
-    /// The one text of the field: `#` for every field, `*` for the stored wildcard, and else the name.
+    /// The one text of the field: `#` for every field, `*` for the stored wildcard, and else the name. It reads back as
+    /// this field.
     pub fn as_slice(&self) -> &[u8]
-        ensures { result.now ≡ filter_field_text self.now }
+        ensures text { result.now ≡ filter_field_text self.now }
+        ensures reads_back { filter_field_of result.now ≡ self.now }
+        ensures accepted { filter_field_fault result.now ≡ None }
     {
         match self {
             FilterField::Every => b"#",
@@ -147,7 +154,7 @@ impl FilterField {
         }
     }
 
-    /// An equal field in memory of its own.
+    /// An equal field, which shares the name's bytes. Refused only as `Name::copy` is.
     pub fn copy(&self) -> Result<FilterField, AllocError>
         ensures { IfOk result (λ copy. copy ≡ self.now) }
     {

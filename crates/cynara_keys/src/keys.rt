@@ -52,7 +52,7 @@ impl Key {
             && self.privilege.matches(&question.privilege)
     }
 
-    /// An equal key in memory of its own.
+    /// An equal key, which shares the names' bytes. Refused only as `Name::copy` is.
     pub fn copy(&self) -> Result<Key, AllocError>
         ensures { IfOk result (λ copy. copy ≡ self.now) }
     {
@@ -115,7 +115,7 @@ impl Filter {
             && self.privilege.admits(&key.privilege)
     }
 
-    /// An equal filter in memory of its own.
+    /// An equal filter, which shares the names' bytes. Refused only as `Name::copy` is.
     pub fn copy(&self) -> Result<Filter, AllocError>
         ensures { IfOk result (λ copy. copy ≡ self.now) }
     {
@@ -128,7 +128,7 @@ impl Filter {
 }
 
 impl Question {
-    /// An equal question in memory of its own.
+    /// An equal question, which shares the names' bytes. Refused only as `Name::copy` is.
     pub fn copy(&self) -> Result<Question, AllocError>
         ensures { IfOk result (λ copy. copy ≡ self.now) }
     {
@@ -141,7 +141,7 @@ impl Question {
 }
 
 impl Policy {
-    /// An equal policy in memory of its own.
+    /// An equal policy, which shares the bytes of names and metadata. Refused only as `Name::copy` is.
     pub fn copy(&self) -> Result<Policy, AllocError>
         ensures { IfOk result (λ copy. copy ≡ self.now) }
     {

@@ -12,12 +12,15 @@ mod limits;
 mod metadata_texts;
 mod names;
 mod results;
+mod shared;
 mod short_texts;
 
 pub use bucket_names::{BucketName, BucketNameRefusal};
 pub use fields::{Field, FilterField};
 pub use keys::{Filter, Key, Policy, Question};
-pub use limits::Counted;
+pub use limits::{
+    Counted, MOST_BUCKET_NAME_BYTES, MOST_METADATA_BYTES, MOST_NAME_BYTES, MOST_SHORT_BYTES,
+};
 pub use metadata_texts::{Metadata, MetadataRefusal};
 pub use names::{Name, NameRefusal};
 pub use results::{Kind, PolicyResult};

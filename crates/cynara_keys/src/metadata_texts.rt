@@ -8,12 +8,12 @@ ghost use Rattle.std.specs.Cmp.Lexicographic.{texts_ties, texts_po};
 ghost use Rattle.std.proofs.lemmas.Cmp.{nat_list_cmp_total, nat_list_eq_equiv};
 
 use crate::bytes::first_not_visible;
+use crate::limits::MOST_METADATA_BYTES;
+use crate::shared::Shared;
 use std::alloc::{AllocError, Global};
 use std::cmp::Ordering;
 use std::marker::Model;
 use thiserror::Error;
-
-const MOST_BYTES: usize = 255;
 
 /// Why a text is no metadata: the first rule that it breaks.
 #[derive(Clone, Copy, Debug, PartialEq, Eq, Error)]
@@ -28,10 +28,10 @@ pub enum MetadataRefusal {
 }
 
 /// What a result carries beside its kind, as the name of a bucket or words for an agent: 0 to 255 bytes of printable
-/// ASCII without the space and the semicolon.
+/// ASCII without the space and the semicolon. Metadata is in the order of its bytes.
 #[derive(Debug, Drop)]
 pub struct Metadata {
-    bytes: Vec<u8>,
+    bytes: Shared,
 }
 
 impl Model for Metadata {
@@ -40,34 +40,35 @@ impl Model for Metadata {
 
     ghost Value = { List ℕ };
 
-    ghost view = { λ text. text.bytes.items };
+    ghost view = { λ text. text.bytes };
 
-    ghost invariant = { λ text. metadata_fault text.bytes.items ≡ None };
+    ghost invariant = { λ text. metadata_fault text.bytes ≡ None };
 }
 
 impl Metadata {
-    /// No metadata.
-    pub fn empty(alloc: Global) -> Metadata
+    /// No metadata. Takes no memory.
+    pub fn empty(_alloc: Global) -> Metadata
         ensures { result ≡ [] }
     {
         Metadata {
-            bytes: Vec::new(alloc),
+            bytes: Shared::empty(),
         }
     }
 
-    /// Reads metadata from its bytes, all of them. Refuses, in this order, `TooLong` and `BadByte`.
+    /// Reads metadata from its bytes, all of them. Refuses, in this order, `TooLong` and `BadByte`, and `Memory` only for
+    /// bytes that are metadata. One pass; a few bytes take no memory.
     pub fn read(alloc: Global, bytes: &[u8]) -> Result<Metadata, MetadataRefusal>
         ensures text { IfOk result (λ text. text ≡ bytes.now) }
         ensures accepted { OnOk result (metadata_fault bytes.now ≡ None) }
         ensures refused { IfErr result (λ refusal. Refuses refusal (metadata_fault bytes.now)) }
     {
-        if bytes.len() > MOST_BYTES {
+        if bytes.len() > MOST_METADATA_BYTES {
             return Err(MetadataRefusal::TooLong);
         }
         if let Some(at) = first_not_visible(bytes) {
             return Err(MetadataRefusal::BadByte(at));
         }
-        let bytes = bytes.to_vec(alloc).map_err(MetadataRefusal::Memory)?;
+        let bytes = Shared::of(alloc, bytes).map_err(MetadataRefusal::Memory)?;
         Ok(Metadata { bytes })
     }
 
@@ -76,15 +77,16 @@ impl Metadata {
         ensures bytes { result.now ≡ self.now }
         ensures text { metadata_fault self.now ≡ None }
     {
-        &self.bytes
+        self.bytes.as_slice()
     }
 
-    /// Equal metadata in memory of its own.
+    /// Equal metadata, which shares the bytes: no memory is asked for. Refused only where they have as many owners already
+    /// as can be counted, which is 2^63.
     pub fn copy(&self) -> Result<Metadata, AllocError>
         ensures { IfOk result (λ copy. copy ≡ self.now) }
     {
         Ok(Metadata {
-            bytes: self.bytes.clone()?,
+            bytes: self.bytes.copy()?,
         })
     }
 }

@@ -8,12 +8,12 @@ ghost use Rattle.std.specs.Cmp.Lexicographic.{texts_ties, texts_po};
 ghost use Rattle.std.proofs.lemmas.Cmp.{nat_list_cmp_total, nat_list_eq_equiv};
 
 use crate::bytes::first_not_visible;
+use crate::limits::MOST_NAME_BYTES;
+use crate::shared::Shared;
 use std::alloc::{AllocError, Global};
 use std::cmp::Ordering;
 use std::marker::Model;
 use thiserror::Error;
-
-const MOST_BYTES: usize = 255;
 
 /// Why a text is no name: the first rule that it breaks.
 #[derive(Clone, Copy, Debug, PartialEq, Eq, Error)]
@@ -32,10 +32,11 @@ pub enum NameRefusal {
 }
 
 /// The name of a client, a user or a privilege: 1 to 255 bytes of printable ASCII without the space and the
-/// semicolon, and not `*` or `#` alone.
+/// semicolon, and not `*` or `#` alone. Names are in the order of their bytes. As in the Cynara wiki; what a name may
+/// be made of is this project's profile.
 #[derive(Debug, Drop)]
 pub struct Name {
-    bytes: Vec<u8>,
+    bytes: Shared,
 }
 
 impl Model for Name {
@@ -44,13 +45,14 @@ impl Model for Name {
 
     ghost Value = { List ℕ };
 
-    ghost view = { λ name. name.bytes.items };
+    ghost view = { λ name. name.bytes };
 
-    ghost invariant = { λ name. name_fault name.bytes.items ≡ None };
+    ghost invariant = { λ name. name_fault name.bytes ≡ None };
 }
 
 impl Name {
-    /// Reads a name from its bytes, all of them. Refuses, in this order, `Empty`, `TooLong`, `BadByte` and `Reserved`.
+    /// Reads a name from its bytes, all of them. Refuses, in this order, `Empty`, `TooLong`, `BadByte` and `Reserved`, and
+    /// `Memory` only for bytes that are a name. One pass; a few bytes take no memory.
     pub fn read(alloc: Global, bytes: &[u8]) -> Result<Name, NameRefusal>
         ensures name { IfOk result (λ name. name ≡ bytes.now) }
         ensures accepted { OnOk result (name_fault bytes.now ≡ None) }
@@ -59,7 +61,7 @@ impl Name {
         if bytes.is_empty() {
             return Err(NameRefusal::Empty);
         }
-        if bytes.len() > MOST_BYTES {
+        if bytes.len() > MOST_NAME_BYTES {
             return Err(NameRefusal::TooLong);
         }
         if let Some(at) = first_not_visible(bytes) {
@@ -68,7 +70,7 @@ impl Name {
         if matches!(bytes, b"*" | b"#") {
             return Err(NameRefusal::Reserved);
         }
-        let bytes = bytes.to_vec(alloc).map_err(NameRefusal::Memory)?;
+        let bytes = Shared::of(alloc, bytes).map_err(NameRefusal::Memory)?;
         Ok(Name { bytes })
     }
 
@@ -77,15 +79,16 @@ impl Name {
         ensures bytes { result.now ≡ self.now }
         ensures name { name_fault self.now ≡ None }
     {
-        &self.bytes
+        self.bytes.as_slice()
     }
 
-    /// An equal name in memory of its own.
+    /// An equal name, which shares the bytes: no memory is asked for. Refused only where they have as many owners already
+    /// as can be counted, which is 2^63.
     pub fn copy(&self) -> Result<Name, AllocError>
         ensures { IfOk result (λ copy. copy ≡ self.now) }
     {
         Ok(Name {
-            bytes: self.bytes.clone()?,
+            bytes: self.bytes.copy()?,
         })
     }
 }

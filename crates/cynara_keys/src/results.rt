@@ -30,11 +30,17 @@ impl Kind {
     /// The use of the privilege is granted.
     pub const ALLOW: Kind = Kind(65535);
 
-    /// Whether an agent decides, which is so from 2 to 65533.
+    /// The least number of an agent.
+    pub const FIRST_AGENT: Kind = Kind(2);
+
+    /// The greatest number of an agent.
+    pub const LAST_AGENT: Kind = Kind(65533);
+
+    /// Whether an agent decides.
     pub fn is_agent(self) -> bool
         ensures { result ≡ spec.is_agent self.0 }
     {
-        2 <= self.0 && self.0 <= 65533
+        Kind::FIRST_AGENT <= self && self <= Kind::LAST_AGENT
     }
 }
 
@@ -59,7 +65,7 @@ impl Model for PolicyResult {
 
 impl PolicyResult {
     /// A result of this kind with this metadata. Hands the metadata back exactly where the kind is DENY, NONE or ALLOW
-    /// and the metadata is not empty, or where the kind is BUCKET and the metadata is no bucket's name.
+    /// and the metadata is not empty, or where the kind is BUCKET and the metadata is no bucket's name. Takes no memory.
     pub fn of(kind: Kind, metadata: Metadata) -> Result<PolicyResult, Metadata>
         ensures result { IfOk result (λ made. made ≡ record { kind = kind.0; metadata = metadata }) }
         ensures accepted { IsOk result ↔ IsTrue (may_carry kind.0 metadata) }
@@ -77,7 +83,7 @@ impl PolicyResult {
         }
     }
 
-    /// A result of this kind without metadata. At BUCKET it points to the root bucket.
+    /// A result of this kind without metadata. At BUCKET it points to the root bucket. Takes no memory.
     pub fn without_metadata(alloc: Global, kind: Kind) -> PolicyResult
         ensures { result ≡ record { kind = kind.0; metadata = [] } }
     {
@@ -102,7 +108,7 @@ impl PolicyResult {
         &self.metadata
     }
 
-    /// An equal result in memory of its own.
+    /// An equal result, which shares the metadata's bytes. Refused only as `Metadata::copy` is.
     pub fn copy(&self) -> Result<PolicyResult, AllocError>
         ensures { IfOk result (λ copy. copy ≡ self.now) }
     {

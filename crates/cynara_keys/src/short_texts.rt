@@ -3,21 +3,20 @@ ghost use Rattle.cynara_keys.specs.Text.{same_text};
 ghost use Rattle.std.specs.Cmp.{partial_equiv_from_equiv};
 ghost use Rattle.std.proofs.lemmas.Cmp.{nat_list_eq_equiv};
 
+use crate::MOST_SHORT_BYTES;
 use std::marker::Model;
 
-const MOST_BYTES: usize = 255;
-
-/// A list of at most 255 bytes in a fixed array, as a record of a name or of metadata where no memory may be taken.
+/// A list of at most 255 bytes in a fixed array: a name or metadata where no memory may be taken.
 #[derive(Clone, Copy, Debug)]
 pub struct Short {
     count: usize,
-    bytes: [u8; MOST_BYTES],
+    bytes: [u8; MOST_SHORT_BYTES],
 }
 
 impl Model for Short {
     ghost use Rattle.std.specs.Prelude.{List, ℕ, take, length};
     ghost use Rattle.std.proofs.Common.{sym};
-    ghost use Rattle.cynara_keys.specs.Short.{padded, HoldsText};
+    ghost use Rattle.cynara_keys.specs.parts.Short.{padded, HoldsText};
 
     ghost Value = { List ℕ };
 
@@ -34,10 +33,10 @@ impl Model for Short {
 impl Short {
     /// A copy of the bytes, of which there are at most 255. Takes no memory.
     pub fn of(bytes: &[u8]) -> Short
-        requires { length bytes.now ≤ 255 }
+        requires { length bytes.now ≤ MOST_SHORT_BYTES }
         ensures { result ≡ bytes.now }
     {
-        let mut array = [0; MOST_BYTES];
+        let mut array = [0; MOST_SHORT_BYTES];
         array[..bytes.len()].copy_from_slice(bytes);
         Short {
             count: bytes.len(),
@@ -48,7 +47,7 @@ impl Short {
     /// The bytes, as they were given.
     pub fn as_slice(&self) -> &[u8]
         ensures bytes { result.now ≡ self.now }
-        ensures short { length self.now ≤ 255 }
+        ensures short { length self.now ≤ MOST_SHORT_BYTES }
     {
         &self.bytes[..self.count]
     }

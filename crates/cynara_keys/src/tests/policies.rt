@@ -1,64 +1,11 @@
 use crate::*;
-use std::alloc::Global;
-use std::cmp::Ordering;
-use std::process::Abort;
+use std::alloc::{AllocError, Global};
+use std::marker::{Send, Sync};
 use std::test::Fail;
 
-// Whether a result of the kind carries the text. One that does not hands the text back.
-fn carries<R: Abort>(
-    rt: &R,
-    alloc: Global,
-    kind: Kind,
-    text: &[u8],
-) -> Result<bool, MetadataRefusal> {
-    match PolicyResult::of(kind, Metadata::read(alloc, text)?) {
-        Ok(result) => {
-            assert_eq!(rt; result.kind(), kind);
-            assert_eq!(rt; result.metadata().as_slice(), text);
-            Ok(true)
-        }
-        Err(metadata) => {
-            assert_eq!(rt; metadata.as_slice(), text);
-            Ok(false)
-        }
-    }
-}
+type Texts<'a> = [&'a [u8]; 3];
 
-const KINDS: [(u16, bool, bool, bool, bool); 6] = [
-    (0, false, true, false, false),
-    (1, false, true, false, false),
-    (2, true, true, true, true),
-    (65533, true, true, true, true),
-    (65534, false, true, true, false),
-    (65535, false, true, false, false),
-];
-
-#[test]
-fn results_carry_what_their_kind_allows(rt: HostRuntime) -> Result<(), Fail> {
-    for (number, is_agent, empty, word, dotted) in KINDS {
-        let kind = Kind(number);
-        assert_eq!(rt; kind.is_agent(), is_agent, "{number}");
-        assert_eq!(rt; carries(&rt, rt.alloc(), kind, b"")?, empty, "{number}");
-        assert_eq!(rt; carries(&rt, rt.alloc(), kind, b"b")?, word, "{number}");
-        assert_eq!(rt; carries(&rt, rt.alloc(), kind, b"a.b")?, dotted, "{number}");
-    }
-    Ok(())
-}
-
-#[test]
-fn results_point_to_buckets_with_names_of_up_to_64_bytes(rt: HostRuntime) -> Result<(), Fail> {
-    for (count, fits) in [(64, true), (65, false)] {
-        let text = vec![in rt.alloc(); b'a'; count]?;
-        assert_eq!(rt;
-            carries(&rt, rt.alloc(), Kind::BUCKET, &text)?,
-            fits,
-            "{count}"
-        );
-    }
-    Ok(())
-}
-
-fn key(alloc: Global, client: &[u8], user: &[u8], privilege: &[u8]) -> Result<Key, NameRefusal> {
+fn key(alloc: Global, [client, user, privilege]: Texts<'_>) -> Result<Key, NameRefusal> {
     Ok(Key {
         client: Field::read(alloc, client)?,
         user: Field::read(alloc, user)?,
@@ -66,12 +13,7 @@ fn key(alloc: Global, client: &[u8], user: &[u8], privilege: &[u8]) -> Result<Ke
     })
 }
 
-fn filter(
-    alloc: Global,
-    client: &[u8],
-    user: &[u8],
-    privilege: &[u8],
-) -> Result<Filter, NameRefusal> {
+fn filter(alloc: Global, [client, user, privilege]: Texts<'_>) -> Result<Filter, NameRefusal> {
     Ok(Filter {
         client: FilterField::read(alloc, client)?,
         user: FilterField::read(alloc, user)?,
@@ -79,93 +21,145 @@ fn filter(
     })
 }
 
-fn question(alloc: Global, name: &[u8]) -> Result<Question, NameRefusal> {
+fn question(alloc: Global, [client, user, privilege]: Texts<'_>) -> Result<Question, NameRefusal> {
     Ok(Question {
-        client: Name::read(alloc, name)?,
-        user: Name::read(alloc, name)?,
-        privilege: Name::read(alloc, name)?,
+        client: Name::read(alloc, client)?,
+        user: Name::read(alloc, user)?,
+        privilege: Name::read(alloc, privilege)?,
     })
 }
 
-// Whether a key with these fields matches the question of the name `n` in each field.
-fn matches_n(
-    alloc: Global,
-    client: &[u8],
-    user: &[u8],
-    privilege: &[u8],
-) -> Result<bool, NameRefusal> {
-    let key = key(alloc, client, user, privilege)?;
-    Ok(key.matches(&question(alloc, b"n")?))
-}
-
-#[test]
-fn keys_match_where_each_field_is_the_wildcard_or_the_name(rt: HostRuntime) -> Result<(), Fail> {
-    for (text, want) in [(b"*", true), (b"n", true), (b"m", false)] {
-        assert_eq!(rt; matches_n(rt.alloc(), text, b"*", b"n")?, want, "{text:?}");
-        assert_eq!(rt; matches_n(rt.alloc(), b"n", text, b"*")?, want, "{text:?}");
-        assert_eq!(rt; matches_n(rt.alloc(), b"*", b"n", text)?, want, "{text:?}");
-    }
-    Ok(())
-}
-
-// Whether the filter field admits the key's as client, as user and as privilege, beside fields that it admits.
-fn admits(alloc: Global, asked: &[u8], text: &[u8]) -> Result<[bool; 3], NameRefusal> {
-    Ok([
-        filter(alloc, asked, b"*", b"n")?.admits(&key(alloc, text, b"*", b"n")?),
-        filter(alloc, b"n", asked, b"*")?.admits(&key(alloc, b"n", text, b"*")?),
-        filter(alloc, b"#", b"#", asked)?.admits(&key(alloc, b"m", b"*", text)?),
-    ])
-}
-
-#[test]
-fn filters_admit_every_field_or_the_same(rt: HostRuntime) -> Result<(), Fail> {
-    for (asked, text, want) in [
-        (b"#", b"*", true),
-        (b"#", b"n", true),
-        (b"*", b"*", true),
-        (b"*", b"n", false),
-        (b"n", b"*", false),
-        (b"n", b"n", true),
-        (b"n", b"m", false),
-    ] {
-        assert_eq!(rt;
-            admits(rt.alloc(), asked, text)?,
-            [want, want, want],
-            "{asked:?} {text:?}"
-        );
-    }
-    Ok(())
-}
-
-// In their order: `*` stands between `!` and the letters, and a text before those that it begins.
-const KEYS: [(&[u8], &[u8], &[u8]); 8] = [
-    (b"!", b"~", b"~"),
-    (b"*", b"!", b"~"),
-    (b"*", b"*", b"!"),
-    (b"*", b"*", b"*"),
-    (b"*", b"*", b"**"),
-    (b"*", b"A", b"*"),
-    (b"A", b"*", b"*"),
-    (b"AA", b"!", b"!"),
+// Keys, and whether they match the question `c`, `u`, `p`.
+const MATCHES: [(Texts<'static>, bool); 6] = [
+    ([b"*", b"*", b"*"], true),
+    ([b"c", b"u", b"p"], true),
+    ([b"c", b"*", b"p"], true),
+    ([b"p", b"u", b"p"], false),
+    ([b"c", b"c", b"p"], false),
+    ([b"*", b"*", b"u"], false),
 ];
 
-#[test]
-fn keys_are_in_the_order_of_their_texts(rt: HostRuntime) -> Result<(), Fail> {
-    for (place, low) in KEYS.iter().enumerate() {
-        let low = key(rt.alloc(), low.0, low.1, low.2)?;
-        for (other, high) in KEYS.iter().enumerate() {
-            let high = key(rt.alloc(), high.0, high.1, high.2)?;
-            assert_eq!(rt; low.cmp(&high), place.cmp(&other), "{low:?} {high:?}");
-            assert_eq!(rt; low == high, place == other, "{low:?} {high:?}");
+// Filters, and whether they admit the key `c`, `*`, `p`.
+const ADMITS: [(Texts<'static>, bool); 7] = [
+    ([b"#", b"#", b"#"], true),
+    ([b"c", b"*", b"p"], true),
+    ([b"*", b"#", b"#"], false),
+    ([b"c", b"u", b"p"], false),
+    ([b"#", b"#", b"*"], false),
+    ([b"p", b"#", b"#"], false),
+    ([b"#", b"#", b"c"], false),
+];
+
+// The first row that is wrong.
+fn wrong_match(alloc: Global, rows: &[(Texts<'_>, bool)]) -> Result<Option<usize>, NameRefusal> {
+    let question = question(alloc, [b"c", b"u", b"p"])?;
+    for (place, (fields, want)) in rows.iter().enumerate() {
+        if key(alloc, *fields)?.matches(&question) != *want {
+            return Ok(Some(place));
         }
     }
+    Ok(None)
+}
+
+fn wrong_admit(alloc: Global, rows: &[(Texts<'_>, bool)]) -> Result<Option<usize>, NameRefusal> {
+    let key = key(alloc, [b"c", b"*", b"p"])?;
+    for (place, (fields, want)) in rows.iter().enumerate() {
+        if filter(alloc, *fields)?.admits(&key) != *want {
+            return Ok(Some(place));
+        }
+    }
+    Ok(None)
+}
+
+#[test]
+fn keys_match_and_filters_admit_field_by_field(rt: HostRuntime) -> Result<(), Fail> {
+    assert_eq!(rt; wrong_match(rt.alloc(), &MATCHES)?, None);
+    assert_eq!(rt; wrong_admit(rt.alloc(), &ADMITS)?, None);
     Ok(())
+}
+
+// A kind, whether an agent decides, how many letters and then which end the metadata has, and whether it fits.
+type Carried = (u16, bool, usize, &'static [u8], bool);
+
+const CARRIED: [Carried; 12] = [
+    (0, false, 0, b"", true),
+    (0, false, 1, b"", false),
+    (1, false, 0, b"", true),
+    (1, false, 1, b"", false),
+    (2, true, 0, b"", true),
+    (65533, true, 254, b".", true),
+    (65534, false, 0, b"", true),
+    (65534, false, 64, b"", true),
+    (65534, false, 65, b"", false),
+    (65534, false, 0, b".", false),
+    (65535, false, 0, b"", true),
+    (65535, false, 1, b"", false),
+];
+
+fn letters(alloc: Global, count: usize, end: &[u8]) -> Result<Vec<u8>, AllocError> {
+    let mut text = vec![in alloc; b'a'; count]?;
+    text.extend_from_slice(end)?;
+    Ok(text)
 }
 
 // None where the kind does not carry the metadata.
 fn result(alloc: Global, kind: u16, text: &[u8]) -> Result<Option<PolicyResult>, MetadataRefusal> {
     Ok(PolicyResult::of(Kind(kind), Metadata::read(alloc, text)?).ok())
 }
+
+fn wrong_carried(alloc: Global, rows: &[Carried]) -> Result<Option<usize>, Fail> {
+    for (place, (kind, is_agent, count, end, fits)) in rows.iter().enumerate() {
+        let text = letters(alloc, *count, end)?;
+        let carried = result(alloc, *kind, &text)?.is_some();
+        if Kind(*kind).is_agent() != *is_agent || carried != *fits {
+            return Ok(Some(place));
+        }
+    }
+    Ok(None)
+}
+
+#[test]
+fn results_carry_what_their_kind_allows(rt: HostRuntime) -> Result<(), Fail> {
+    assert_eq!(rt; wrong_carried(rt.alloc(), &CARRIED)?, None);
+    Ok(())
+}
+
+// Whether the items rise, and each is equal to itself alone.
+fn rises<T: Ord>(items: &[T]) -> bool {
+    for (place, low) in items.iter().enumerate() {
+        for (other, high) in items.iter().enumerate() {
+            if low.cmp(high) != place.cmp(&other) {
+                return false;
+            }
+        }
+    }
+    true
+}
+
+const COUNTED: [Counted; 7] = [
+    Counted::Commits,
+    Counted::Users,
+    Counted::Packages,
+    Counted::Installs,
+    Counted::Grants,
+    Counted::Buckets,
+    Counted::Policies,
+];
+
+// In their order, as names, as buckets' names and as metadata.
+const TEXTS: [&[u8]; 7] = [b"-", b"0", b"A", b"AA", b"B", b"_", b"a"];
+
+// In their order: `*` stands between `!` and the letters, and a text before those that it begins.
+const KEYS: [Texts<'static>; 8] = [
+    [b"!", b"~", b"~"],
+    [b"*", b"!", b"~"],
+    [b"*", b"*", b"!"],
+    [b"*", b"*", b"*"],
+    [b"*", b"*", b"**"],
+    [b"*", b"A", b"*"],
+    [b"A", b"*", b"*"],
+    [b"AA", b"!", b"!"],
+];
 
 // In their order.
 const RESULTS: [(u16, &[u8]); 8] = [
@@ -179,39 +173,81 @@ const RESULTS: [(u16, &[u8]); 8] = [
     (65535, b""),
 ];
 
-#[test]
-fn results_are_in_the_order_of_kind_and_metadata(rt: HostRuntime) -> Result<(), Fail> {
-    for (place, low) in RESULTS.iter().enumerate() {
-        let low = result(rt.alloc(), low.0, low.1)?.ok_or("low")?;
-        for (other, high) in RESULTS.iter().enumerate() {
-            let high = result(rt.alloc(), high.0, high.1)?.ok_or("high")?;
-            assert_eq!(rt; low.cmp(&high), place.cmp(&other), "{low:?} {high:?}");
-            assert_eq!(rt; low == high, place == other, "{low:?} {high:?}");
-        }
+fn texts_rise(alloc: Global, texts: &[&[u8]]) -> Result<bool, Fail> {
+    let mut names = Vec::new(alloc);
+    let mut buckets = Vec::new(alloc);
+    let mut metadata = Vec::new(alloc);
+    for text in texts {
+        names.push(Name::read(alloc, text)?)?;
+        buckets.push(BucketName::read(alloc, text)?)?;
+        metadata.push(Metadata::read(alloc, text)?)?;
     }
+    Ok(rises(&names) && rises(&buckets) && rises(&metadata))
+}
+
+fn keys_rise(alloc: Global, rows: &[Texts<'_>]) -> Result<bool, Fail> {
+    let mut keys = Vec::new(alloc);
+    for fields in rows {
+        keys.push(key(alloc, *fields)?)?;
+    }
+    Ok(rises(&keys))
+}
+
+fn results_rise(alloc: Global, rows: &[(u16, &[u8])]) -> Result<bool, Fail> {
+    let mut results = Vec::new(alloc);
+    for (kind, text) in rows {
+        results.push(result(alloc, *kind, text)?)?;
+    }
+    Ok(rises(&results))
+}
+
+#[test]
+fn texts_keys_results_and_counted_things_rise(rt: HostRuntime) -> Result<(), Fail> {
+    assert!(rt; texts_rise(rt.alloc(), &TEXTS)?);
+    assert!(rt; keys_rise(rt.alloc(), &KEYS)?);
+    assert!(rt; results_rise(rt.alloc(), &RESULTS)?);
+    assert!(rt; rises(&COUNTED));
     Ok(())
 }
 
-fn copies_policy(alloc: Global) -> Result<bool, Fail> {
+// Which types may be shared between threads.
+fn is_shared<T: Send + Sync>(_value: &T) -> bool {
+    true
+}
+
+// Whether the copies of a policy, a filter and a question whose texts are all this one are equal to them.
+
+fn copies_policy(alloc: Global, text: &[u8]) -> Result<bool, Fail> {
     let policy = Policy {
-        key: key(alloc, b"c", b"*", b"p")?,
-        result: result(alloc, 65535, b"")?.ok_or("allow")?,
+        key: key(alloc, [text, text, text])?,
+        result: result(alloc, 2, text)?.ok_or("carried")?,
     };
-    Ok(policy.copy()? == policy)
+    Ok(policy.copy()? == policy && is_shared(&policy))
+}
+
+fn copies_filter(alloc: Global, text: &[u8]) -> Result<bool, Fail> {
+    let filter = filter(alloc, [text, text, text])?;
+    Ok(filter.copy()? == filter && is_shared(&filter))
+}
+
+fn copies_question(alloc: Global, text: &[u8]) -> Result<bool, Fail> {
+    let question = question(alloc, [text, text, text])?;
+    Ok(question.copy()? == question && is_shared(&question))
+}
+
+fn copies(alloc: Global, count: usize) -> Result<bool, Fail> {
+    let text = letters(alloc, count, b"")?;
+    Ok(
+        copies_policy(alloc, &text)?
+            && copies_filter(alloc, &text)?
+            && copies_question(alloc, &text)?,
+    )
 }
 
 #[test]
-fn copies_are_equal(rt: HostRuntime) -> Result<(), Fail> {
-    assert!(rt; copies_policy(rt.alloc())?);
-    let filter = filter(rt.alloc(), b"#", b"*", b"n")?;
-    assert!(rt; filter.copy()? == filter);
-    let question = question(rt.alloc(), b"n")?;
-    assert!(rt; question.copy()? == question);
-    let bucket = BucketName::read(rt.alloc(), b"b")?;
-    assert!(rt; bucket.copy()? == bucket);
-    assert_eq!(rt;
-        bucket.cmp(&BucketName::read(rt.alloc(), b"")?),
-        Ordering::Greater
-    );
+fn copies_up_to_the_most_bytes_are_equal(rt: HostRuntime) -> Result<(), Fail> {
+    for count in [1, 16, 17, 23, 24, 255] {
+        assert!(rt; copies(rt.alloc(), count)?);
+    }
     Ok(())
 }

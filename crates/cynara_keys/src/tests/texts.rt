@@ -4,209 +4,212 @@ use MetadataRefusal as Meta;
 use NameRefusal as Bad;
 use std::alloc::{AllocError, Global};
 use std::fmt::Display;
-use std::process::Abort;
 use std::test::Fail;
 
-// The three faults of a text: as a name, as a bucket's name and as metadata. What is read has the same text.
-
-fn name_fault<R: Abort>(rt: &R, alloc: Global, text: &[u8]) -> Option<Bad> {
-    match Name::read(alloc, text) {
-        Ok(name) => {
-            assert_eq!(rt; name.as_slice(), text);
-            None
-        }
-        Err(refusal) => Some(refusal),
-    }
-}
-
-fn bucket_fault<R: Abort>(rt: &R, alloc: Global, text: &[u8]) -> Option<Bucket> {
-    match BucketName::read(alloc, text) {
-        Ok(name) => {
-            assert_eq!(rt; name.as_slice(), text);
-            None
-        }
-        Err(refusal) => Some(refusal),
-    }
-}
-
-fn metadata_fault<R: Abort>(rt: &R, alloc: Global, text: &[u8]) -> Option<Meta> {
-    match Metadata::read(alloc, text) {
-        Ok(metadata) => {
-            assert_eq!(rt; metadata.as_slice(), text);
-            None
-        }
-        Err(refusal) => Some(refusal),
-    }
-}
-
-const TEXTS: [(&[u8], Option<Bad>, Option<Bucket>, Option<Meta>); 10] = [
-    (b"", Some(Bad::Empty), None, None),
-    (b"!~", None, Some(Bucket::BadByte(0)), None),
-    (b"azAZ09_-", None, None, None),
-    (b"a.b", None, Some(Bucket::BadByte(1)), None),
-    (b"*", Some(Bad::Reserved), Some(Bucket::BadByte(0)), None),
-    (b"#", Some(Bad::Reserved), Some(Bucket::BadByte(0)), None),
-    (b"**", None, Some(Bucket::BadByte(0)), None),
-    (b"#*", None, Some(Bucket::BadByte(0)), None),
-    (
-        b";",
-        Some(Bad::BadByte(0)),
-        Some(Bucket::BadByte(0)),
-        Some(Meta::BadByte(0)),
-    ),
-    (
-        b"a b;",
-        Some(Bad::BadByte(1)),
-        Some(Bucket::BadByte(1)),
-        Some(Meta::BadByte(1)),
-    ),
-];
-
-#[test]
-fn reads_texts_or_names_the_first_fault(rt: HostRuntime) {
-    for (text, name, bucket, metadata) in TEXTS {
-        assert_eq!(rt; name_fault(&rt, rt.alloc(), text), name, "{text:?}");
-        assert_eq!(rt; bucket_fault(&rt, rt.alloc(), text), bucket, "{text:?}");
-        assert_eq!(rt; metadata_fault(&rt, rt.alloc(), text), metadata, "{text:?}");
-    }
-}
-
-const LENGTHS: [(u8, usize, Option<Bad>, Option<Bucket>, Option<Meta>); 8] = [
-    (b'a', 0, Some(Bad::Empty), None, None),
-    (b'a', 1, None, None, None),
-    (b'a', 64, None, None, None),
-    (b'a', 65, None, Some(Bucket::TooLong), None),
-    (b'a', 255, None, Some(Bucket::TooLong), None),
-    (
-        b'a',
-        256,
-        Some(Bad::TooLong),
-        Some(Bucket::TooLong),
-        Some(Meta::TooLong),
-    ),
-    (
-        b' ',
-        64,
-        Some(Bad::BadByte(0)),
-        Some(Bucket::BadByte(0)),
-        Some(Meta::BadByte(0)),
-    ),
-    (
-        b' ',
-        256,
-        Some(Bad::TooLong),
-        Some(Bucket::TooLong),
-        Some(Meta::TooLong),
-    ),
-];
-
-#[test]
-fn reads_texts_up_to_their_most_bytes(rt: HostRuntime) -> Result<(), Fail> {
-    for (byte, count, name, bucket, metadata) in LENGTHS {
-        let text = filled(rt.alloc(), byte, count)?;
-        assert_eq!(rt; name_fault(&rt, rt.alloc(), &text), name, "{count}");
-        assert_eq!(rt; bucket_fault(&rt, rt.alloc(), &text), bucket, "{count}");
-        assert_eq!(rt; metadata_fault(&rt, rt.alloc(), &text), metadata, "{count}");
-    }
-    Ok(())
-}
-
-fn filled(alloc: Global, byte: u8, count: usize) -> Result<Vec<u8>, AllocError> {
-    vec![in alloc; byte; count]
-}
-
-// Letters alone, but for this byte at the place.
-fn letters_but(alloc: Global, count: usize, place: usize, byte: u8) -> Result<Vec<u8>, AllocError> {
-    let mut text = filled(alloc, b'a', count)?;
-    if let Some(slot) = text.get_mut(place) {
-        *slot = byte;
-    }
+// The text: a start, letters `a` and an end.
+fn text(alloc: Global, start: &[u8], letters: usize, end: &[u8]) -> Result<Vec<u8>, AllocError> {
+    let mut text = start.to_vec(alloc)?;
+    text.extend_from_slice(&vec![in alloc; b'a'; letters]?)?;
+    text.extend_from_slice(end)?;
     Ok(text)
 }
 
-const BAD_BYTES: [u8; 5] = [0x20, 0x7F, b';', 0x00, 0xFF];
+// What each type makes of a text: it is read, and what was read is copied.
+
+fn name(alloc: Global, text: &[u8]) -> Result<Name, Bad> {
+    Name::read(alloc, text)?.copy().map_err(Bad::Memory)
+}
+
+fn field(alloc: Global, text: &[u8]) -> Result<Field, Bad> {
+    Field::read(alloc, text)?.copy().map_err(Bad::Memory)
+}
+
+fn filter_field(alloc: Global, text: &[u8]) -> Result<FilterField, Bad> {
+    FilterField::read(alloc, text)?.copy().map_err(Bad::Memory)
+}
+
+fn bucket_name(alloc: Global, text: &[u8]) -> Result<BucketName, Bucket> {
+    BucketName::read(alloc, text)?
+        .copy()
+        .map_err(Bucket::Memory)
+}
+
+fn metadata(alloc: Global, text: &[u8]) -> Result<Metadata, Meta> {
+    Metadata::read(alloc, text)?.copy().map_err(Meta::Memory)
+}
+
+// The parts of a text, and its faults: as a name, a field and a filter's field, as a bucket's name, and as metadata.
+type Row = (
+    &'static [u8],
+    usize,
+    &'static [u8],
+    [Option<Bad>; 3],
+    Option<Bucket>,
+    Option<Meta>,
+);
+
+const FINE: [Option<Bad>; 3] = [None, None, None];
+
+const EMPTY: [Option<Bad>; 3] = [Some(Bad::Empty), Some(Bad::Empty), Some(Bad::Empty)];
+
+const TOO_LONG: [Option<Bad>; 3] = [Some(Bad::TooLong), Some(Bad::TooLong), Some(Bad::TooLong)];
+
+const STAR: [Option<Bad>; 3] = [Some(Bad::Reserved), None, None];
+
+const HASH: [Option<Bad>; 3] = [Some(Bad::Reserved), Some(Bad::Reserved), None];
+
+const BAD_0: [Option<Bad>; 3] = [
+    Some(Bad::BadByte(0)),
+    Some(Bad::BadByte(0)),
+    Some(Bad::BadByte(0)),
+];
+
+const BAD_31: [Option<Bad>; 3] = [
+    Some(Bad::BadByte(31)),
+    Some(Bad::BadByte(31)),
+    Some(Bad::BadByte(31)),
+];
+
+const BAD_254: [Option<Bad>; 3] = [
+    Some(Bad::BadByte(254)),
+    Some(Bad::BadByte(254)),
+    Some(Bad::BadByte(254)),
+];
+
+static TEXTS: [Row; 23] = [
+    (b"", 0, b"", EMPTY, None, None),
+    (b"", 1, b"", FINE, None, None),
+    (b"!~", 0, b"", FINE, Some(Bucket::BadByte(0)), None),
+    (b"azAZ09_-", 0, b"", FINE, None, None),
+    (b"a.b", 0, b"", FINE, Some(Bucket::BadByte(1)), None),
+    (b"*", 0, b"", STAR, Some(Bucket::BadByte(0)), None),
+    (b"#", 0, b"", HASH, Some(Bucket::BadByte(0)), None),
+    (b"**", 0, b"", FINE, Some(Bucket::BadByte(0)), None),
+    (b"#*", 0, b"", FINE, Some(Bucket::BadByte(0)), None),
+    // Few bytes are kept in place, more of them in memory.
+    (b"", 23, b"", FINE, None, None),
+    (b"", 24, b"", FINE, None, None),
+    // The most bytes, and one more.
+    (b"", 64, b"", FINE, None, None),
+    (b"", 65, b"", FINE, Some(Bucket::TooLong), None),
+    (b"", 255, b"", FINE, Some(Bucket::TooLong), None),
+    (
+        b"",
+        256,
+        b"",
+        TOO_LONG,
+        Some(Bucket::TooLong),
+        Some(Meta::TooLong),
+    ),
+    // The length is tested first, and then the bytes in their order.
+    (
+        b" ",
+        255,
+        b"",
+        TOO_LONG,
+        Some(Bucket::TooLong),
+        Some(Meta::TooLong),
+    ),
+    (
+        b" ",
+        62,
+        b";",
+        BAD_0,
+        Some(Bucket::BadByte(0)),
+        Some(Meta::BadByte(0)),
+    ),
+    (
+        b"",
+        254,
+        b" ",
+        BAD_254,
+        Some(Bucket::TooLong),
+        Some(Meta::BadByte(254)),
+    ),
+    (
+        b"",
+        31,
+        b";",
+        BAD_31,
+        Some(Bucket::BadByte(31)),
+        Some(Meta::BadByte(31)),
+    ),
+    (
+        b"",
+        31,
+        b"\x7f",
+        BAD_31,
+        Some(Bucket::BadByte(31)),
+        Some(Meta::BadByte(31)),
+    ),
+    (
+        b"",
+        31,
+        b"\x00",
+        BAD_31,
+        Some(Bucket::BadByte(31)),
+        Some(Meta::BadByte(31)),
+    ),
+    (
+        b"",
+        31,
+        b"\xff",
+        BAD_31,
+        Some(Bucket::BadByte(31)),
+        Some(Meta::BadByte(31)),
+    ),
+    (
+        b";",
+        0,
+        b"",
+        BAD_0,
+        Some(Bucket::BadByte(0)),
+        Some(Meta::BadByte(0)),
+    ),
+];
+
+fn holds(alloc: Global, row: Row) -> Result<bool, AllocError> {
+    let (start, letters, end, [as_name, as_field, as_filter], as_bucket, as_metadata) = row;
+    let text = text(alloc, start, letters, end)?;
+    Ok(
+        name(alloc, &text).err() == as_name
+            && field(alloc, &text).err() == as_field
+            && filter_field(alloc, &text).err() == as_filter
+            && bucket_name(alloc, &text).err() == as_bucket
+            && metadata(alloc, &text).err() == as_metadata,
+    )
+}
+
+fn wrong_row(alloc: Global, rows: &[Row]) -> Result<Option<usize>, AllocError> {
+    for (place, row) in rows.iter().enumerate() {
+        if !holds(alloc, *row)? {
+            return Ok(Some(place));
+        }
+    }
+    Ok(None)
+}
 
 #[test]
-fn names_the_place_of_the_bad_byte(rt: HostRuntime) -> Result<(), Fail> {
-    for byte in BAD_BYTES {
-        for place in [0, 31, 63] {
-            let text = letters_but(rt.alloc(), 64, place, byte)?;
-            assert_eq!(rt;
-                name_fault(&rt, rt.alloc(), &text),
-                Some(Bad::BadByte(place)),
-                "{byte}"
-            );
-            assert_eq!(rt;
-                bucket_fault(&rt, rt.alloc(), &text),
-                Some(Bucket::BadByte(place)),
-                "{byte}"
-            );
-            assert_eq!(rt;
-                metadata_fault(&rt, rt.alloc(), &text),
-                Some(Meta::BadByte(place)),
-                "{byte}"
-            );
-        }
-        let text = letters_but(rt.alloc(), 255, 254, byte)?;
-        assert_eq!(rt;
-            name_fault(&rt, rt.alloc(), &text),
-            Some(Bad::BadByte(254)),
-            "{byte}"
-        );
-    }
+fn texts_up_to_the_most_bytes_are_read_and_copied_or_their_first_fault_named(
+    rt: HostRuntime,
+) -> Result<(), Fail> {
+    assert_eq!(rt; wrong_row(rt.alloc(), &TEXTS)?, None);
     Ok(())
 }
 
-fn field_fault<R: Abort>(rt: &R, alloc: Global, text: &[u8]) -> Option<Bad> {
-    match Field::read(alloc, text) {
-        Ok(field) => {
-            assert_eq!(rt; field.as_slice(), text);
-            None
-        }
-        Err(refusal) => Some(refusal),
+fn is_kept(text: &[u8]) -> bool {
+    if text.len() > MOST_SHORT_BYTES {
+        return false;
     }
-}
-
-fn filter_field_fault<R: Abort>(rt: &R, alloc: Global, text: &[u8]) -> Option<Bad> {
-    match FilterField::read(alloc, text) {
-        Ok(field) => {
-            assert_eq!(rt; field.as_slice(), text);
-            None
-        }
-        Err(refusal) => Some(refusal),
-    }
-}
-
-const FIELDS: [(&[u8], Option<Bad>, Option<Bad>); 5] = [
-    (b"*", None, None),
-    (b"#", Some(Bad::Reserved), None),
-    (b"**", None, None),
-    (b"", Some(Bad::Empty), Some(Bad::Empty)),
-    (b"a b", Some(Bad::BadByte(1)), Some(Bad::BadByte(1))),
-];
-
-#[test]
-fn fields_have_one_text(rt: HostRuntime) {
-    for (text, field, filter_field) in FIELDS {
-        assert_eq!(rt; field_fault(&rt, rt.alloc(), text), field, "{text:?}");
-        assert_eq!(rt;
-            filter_field_fault(&rt, rt.alloc(), text),
-            filter_field,
-            "{text:?}"
-        );
-    }
+    let short = Short::of(text);
+    let again = short;
+    again.as_slice() == text && again == short && again != Short::of(b"other")
 }
 
 #[test]
 fn short_texts_keep_their_bytes(rt: HostRuntime) -> Result<(), Fail> {
     for count in [0, 1, 254, 255] {
-        let text = filled(rt.alloc(), 0xFF, count)?;
-        assert!(rt; text.len() <= 255);
-        let short = Short::of(&text);
-        let again = short;
-        assert_eq!(rt; again.as_slice(), text.as_slice());
-        assert!(rt; again == short);
-        assert!(rt; again != Short::of(b"other"));
+        assert!(rt; is_kept(&vec![in rt.alloc(); 0xFF; count]?), "{count}");
     }
     Ok(())
 }
@@ -247,16 +250,19 @@ const METADATA_REFUSALS: [(Meta, &str); 3] = [
     ),
 ];
 
+fn all_say<E: Display>(alloc: Global, refusals: &[(E, &str)]) -> Result<bool, AllocError> {
+    for (refusal, want) in refusals {
+        if !says(alloc, refusal, want)? {
+            return Ok(false);
+        }
+    }
+    Ok(true)
+}
+
 #[test]
 fn refusals_say_what_is_wrong(rt: HostRuntime) -> Result<(), Fail> {
-    for (refusal, want) in NAME_REFUSALS {
-        assert!(rt; says(rt.alloc(), &refusal, want)?, "{want}");
-    }
-    for (refusal, want) in BUCKET_NAME_REFUSALS {
-        assert!(rt; says(rt.alloc(), &refusal, want)?, "{want}");
-    }
-    for (refusal, want) in METADATA_REFUSALS {
-        assert!(rt; says(rt.alloc(), &refusal, want)?, "{want}");
-    }
+    assert!(rt; all_say(rt.alloc(), &NAME_REFUSALS)?);
+    assert!(rt; all_say(rt.alloc(), &BUCKET_NAME_REFUSALS)?);
+    assert!(rt; all_say(rt.alloc(), &METADATA_REFUSALS)?);
     Ok(())
 }
