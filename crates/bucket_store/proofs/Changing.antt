@@ -37,53 +37,6 @@ use Rattle.bucket_store.proofs.Sound.{policy_total, All-flat, others-apart, othe
 
 -- ---- one change of one bucket's policies
 
-policy-is : (policy : Policy) (key : Key) (result : Ruling) → policy.key ≡ key → policy.result ≡ result
-    → policy ≡ (record { key = key; result = result })
-policy-is policy key result keys results = λ i. record { key = keys i; result = results i }
-
-pub edit-put : (policies : List Policy) (at : ℕ) (change : Change) (name : List ℕ) (key : Key) (result : Ruling)
-    → change ≡ Set name key result → (policy : Policy) → policy.key ≡ key → policy.result ≡ result
-    → StandsAt (λ (other : Policy). key_cmp other.key key) policies at → set policies at policy ≡ edited policies change
-edit-put policies at change name key result is policy keys results stands =
-    ap (set policies at) (policy-is policy key result keys results)
-    ∙ put-StandsAt (λ (other : Policy). key_cmp other.key key) stands (record { key = key; result = result })
-    ∙ ap (edited policies) (sym is)
-
-pub edit-insert : (policies : List Policy) (at : ℕ) (change : Change) (name : List ℕ) (key : Key) (result : Ruling)
-    → change ≡ Set name key result → (policy : Policy) → policy.key ≡ key → policy.result ≡ result
-    → BelongsAt (λ (other : Policy). key_cmp other.key key) policies at → insert policies at policy ≡ edited policies change
-edit-insert policies at change name key result is policy keys results belongs =
-    ap (insert policies at) (policy-is policy key result keys results)
-    ∙ put-BelongsAt (λ (other : Policy). key_cmp other.key key) belongs (record { key = key; result = result })
-    ∙ ap (edited policies) (sym is)
-
-remove-middle : {X : Type 0} (front : List X) (x : X) (back : List X)
-    → take (length front) (front ++ x ∷ back) ++ drop (suc (length front)) (front ++ x ∷ back) ≡ front ++ back
-remove-middle [] x back = refl
-remove-middle (y ∷ front) x back = ap (λ rest. y ∷ rest) (remove-middle front x back)
-
-pub edit-remove : (policies : List Policy) (at : ℕ) (change : Change) (name : List ℕ) (key : Key) → change ≡ Delete name key
-    → StandsAt (λ (other : Policy). key_cmp other.key key) policies at → remove policies at ≡ edited policies change
-edit-remove policies at change name key is stands =
-    let answer : Policy → Ordering = λ other. key_cmp other.key key in
-    let below : filter (λ other. is_lt (answer other)) policies ≡ stands.front =
-    ap (filter (λ other. is_lt (answer other))) stands.parts ∙ below-tied answer stands.front stands.element stands.back stands.before stands.ties stands.behind in
-    let above : filter (λ other. is_gt (answer other)) policies ≡ stands.back =
-    ap (filter (λ other. is_gt (answer other))) stands.parts ∙ above-tied answer stands.front stands.element stands.back stands.before stands.ties stands.behind in
-    (λ i. take (sym stands.length_front i) (stands.parts i) ++ drop (suc (sym stands.length_front i)) (stands.parts i))
-    ∙ remove-middle stands.front stands.element stands.back
-    ∙ (λ i. sym below i ++ sym above i) ∙ ap (edited policies) (sym is)
-
-pub edit-none : (policies : List Policy) (at : ℕ) (change : Change) (name : List ℕ) (key : Key) → change ≡ Delete name key
-    → BelongsAt (λ (other : Policy). key_cmp other.key key) policies at → policies ≡ edited policies change
-edit-none policies at change name key is belongs =
-    let answer : Policy → Ordering = λ other. key_cmp other.key key in
-    let below : filter (λ other. is_lt (answer other)) policies ≡ belongs.front =
-    ap (filter (λ other. is_lt (answer other))) belongs.parts ∙ below-front answer belongs.front belongs.back belongs.before belongs.behind in
-    let above : filter (λ other. is_gt (answer other)) policies ≡ belongs.back =
-    ap (filter (λ other. is_gt (answer other))) belongs.parts ∙ above-back answer belongs.front belongs.back belongs.before belongs.behind in
-    belongs.parts ∙ (λ i. sym below i ++ sym above i) ∙ ap (edited policies) (sym is)
-
 pub edited-rises : (policies : List Policy) (change : Change) → IsStrictlySortedBy policy_cmp policies
     → IsStrictlySortedBy policy_cmp (edited policies change)
 edited-rises policies (Set name key result) rise = put-rises policy_total (record { key = key; result = result }) policies rise
@@ -104,27 +57,6 @@ edited-rises policies (Delete name key) rise =
 pub fold-end : {A B : Type 0} (f : B → A → B) (b : B) (xs : List A) (x : A) → fold f b (xs ++ x ∷ []) ≡ f (fold f b xs) x
 fold-end f b [] x = refl
 fold-end f b (y ∷ xs) x = fold-end f (f b y) xs x
-
--- one more change, of this bucket or of another
-pub own-more : (name : List ℕ) (policies : List Policy) (changes : List Change) (i : ℕ) (change : Change) → i < length changes
-    → change ≡ get_or changes i change → is_own name change ≡ true
-    → fold edited policies (own name (take (i + 1) changes)) ≡ edited (fold edited policies (own name (take i changes))) change
-own-more name policies changes i change lt is mine =
-    ap (fold edited policies)
-    (filter_more (is_own name) changes i change lt
-    ∙ ap (λ c. filter (is_own name) (take i changes) ++ cond (is_own name c) (c ∷ []) []) (sym is)
-    ∙ ap (λ b. filter (is_own name) (take i changes) ++ cond b (change ∷ []) []) mine)
-    ∙ fold-end edited policies (own name (take i changes)) change
-
-pub other-more : (name : List ℕ) (policies : List Policy) (changes : List Change) (i : ℕ) (change : Change) → i < length changes
-    → change ≡ get_or changes i change → is_own name change ≡ false
-    → fold edited policies (own name (take (i + 1) changes)) ≡ fold edited policies (own name (take i changes))
-other-more name policies changes i change lt is mine =
-    ap (fold edited policies)
-    (filter_more (is_own name) changes i change lt
-    ∙ ap (λ c. filter (is_own name) (take i changes) ++ cond (is_own name c) (c ∷ []) []) (sym is)
-    ∙ ap (λ b. filter (is_own name) (take i changes) ++ cond b (change ∷ []) []) mine
-    ∙ append-nil (own name (take i changes)))
 
 own-none : (name : List ℕ) (changes : List Change) → list_any (is_own name) changes ≡ false → own name changes ≡ []
 own-none name [] none = refl
@@ -246,8 +178,10 @@ deleted-is name key bucket rise = parts (same_text bucket.name name) refl
     all : (policies : List Policy) → filter (λ policy. true) policies ≡ policies
     all [] = refl
     all (policy ∷ policies) = ap (λ rest. policy ∷ rest) (all policies)
+
     sides : Bool → Bucket
     sides b = record { name = bucket.name; fallback = bucket.fallback; policies = cond b (edited bucket.policies (Delete name key)) bucket.policies }
+
     parts : (b : Bool) → same_text bucket.name name ≡ b
         → changed_once (Delete name key) bucket ≡ keep (λ placed. not (is_at name key placed)) bucket
     parts true is =
@@ -418,10 +352,12 @@ stands-there : (name : List ℕ) (buckets : List Bucket) → IsStrictlySortedBy 
 stands-there name buckets rise has =
     let at =
     Any-from_list_any (λ (bucket : Bucket). same_text bucket.name name) buckets
-    (sym (any-map (λ (heading : Heading). same_text heading.name name) heading_of buckets) ∙ has) in
-    (at.0, found text_total (λ (bucket : Bucket). bucket.name) name buckets at.0 rise at.2
-    (λ d. ap (λ (bucket : Bucket). text_cmp bucket.name name) (get_or_default buckets at.0 d at.1 at.2 ∙ at.3)
-    ∙ eq-Equal (text_cmp at.1.name name) (text_cmp-equal at.1.name name ∙ at.4)))
+    (sym (any-map (λ (heading : Heading). same_text heading.name name) heading_of buckets) ∙ has) in (
+      at.0,
+      found text_total (λ (bucket : Bucket). bucket.name) name buckets at.0 rise at.2
+          (λ d. ap (λ (bucket : Bucket). text_cmp bucket.name name) (get_or_default buckets at.0 d at.1 at.2 ∙ at.3)
+          ∙ eq-Equal (text_cmp at.1.name name) (text_cmp-equal at.1.name name ∙ at.4)),
+    )
 
 -- the bucket of each change is there
 abbrev pub AreThere : Database → List Change → Type 0

@@ -9,3 +9,5 @@ pub mod Closing
 pub mod Leading
 pub mod Changing
 pub mod Accepting
+pub mod Sorting
+pub mod Merging

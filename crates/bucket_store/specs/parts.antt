@@ -3,3 +3,4 @@ pub mod Naming
 pub mod Edit
 pub mod Closure
 pub mod Batch
+pub mod Merge

@@ -8,9 +8,8 @@ ghost use Rattle.bucket_store.specs.Order.{policy_cmp};
 ghost use Rattle.bucket_store.specs.Refusal.{most_policies};
 ghost use Rattle.bucket_store.specs.parts.Batch as batch;
 
-use crate::copies::all_policies;
 use crate::limits::MOST_POLICIES;
-use crate::searches::place_of_key;
+use crate::merges::{is_own, merged, sorted};
 use crate::{Bucket, Change};
 use cynara_keys::{BucketName, Kind, Policy};
 use std::alloc::{AllocError, Global};
@@ -27,7 +26,8 @@ fn is_link(change: &Change) -> bool
 {
     match change {
         Change::Set {
-            result: outcome, ..
+            result: outcome,
+            ..
         } => outcome.kind() == Kind::BUCKET,
         Change::Delete { .. } => false,
     }
@@ -49,7 +49,11 @@ pub fn is_over(buckets: &[Bucket]) -> bool
 }
 
 /// The buckets after the changes.
-pub fn changed_buckets(alloc: Global, buckets: &[Bucket], changes: &[Change]) -> Result<Vec<Bucket>, AllocError>
+pub fn changed_buckets(
+    alloc: Global,
+    buckets: &[Bucket],
+    changes: &[Change],
+) -> Result<Vec<Bucket>, AllocError>
     requires { list.AllByRecursion (λ (bucket : Content). IsStrictlySortedBy policy_cmp bucket.policies) buckets.now }
     ensures { IfOk result (λ copy. copy.items ≡ map (batch.changed changes.now) buckets.now) }
 {
@@ -69,7 +73,12 @@ fn changed_bucket(alloc: Global, bucket: &Bucket, changes: &[Change]) -> Result<
         return bucket.share();
     }
     let policies = changed_policies(alloc, bucket.name(), bucket.policies(), changes)?;
-    Bucket::new(alloc, bucket.name().copy()?, bucket.fallback().copy()?, policies)
+    Bucket::new(
+        alloc,
+        bucket.name().copy()?,
+        bucket.fallback().copy()?,
+        policies,
+    )
 }
 
 // Whether a change is the bucket's own.
@@ -77,13 +86,6 @@ fn is_touched(name: &BucketName, changes: &[Change]) -> bool
     ensures { result ≡ list.list_any (λ change. batch.is_own name.now change) changes.now }
 {
     changes.iter().any(|change| is_own(name, change))
-}
-
-fn is_own(name: &BucketName, change: &Change) -> bool
-    ensures { result ≡ batch.is_own name.now change.now }
-{
-    let (Change::Set { bucket, .. } | Change::Delete { bucket, .. }) = change;
-    bucket == name
 }
 
 // The bucket's policies after its own changes.
@@ -96,40 +98,6 @@ fn changed_policies(
     requires { IsStrictlySortedBy policy_cmp policies.now }
     ensures { IfOk result (λ copy. copy.items ≡ list.fold batch.edited policies.now (batch.own name.now changes.now)) }
 {
-    let mut copy = all_policies(alloc, policies)?;
-    for change in changes {
-        if is_own(name, change) {
-            edit(&mut copy, change)?;
-        }
-    }
-    Ok(copy)
-}
-
-// One change of the policies.
-fn edit(policies: &mut Vec<Policy>, change: &Change) -> Result<(), AllocError>
-    requires { IsStrictlySortedBy policy_cmp policies.old.items }
-    ensures { IfOk result (λ _. policies.new.items ≡ batch.edited policies.old.items change.now) }
-{
-    match change {
-        Change::Set {
-            key,
-            result: outcome,
-            ..
-        } => {
-            let policy = Policy {
-                key: key.copy()?,
-                result: outcome.copy()?,
-            };
-            match place_of_key(policies, key) {
-                Ok(at) => policies[at] = policy,
-                Err(at) => policies.insert(at, policy)?,
-            }
-        }
-        Change::Delete { key, .. } => {
-            if let Ok(at) = place_of_key(policies, key) {
-                policies.remove(at);
-            }
-        }
-    }
-    Ok(())
+    let own = sorted(alloc, name, changes)?;
+    merged(alloc, policies, &own)
 }

@@ -11,6 +11,7 @@ mod cycles;
 mod databases;
 mod edits;
 mod limits;
+mod merges;
 mod named;
 mod policy_changes;
 mod refusals;

@@ -1,4 +1,5 @@
 use cynara_keys::{BucketName, Key, PolicyResult};
+use std::alloc::AllocError;
 use std::marker::Model;
 
 /// A change of one policy.
@@ -11,7 +12,10 @@ pub enum Change {
         result: PolicyResult,
     },
     /// The bucket has no policy with this key.
-    Delete { bucket: BucketName, key: Key },
+    Delete {
+        bucket: BucketName,
+        key: Key,
+    },
 }
 
 /// A list of changes.
@@ -29,7 +33,7 @@ impl Model for Changes {
     ghost view = { λ changes. changes.list.items };
 }
 
-ghost use Rattle.std.specs.Prelude.{◌≡◌};
+ghost use Rattle.std.specs.Prelude.{◌≡◌, IfOk};
 
 impl Changes {
     /// The changes, in their order. Takes no memory.
@@ -44,5 +48,28 @@ impl Changes {
         ensures { result.now ≡ self.now }
     {
         &self.list
+    }
+}
+
+impl Change {
+    /// An equal change, which shares the names' bytes.
+    pub fn copy(&self) -> Result<Change, AllocError>
+        ensures { IfOk result (λ copy. copy ≡ self.now) }
+    {
+        match self {
+            Change::Set {
+                bucket,
+                key,
+                result: outcome,
+            } => Ok(Change::Set {
+                bucket: bucket.copy()?,
+                key: key.copy()?,
+                result: outcome.copy()?,
+            }),
+            Change::Delete { bucket, key } => Ok(Change::Delete {
+                bucket: bucket.copy()?,
+                key: key.copy()?,
+            }),
+        }
     }
 }
