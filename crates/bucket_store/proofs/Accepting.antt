@@ -1,24 +1,20 @@
 -- When a list of changes is accepted.
-use Rattle.std.proofs.Common.{◌≡◌, ℕ, ◌+◌, ◌<◌, ◌≤◌, zero, suc, Bool, true, false, not, cond, ◌||◌, ◌&&◌, nat_lt, eqb, List, [], ◌∷◌, ◌++◌, length, map, get_or, take, drop, Option, Some, None, refl, sym, ap, ◌∙◌, subst, arith, append_assoc, append-nil}
+use Rattle.std.proofs.Common.{◌≡◌, ℕ, ◌+◌, ◌<◌, ◌≤◌, suc, Bool, true, false, not, cond, nat_lt, eqb, List, [], ◌∷◌, ◌++◌, length, map, get_or, take, drop, Option, Some, None, refl, sym, ap, ◌∙◌, subst, append-nil}
 use Rattle.std.specs.Option.{option_map}
-use Rattle.std.specs.declared.cmp.Ordering.{Ordering}
 use Rattle.std.specs.Ordering.{is_lt, is_gt}
 use Rattle.std.specs.List.{AllByRecursion, filter, list_any, flat_map, fold, find, Contains}
 use Rattle.std.specs.List.Sorted.{IsStrictlySortedBy}
-use Rattle.std.proofs.lemmas.Bool.{true≢false, or_parts, lt-ltb, le-ltb, ltb-true, ltb-false}
+use Rattle.std.proofs.lemmas.Bool.{true≢false, or_parts, le-ltb}
 use Rattle.std.proofs.lemmas.List.{take_more, take-append-drop}
 use Rattle.std.proofs.lemmas.List.Elements.{All-from_recursion, recursion_from_All, All-contains, All-contains_itself}
 use Rattle.std.proofs.Math.Seq.{drop-cons}
 use Rattle.std.proofs.lemmas.Grind.{flat_map-append}
-use Rattle.cynara_keys.specs.Text.{same_text}
-use Rattle.cynara_keys.specs.PolicyResult.{Ruling, bucket}
-use Rattle.cynara_keys.specs.declared.keys.Key.{Key}
-use Rattle.cynara_keys.specs.declared.keys.Policy.{Policy}
+use Rattle.cynara_keys.specs.PolicyResult.{bucket}
 use Rattle.cynara_keys.specs.declared.limits.Counted.TheVariants.{Buckets, Policies}
 use Rattle.bucket_store.specs.Bucket.{Bucket}
-use Rattle.bucket_store.specs.Database.{Heading, Placed, Database, has_bucket, heading_of, placed_of, database_of}
-use Rattle.bucket_store.specs.Order.{bucket_cmp, policy_cmp, placed_cmp}
-use Rattle.bucket_store.specs.Walk.{points, target, is_on_cycle}
+use Rattle.bucket_store.specs.Database.{Placed, Database, has_bucket, heading_of, placed_of, database_of}
+use Rattle.bucket_store.specs.Order.{bucket_cmp, placed_cmp}
+use Rattle.bucket_store.specs.Walk.{points}
 use Rattle.bucket_store.specs.Change.{after_change, is_at, with_changes}
 use Rattle.bucket_store.specs.Refusal.{no_bucket, named_by, limit, cycle, first_of, fault, Refuses, set_policies, most_buckets, most_policies}
 use Rattle.bucket_store.specs.WellFormed.{IsRooted, IsSound, IsKept}

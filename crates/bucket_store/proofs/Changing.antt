@@ -1,14 +1,13 @@
 -- What changes make of one bucket, and of all.
-use Rattle.std.proofs.Common.{◌≡◌, ℕ, ◌+◌, ◌<◌, ◌≤◌, zero, suc, Bool, true, false, not, cond, ◌||◌, ◌&&◌, nat_lt, List, [], ◌∷◌, ◌++◌, length, map, get_or, set, take, drop, Option, Some, None, refl, sym, ap, ◌∙◌, subst, arith, append_assoc, append-nil}
-use Rattle.std.specs.Option.{option_map}
+use Rattle.std.proofs.Common.{◌≡◌, ℕ, Bool, true, false, not, cond, ◌&&◌, List, [], ◌∷◌, ◌++◌, map, refl, sym, ap, ◌∙◌, subst, append_assoc, append-nil}
 use Rattle.std.specs.declared.cmp.Ordering.{Ordering}
 use Rattle.std.specs.declared.cmp.Ordering.TheVariants.{Less, Equal, Greater}
 use Rattle.std.specs.Ordering.{is_lt, is_gt, is_eq, ordering_then, ordering_reverse}
-use Rattle.std.specs.List.{AllByRecursion, filter, list_any, flat_map, fold, find, insert, remove, Contains}
+use Rattle.std.specs.List.{AllByRecursion, filter, list_any, flat_map, fold}
 use Rattle.std.specs.List.Sorted.{IsStrictlySortedBy}
-use Rattle.std.proofs.lemmas.Bool.{true≢false, or_parts, cases_Bool}
+use Rattle.std.proofs.lemmas.Bool.{or_parts}
 use Rattle.std.proofs.lemmas.List.{map-append, get_or_default}
-use Rattle.std.proofs.lemmas.List.Elements.{filter-append, filter_more}
+use Rattle.std.proofs.lemmas.List.Elements.{filter-append}
 use Rattle.std.proofs.lemmas.List.Kept.{IsStrictlySortedBy-filter}
 use Rattle.std.proofs.lemmas.Grind.{flat_map-append}
 use Rattle.std.proofs.lemmas.Cmp.{nat_list_eq_equiv}
@@ -20,18 +19,17 @@ use Rattle.cynara_keys.specs.declared.keys.Policy.{Policy}
 use Rattle.cynara_keys.proofs.Order.{key_total, key_cmp-equal, text_total, text_cmp-equal, same_text-≡}
 use Rattle.bucket_store.specs.Bucket.{Bucket}
 use Rattle.bucket_store.specs.Database.{Heading, Placed, Database, has_bucket, heading_of, placed_of, database_of}
-use Rattle.bucket_store.specs.Order.{bucket_cmp, policy_cmp, placed_cmp, put}
-use Rattle.bucket_store.specs.Walk.{points, target}
+use Rattle.bucket_store.specs.Order.{bucket_cmp, policy_cmp, placed_cmp}
 use Rattle.bucket_store.specs.Change.{after_change, is_at}
 use Rattle.bucket_store.specs.parts.Edit.{bucket_of}
-use Rattle.bucket_store.specs.parts.Search.{StandsAt, BelongsAt}
-use Rattle.bucket_store.specs.parts.Batch.{name_of, key_of, effect, edited, is_own, own, changed}
+use Rattle.bucket_store.specs.parts.Search.{StandsAt}
+use Rattle.bucket_store.specs.parts.Batch.{name_of, edited, is_own, own, changed}
 use Rattle.bucket_store.specs.declared.policy_changes.Change.{Change}
 use Rattle.bucket_store.specs.declared.policy_changes.Change.TheVariants.{Set, Delete}
-use Rattle.bucket_store.proofs.Lists.{All-weaker, All-append, All-filter, All-passing, filter-all, filter-none, filter-map}
+use Rattle.bucket_store.proofs.Lists.{All-weaker, All-passing, filter-all, filter-none, filter-map}
 use Rattle.std.proofs.lemmas.List.Folds.{Any-from_list_any}
 use Rattle.bucket_store.proofs.Sound.{any-map}
-use Rattle.bucket_store.proofs.Searching.{found, put-StandsAt, put-BelongsAt, put-rises, strictly-append, below-tied, above-tied, below-front, above-back, lt-Less, gt-Greater}
+use Rattle.bucket_store.proofs.Searching.{found, put-rises, strictly-append, lt-Less, gt-Greater}
 use Rattle.bucket_store.proofs.Kept.{keep, flat-keep, names-rise-same}
 use Rattle.bucket_store.proofs.Sound.{policy_total, All-flat, others-apart, others-apart', tied-same}
 

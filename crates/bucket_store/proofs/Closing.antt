@@ -1,7 +1,6 @@
 -- What the rows of flags say of walks.
-use Rattle.std.proofs.Common.{◌≡◌, ℕ, ◌+◌, ◌<◌, ◌≤◌, zero, suc, Bool, true, false, not, cond, ◌||◌, ◌&&◌, List, [], ◌∷◌, ◌++◌, length, map, get_or, set, take, replicate, Option, Some, None, refl, sym, ap, ◌∙◌, subst, arith}
-use Rattle.std.specs.declared.cmp.Ordering.{Ordering}
-use Rattle.std.specs.declared.cmp.Ordering.TheVariants.{Less, Equal, Greater}
+use Rattle.std.proofs.Common.{◌≡◌, ℕ, Bool, true, false, ◌||◌, ◌&&◌, List, [], ◌∷◌, ◌++◌, length, map, set, replicate, refl, sym, ap, ◌∙◌, subst}
+use Rattle.std.specs.declared.cmp.Ordering.TheVariants.{Less, Greater}
 use Rattle.std.specs.Ordering.{is_eq}
 use Rattle.std.specs.List.{AllByRecursion, list_any}
 use Rattle.std.proofs.lemmas.Cmp.{nat_list_eq_equiv}
@@ -12,7 +11,7 @@ use Rattle.cynara_keys.proofs.Order.{text_cmp-equal}
 use Rattle.bucket_store.specs.Bucket.{Bucket}
 use Rattle.bucket_store.specs.Walk.{points, target, points_to}
 use Rattle.bucket_store.specs.parts.Search.{StandsAt, BelongsAt}
-use Rattle.bucket_store.specs.parts.Closure.{OnlyAt, IsOnlyLink, linked}
+use Rattle.bucket_store.specs.parts.Closure.{OnlyAt, linked}
 use Rattle.bucket_store.proofs.Lists.{All-weaker, All-append}
 
 -- ---- the row of one bucket

@@ -1,16 +1,16 @@
 -- A bucket made, or its fallback changed.
-use Rattle.std.proofs.Common.{◌≡◌, ℕ, ◌+◌, ◌-◌, ◌<◌, ◌≤◌, Bool, true, false, not, cond, ◌||◌, ◌&&◌, nat_lt, List, [], ◌∷◌, ◌++◌, length, map, get_or, set, Option, Some, None, Result, Ok, Err, IfOk, IfErr, is_ok, refl, sym, ap, ◌∙◌, subst, arith}
+use Rattle.std.proofs.Common.{◌≡◌, ℕ, ◌+◌, ◌<◌, ◌≤◌, Bool, true, false, cond, ◌||◌, nat_lt, List, [], ◌∷◌, ◌++◌, length, map, get_or, set, Some, None, Result, Ok, Err, IfOk, IfErr, is_ok, refl, sym, ap, ◌∙◌, subst, arith}
 use Rattle.std.specs.Option.{option_map}
 use Rattle.std.specs.declared.cmp.Ordering.{Ordering}
 use Rattle.std.specs.declared.cmp.Ordering.TheVariants.{Less, Equal, Greater}
 use Rattle.std.specs.Ordering.{is_lt, is_gt, is_eq}
 use Rattle.std.specs.Cmp.{IsTotalOrder}
-use Rattle.std.specs.List.{AllByRecursion, filter, list_any, flat_map, insert}
+use Rattle.std.specs.List.{AllByRecursion, filter, list_any, flat_map}
 use Rattle.std.specs.List.Sorted.{IsStrictlySortedBy}
-use Rattle.std.proofs.lemmas.Bool.{true≢false, or_left, or_right, or_parts, or_cases, lt-ltb, le-ltb, ltb-true, ltb-false, cases_Bool, and_from, and_parts}
+use Rattle.std.proofs.lemmas.Bool.{true≢false, or_left, or_cases, lt-ltb, ltb-true, ltb-false}
 use mathlib.Core.Logic.{⊎_elim}
 use Rattle.std.proofs.lemmas.Cmp.{on_total}
-use Rattle.std.proofs.lemmas.List.{map-append, get_or_at, length-append, take-append-drop}
+use Rattle.std.proofs.lemmas.List.{map-append, get_or_at, length-append}
 use Rattle.std.proofs.lemmas.List.Folds.{list_any-append}
 use Rattle.std.proofs.lemmas.List.Edits.{length-insert}
 use Rattle.std.proofs.Math.ListN.{length-set}
@@ -19,18 +19,18 @@ use Rattle.cynara_keys.specs.Text.{same_text, text_cmp}
 use Rattle.cynara_keys.specs.PolicyResult.{Ruling}
 use Rattle.cynara_keys.specs.declared.keys.Policy.{Policy}
 use Rattle.cynara_keys.specs.declared.limits.Counted.TheVariants.{Buckets, Policies}
-use Rattle.cynara_keys.proofs.Order.{same_text-≡, ≡-same_text, text_total, text_cmp-equal}
+use Rattle.cynara_keys.proofs.Order.{same_text-≡, text_total, text_cmp-equal}
 use Rattle.bucket_store.specs.Bucket.{Bucket}
-use Rattle.bucket_store.specs.Database.{Heading, Placed, Database, root, has_bucket, heading_of, placed_of, database_of}
+use Rattle.bucket_store.specs.Database.{Heading, Database, root, has_bucket, heading_of, placed_of, database_of}
 use Rattle.bucket_store.specs.Order.{bucket_cmp, heading_cmp, policy_cmp, put}
 use Rattle.bucket_store.specs.Walk.{target}
 use Rattle.bucket_store.specs.Change.{with_bucket}
-use Rattle.bucket_store.specs.Refusal.{fault, set_bucket, bad_kind, limit, cycle, first_of, is_bad, most_buckets, most_policies}
+use Rattle.bucket_store.specs.Refusal.{fault, set_bucket, limit, cycle, first_of, is_bad, most_buckets, most_policies}
 use Rattle.bucket_store.specs.WellFormed.{IsRooted, IsSound, IsKept}
 use Rattle.bucket_store.specs.parts.Edit.{headed, bucket_of}
 use Rattle.bucket_store.specs.parts.Search.{StandsAt, BelongsAt}
 use Rattle.bucket_store.specs.declared.refusals.StoreRefusal.TheVariants.{BadKind, Limit}
-use Rattle.bucket_store.proofs.Lists.{All-weaker, All-append, All-filter, All-front, All-back, filter-map, any-filter}
+use Rattle.bucket_store.proofs.Lists.{All-weaker, All-append, All-filter, All-back, filter-map}
 use Rattle.bucket_store.proofs.Searching.{put-StandsAt, put-BelongsAt, put-rises, below-tied, above-tied, below-front, above-back}
 use Rattle.bucket_store.proofs.Sound.{limit-sound, cycle-sound}
 use Rattle.bucket_store.proofs.Walks.{NoCycle-tested, tested-NoCycle}

@@ -1,26 +1,19 @@
 -- What keeps a database's buckets in order and sound.
-use Rattle.std.proofs.Common.{◌≡◌, ℕ, ◌+◌, ◌<◌, ◌≤◌, zero, suc, Bool, true, false, not, cond, ◌||◌, ◌&&◌, List, [], ◌∷◌, ◌++◌, length, map, refl, sym, ap, ◌∙◌, subst, arith}
-use Rattle.std.specs.declared.cmp.Ordering.{Ordering}
+use Rattle.std.proofs.Common.{◌≡◌, Bool, List, [], ◌∷◌, ◌++◌, map, refl, sym, ap, ◌∙◌, subst, arith}
 use Rattle.std.specs.declared.cmp.Ordering.TheVariants.{Less}
-use Rattle.std.specs.List.{AllByRecursion, filter, list_any, flat_map, Contains}
+use Rattle.std.specs.List.{filter, flat_map, Contains}
 use Rattle.std.specs.List.Sorted.{IsStrictlySortedBy}
-use Rattle.std.specs.Ordering.{on}
-use Rattle.std.proofs.lemmas.Bool.{true≢false, false≢true, not-true, cases_Bool, or_parts}
 use Rattle.std.proofs.lemmas.List.Elements.{filter-append, All-from_recursion, recursion_from_All, All-contains, All-contains_itself}
 use Rattle.std.proofs.lemmas.List.Kept.{IsStrictlySortedBy-filter}
-use Rattle.cynara_keys.specs.Text.{same_text, text_cmp}
+use Rattle.cynara_keys.specs.Text.{text_cmp}
 use Rattle.cynara_keys.specs.PolicyResult.{deny}
-use Rattle.cynara_keys.specs.declared.keys.Policy.{Policy}
-use Rattle.cynara_keys.proofs.Order.{same_text-≡, ≡-same_text}
 use Rattle.bucket_store.specs.Bucket.{Bucket}
-use Rattle.bucket_store.specs.Database.{Heading, Placed, Database, root, fresh, has_bucket, heading_of, placed_of, database_of}
-use Rattle.bucket_store.specs.Order.{bucket_cmp, heading_cmp, policy_cmp, placed_cmp, put}
-use Rattle.bucket_store.specs.Walk.{points, target, points_to, is_on_cycle, reaches}
-use Rattle.bucket_store.specs.Change.{concerns, without_bucket}
-use Rattle.bucket_store.specs.Refusal.{is_bad, most_buckets, most_policies}
+use Rattle.bucket_store.specs.Database.{Placed, Database, heading_of, placed_of, database_of}
+use Rattle.bucket_store.specs.Order.{bucket_cmp, policy_cmp}
+use Rattle.bucket_store.specs.Walk.{reaches}
 use Rattle.bucket_store.specs.WellFormed.{IsRooted, IsSound, IsKept}
-use Rattle.bucket_store.proofs.Lists.{All-weaker, All-filter, All-append, All-map, All-unmap, All-passing, filter-all, filter-none, filter-same, filter-map, any-filter, length-filter-≤}
-use Rattle.bucket_store.proofs.Walks.{NoCycle, NoCycle-tested, tested-NoCycle, NoCycle-fewer, Fewer}
+use Rattle.bucket_store.proofs.Lists.{All-weaker, All-filter, All-map, filter-map, length-filter-≤}
+use Rattle.bucket_store.proofs.Walks.{NoCycle-tested, tested-NoCycle, NoCycle-fewer}
 
 -- ---- the root bucket alone
 

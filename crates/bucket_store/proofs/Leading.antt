@@ -1,15 +1,12 @@
 -- The rows, closed over all buckets, say which bucket a walk leads to from which: so the first that leads to itself is the
 -- least on a cycle.
-use Rattle.std.proofs.Common.{◌≡◌, ℕ, ◌+◌, ◌<◌, ◌≤◌, zero, suc, Bool, true, false, not, cond, ◌||◌, ◌&&◌, List, [], ◌∷◌, ◌++◌, length, map, get_or, Option, Some, None, refl, sym, ap, ◌∙◌, subst, inl, inr, arith, ◌⊎◌}
+use Rattle.std.proofs.Common.{◌≡◌, ℕ, ◌<◌, ◌≤◌, zero, suc, Bool, true, false, cond, ◌||◌, ◌&&◌, List, [], ◌∷◌, ◌++◌, length, map, get_or, Some, None, refl, sym, ap, ◌∙◌, subst, inl, inr, arith, ◌⊎◌}
 use mathlib.Core.Logic.{⊎_elim}
 use Rattle.std.specs.Option.{option_map}
-use Rattle.std.specs.declared.cmp.Ordering.{Ordering}
-use Rattle.std.specs.declared.cmp.Ordering.TheVariants.{Less, Equal, Greater}
-use Rattle.std.specs.Ordering.{is_eq}
-use Rattle.std.specs.List.{AllByRecursion, list_any, flat_map, find, position, zip}
+use Rattle.std.specs.List.{AllByRecursion, list_any, flat_map, find}
 use Rattle.std.specs.List.Sorted.{IsStrictlySortedBy}
 use Rattle.std.proofs.lemmas.Cmp.{tied_itself}
-use Rattle.std.proofs.lemmas.Bool.{true≢false, false_from_ne_true, and_parts, and_from, or_cases, or_left, or_right, cases_Bool, cases_lt}
+use Rattle.std.proofs.lemmas.Bool.{true≢false, false_from_ne_true, and_parts, and_from, or_cases, or_left, or_right, cases_lt}
 use Rattle.std.proofs.lemmas.List.{get_or_default, length-map, get_or_at}
 use Rattle.std.proofs.Math.ListN.{get_or-map}
 use Rattle.std.proofs.lemmas.List.Folds.{list_any-append, Any-from_list_any, list_any-from_Any}
@@ -19,7 +16,7 @@ use Rattle.cynara_keys.specs.Text.{same_text, text_cmp}
 use Rattle.cynara_keys.specs.declared.keys.Policy.{Policy}
 use Rattle.cynara_keys.proofs.Order.{same_text-≡, ≡-same_text, text_total}
 use Rattle.bucket_store.specs.Bucket.{Bucket}
-use Rattle.bucket_store.specs.Database.{Heading, Placed, Database, has_bucket, heading_of, placed_of, database_of}
+use Rattle.bucket_store.specs.Database.{Heading, Placed, has_bucket, heading_of, placed_of, database_of}
 use Rattle.bucket_store.specs.Order.{bucket_cmp}
 use Rattle.bucket_store.specs.Walk.{points, target, points_to, IsStep, IsWalk, end_of, Leads, is_on_cycle}
 use Rattle.bucket_store.specs.Refusal.{cycle}
@@ -27,12 +24,11 @@ use Rattle.bucket_store.specs.WellFormed.{IsRooted}
 use Rattle.bucket_store.specs.parts.Search.{StandsAt}
 use Rattle.bucket_store.specs.parts.Edit.{bucket_of}
 use Rattle.bucket_store.specs.parts.Closure.{flag, either, through, closed, linked, link_rows, IsFirstLoop}
-use Rattle.bucket_store.specs.declared.refusals.StoreRefusal.{StoreRefusal}
 use Rattle.bucket_store.specs.declared.refusals.StoreRefusal.TheVariants.{Cycle}
-use Rattle.bucket_store.proofs.Lists.{All-map, All-weaker, All-append}
+use Rattle.bucket_store.proofs.Lists.{All-map, All-weaker}
 use Rattle.bucket_store.proofs.Searching.{found, position-StandsAt}
-use Rattle.bucket_store.proofs.Sound.{All-flat, any-front, any-none, any-map, others-apart, others-apart', tied-same, has-found}
-use Rattle.bucket_store.proofs.Walks.{NoCycle, Leads-append, Leads-step, Leads-reaches, is_on_cycle-Leads, tested-NoCycle}
+use Rattle.bucket_store.proofs.Sound.{All-flat, any-none, any-map, others-apart, others-apart', tied-same}
+use Rattle.bucket_store.proofs.Walks.{NoCycle, Leads-append, Leads-step, Leads-reaches, is_on_cycle-Leads}
 
 -- ---- flags
 

@@ -1,10 +1,8 @@
 -- A bucket removed, and policies erased.
-use Rattle.std.proofs.Common.{◌≡◌, ℕ, ◌+◌, ◌-◌, ◌<◌, ◌≤◌, Bool, true, false, not, cond, ◌||◌, ◌&&◌, List, [], ◌∷◌, ◌++◌, length, map, get_or, set, Option, Some, None, refl, sym, ap, ◌∙◌, subst, arith}
-use Rattle.std.specs.Option.{option_map}
-use Rattle.std.specs.declared.cmp.Ordering.TheVariants.{Less, Equal, Greater}
-use Rattle.std.specs.List.{AllByRecursion, filter, list_any, flat_map}
+use Rattle.std.proofs.Common.{◌≡◌, ℕ, ◌-◌, ◌≤◌, Bool, true, false, not, cond, ◌||◌, ◌&&◌, List, [], ◌∷◌, ◌++◌, length, map, get_or, set, Some, None, refl, sym, ap, ◌∙◌, subst, arith}
+use Rattle.std.specs.List.{AllByRecursion, filter, flat_map}
 use Rattle.std.specs.List.Sorted.{IsStrictlySortedBy}
-use Rattle.std.proofs.lemmas.Bool.{true≢false, not-true, or_parts, cases_Bool, false_from_ne_true}
+use Rattle.std.proofs.lemmas.Bool.{true≢false, not-true, or_parts, false_from_ne_true}
 use Rattle.std.proofs.lemmas.List.{map-append, set_at, get_or_at, length-append}
 use Rattle.std.proofs.lemmas.List.Elements.{filter-append}
 use Rattle.std.proofs.lemmas.List.Filters.{length-filter_both}
@@ -14,19 +12,19 @@ use Rattle.cynara_keys.specs.Text.{same_text, text_cmp}
 use Rattle.cynara_keys.specs.Key.{filter_admits}
 use Rattle.cynara_keys.specs.declared.keys.Filter.{Filter}
 use Rattle.cynara_keys.specs.declared.keys.Policy.{Policy}
-use Rattle.cynara_keys.proofs.Order.{same_text-≡, ≡-same_text}
+use Rattle.cynara_keys.proofs.Order.{same_text-≡}
 use Rattle.bucket_store.specs.Bucket.{Bucket}
 use Rattle.bucket_store.specs.Database.{Heading, Placed, Database, root, has_bucket, heading_of, placed_of, database_of}
 use Rattle.bucket_store.specs.Order.{bucket_cmp, policy_cmp}
-use Rattle.bucket_store.specs.Walk.{points, target, points_to}
+use Rattle.bucket_store.specs.Walk.{target, points_to}
 use Rattle.bucket_store.specs.Change.{concerns, without_bucket, is_admitted, erased, listed}
-use Rattle.bucket_store.specs.Refusal.{fault, remove_bucket, no_bucket, root_bucket, bad_kind, limit, cycle, first_of, is_bad, most_policies}
+use Rattle.bucket_store.specs.Refusal.{fault, remove_bucket, root_bucket, bad_kind, limit, cycle, first_of, is_bad, most_policies}
 use Rattle.bucket_store.specs.WellFormed.{IsRooted, IsSound, IsKept}
 use Rattle.bucket_store.specs.parts.Edit.{without_links, filled, bucket_of}
 use Rattle.bucket_store.specs.parts.Search.{StandsAt}
 use Rattle.bucket_store.specs.declared.refusals.StoreRefusal.TheVariants.{RootBucket}
-use Rattle.bucket_store.proofs.Lists.{All-weaker, All-both, All-filter, All-passing, filter-all, filter-none, filter-map, any-filter, length-filter-≤}
-use Rattle.bucket_store.proofs.Kept.{keep, kept_of, placed-keep, headings-keep, database-keep, Kept-keep, Contains-filter}
+use Rattle.bucket_store.proofs.Lists.{All-weaker, All-both, All-filter, All-passing, filter-map, any-filter, length-filter-≤}
+use Rattle.bucket_store.proofs.Kept.{keep, placed-keep, headings-keep, database-keep, Kept-keep, Contains-filter}
 use Rattle.bucket_store.proofs.Sound.{limit-sound, cycle-sound, named-found, others-apart, others-apart', tied-same, found-is, listed-read}
 use Rattle.bucket_store.proofs.Walks.{NoCycle-tested, tested-NoCycle, NoCycle-fewer}
 

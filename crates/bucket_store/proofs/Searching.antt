@@ -1,12 +1,12 @@
 -- What a binary search finds in a list that rises, and what an element put there makes of the list.
-use Rattle.std.proofs.Common.{◌≡◌, ℕ, ◌+◌, ◌<◌, ◌≤◌, true, false, not, Bool, cond, ◌||◌, List, [], ◌∷◌, ◌++◌, zero, suc, length, take, drop, set, get_or, map, Result, Ok, Err, IfOk, IfErr, Option, Some, None, refl, sym, ap, ◌∙◌, subst, arith, add-one, nat_lt}
+use Rattle.std.proofs.Common.{◌≡◌, ℕ, ◌+◌, ◌<◌, ◌≤◌, true, false, not, cond, List, [], ◌∷◌, ◌++◌, zero, suc, length, take, drop, set, Result, Ok, Err, IfOk, IfErr, Some, None, refl, sym, ap, ◌∙◌, subst, arith, add-one, nat_lt}
 use Rattle.std.specs.declared.cmp.Ordering.{Ordering}
 use Rattle.std.specs.declared.cmp.Ordering.TheVariants.{Less, Equal, Greater}
-use Rattle.std.specs.List.{AllByRecursion, HoldsAt, filter, insert, list_any, position, prefix_len}
+use Rattle.std.specs.List.{AllByRecursion, HoldsAt, filter, insert, position, prefix_len}
 use Rattle.std.specs.List.Sorted.{IsSortedBy, IsSearchInRange, IsBinarySearchResult, IsPartitionPoint, IsStrictlySortedBy}
 use Rattle.std.specs.Ordering.{is_lt, is_eq, is_gt, ordering_reverse, on}
 use Rattle.std.specs.Cmp.{IsTotalOrder}
-use Rattle.std.proofs.lemmas.Cmp.{alike_right, tied_back}
+use Rattle.std.proofs.lemmas.Cmp.{alike_right}
 use Rattle.std.proofs.lemmas.Bool.{lt-ltb, le-ltb}
 use Rattle.std.proofs.lemmas.List.{get_or-take, get_or-drop, length-drop, length-take-le, take-append-drop, set_at, take_at, drop_at}
 use Rattle.std.proofs.lemmas.List.Elements.{recursion_from_All}
@@ -14,9 +14,8 @@ use Rattle.std.proofs.lemmas.List.Kept.{IsStrictlySortedBy-filter}
 use Rattle.std.proofs.lemmas.List.Sorted.{searchable_from_sorted}
 use Rattle.bucket_store.specs.Order.{put}
 use Rattle.bucket_store.specs.parts.Search.{StandsAt, BelongsAt}
-use Rattle.bucket_store.proofs.Lists.{All-weaker, All-append, All-front, All-back, All-passing, All-filter, filter-all, filter-none, filter-map}
+use Rattle.bucket_store.proofs.Lists.{All-weaker, All-append, All-back, All-passing, filter-all, filter-none}
 use Rattle.std.proofs.Math.ListN.{length-append}
-use Rattle.std.proofs.lemmas.List.Elements.{filter-append}
 
 -- ---- the parts of the list that a put keeps
 

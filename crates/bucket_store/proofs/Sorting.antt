@@ -1,12 +1,12 @@
 -- Changes sorted by key, ties in their order, make the same policies as the changes in their order.
-use Rattle.std.proofs.Common.{◌≡◌, ℕ, ◌+◌, ◌<◌, ◌≤◌, zero, suc, Bool, true, false, not, cond, ◌||◌, ◌&&◌, List, [], ◌∷◌, ◌++◌, length, refl, sym, ap, ◌∙◌, subst, arith, append-nil}
+use Rattle.std.proofs.Common.{◌≡◌, Bool, true, false, not, cond, ◌&&◌, List, [], ◌∷◌, ◌++◌, refl, sym, ap, ◌∙◌, append-nil}
 use Rattle.std.specs.declared.cmp.Ordering.{Ordering}
 use Rattle.std.specs.declared.cmp.Ordering.TheVariants.{Less, Equal, Greater}
 use Rattle.std.specs.Ordering.{is_lt, is_gt, is_eq, ordering_reverse}
 use Rattle.std.specs.List.{AllByRecursion, filter, fold}
 use Rattle.std.specs.List.Sorted.{IsStrictlySortedBy, IsStableBy, ties}
 use Rattle.std.proofs.lemmas.Bool.{true≢false}
-use Rattle.std.proofs.lemmas.Cmp.{alike_right, tied_itself, tied_back}
+use Rattle.std.proofs.lemmas.Cmp.{tied_itself, tied_back}
 use Rattle.std.proofs.lemmas.List.Elements.{filter-append, filter_agree}
 use Rattle.cynara_keys.specs.Key.{key_cmp}
 use Rattle.cynara_keys.specs.declared.keys.Key.{Key}
@@ -17,7 +17,7 @@ use Rattle.bucket_store.specs.parts.Batch.{key_of, effect, edited}
 use Rattle.bucket_store.specs.parts.Merge.{comes_first}
 use Rattle.bucket_store.specs.declared.policy_changes.Change.{Change}
 use Rattle.bucket_store.specs.declared.policy_changes.Change.TheVariants.{Set, Delete}
-use Rattle.bucket_store.proofs.Lists.{All-weaker, filter-all, filter-none, filter-same}
+use Rattle.bucket_store.proofs.Lists.{All-weaker, filter-none}
 use Rattle.bucket_store.proofs.Changing.{edited-rises}
 
 -- the policies at a key

@@ -1,34 +1,33 @@
 -- What a sound database never breaks, and what a search says of its buckets.
-use Rattle.std.proofs.Common.{◌≡◌, ℕ, ◌+◌, ◌<◌, ◌≤◌, Bool, true, false, not, cond, ◌||◌, ◌&&◌, nat_lt, List, [], ◌∷◌, ◌++◌, length, map, Option, Some, None, slice_get, get_or, suc, append-nil, refl, sym, ap, ◌∙◌, subst, arith}
+use Rattle.std.proofs.Common.{◌≡◌, ℕ, ◌+◌, Bool, true, false, not, cond, ◌||◌, ◌&&◌, nat_lt, List, [], ◌∷◌, ◌++◌, length, map, Some, None, get_or, suc, append-nil, refl, sym, ap, ◌∙◌}
 use Rattle.std.specs.Option.{option_map}
 use Rattle.std.specs.declared.cmp.Ordering.{Ordering}
 use Rattle.std.specs.declared.cmp.Ordering.TheVariants.{Less, Equal, Greater}
 use Rattle.std.specs.List.{AllByRecursion, filter, list_any, flat_map, find, position, prefix_len}
 use Rattle.std.specs.List.Sorted.{IsStrictlySortedBy}
-use Rattle.std.specs.Ordering.{is_eq, on}
-use Rattle.std.proofs.lemmas.Bool.{le-ltb, true≢false}
-use Rattle.std.proofs.lemmas.List.{map-append}
+use Rattle.std.specs.Ordering.{is_eq}
+use Rattle.std.proofs.lemmas.Bool.{le-ltb}
 use Rattle.std.proofs.lemmas.List.Elements.{filter-append}
 use Rattle.std.proofs.lemmas.Grind.{flat_map-append}
 use Rattle.cynara_keys.specs.Text.{same_text, text_cmp}
 use Rattle.cynara_keys.specs.Key.{filter_admits}
 use Rattle.cynara_keys.specs.declared.keys.Policy.{Policy}
 use Rattle.cynara_keys.specs.declared.keys.Filter.{Filter}
-use Rattle.cynara_keys.proofs.Order.{text_cmp-equal, same_text-≡}
+use Rattle.cynara_keys.proofs.Order.{text_cmp-equal}
 use Rattle.bucket_store.specs.Bucket.{Bucket}
-use Rattle.bucket_store.specs.Database.{Heading, Placed, Database, root, has_bucket, heading_of, placed_of, database_of}
+use Rattle.bucket_store.specs.Database.{Heading, Placed, Database, has_bucket, heading_of, placed_of, database_of}
 use Rattle.bucket_store.specs.Walk.{is_on_cycle}
 use Rattle.bucket_store.specs.Change.{is_admitted, listed}
-use Rattle.bucket_store.specs.Refusal.{limit, cycle, most_buckets, most_policies, no_bucket, root_bucket, bad_kind, first_of, fault, Refuses, Request}
+use Rattle.bucket_store.specs.Refusal.{limit, cycle, most_buckets, most_policies, no_bucket, root_bucket, bad_kind, first_of, fault, Refuses}
 use Rattle.bucket_store.specs.parts.Naming.{NamesAbsent}
-use Rattle.bucket_store.specs.WellFormed.{IsSound, IsKept, IsWellFormed, IsRooted}
+use Rattle.bucket_store.specs.WellFormed.{IsSound, IsKept, IsWellFormed}
 use Rattle.bucket_store.specs.parts.Search.{StandsAt, BelongsAt}
 use Rattle.cynara_keys.specs.declared.limits.Counted.TheVariants.{Buckets, Policies}
 use Rattle.bucket_store.specs.declared.refusals.StoreRefusal.{StoreRefusal}
 use Rattle.bucket_store.specs.declared.refusals.StoreRefusal.TheVariants.{NoBucket, RootBucket, BadKind, Limit, Cycle, Memory}
-use Rattle.bucket_store.proofs.Lists.{All-weaker, filter-all, filter-none, filter-map, All-map}
+use Rattle.bucket_store.proofs.Lists.{All-weaker, filter-none, filter-map, All-map}
 use Rattle.bucket_store.specs.Order.{bucket_cmp, heading_cmp, policy_cmp, placed_cmp}
-use Rattle.bucket_store.proofs.Lists.{All-append, All-unmap}
+use Rattle.bucket_store.proofs.Lists.{All-append}
 use Rattle.bucket_store.proofs.Searching.{position-StandsAt, position-BelongsAt, strictly-append}
 use Rattle.bucket_store.proofs.Walks.{walks_end}
 use Rattle.std.specs.Cmp.{IsTotalOrder}
@@ -37,7 +36,7 @@ use Rattle.std.proofs.lemmas.Cmp.{on_total, then_total, tied_itself}
 use Rattle.std.proofs.lemmas.List.{get_or_at}
 use Rattle.std.proofs.lemmas.Bool.{or_left, or_right}
 use Rattle.std.specs.Ordering.{is_eq}
-use Rattle.cynara_keys.proofs.Order.{text_total, key_total, ≡-same_text}
+use Rattle.cynara_keys.proofs.Order.{text_total, key_total}
 
 -- ---- limits and cycles
 

@@ -1,6 +1,6 @@
 -- In a database without cycles a walk has fewer policies than there are buckets, and a test of so many policies finds each
 -- cycle.
-use Rattle.std.proofs.Common.{◌≡◌, ℕ, ◌+◌, ◌<◌, ◌≤◌, zero, suc, Bool, true, false, not, cond, ◌||◌, ◌&&◌, List, [], ◌∷◌, ◌++◌, length, get_or, map, refl, sym, ap, ◌∙◌, subst, inl, inr, arith}
+use Rattle.std.proofs.Common.{◌≡◌, ℕ, ◌<◌, ◌≤◌, zero, suc, Bool, true, false, not, ◌||◌, ◌&&◌, List, [], ◌∷◌, ◌++◌, length, map, refl, sym, ap, ◌∙◌, subst, arith}
 use mathlib.Core.Logic.{⊎_elim}
 use Rattle.std.proofs.lemmas.Bool.{cases_Bool, true≢false, and_parts, and_from, or_cases, or_left, or_right, false_from_ne_true}
 use Rattle.std.proofs.lemmas.List.Folds.{Any-from_list_any, list_any-from_Any}
@@ -9,9 +9,9 @@ use Rattle.std.specs.List.{AllByRecursion, filter, list_any, Contains}
 use Rattle.cynara_keys.specs.Text.{same_text}
 use Rattle.cynara_keys.proofs.Order.{same_text-≡, ≡-same_text}
 use Rattle.bucket_store.specs.Database.{Heading, Placed, Database, has_bucket}
-use Rattle.bucket_store.specs.Walk.{points, target, IsStep, IsWalk, end_of, Leads, IsOnCycle, reaches, is_on_cycle}
+use Rattle.bucket_store.specs.Walk.{points, target, IsStep, IsWalk, end_of, Leads, reaches, is_on_cycle}
 use Rattle.bucket_store.specs.WellFormed.{IsRooted}
-use Rattle.bucket_store.proofs.Lists.{All-weaker, any-filter, length-filter-<, length-filter-≤}
+use Rattle.bucket_store.proofs.Lists.{any-filter, length-filter-<}
 
 abbrev pub NoCycle : List Placed → Type 0
 NoCycle policies = (name : List ℕ) → Leads policies name name → ⊥

@@ -1,9 +1,8 @@
 -- What each change makes of a database: a filter on its lists, and an element put in its place.
-use Rattle.std.specs.Prelude.{ℕ, Bool, ◌&&◌, ◌||◌, not, List, [], ◌∷◌, length, map}
+use Rattle.std.specs.Prelude.{ℕ, Bool, ◌&&◌, ◌||◌, not, List, map}
 use Rattle.std.specs.List.{filter, fold}
 use Rattle.cynara_keys.specs.Text.{same_text}
 use Rattle.cynara_keys.specs.Key.{same_key, filter_admits}
-use Rattle.cynara_keys.specs.PolicyResult.{Ruling}
 use Rattle.cynara_keys.specs.declared.keys.Key.{Key}
 use Rattle.cynara_keys.specs.declared.keys.Filter.{Filter}
 use Rattle.cynara_keys.specs.declared.keys.Policy.{Policy}

@@ -4,7 +4,6 @@ use Rattle.std.specs.Option.{option_map}
 use Rattle.std.specs.List.{list_any, flat_map}
 use Rattle.cynara_keys.specs.Text.{same_text}
 use Rattle.cynara_keys.specs.PolicyResult.{Ruling, bucket, none}
-use Rattle.cynara_keys.specs.declared.keys.Key.{Key}
 use Rattle.cynara_keys.specs.declared.keys.Filter.{Filter}
 use Rattle.cynara_keys.specs.declared.limits.Counted.TheVariants.{Buckets, Policies}
 use Rattle.bucket_store.specs.Database.{Database, Heading, root, has_bucket}

@@ -1,5 +1,5 @@
 -- What a list of changes makes of one bucket.
-use Rattle.std.specs.Prelude.{ℕ, Bool, true, false, List, [], ◌∷◌, ◌++◌, ◌==◌}
+use Rattle.std.specs.Prelude.{ℕ, Bool, false, List, [], ◌∷◌, ◌++◌, ◌==◌}
 use Rattle.std.specs.List.{filter, fold}
 use Rattle.std.specs.Ordering.{is_lt, is_gt}
 use Rattle.cynara_keys.specs.Text.{same_text}

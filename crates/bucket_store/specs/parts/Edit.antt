@@ -1,5 +1,5 @@
 -- What an edit of the buckets, at a place that a search gave, makes of them.
-use Rattle.std.specs.Prelude.{ℕ, not, List, [], ◌∷◌, slice_index_or, slice_set, Result, Ok, Err}
+use Rattle.std.specs.Prelude.{ℕ, not, List, [], slice_index_or, slice_set, Result, Ok, Err}
 use Rattle.std.specs.List.{filter, insert}
 use Rattle.cynara_keys.specs.PolicyResult.{Ruling}
 use Rattle.cynara_keys.specs.declared.keys.Policy.{Policy}

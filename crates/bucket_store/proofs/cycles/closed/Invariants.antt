@@ -1,4 +1,4 @@
-use Rattle.std.proofs.Common.{◌≡◌, map, List, Bool}
+use Rattle.std.proofs.Common.{◌≡◌, map}
 use Rattle.bucket_store.specs.parts.Closure.{closed}
 use Rattle.bucket_store.proofs.cycles.closed.Given as goal
 

@@ -1,6 +1,6 @@
-use Rattle.std.proofs.Common.{◌≡◌, ◌+◌, List, ◌++◌, ◌∷◌, [], take, set, get_or, length, replicate, false, true, sym, ◌∙◌, ap, rules}
+use Rattle.std.proofs.Common.{◌≡◌, ◌+◌, ◌++◌, ◌∷◌, [], take, set, true, sym, ◌∙◌, ap, rules}
 use Rattle.std.proofs.lemmas.List.{take_more}
-use Rattle.bucket_store.specs.parts.Closure.{linked, OnlyAt}
+use Rattle.bucket_store.specs.parts.Closure.{linked}
 use Rattle.bucket_store.proofs.Closing.{linked-start, linked-some, linked-none}
 use Rattle.bucket_store.proofs.cycles.linked.Goals as goal
 use Rattle.bucket_store.proofs.cycles.linked.Goals.{in-Some, in_default}

@@ -1,4 +1,4 @@
-use Rattle.std.proofs.Common.{◌≡◌, ℕ, List, [], ◌∷◌, Bool, true, false, not, cond, ◌||◌, refl, sym, ap, ◌∙◌, IfOk, Result, Ok, Err}
+use Rattle.std.proofs.Common.{◌≡◌, ℕ, List, [], ◌∷◌, Bool, false, not, cond, refl, sym, ap, ◌∙◌, IfOk, Result, Ok, Err}
 use Rattle.std.proofs.lemmas.Bool.{or_parts}
 use Rattle.std.specs.List.{filter, list_any}
 use Rattle.cynara_keys.specs.declared.keys.Policy.{Policy}

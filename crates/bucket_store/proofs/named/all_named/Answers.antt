@@ -1,4 +1,4 @@
-use Rattle.std.proofs.Common.{◌≡◌, ◌+◌, ◌++◌, subst, sym, ap, ◌∙◌, List, ℕ, take, drop, suc, None}
+use Rattle.std.proofs.Common.{subst, sym, ap, ◌∙◌, List, ℕ, take, drop, suc}
 use Rattle.std.specs.List.{flat_map}
 use Rattle.bucket_store.specs.Database.{database_of}
 use Rattle.bucket_store.specs.Refusal.{no_bucket, named_by}

@@ -1,13 +1,13 @@
-use Rattle.std.proofs.Common.{◌≡◌, ◌≤◌, ◌∙◌, ap, sym, subst, refl, List, [], ℕ, Bool, true, false, length, not, arith, get_or}
+use Rattle.std.proofs.Common.{◌≡◌, ◌∙◌, ap, sym, subst, refl, List, [], true, false, length, not, arith}
 use Rattle.std.specs.List.{filter}
 use Rattle.cynara_keys.specs.Text.{text_cmp}
 use Rattle.cynara_keys.specs.Key.{filter_admits}
 use Rattle.cynara_keys.specs.declared.keys.Policy.{Policy}
 use Rattle.bucket_store.specs.Bucket.{Bucket}
 use Rattle.bucket_store.specs.Database.{Database, database_of, has_bucket}
-use Rattle.bucket_store.specs.Change.{erased, is_admitted, listed}
-use Rattle.bucket_store.specs.WellFormed.{IsSound, IsKept}
-use Rattle.bucket_store.specs.parts.Search.{StandsAt, BelongsAt}
+use Rattle.bucket_store.specs.Change.{erased, is_admitted}
+use Rattle.bucket_store.specs.WellFormed.{IsSound}
+use Rattle.bucket_store.specs.parts.Search.{StandsAt}
 use Rattle.bucket_store.specs.parts.Edit.{filled}
 use Rattle.bucket_store.proofs.Lists.{length-filter-≤}
 use Rattle.bucket_store.proofs.Kept.{Sound-kept}

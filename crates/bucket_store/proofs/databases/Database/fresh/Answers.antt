@@ -1,5 +1,3 @@
-use Rattle.std.proofs.Common.{sym, subst}
-use Rattle.bucket_store.specs.WellFormed.{IsKept}
 use Rattle.bucket_store.proofs.Kept.{fresh_kept}
 use Rattle.bucket_store.proofs.databases.Database.fresh.Goals as goal
 

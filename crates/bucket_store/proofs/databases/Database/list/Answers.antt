@@ -3,7 +3,7 @@ use Rattle.cynara_keys.specs.Text.{text_cmp}
 use Rattle.bucket_store.specs.Bucket.{Bucket}
 use Rattle.bucket_store.specs.Database.{Database, database_of, has_bucket}
 use Rattle.bucket_store.specs.WellFormed.{IsSound}
-use Rattle.bucket_store.specs.parts.Search.{StandsAt, BelongsAt}
+use Rattle.bucket_store.specs.parts.Search.{StandsAt}
 use Rattle.bucket_store.proofs.Sound.{listed-read, fault-found, refuses-absent, has-found, has-absent}
 use Rattle.bucket_store.proofs.databases.Database.list.Goals as goal
 

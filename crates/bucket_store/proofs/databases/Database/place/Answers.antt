@@ -1,9 +1,9 @@
-use Rattle.std.proofs.Common.{Result, Ok, Err, List, ℕ, ◌≡◌, IfOk, IfErr, Option, sym, ◌∙◌, subst}
+use Rattle.std.proofs.Common.{Result, Ok, Err, List, ℕ, ◌≡◌, IfOk, IfErr, sym, ◌∙◌}
 use Rattle.std.specs.Result.{result_ok}
 use Rattle.std.specs.List.{position}
 use Rattle.cynara_keys.specs.Text.{same_text, text_cmp}
 use Rattle.bucket_store.specs.Bucket.{Bucket}
-use Rattle.bucket_store.specs.Database.{Database, Heading, database_of}
+use Rattle.bucket_store.specs.Database.{Heading, database_of}
 use Rattle.bucket_store.specs.parts.Search.{StandsAt, BelongsAt}
 use Rattle.bucket_store.proofs.Sound.{place-found, place-absent}
 use Rattle.bucket_store.proofs.databases.Database.place.Goals as goal

@@ -1,12 +1,11 @@
-use Rattle.std.proofs.Common.{◌≡◌, ◌∙◌, ap, sym, subst, refl, List, [], ◌∷◌, ℕ, Bool, true, false, eqb, length}
-use Rattle.cynara_keys.specs.Text.{same_text, text_cmp}
+use Rattle.std.proofs.Common.{◌≡◌, ◌∙◌, ap, sym, subst, refl, List, [], ◌∷◌, ℕ, true, false, eqb, length}
+use Rattle.cynara_keys.specs.Text.{same_text}
 use Rattle.bucket_store.specs.Bucket.{Bucket}
 use Rattle.bucket_store.specs.Database.{Database, database_of, has_bucket, root}
 use Rattle.bucket_store.specs.Change.{without_bucket}
 use Rattle.bucket_store.specs.WellFormed.{IsSound, IsKept}
-use Rattle.bucket_store.specs.parts.Search.{StandsAt, BelongsAt}
 use Rattle.bucket_store.proofs.Sound.{refuses-absent, has-found, has-absent}
-use Rattle.bucket_store.proofs.Removing.{removed-view, Kept-removed, removal-accepted, removal-of-root, absent-apart}
+use Rattle.bucket_store.proofs.Removing.{removed-view, Kept-removed, removal-accepted, absent-apart}
 use Rattle.bucket_store.proofs.databases.Database.remove_bucket.Goals as goal
 
 -- a name that is not empty is not the root bucket's

@@ -1,12 +1,11 @@
-use Rattle.std.proofs.Common.{◌≡◌, ◌≤◌, ◌∙◌, ◌||◌, ap, sym, subst, List, false, length, nat_lt, is_ok, Some, None}
+use Rattle.std.proofs.Common.{◌≡◌, ◌≤◌, ◌∙◌, ◌||◌, ap, sym, subst, List, length, nat_lt, is_ok, Some, None}
 use Rattle.bucket_store.specs.Bucket.{Bucket}
-use Rattle.bucket_store.specs.Database.{Database, Heading, database_of}
+use Rattle.bucket_store.specs.Database.{database_of}
 use Rattle.bucket_store.specs.Change.{with_bucket}
 use Rattle.cynara_keys.specs.declared.limits.Counted.TheVariants.{Buckets}
 use Rattle.bucket_store.specs.Refusal.{most_buckets, fault, set_bucket}
 use Rattle.bucket_store.specs.parts.Edit.{headed}
 use Rattle.bucket_store.specs.declared.refusals.StoreRefusal.TheVariants.{Limit}
-use Rattle.bucket_store.specs.WellFormed.{IsSound, IsKept}
 use Rattle.bucket_store.proofs.Heading.{IsPlace, headed-view, Kept-headed, has-room, heading-accepted, heading-limited}
 use Rattle.bucket_store.proofs.databases.Database.set_bucket.Goals as goal
 

@@ -1,5 +1,5 @@
-use Rattle.std.proofs.Common.{◌≡◌, ◌≤◌, ◌∙◌, ap, sym, subst, refl, List, [], map, length, nat_lt, true, false, Some, None, get_or}
-use Rattle.std.specs.List.{flat_map, list_any}
+use Rattle.std.proofs.Common.{◌≡◌, ◌≤◌, ◌∙◌, ap, sym, subst, List, [], map, length, nat_lt, Some, None, get_or}
+use Rattle.std.specs.List.{flat_map}
 use Rattle.std.specs.List.Sorted.{IsStrictlySortedBy}
 use Rattle.std.proofs.lemmas.Bool.{ltb-false}
 use Rattle.cynara_keys.specs.declared.limits.Counted.TheVariants.{Policies}
@@ -10,12 +10,12 @@ use Rattle.bucket_store.specs.Change.{with_changes}
 use Rattle.bucket_store.specs.Refusal.{no_bucket, named_by, fault, set_policies, most_policies}
 use Rattle.bucket_store.specs.WellFormed.{IsKept}
 use Rattle.std.proofs.lemmas.List.{get_or_default}
-use Rattle.bucket_store.specs.parts.Batch.{changed, is_link}
+use Rattle.bucket_store.specs.parts.Batch.{changed}
 use Rattle.bucket_store.specs.parts.Edit.{bucket_of}
 use Rattle.bucket_store.specs.parts.Closure.{IsFirstLoop, closed, link_rows}
 use Rattle.bucket_store.specs.declared.refusals.StoreRefusal.TheVariants.{Limit, Cycle}
 use Rattle.bucket_store.proofs.Leading.{no-loop, first-loop}
-use Rattle.bucket_store.proofs.Accepting.{flat-after, view-after, names-after, rooted-after, kept-after, free-after, accepted-after, limited-after, cycle-after, refuses-cycle}
+use Rattle.bucket_store.proofs.Accepting.{view-after, names-after, rooted-after, kept-after, free-after, accepted-after, limited-after, cycle-after, refuses-cycle}
 use Rattle.bucket_store.proofs.databases.Database.set_policies.Goals as goal
 
 pub returns-then-is_over-clause-refused : goal.returns-then-is_over-clause-refused
