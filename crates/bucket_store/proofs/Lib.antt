@@ -1,0 +1,13 @@
+pub mod Lists
+pub mod Walks
+pub mod Searching
+pub mod Kept
+pub mod Sound
+pub mod Removing
+pub mod Heading
+pub mod Closing
+pub mod Leading
+pub mod Changing
+pub mod Accepting
+pub mod Sorting
+pub mod Merging
