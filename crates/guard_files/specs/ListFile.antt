@@ -1,5 +1,5 @@
 -- The file `list` and its backup: the names of a set's files, one a line, in strictly rising order.
-use Rattle.std.specs.Prelude.{ℕ, Bool, true, ◌&&◌, ◌==◌, if◌then◌else◌, List, [], ◌∷◌, ◌++◌, Option, Some, None}
+use Rattle.std.specs.Prelude.{◌≡◌, ℕ, Bool, true, ◌&&◌, ◌==◌, if◌then◌else◌, List, [], ◌∷◌, ◌++◌, Option, Some, None}
 use Rattle.std.specs.List.{list_all}
 use Rattle.std.specs.Str.{bytes_eq}
 use Rattle.std.specs.Ordering.{nat_cmp, is_lt}
@@ -34,3 +34,10 @@ are_listable names = list_all is_listable names && rises names
 -- lines, or a line may not stand there, or the lines do not rise.
 unfoldable pub listed : List ℕ → Option (List (List ℕ))
 listed bytes = if bytes_eq (list_text (lines_of bytes)) bytes && are_listable (lines_of bytes) then Some (lines_of bytes) else None
+
+-- The spelling of names that may stand in a list reads back, and a list file is the one spelling of its names.
+abbrev pub ReadsBack : Type 0
+ReadsBack = (names : List (List ℕ)) → are_listable names ≡ true → listed (list_text names) ≡ Some names
+
+abbrev pub IsOneSpelling : Type 0
+IsOneSpelling = (bytes : List ℕ) (names : List (List ℕ)) → listed bytes ≡ Some names → (list_text names ≡ bytes) × (are_listable names ≡ true)

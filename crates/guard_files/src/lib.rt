@@ -14,7 +14,7 @@ mod steps;
 mod store_names;
 mod vault;
 
-pub use laws::agreement_keeps_recovery;
+pub use laws::{agreement_keeps_recovery, list_reads_back};
 pub use list_files::{backup_of, backups_of, has_name, list_bytes, names_without};
 pub use list_reading::read_list;
 pub use own_names::{is_backup, is_guard, is_list, is_listable, is_own};
