@@ -236,7 +236,7 @@ impl Questions {
                 Ok(Taken { question, allowed })
             }
             State::Gone => {
-                take_out(&mut self.questions, at);
+                drop(take_out(&mut self.questions, at));
                 Err(TakeRefusal::AgentGone(number))
             }
             State::Waiting | State::Given => {

@@ -80,17 +80,27 @@ fn no_link_is_followed(rt: HostRuntime) -> Result<(), Fail> {
 }
 
 #[test]
-fn a_file_above_the_limit_counts_one_and_other_names_are_left_out(rt: HostRuntime) -> Result<(), Fail> {
+fn a_file_above_the_limit_counts_one_and_other_names_are_left_out(
+    rt: HostRuntime,
+) -> Result<(), Fail> {
     let folder = fresh_folder(&rt, "limits")?;
     let mut disk = FolderDisk::open(rt.clone()?, folder.as_str())?;
     let path = format!(in rt.alloc(); "{folder}/large")?;
-    let large = OpenOptions::new().write(true).create(true).open(&rt, path.as_str())?;
+    let large = OpenOptions::new()
+        .write(true)
+        .create(true)
+        .open(&rt, path.as_str())?;
     large.set_len(MOST_FILE_BYTES + 1)?;
     let path = format!(in rt.alloc(); "{folder}/no name")?;
     fs::write(&rt, path.as_str(), "x")?;
     assert_eq!(rt; disk.names().map(|names| names.len()), Ok(1));
     assert_eq!(rt; disk.faults(), 0);
-    assert!(rt; matches!(disk.read(&name(rt.alloc(), "large")?), Err(PortFault::Failed)));
+    assert!(rt;
+        matches!(
+            disk.read(&name(rt.alloc(), "large")?),
+            Err(PortFault::Failed)
+        )
+    );
     assert_eq!(rt; disk.faults(), 1);
     Ok(fs::remove_dir_all(&rt, folder.as_str())?)
 }

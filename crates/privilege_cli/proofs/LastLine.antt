@@ -58,7 +58,11 @@ module _ (left left_after taken taken_now taken_after : Option (List ℕ)) (read
         let none = tried_nothing faults_now faults_after l.0 l.2 in (
           record { source = run.source; sink = none.0 ∙ run.is_written.0 },
           record {
-            input = run.input; left = run.left; answers = run.answers; had = run.had; answered = run.answered;
+            input = run.input;
+            left = run.left;
+            answers = run.answers;
+            had = run.had;
+            answered = run.answered;
             writes = record { written = run.written; taken = taken_all Done run l none.1; is_written = run.is_written.1 };
           },
         )
@@ -66,7 +70,11 @@ module _ (left left_after taken taken_now taken_after : Option (List ℕ)) (read
         let none = tried_nothing faults_now faults_after l.0 l.2 in (
           record { source = run.source; sink = none.0 ∙ run.is_written.0 },
           record {
-            input = run.input; left = run.left; answers = run.answers; had = run.had; answered = run.answered;
+            input = run.input;
+            left = run.left;
+            answers = run.answers;
+            had = run.had;
+            answered = run.answered;
             writes = record { written = run.written; taken = taken_all Source run l none.1; is_written = run.is_written.1 };
           },
         )
@@ -74,7 +82,11 @@ module _ (left left_after taken taken_now taken_after : Option (List ℕ)) (read
         let none = tried_nothing faults_now faults_after l.0 l.2 in (
           record { source = run.source; sink = none.0 ∙ run.is_written.0 },
           record {
-            input = run.input; left = run.left; answers = run.answers; had = run.had; answered = run.answered;
+            input = run.input;
+            left = run.left;
+            answers = run.answers;
+            had = run.had;
+            answered = run.answered;
             writes = record { written = run.written; taken = taken_all Sink run l none.1; is_written = run.is_written.1 };
           },
         )
@@ -83,7 +95,11 @@ module _ (left left_after taken taken_now taken_after : Option (List ℕ)) (read
         let tried = subst (λ count. IsTried faults count run.answers run.written) (sym none.0) run.is_written in (
           record { source = run.source; sink = tried_faults faults faults_after run.answers run.written tried },
           record {
-            input = run.input; left = run.left; answers = run.answers; had = run.had; answered = run.answered;
+            input = run.input;
+            left = run.left;
+            answers = run.answers;
+            had = run.had;
+            answered = run.answered;
             writes = record { written = run.written; taken = taken_all Memory run l none.1; is_written = tried };
           },
         )
@@ -91,7 +107,11 @@ module _ (left left_after taken taken_now taken_after : Option (List ℕ)) (read
         let tried = subst (λ count. IsTried count faults_after (last_line Words) l.0) run.is_written.0 l.2 in (
           record { source = run.source; sink = tried_faults faults faults_after (last_line Words) l.0 tried },
           record {
-            input = run.input; left = run.left; answers = run.answers; had = run.had; answered = run.answered;
+            input = run.input;
+            left = run.left;
+            answers = run.answers;
+            had = run.had;
+            answered = run.answered;
             writes = record {
               written = run.written ++ l.0;
               taken = Appended-then taken taken_now taken_after run.written l.0 run.taken l.1;
@@ -103,7 +123,11 @@ module _ (left left_after taken taken_now taken_after : Option (List ℕ)) (read
         let tried = subst (λ count. IsTried count faults_after (last_line (Line number)) l.0) run.is_written.0 l.2 in (
           record { source = run.source; sink = tried_faults faults faults_after (last_line (Line number)) l.0 tried },
           record {
-            input = run.input; left = run.left; answers = run.answers; had = run.had; answered = run.answered;
+            input = run.input;
+            left = run.left;
+            answers = run.answers;
+            had = run.had;
+            answered = run.answered;
             writes = record {
               written = run.written ++ l.0;
               taken = Appended-then taken taken_now taken_after run.written l.0 run.taken l.1;
@@ -118,8 +142,7 @@ module _ (left left_after taken taken_now taken_after : Option (List ℕ)) (read
       let l' = subst Last is l in
       let reads_same : reads_after ≡ reads = ap (λ outside. outside.source_faults) same in
       let tried = subst (λ count. IsTried count faults_after (last_line Words) l'.0) (ap (λ outside. outside.sink_faults) same) l'.2 in
-      subst (λ ending. CountsFaults ending before after × Does None ending before after) (sym is)
-      (
+      subst (λ ending. CountsFaults ending before after × Does None ending before after) (sym is) (
         record { source = reads_same; sink = tried_faults faults faults_after (last_line Words) l'.0 tried },
         record {
           ending = refl;

@@ -18,6 +18,7 @@ pieces_of-piece line piece more is last = by_end is.1
     only : (text : List ℕ) → HasNoNewline text → (text ≡ [] → ⊥) → pieces_of text ≡ text ∷ []
     only [] none some = absurd (some refl)
     only (byte ∷ bytes) none some = pieces_of-last byte bytes none
+
     by_end : ((piece ≡ line ++ 10 ∷ []) ⊎ ((piece ≡ line) × (line ≡ [] → ⊥))) → pieces_of (piece ++ more) ≡ piece ∷ pieces_of more
     by_end (inl whole) =
         ap (λ piece. pieces_of (piece ++ more)) whole

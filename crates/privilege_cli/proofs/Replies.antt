@@ -9,6 +9,7 @@ use Rattle.line_script.specs.declared.steps.Step.{Step}
 use Rattle.line_script.specs.declared.steps.Step.TheVariants.{Set, Check}
 use Rattle.privilege_cli.specs.State.{State, put_policy, has_room, put, put_text, most_policies, verdict_text, after, reply, IsSameState}
 use Rattle.privilege_cli.specs.Script.{replies}
+
 put_policy-same : (policy : Policy) (xs ys : List Policy) → Reordered xs ys
     → Reordered (put_policy policy xs) (put_policy policy ys)
 put_policy-same policy xs ys same =

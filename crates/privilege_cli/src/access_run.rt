@@ -87,11 +87,7 @@ fn read_text<S: Source>(alloc: Global, source: &mut S) -> Result<Bytes, Ending>
 }
 
 // Reads once, by way of the window, and appends what was read. Whether the text may go on behind that.
-fn read_more<S: Source>(
-    text: &mut Bytes,
-    window: &mut [u8],
-    source: &mut S,
-) -> Result<bool, Ending>
+fn read_more<S: Source>(text: &mut Bytes, window: &mut [u8], source: &mut S) -> Result<bool, Ending>
     requires window { 0 < length window.old }
     requires within { length text.old ≤ 16777217 }
     ensures read { IfOk result (ReadsMore (S.left source.old) (S.left source.new) text.old text.new) }

@@ -7,8 +7,8 @@ ghost use Rattle.text_lines.specs.LineReader.{has_line, needs_no_reading};
 ghost use Rattle.text_lines.specs.LineReader.{HandsOutNext, EndsReading, CountsReading, Keeps, IsUnfinished};
 ghost use Rattle.text_lines.specs.parts.Gathering.{Gathers, IsCut, IsPastLimit, ReadsMore, FailsToRead, HandsOutWaiting};
 
-use crate::split_at_newline;
 use crate::refusal::ReadRefusal;
+use crate::split_at_newline;
 use crate::window::Window;
 use desk_ports::Source;
 use std::alloc::{AllocError, Global};

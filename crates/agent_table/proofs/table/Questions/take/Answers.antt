@@ -27,7 +27,7 @@ invariant_of-self-in-Gone c =
     let stands =
     stands-at c.self.inside.questions.items c.deref.result.now c.args.number c.in-Some.at c.index.result.now c.deref.ensures.value
     c.in-Some.ensures.found c.in-Some.ensures.in_range c.index.ensures in
-    let left = taken-without stands c.take_out.new.questions.items c.take_out.result c.take_out.ensures.question c.take_out.ensures.rest in
+    let left = taken-without stands c.take_out-in-Gone.new.questions.items c.take_out-in-Gone.result c.take_out-in-Gone.ensures.question c.take_out-in-Gone.ensures.rest in
     rw left (kept-taken c.self.invariant c.args.number c.index.result.now stands.found (ap is_waiting c.in-Gone.is))
 
 pub remove_number-requires : goal.remove_number-requires
@@ -94,7 +94,7 @@ returns-in-Gone-clause-table c =
     let stands =
     stands-at c.self.inside.questions.items c.deref.result.now c.args.number c.in-Some.at c.index.result.now c.deref.ensures.value
     c.in-Some.ensures.found c.in-Some.ensures.in_range c.index.ensures in
-    let left = taken-without stands c.take_out.new.questions.items c.take_out.result c.take_out.ensures.question c.take_out.ensures.rest in
+    let left = taken-without stands c.take_out-in-Gone.new.questions.items c.take_out-in-Gone.result c.take_out-in-Gone.ensures.question c.take_out-in-Gone.ensures.rest in
     rw (← c.self.view_is, left) refl
 
 pub returns-else-not-self-clause-table : goal.returns-else-not-self-clause-table
