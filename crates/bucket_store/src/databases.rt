@@ -1,0 +1,178 @@
+ghost use Rattle.std.specs.Prelude.{◌≡◌, length, IfOk, IfErr, OnOk, None};
+ghost use Rattle.std.specs.List.{position};
+ghost use Rattle.cynara_keys.specs.Text.{same_text};
+ghost use Rattle.bucket_store.specs.Database.{fresh, database_of};
+ghost use Rattle.bucket_store.specs.Change.{listed};
+ghost use Rattle.bucket_store.specs.Refusal as request;
+ghost use Rattle.bucket_store.specs.Refusal.{fault, Refuses};
+ghost use Rattle.bucket_store.specs.WellFormed.{IsWellFormed, IsKept};
+ghost use Rattle.bucket_store.specs.parts.Naming.{NamesAbsent};
+
+use crate::StoreRefusal;
+use crate::buckets::Bucket;
+use crate::copies::{admitted, all_buckets, not_admitted};
+use crate::edits::{has_room, is_bad, with_heading, with_policies, without_bucket};
+use crate::limits::MOST_BUCKETS;
+use crate::searches::place_of_bucket;
+use cynara_keys::{BucketName, Counted, Filter, Kind, Policy, PolicyResult};
+use std::alloc::{AllocError, Global};
+use std::marker::Model;
+
+/// The policy database: at most 256 buckets in rising order of name, and at most 65,536 policies over all of them. Each
+/// change gives a new one, which shares with this one the buckets that it does not touch; so a refusal changes nothing.
+#[derive(Drop)]
+pub struct Database {
+    buckets: Vec<Bucket>,
+}
+
+impl Model for Database {
+    ghost use Rattle.bucket_store.specs.Database.{Database as Content, database_of};
+    ghost use Rattle.bucket_store.specs.WellFormed.{IsKept};
+
+    ghost Value = { Content };
+
+    ghost view = { λ database. database_of database.buckets.items };
+
+    ghost invariant = { λ database. IsKept database.buckets.items };
+}
+
+/// What an erasing gives: the database without the policies, and how many they were.
+#[derive(Drop)]
+pub struct Erased {
+    pub database: Database,
+    pub count: u32,
+}
+
+impl Database {
+    /// The root bucket alone, with the fallback DENY and no policies.
+    pub fn fresh(alloc: Global) -> Result<Database, AllocError>
+        ensures { IfOk result (λ database. database ≡ fresh) }
+    {
+        let root = Bucket::new(
+            alloc,
+            BucketName::root(alloc),
+            PolicyResult::without_metadata(alloc, Kind::DENY),
+            Vec::new(alloc),
+        )?;
+        Ok(Database {
+            buckets: vec![in alloc; root]?,
+        })
+    }
+
+    /// The buckets, in rising order of name.
+    pub fn buckets(&self) -> &[Bucket]
+        ensures buckets { database_of result.now ≡ self.now }
+        ensures in_order { IsKept result.now }
+        ensures well_formed { IsWellFormed self.now }
+    {
+        &self.buckets
+    }
+
+    /// Where the bucket of this name stands, from 0. Takes no memory.
+    pub fn place(&self, name: &BucketName) -> Option<usize>
+        ensures { result ≡ position (λ heading. same_text heading.name name.now) self.now.buckets }
+    {
+        place_of_bucket(&self.buckets, name).ok()
+    }
+
+    /// An equal database, which shares all buckets with this one.
+    pub fn copy(&self) -> Result<Database, AllocError>
+        ensures { IfOk result (λ copy. copy ≡ self.now) }
+    {
+        Ok(Database {
+            buckets: all_buckets(*self.buckets.allocator(), &self.buckets)?,
+        })
+    }
+
+    /// The policies of the bucket whose keys the filter admits, in order of key. Refuses `NoBucket`.
+    pub fn list(&self, name: &BucketName, filter: &Filter) -> Result<Vec<Policy>, StoreRefusal>
+        ensures list { IfOk result (λ policies. policies.items ≡ listed name.now filter.now self.now) }
+        ensures accepted { OnOk result (fault self.now (request.list name.now self.now) ≡ None) }
+        ensures refused { IfErr result (Refuses self.now (request.list name.now self.now)) }
+    {
+        let Ok(place) = place_of_bucket(&self.buckets, name) else {
+            return Err(no_bucket(name));
+        };
+        let bucket = &self.buckets[place];
+        match admitted(*self.buckets.allocator(), bucket.policies(), filter) {
+            Ok(policies) => Ok(policies),
+            Err(error) => Err(StoreRefusal::Memory(error)),
+        }
+    }
+
+    /// Makes a bucket with this fallback and no policies, or changes the fallback of the one that is there. Refuses, in this
+    /// order, `BadKind` and `Limit`.
+    pub fn set_bucket(&self, name: &BucketName, fallback: &PolicyResult) -> Result<Database, StoreRefusal>
+        ensures next { IfOk result (λ next. next ≡ (request.set_bucket name.now fallback.now self.now).next) }
+        ensures accepted { OnOk result (fault self.now (request.set_bucket name.now fallback.now self.now) ≡ None) }
+        ensures refused { IfErr result (Refuses self.now (request.set_bucket name.now fallback.now self.now)) }
+    {
+        if is_bad(name, fallback) {
+            return Err(StoreRefusal::BadKind(fallback.kind()));
+        }
+        let place = place_of_bucket(&self.buckets, name);
+        if !has_room(&self.buckets, &place) {
+            return Err(StoreRefusal::Limit(Counted::Buckets, MOST_BUCKETS as u64));
+        }
+        match with_heading(*self.buckets.allocator(), &self.buckets, place, name, fallback) {
+            Ok(buckets) => Ok(Database { buckets }),
+            Err(error) => Err(StoreRefusal::Memory(error)),
+        }
+    }
+
+    /// Removes a bucket with its policies, and the policies of all buckets that point to it. Refuses, in this order,
+    /// `NoBucket` and `RootBucket`.
+    pub fn remove_bucket(&self, name: &BucketName) -> Result<Database, StoreRefusal>
+        ensures next { IfOk result (λ next. next ≡ (request.remove_bucket name.now self.now).next) }
+        ensures accepted { OnOk result (fault self.now (request.remove_bucket name.now self.now) ≡ None) }
+        ensures refused { IfErr result (Refuses self.now (request.remove_bucket name.now self.now)) }
+    {
+        let Ok(_) = place_of_bucket(&self.buckets, name) else {
+            return Err(no_bucket(name));
+        };
+        if name.as_slice().is_empty() {
+            return Err(StoreRefusal::RootBucket);
+        }
+        match without_bucket(*self.buckets.allocator(), &self.buckets, name) {
+            Ok(buckets) => Ok(Database { buckets }),
+            Err(error) => Err(StoreRefusal::Memory(error)),
+        }
+    }
+
+    /// Erases the policies of the bucket whose keys the filter admits. Refuses `NoBucket`.
+    pub fn erase(&self, name: &BucketName, filter: &Filter) -> Result<Erased, StoreRefusal>
+        ensures next { IfOk result
+            (λ erased. erased.database ≡ (request.erase name.now filter.now self.now).next) }
+        ensures count { IfOk result (λ erased. erased.count ≡ length (listed name.now filter.now self.now)) }
+        ensures accepted { OnOk result (fault self.now (request.erase name.now filter.now self.now) ≡ None) }
+        ensures refused { IfErr result (Refuses self.now (request.erase name.now filter.now self.now)) }
+    {
+        let Ok(place) = place_of_bucket(&self.buckets, name) else {
+            return Err(no_bucket(name));
+        };
+        let alloc = *self.buckets.allocator();
+        let bucket = &self.buckets[place];
+        let left = match not_admitted(alloc, bucket.policies(), filter) {
+            Ok(left) => left,
+            Err(error) => return Err(StoreRefusal::Memory(error)),
+        };
+        let count = (bucket.policies().len() - left.len()) as u32;
+        match with_policies(alloc, &self.buckets, place, left) {
+            Ok(buckets) => Ok(Erased {
+                database: Database { buckets },
+                count,
+            }),
+            Err(error) => Err(StoreRefusal::Memory(error)),
+        }
+    }
+}
+
+// The refusal of a bucket that is not there.
+fn no_bucket(name: &BucketName) -> StoreRefusal
+    ensures { NamesAbsent name.now result }
+{
+    match name.copy() {
+        Ok(name) => StoreRefusal::NoBucket(name),
+        Err(error) => StoreRefusal::Memory(error),
+    }
+}

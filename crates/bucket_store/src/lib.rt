@@ -1,0 +1,20 @@
+//! The policy database: buckets that point to one another, and the changes that are made to them, whole or not at all.
+//!
+//! Buckets, their fallbacks and policies that point to another bucket are those of the Cynara wiki. The limits, the order
+//! of the refusals and that no bucket may reach itself are this project's profile.
+#![tactic(auto)]
+
+mod buckets;
+mod copies;
+mod databases;
+mod edits;
+mod limits;
+mod policy_changes;
+mod refusals;
+mod searches;
+
+pub use buckets::Bucket;
+pub use databases::{Database, Erased};
+pub use limits::{MOST_BUCKETS, MOST_POLICIES};
+pub use policy_changes::{Change, Changes};
+pub use refusals::StoreRefusal;
