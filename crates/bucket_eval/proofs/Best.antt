@@ -8,14 +8,10 @@ use Rattle.std.specs.Ordering.{is_gt, min_by_ordering}
 use Rattle.std.proofs.lemmas.Bool.{false≢true, cases_lt}
 use Rattle.std.proofs.lemmas.Cmp.{tied_itself}
 use Rattle.std.proofs.lemmas.List.{at_drop_more}
+use Rattle.std.proofs.lemmas.Option.{slice_get_read}
 use Rattle.std.proofs.lemmas.List.Elements.{All-from_recursion, recursion_from_All, filter_passes}
 use Rattle.cynara_keys.specs.Minimum.{lesser, first_least}
 use Rattle.cynara_keys.proofs.Minimum.{first_least-all, first_least-none, first_least-before}
-
-slice_get-read : {X : Type 0} (xs : List X) (at : ℕ) (x : X) → at < length xs → x ≡ get_or xs at x → slice_get xs at ≡ Some x
-slice_get-read [] at x lt is = absurd (omega arith)
-slice_get-read (y ∷ xs) zero x lt is = ap Some (sym is)
-slice_get-read (y ∷ xs) (suc at) x lt is = slice_get-read xs at x (omega arith) is
 
 pub min-after : {X : Type 0} (order : Ordering) (x other : X) → is_gt order ≡ true → min_by_ordering order x other ≡ other
 min-after Less x other after = absurd (false≢true after)
@@ -107,7 +103,7 @@ module _ {X : Type 0} (counts : X → Bool) {cmp : X → X → Ordering} (order 
   IsBest-silent xs at best x lt is silent best_is =
       same xs at best (more xs at x false lt is silent)
       (λ e. false≢true (sym silent
-      ∙ subst (λ o. IfSome o (λ y. counts y ≡ true)) (sym e ∙ slice_get-read xs at x lt is) (best_of-counts counts cmp (drop at xs))))
+      ∙ subst (λ o. IfSome o (λ y. counts y ≡ true)) (sym e ∙ slice_get_read xs (length xs) at x refl lt is) (best_of-counts counts cmp (drop at xs))))
       best_is
 
   -- an element that comes after the least of those behind it
@@ -116,11 +112,11 @@ module _ {X : Type 0} (counts : X → Bool) {cmp : X → X → Ordering} (order 
       → IsBest counts cmp xs (at + 1) (Some place) → IsBest counts cmp xs at (Some place)
   IsBest-after xs at place x other lt is speaks other_is after best_is =
       let behind_is : best_of counts cmp (drop (at + 1) xs) ≡ Some other =
-      sym best_is.decides ∙ slice_get-read xs place other best_is.in_range other_is in
+      sym best_is.decides ∙ slice_get_read xs (length xs) place other refl best_is.in_range other_is in
       let now : best_of counts cmp (drop at xs) ≡ Some other =
       more xs at x true lt is speaks ∙ ap (λ rest. Some (lesser cmp x rest)) behind_is
       ∙ ap Some (min-after (cmp x other) x other after) in
-      let read = slice_get-read xs at x lt is in
+      let read = slice_get_read xs (length xs) at x refl lt is in
       same xs at (Some place) (now ∙ sym behind_is)
       (λ e. let tied : x ≡ other = cc in
       false≢true (sym (ap is_gt (tied_itself order x)) ∙ ap (λ y. is_gt (cmp x y)) tied ∙ after))
@@ -132,9 +128,9 @@ module _ {X : Type 0} (counts : X → Bool) {cmp : X → X → Ordering} (order 
       → IsBest counts cmp xs (at + 1) (Some place) → IsBest counts cmp xs at (Some at)
   IsBest-instead xs at place x other lt is speaks other_is before best_is =
       let behind_is : best_of counts cmp (drop (at + 1) xs) ≡ Some other =
-      sym best_is.decides ∙ slice_get-read xs place other best_is.in_range other_is in
+      sym best_is.decides ∙ slice_get_read xs (length xs) place other refl best_is.in_range other_is in
       here xs at lt
-      (slice_get-read xs at x lt is
+      (slice_get_read xs (length xs) at x refl lt is
       ∙ sym (more xs at x true lt is speaks ∙ ap (λ rest. Some (lesser cmp x rest)) behind_is
       ∙ ap Some (min-before (cmp x other) x other before)))
 
@@ -143,7 +139,7 @@ module _ {X : Type 0} (counts : X → Bool) {cmp : X → X → Ordering} (order 
       → IsBest counts cmp xs (at + 1) None → IsBest counts cmp xs at (Some at)
   IsBest-only xs at x lt is speaks best_is =
       here xs at lt
-      (slice_get-read xs at x lt is
+      (slice_get_read xs (length xs) at x refl lt is
       ∙ sym (more xs at x true lt is speaks ∙ ap (λ rest. Some (lesser cmp x rest)) best_is.decides))
 
 -- the same, with one place fewer to look at
