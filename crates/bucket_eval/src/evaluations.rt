@@ -4,8 +4,8 @@ ghost use Rattle.bucket_eval.specs.Found.{outcome_at, answer_of, row_of};
 
 use crate::answers::{Answer, Cause, Found, Row};
 use crate::nested::{Asked, within};
-use bucket_store::Database;
-use cynara_keys::{BucketName, Key, PolicyResult, Question, Short};
+use bucket_store::{Bucket, Database};
+use cynara_keys::{BucketName, Key, Policy, PolicyResult, Question, Short};
 
 /// What the bucket at the place `start` answers to the question: of the results of its policies that match, and, if
 /// `recursive`, of the answers of the buckets that they point to, the least by kind, then by metadata and then by key that
@@ -34,11 +34,18 @@ pub fn describe(database: &Database, found: Found) -> Answer
     let bucket = &database.buckets()[found.bucket];
     match found.policy {
         Some(place) => {
-            let policy = &bucket.policies()[place];
+            let policy = policy_at(bucket, place);
             described(bucket.name(), &policy.result, Some(row_of(&policy.key)))
         }
         None => described(bucket.name(), bucket.fallback(), None),
     }
+}
+
+fn policy_at(bucket: &Bucket, place: usize) -> &Policy
+    requires { place < length bucket.now.policies }
+    ensures { slice_get bucket.now.policies place ≡ Some result.now }
+{
+    &bucket.policies()[place]
 }
 
 fn described(bucket: &BucketName, ruling: &PolicyResult, row: Option<Row>) -> Answer
