@@ -144,14 +144,16 @@ rooted-one database policies (Delete name key) is all = All-filter (IsRooted dat
 rooted-one database policies (Set name key result) is all =
     let new : Placed = record { bucket = name; policy = record { key = key; result = result } } in
     All-append (IsRooted database) (filter (λ other. is_lt (placed_cmp other new)) policies) (new ∷ filter (λ other. is_gt (placed_cmp other new)) policies)
-    (All-filter (IsRooted database) (λ other. is_lt (placed_cmp other new)) policies all)
-    (record {
-      own = is.own;
-      target = λ links.
-          (has-none database result.metadata []
-          (has-none database name (result.metadata ∷ [])
-          (sym (ap (λ b. no_bucket (cond b (name ∷ result.metadata ∷ []) (name ∷ [])) database) links) ∙ is.aims)).1).0;
-    }, All-filter (IsRooted database) (λ other. is_gt (placed_cmp other new)) policies all)
+    (All-filter (IsRooted database) (λ other. is_lt (placed_cmp other new)) policies all) (
+      record {
+        own = is.own;
+        target = λ links.
+            (has-none database result.metadata []
+            (has-none database name (result.metadata ∷ [])
+            (sym (ap (λ b. no_bucket (cond b (name ∷ result.metadata ∷ []) (name ∷ [])) database) links) ∙ is.aims)).1).0;
+      },
+      All-filter (IsRooted database) (λ other. is_gt (placed_cmp other new)) policies all,
+    )
 
 pub rooted-all : (database : Database) (policies : List Placed) (changes : List Change) → AllByRecursion (IsNamed database) changes
     → AllByRecursion (IsRooted database) policies → AllByRecursion (IsRooted database) (fold after_change policies changes)

@@ -246,8 +246,10 @@ deleted-is name key bucket rise = parts (same_text bucket.name name) refl
     all : (policies : List Policy) → filter (λ policy. true) policies ≡ policies
     all [] = refl
     all (policy ∷ policies) = ap (λ rest. policy ∷ rest) (all policies)
+
     sides : Bool → Bucket
     sides b = record { name = bucket.name; fallback = bucket.fallback; policies = cond b (edited bucket.policies (Delete name key)) bucket.policies }
+
     parts : (b : Bool) → same_text bucket.name name ≡ b
         → changed_once (Delete name key) bucket ≡ keep (λ placed. not (is_at name key placed)) bucket
     parts true is =
@@ -418,10 +420,12 @@ stands-there : (name : List ℕ) (buckets : List Bucket) → IsStrictlySortedBy 
 stands-there name buckets rise has =
     let at =
     Any-from_list_any (λ (bucket : Bucket). same_text bucket.name name) buckets
-    (sym (any-map (λ (heading : Heading). same_text heading.name name) heading_of buckets) ∙ has) in
-    (at.0, found text_total (λ (bucket : Bucket). bucket.name) name buckets at.0 rise at.2
-    (λ d. ap (λ (bucket : Bucket). text_cmp bucket.name name) (get_or_default buckets at.0 d at.1 at.2 ∙ at.3)
-    ∙ eq-Equal (text_cmp at.1.name name) (text_cmp-equal at.1.name name ∙ at.4)))
+    (sym (any-map (λ (heading : Heading). same_text heading.name name) heading_of buckets) ∙ has) in (
+      at.0,
+      found text_total (λ (bucket : Bucket). bucket.name) name buckets at.0 rise at.2
+          (λ d. ap (λ (bucket : Bucket). text_cmp bucket.name name) (get_or_default buckets at.0 d at.1 at.2 ∙ at.3)
+          ∙ eq-Equal (text_cmp at.1.name name) (text_cmp-equal at.1.name name ∙ at.4)),
+    )
 
 -- the bucket of each change is there
 abbrev pub AreThere : Database → List Change → Type 0

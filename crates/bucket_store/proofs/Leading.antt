@@ -289,9 +289,11 @@ module _ (buckets : List Bucket) (rise : IsStrictlySortedBy bucket_cmp buckets)
       let blank : Bucket = bucket_of [] (record { kind = 0; metadata = [] }) [] in
       let at =
       Any-from_list_any (λ (bucket : Bucket). same_text bucket.name own) buckets
-      (sym (any-map (λ (heading : Heading). same_text heading.name own) heading_of buckets) ∙ has) in
-      (at.0, at.2,
-      ap (λ (bucket : Bucket). bucket.name) (get_or_default buckets at.0 blank at.1 at.2 ∙ at.3) ∙ same_text-≡ at.1.name own at.4)
+      (sym (any-map (λ (heading : Heading). same_text heading.name own) heading_of buckets) ∙ has) in (
+        at.0,
+        at.2,
+        ap (λ (bucket : Bucket). bucket.name) (get_or_default buckets at.0 blank at.1 at.2 ∙ at.3) ∙ same_text-≡ at.1.name own at.4,
+      )
 
   abbrev Reached : ℕ → List ℕ → Type 0
   Reached i to =
@@ -308,10 +310,14 @@ module _ (buckets : List Bucket) (rise : IsStrictlySortedBy bucket_cmp buckets)
       let to = (get_or buckets m blank).name in
       kept-true (length buckets) i m (omega arith) within
       (link i m within there
-      ∙ list_any-from_Any (λ (other : Placed). same_text other.bucket from && points_to to other.policy) (flat_map placed_of buckets)
-      (is.there.0, step, is.there.1, is.there.2,
-      and_from _ _ (≡-same_text step.bucket from is.own)
-      (and_from _ _ is.points (≡-same_text (target step.policy) to (sym aim)))))
+      ∙ list_any-from_Any (λ (other : Placed). same_text other.bucket from && points_to to other.policy) (flat_map placed_of buckets) (
+        is.there.0,
+        step,
+        is.there.1,
+        is.there.2,
+        and_from _ _ (≡-same_text step.bucket from is.own)
+            (and_from _ _ is.points (≡-same_text (target step.policy) to (sym aim))),
+      ))
 
   walk-flag : (i : ℕ) → i < length buckets → (from to : List ℕ) (step : Placed) (steps : List Placed)
       → (get_or buckets i (bucket_of [] (record { kind = 0; metadata = [] }) [])).name ≡ from

@@ -23,6 +23,7 @@ use Rattle.std.proofs.lemmas.List.Elements.{filter-append}
 module _ {X : Type 0} (answer : X → Ordering) where
   abbrev AllLess : List X → Type 0
   AllLess = AllByRecursion (λ x. answer x ≡ Less)
+
   abbrev AllGreater : List X → Type 0
   AllGreater = AllByRecursion (λ x. answer x ≡ Greater)
 

@@ -137,6 +137,7 @@ position-map test f xs i = cond (nat_lt (lens xs i) (lengths xs i)) (Some (lens 
     lens : (xs : List _) → prefix_len (λ y. not (test y)) (map f xs) ≡ prefix_len (λ x. not (test (f x))) xs
     lens [] = refl
     lens (x ∷ xs) = ap (λ n. cond (not (test (f x))) (1 + n) 0) (lens xs)
+
     lengths : (xs : List _) → length (map f xs) ≡ length xs
     lengths [] = refl
     lengths (x ∷ xs) = ap suc (lengths xs)

@@ -27,7 +27,8 @@ fn is_link(change: &Change) -> bool
 {
     match change {
         Change::Set {
-            result: outcome, ..
+            result: outcome,
+            ..
         } => outcome.kind() == Kind::BUCKET,
         Change::Delete { .. } => false,
     }
@@ -49,7 +50,11 @@ pub fn is_over(buckets: &[Bucket]) -> bool
 }
 
 /// The buckets after the changes.
-pub fn changed_buckets(alloc: Global, buckets: &[Bucket], changes: &[Change]) -> Result<Vec<Bucket>, AllocError>
+pub fn changed_buckets(
+    alloc: Global,
+    buckets: &[Bucket],
+    changes: &[Change],
+) -> Result<Vec<Bucket>, AllocError>
     requires { list.AllByRecursion (λ (bucket : Content). IsStrictlySortedBy policy_cmp bucket.policies) buckets.now }
     ensures { IfOk result (λ copy. copy.items ≡ map (batch.changed changes.now) buckets.now) }
 {
@@ -69,7 +74,12 @@ fn changed_bucket(alloc: Global, bucket: &Bucket, changes: &[Change]) -> Result<
         return bucket.share();
     }
     let policies = changed_policies(alloc, bucket.name(), bucket.policies(), changes)?;
-    Bucket::new(alloc, bucket.name().copy()?, bucket.fallback().copy()?, policies)
+    Bucket::new(
+        alloc,
+        bucket.name().copy()?,
+        bucket.fallback().copy()?,
+        policies,
+    )
 }
 
 // Whether a change is the bucket's own.

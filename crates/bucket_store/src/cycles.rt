@@ -74,7 +74,12 @@ fn through(alloc: Global, rows: &[Vec<bool>], at: usize) -> Result<Vec<Vec<bool>
     Ok(next)
 }
 
-fn row_through(alloc: Global, row: &[bool], pivot: &[bool], at: usize) -> Result<Vec<bool>, AllocError>
+fn row_through(
+    alloc: Global,
+    row: &[bool],
+    pivot: &[bool],
+    at: usize,
+) -> Result<Vec<bool>, AllocError>
     ensures { IfOk result
         (λ next. next.items ≡ (if closure.flag row.now at then closure.either row.now pivot.now else row.now)) }
 {

@@ -105,7 +105,11 @@ impl Database {
 
     /// Makes a bucket with this fallback and no policies, or changes the fallback of the one that is there. Refuses, in this
     /// order, `BadKind` and `Limit`.
-    pub fn set_bucket(&self, name: &BucketName, fallback: &PolicyResult) -> Result<Database, StoreRefusal>
+    pub fn set_bucket(
+        &self,
+        name: &BucketName,
+        fallback: &PolicyResult,
+    ) -> Result<Database, StoreRefusal>
         ensures next { IfOk result (λ next. next ≡ (request.set_bucket name.now fallback.now self.now).next) }
         ensures accepted { OnOk result (fault self.now (request.set_bucket name.now fallback.now self.now) ≡ None) }
         ensures refused { IfErr result (Refuses self.now (request.set_bucket name.now fallback.now self.now)) }
@@ -117,7 +121,13 @@ impl Database {
         if !has_room(&self.buckets, &place) {
             return Err(StoreRefusal::Limit(Counted::Buckets, MOST_BUCKETS as u64));
         }
-        match with_heading(*self.buckets.allocator(), &self.buckets, place, name, fallback) {
+        match with_heading(
+            *self.buckets.allocator(),
+            &self.buckets,
+            place,
+            name,
+            fallback,
+        ) {
             Ok(buckets) => Ok(Database { buckets }),
             Err(error) => Err(StoreRefusal::Memory(error)),
         }

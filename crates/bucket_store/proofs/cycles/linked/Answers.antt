@@ -16,12 +16,12 @@ loop-policy-preserved c =
     let next : take (i + 1) policies ≡ take i policies ++ policy ∷ [] =
     take_more policies i policy c.loop-policy-test.true ∙ ap (λ p. take i policies ++ p ∷ []) (sym c.policy-item.is) in
     elim c.match-target_place.branch [
-      in-Some w ↦
-        let link = rw w.in-Some.is at c.target_place.ensures.link in
-        ap (λ row. row.items) w.row-is ∙ ap (λ row. set row w.in-Some.at true) c.loop-policy.invariant
-        ∙ linked-some c.args.buckets.now (take i policies) policy w.in-Some.at link ∙ ap (linked c.args.buckets.now) (sym next)
-    | in_default w ↦
-        let link = rw w.in_default.is at c.target_place.ensures.link in
-        ap (λ row. row.items) w.row-is ∙ c.loop-policy.invariant
-        ∙ linked-none c.args.buckets.now (take i policies) policy link ∙ ap (linked c.args.buckets.now) (sym next)
+      | in-Some w ↦
+          let link = rw w.in-Some.is at c.target_place.ensures.link in
+          ap (λ row. row.items) w.row-is ∙ ap (λ row. set row w.in-Some.at true) c.loop-policy.invariant
+          ∙ linked-some c.args.buckets.now (take i policies) policy w.in-Some.at link ∙ ap (linked c.args.buckets.now) (sym next)
+      | in_default w ↦
+          let link = rw w.in_default.is at c.target_place.ensures.link in
+          ap (λ row. row.items) w.row-is ∙ c.loop-policy.invariant
+          ∙ linked-none c.args.buckets.now (take i policies) policy link ∙ ap (linked c.args.buckets.now) (sym next)
     ]
