@@ -5,3 +5,7 @@ pub mod Kept
 pub mod Sound
 pub mod Removing
 pub mod Heading
+pub mod Closing
+pub mod Leading
+pub mod Changing
+pub mod Accepting

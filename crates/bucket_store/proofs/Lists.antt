@@ -94,6 +94,7 @@ any-filter test kept both (x ∷ xs) any = here (any-filter test kept both xs) (
         → list_any test (cond keeps (x ∷ filter kept xs) (filter kept xs)) ≡ true
     later true found = elim (test x) as (λ b. (b || list_any test (filter kept xs)) ≡ true) [ true ↦ refl | false ↦ found ]
     later false found = found
+
     here : (list_any test xs ≡ true → list_any test (filter kept xs) ≡ true) → (passes : Bool) → test x ≡ passes
         → (passes || list_any test xs) ≡ true
         → list_any test (cond (kept x) (x ∷ filter kept xs) (filter kept xs)) ≡ true

@@ -23,6 +23,7 @@ use Rattle.std.proofs.lemmas.List.Elements.{filter-append}
 module _ {X : Type 0} (answer : X → Ordering) where
   abbrev AllLess : List X → Type 0
   AllLess = AllByRecursion (λ x. answer x ≡ Less)
+
   abbrev AllGreater : List X → Type 0
   AllGreater = AllByRecursion (λ x. answer x ≡ Greater)
 
@@ -122,6 +123,16 @@ module _ {X : Type 0} (answer : X → Ordering) where
       ∙ ap (λ n. cond (nat_lt n (length all)) (Some n) None) is
       ∙ ap (λ b. cond b (Some (length all)) None) (le-ltb (length all) (length all) (omega arith))
 
+pub lt-Less : (o : Ordering) → is_lt o ≡ true → o ≡ Less
+lt-Less Less h = refl
+lt-Less Equal h = cc
+lt-Less Greater h = cc
+
+pub gt-Greater : (o : Ordering) → is_gt o ≡ true → o ≡ Greater
+gt-Greater Less h = cc
+gt-Greater Equal h = cc
+gt-Greater Greater h = refl
+
 -- ---- the search
 
 module _ {K : Type 0} {cmp : K → K → Ordering} (order : IsTotalOrder cmp) where
@@ -135,7 +146,7 @@ module _ {K : Type 0} {cmp : K → K → Ordering} (order : IsTotalOrder cmp) wh
     IsSortedBy-strictly (x ∷ y ∷ xs) rising (suc k) d ge lt =
         rw add-one (rw add-one at (IsSortedBy-strictly (y ∷ xs) rising.1 k d (omega arith) (omega arith)))
 
-    found : (sought : K) (xs : List X) (place : ℕ) → IsStrictlySortedBy (on key cmp) xs → place < length xs
+    pub found : (sought : K) (xs : List X) (place : ℕ) → IsStrictlySortedBy (on key cmp) xs → place < length xs
         → HoldsAt (λ x. cmp (key x) sought ≡ Equal) xs place → StandsAt (λ x. cmp (key x) sought) xs place
     unfolding IsStrictlySortedBy
     found sought [] place rising lt equal = absurd (omega arith)
@@ -201,16 +212,6 @@ module _ {K : Type 0} {cmp : K → K → Ordering} (order : IsTotalOrder cmp) wh
   strictly-append [] ys rising more apart = more
   strictly-append (x ∷ xs) ys rising more apart =
       (All-append (λ y. cmp x y ≡ Less) xs ys rising.0 apart.0, strictly-append xs ys rising.1 more apart.1)
-
-  lt-Less : (o : Ordering) → is_lt o ≡ true → o ≡ Less
-  lt-Less Less h = refl
-  lt-Less Equal h = cc
-  lt-Less Greater h = cc
-
-  gt-Greater : (o : Ordering) → is_gt o ≡ true → o ≡ Greater
-  gt-Greater Less h = cc
-  gt-Greater Equal h = cc
-  gt-Greater Greater h = refl
 
   pub put-rises : (x : K) (xs : List K) → IsStrictlySortedBy cmp xs → IsStrictlySortedBy cmp (put cmp x xs)
   unfolding IsStrictlySortedBy

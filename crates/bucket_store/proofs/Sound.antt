@@ -137,6 +137,7 @@ position-map test f xs i = cond (nat_lt (lens xs i) (lengths xs i)) (Some (lens 
     lens : (xs : List _) → prefix_len (λ y. not (test y)) (map f xs) ≡ prefix_len (λ x. not (test (f x))) xs
     lens [] = refl
     lens (x ∷ xs) = ap (λ n. cond (not (test (f x))) (1 + n) 0) (lens xs)
+
     lengths : (xs : List _) → length (map f xs) ≡ length xs
     lengths [] = refl
     lengths (x ∷ xs) = ap suc (lengths xs)
@@ -172,11 +173,11 @@ place-absent name buckets at belongs =
 
 -- ---- whether a bucket is there
 
-any-front : {X : Type 0} (test : X → Bool) (xs : List X) (x : X) (ys : List X) → test x ≡ true → list_any test (xs ++ x ∷ ys) ≡ true
+pub any-front : {X : Type 0} (test : X → Bool) (xs : List X) (x : X) (ys : List X) → test x ≡ true → list_any test (xs ++ x ∷ ys) ≡ true
 any-front test [] x ys h = or_left _ _ h
 any-front test (y ∷ xs) x ys h = or_right _ _ (any-front test xs x ys h)
 
-any-none : {X : Type 0} (test : X → Bool) (xs : List X) → AllByRecursion (λ x. test x ≡ false) xs → list_any test xs ≡ false
+pub any-none : {X : Type 0} (test : X → Bool) (xs : List X) → AllByRecursion (λ x. test x ≡ false) xs → list_any test xs ≡ false
 any-none test [] all = refl
 any-none test (x ∷ xs) all = ap (λ b. b || list_any test xs) all.0 ∙ any-none test xs all.1
 

@@ -1,3 +1,5 @@
 pub mod Search
 pub mod Naming
 pub mod Edit
+pub mod Closure
+pub mod Batch

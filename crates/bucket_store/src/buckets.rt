@@ -25,18 +25,30 @@ impl Model for Bucket {
     ghost Value = { Content };
 
     ghost view = { λ bucket. record {
-        name = (arc_value bucket.body).name;
-        fallback = (arc_value bucket.body).fallback;
-        policies = (arc_value bucket.body).policies.items;
+      name = (arc_value bucket.body).name;
+      fallback = (arc_value bucket.body).fallback;
+      policies = (arc_value bucket.body).policies.items;
     } };
 }
 
 impl Bucket {
     /// A bucket of these parts.
-    pub fn new(alloc: Global, name: BucketName, fallback: PolicyResult, policies: Vec<Policy>) -> Result<Bucket, AllocError>
+    pub fn new(
+        alloc: Global,
+        name: BucketName,
+        fallback: PolicyResult,
+        policies: Vec<Policy>,
+    ) -> Result<Bucket, AllocError>
         ensures { IfOk result (λ bucket. bucket ≡ record { name = name; fallback = fallback; policies = policies.items }) }
     {
-        let body = Arc::new(alloc, Body { name, fallback, policies })?;
+        let body = Arc::new(
+            alloc,
+            Body {
+                name,
+                fallback,
+                policies,
+            },
+        )?;
         Ok(Bucket { body })
     }
 

@@ -9,7 +9,11 @@ use cynara_keys::{BucketName, Filter, Kind, Policy};
 use std::alloc::{AllocError, Global};
 
 /// The policies whose keys the filter admits.
-pub fn admitted(alloc: Global, policies: &[Policy], filter: &Filter) -> Result<Vec<Policy>, AllocError>
+pub fn admitted(
+    alloc: Global,
+    policies: &[Policy],
+    filter: &Filter,
+) -> Result<Vec<Policy>, AllocError>
     ensures { IfOk result (λ copy. copy.items ≡ list.filter (λ policy. filter_admits filter.now policy.key) policies.now) }
 {
     let mut copy = Vec::new(alloc);
@@ -22,7 +26,11 @@ pub fn admitted(alloc: Global, policies: &[Policy], filter: &Filter) -> Result<V
 }
 
 /// The policies whose keys the filter does not admit.
-pub fn not_admitted(alloc: Global, policies: &[Policy], filter: &Filter) -> Result<Vec<Policy>, AllocError>
+pub fn not_admitted(
+    alloc: Global,
+    policies: &[Policy],
+    filter: &Filter,
+) -> Result<Vec<Policy>, AllocError>
     ensures { IfOk result
         (λ copy. copy.items ≡ list.filter (λ policy. not (filter_admits filter.now policy.key)) policies.now) }
 {
@@ -43,7 +51,11 @@ pub fn points_to(policy: &Policy, name: &BucketName) -> bool
 }
 
 /// The policies that do not point to the bucket of this name.
-pub fn not_pointing(alloc: Global, policies: &[Policy], name: &BucketName) -> Result<Vec<Policy>, AllocError>
+pub fn not_pointing(
+    alloc: Global,
+    policies: &[Policy],
+    name: &BucketName,
+) -> Result<Vec<Policy>, AllocError>
     ensures { IfOk result (λ copy. copy.items ≡ list.filter (λ policy. not (walk.points_to name.now policy)) policies.now) }
 {
     let mut copy = Vec::new(alloc);

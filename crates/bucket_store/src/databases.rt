@@ -6,14 +6,17 @@ ghost use Rattle.bucket_store.specs.Change.{listed};
 ghost use Rattle.bucket_store.specs.Refusal as request;
 ghost use Rattle.bucket_store.specs.Refusal.{fault, Refuses};
 ghost use Rattle.bucket_store.specs.WellFormed.{IsWellFormed, IsKept};
-ghost use Rattle.bucket_store.specs.parts.Naming.{NamesAbsent};
+ghost use Rattle.bucket_store.specs.parts.Naming.{NamesAbsent, NamesCycle};
 
-use crate::StoreRefusal;
+use crate::batches::{adds_link, changed_buckets, is_over};
 use crate::buckets::Bucket;
 use crate::copies::{admitted, all_buckets, not_admitted};
+use crate::cycles::least_on_cycle;
 use crate::edits::{has_room, is_bad, with_heading, with_policies, without_bucket};
-use crate::limits::MOST_BUCKETS;
+use crate::limits::{MOST_BUCKETS, MOST_POLICIES};
+use crate::named::all_named;
 use crate::searches::place_of_bucket;
+use crate::{Change, StoreRefusal};
 use cynara_keys::{BucketName, Counted, Filter, Kind, Policy, PolicyResult};
 use std::alloc::{AllocError, Global};
 use std::marker::Model;
@@ -102,7 +105,11 @@ impl Database {
 
     /// Makes a bucket with this fallback and no policies, or changes the fallback of the one that is there. Refuses, in this
     /// order, `BadKind` and `Limit`.
-    pub fn set_bucket(&self, name: &BucketName, fallback: &PolicyResult) -> Result<Database, StoreRefusal>
+    pub fn set_bucket(
+        &self,
+        name: &BucketName,
+        fallback: &PolicyResult,
+    ) -> Result<Database, StoreRefusal>
         ensures next { IfOk result (λ next. next ≡ (request.set_bucket name.now fallback.now self.now).next) }
         ensures accepted { OnOk result (fault self.now (request.set_bucket name.now fallback.now self.now) ≡ None) }
         ensures refused { IfErr result (Refuses self.now (request.set_bucket name.now fallback.now self.now)) }
@@ -114,7 +121,13 @@ impl Database {
         if !has_room(&self.buckets, &place) {
             return Err(StoreRefusal::Limit(Counted::Buckets, MOST_BUCKETS as u64));
         }
-        match with_heading(*self.buckets.allocator(), &self.buckets, place, name, fallback) {
+        match with_heading(
+            *self.buckets.allocator(),
+            &self.buckets,
+            place,
+            name,
+            fallback,
+        ) {
             Ok(buckets) => Ok(Database { buckets }),
             Err(error) => Err(StoreRefusal::Memory(error)),
         }
@@ -165,6 +178,35 @@ impl Database {
             Err(error) => Err(StoreRefusal::Memory(error)),
         }
     }
+
+    /// Makes the changes in their order, so that the last for a key wins; a `Delete` of an absent key changes nothing.
+    /// Refuses, in this order and each over all changes, `NoBucket` (a change's own bucket before the one that its result
+    /// points to), `Limit` and `Cycle`.
+    pub fn set_policies(&self, changes: &[Change]) -> Result<Database, StoreRefusal>
+        ensures next { IfOk result (λ next. next ≡ (request.set_policies changes.now self.now).next) }
+        ensures accepted { OnOk result (fault self.now (request.set_policies changes.now self.now) ≡ None) }
+        ensures refused { IfErr result (Refuses self.now (request.set_policies changes.now self.now)) }
+    {
+        let alloc = *self.buckets.allocator();
+        if let Err(refusal) = all_named(alloc, &self.buckets, changes) {
+            return Err(refusal);
+        }
+        let buckets = match changed_buckets(alloc, &self.buckets, changes) {
+            Ok(buckets) => buckets,
+            Err(error) => return Err(StoreRefusal::Memory(error)),
+        };
+        if is_over(&buckets) {
+            return Err(StoreRefusal::Limit(Counted::Policies, MOST_POLICIES as u64));
+        }
+        if !adds_link(changes) {
+            return Ok(Database { buckets });
+        }
+        match least_on_cycle(alloc, &buckets) {
+            Ok(None) => Ok(Database { buckets }),
+            Ok(Some(at)) => Err(on_cycle(&buckets[at])),
+            Err(error) => Err(StoreRefusal::Memory(error)),
+        }
+    }
 }
 
 // The refusal of a bucket that is not there.
@@ -173,6 +215,16 @@ fn no_bucket(name: &BucketName) -> StoreRefusal
 {
     match name.copy() {
         Ok(name) => StoreRefusal::NoBucket(name),
+        Err(error) => StoreRefusal::Memory(error),
+    }
+}
+
+// The refusal of a bucket that would be on a cycle.
+fn on_cycle(bucket: &Bucket) -> StoreRefusal
+    ensures { NamesCycle bucket.now.name result }
+{
+    match bucket.name().copy() {
+        Ok(name) => StoreRefusal::Cycle(name),
         Err(error) => StoreRefusal::Memory(error),
     }
 }

@@ -3,14 +3,12 @@ ghost use Rattle.std.specs.Prelude.{◌≡◌, ◌<◌, ◌≤◌, ◌||◌, len
 ghost use Rattle.std.specs.List as list;
 ghost use Rattle.cynara_keys.specs.Text.{same_text};
 ghost use Rattle.bucket_store.specs.Refusal as rule;
-
 ghost use Rattle.bucket_store.specs.Walk as walk;
-
 ghost use Rattle.bucket_store.specs.parts.Edit.{headed, without_links, filled};
 
 use crate::Bucket;
-use crate::limits::MOST_BUCKETS;
 use crate::copies::{all_buckets, all_policies, not_pointing, points_to};
+use crate::limits::MOST_BUCKETS;
 use cynara_keys::{BucketName, Kind, Policy, PolicyResult};
 use std::alloc::{AllocError, Global};
 
@@ -55,7 +53,11 @@ pub fn with_heading(
 }
 
 /// The buckets without this one, and without the policies that point to it.
-pub fn without_bucket(alloc: Global, buckets: &[Bucket], name: &BucketName) -> Result<Vec<Bucket>, AllocError>
+pub fn without_bucket(
+    alloc: Global,
+    buckets: &[Bucket],
+    name: &BucketName,
+) -> Result<Vec<Bucket>, AllocError>
     ensures { IfOk result
         (λ copy. copy.items ≡ map (without_links name.now) (list.filter (λ bucket. not (same_text bucket.name name.now)) buckets.now)) }
 {
@@ -76,7 +78,12 @@ fn unlinked(alloc: Global, bucket: &Bucket, name: &BucketName) -> Result<Bucket,
         return bucket.share();
     }
     let left = not_pointing(alloc, bucket.policies(), name)?;
-    Bucket::new(alloc, bucket.name().copy()?, bucket.fallback().copy()?, left)
+    Bucket::new(
+        alloc,
+        bucket.name().copy()?,
+        bucket.fallback().copy()?,
+        left,
+    )
 }
 
 // Whether one of the policies points to the bucket of this name.
@@ -87,12 +94,22 @@ fn links(policies: &[Policy], name: &BucketName) -> bool
 }
 
 /// The buckets with other policies in the one at the place.
-pub fn with_policies(alloc: Global, buckets: &[Bucket], place: usize, policies: Vec<Policy>) -> Result<Vec<Bucket>, AllocError>
+pub fn with_policies(
+    alloc: Global,
+    buckets: &[Bucket],
+    place: usize,
+    policies: Vec<Policy>,
+) -> Result<Vec<Bucket>, AllocError>
     requires { place < length buckets.now }
     ensures { IfOk result (λ copy. copy.items ≡ filled place policies.items buckets.now) }
 {
     let mut copy = all_buckets(alloc, buckets)?;
     let bucket = &buckets[place];
-    copy[place] = Bucket::new(alloc, bucket.name().copy()?, bucket.fallback().copy()?, policies)?;
+    copy[place] = Bucket::new(
+        alloc,
+        bucket.name().copy()?,
+        bucket.fallback().copy()?,
+        policies,
+    )?;
     Ok(copy)
 }

@@ -4,11 +4,14 @@
 //! of the refusals and that no bucket may reach itself are this project's profile.
 #![tactic(auto)]
 
+mod batches;
 mod buckets;
 mod copies;
+mod cycles;
 mod databases;
 mod edits;
 mod limits;
+mod named;
 mod policy_changes;
 mod refusals;
 mod searches;
@@ -18,3 +21,6 @@ pub use databases::{Database, Erased};
 pub use limits::{MOST_BUCKETS, MOST_POLICIES};
 pub use policy_changes::{Change, Changes};
 pub use refusals::StoreRefusal;
+
+#[cfg(test)]
+mod tests;

@@ -11,7 +11,10 @@ pub enum Change {
         result: PolicyResult,
     },
     /// The bucket has no policy with this key.
-    Delete { bucket: BucketName, key: Key },
+    Delete {
+        bucket: BucketName,
+        key: Key,
+    },
 }
 
 /// A list of changes.

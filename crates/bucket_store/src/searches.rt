@@ -16,7 +16,17 @@ pub fn place_of_bucket(buckets: &[Bucket], name: &BucketName) -> Result<usize, u
     ensures absent { IfErr result (BelongsAt (λ bucket. text_cmp bucket.name name.now) buckets.now) }
     ensures in_range { MatchResult result (λ place. place < length buckets.now) (λ place. place ≤ length buckets.now) }
 {
-    buckets.binary_search_by(|bucket| bucket.name().cmp(name))
+    place_of_text(buckets, name.as_slice())
+}
+
+/// The same for the bytes of a name.
+pub fn place_of_text(buckets: &[Bucket], name: &[u8]) -> Result<usize, usize>
+    requires { IsStrictlySortedBy bucket_cmp buckets.now }
+    ensures found { IfOk result (StandsAt (λ bucket. text_cmp bucket.name name.now) buckets.now) }
+    ensures absent { IfErr result (BelongsAt (λ bucket. text_cmp bucket.name name.now) buckets.now) }
+    ensures in_range { MatchResult result (λ place. place < length buckets.now) (λ place. place ≤ length buckets.now) }
+{
+    buckets.binary_search_by(|bucket| bucket.name().as_slice().cmp(name))
 }
 
 /// Where the policy of this key stands, from 0, or where one belongs.

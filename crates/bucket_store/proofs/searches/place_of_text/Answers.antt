@@ -4,7 +4,7 @@ use Rattle.cynara_keys.specs.Text.{text_cmp}
 use Rattle.cynara_keys.proofs.Order.{text_total}
 use Rattle.bucket_store.specs.Bucket.{Bucket}
 use Rattle.bucket_store.proofs.Searching.{searched}
-use Rattle.bucket_store.proofs.searches.place_of_bucket.Goals as goal
+use Rattle.bucket_store.proofs.searches.place_of_text.Goals as goal
 
 -- the closure compares a bucket's name with the name
 pub returns : goal.returns
