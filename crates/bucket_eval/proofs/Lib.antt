@@ -1,5 +1,10 @@
 pub mod Elements
 mod Best
+pub mod Buckets
+mod Offers
+mod Held
+mod Places
+mod Targets
 pub mod Decisions
 pub mod Reordered
 pub mod Rising

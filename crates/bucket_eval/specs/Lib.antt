@@ -1,3 +1,6 @@
 pub mod Least
 pub mod Reordered
 pub mod Rising
+pub mod Evaluation
+pub mod Found
+pub mod parts

@@ -12,7 +12,13 @@ ghost use Rattle.cynara_keys.specs.PolicyResult.{bucket};
 ghost use Rattle.bucket_eval.specs.Least.{counts, decision_cmp, least_policy, DecidesAmong, NoneCounts};
 ghost use Rattle.bucket_eval.specs.Rising.{IsRising, HasKeyAt, BelongsAt};
 
+mod answers;
+mod evaluations;
+mod nested;
+
+pub use answers::{Answer, Cause, Found, Row, Verdict};
 use cynara_keys::{Key, Kind, Policy, Question};
+pub use evaluations::{describe, plain};
 
 /// The place of the policy that decides the question, from 0: the least by result (kind, then metadata) and then by key
 /// of the policies that match the question and whose result isn't NONE, and the first of equal ones. `None` where there
