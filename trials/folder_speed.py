@@ -24,7 +24,7 @@ def built(scratch):
         shutil.copytree(CRATES / crate, scratch / "crates" / crate, symlinks=True)
     source = scratch / "crates" / "folder_commit" / "src"
     source.mkdir(parents=True)
-    shutil.copy(HERE / "folder_commit.rt", source / "main.rt")
+    shutil.copy(HERE / "folder_commit.rt.txt", source / "main.rt")
     lines = ["desk_ports: thiserror", "folder_disk: desk_ports", "folder_commit: desk_ports folder_disk anyhow"]
     (scratch / "crates.txt").write_text("\n".join(lines) + "\n")
     first = scratch / "first"
