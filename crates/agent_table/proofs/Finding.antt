@@ -1,5 +1,6 @@
 -- What the places that a search gives have to do with the list.
-use Rattle.std.proofs.Common.{◌≡◌, ℕ, ◌<◌, ◌==◌, Bool, true, false, not, cond, ◌&&◌, List, [], ◌∷◌, length, get_or, Option, Some, None, IfSome, refl, sym, ap, ◌∙◌, subst}
+use Rattle.std.proofs.Common.{◌≡◌, ℕ, ◌<◌, ◌==◌, Bool, true, false, not, cond, ◌&&◌, List, [], ◌∷◌, length, get_or}
+use Rattle.std.proofs.Common.{Option, Some, None, IfSome, refl, sym, ap, ◌∙◌, subst}
 use Rattle.std.specs.List.{AllByRecursion, slice_get}
 use Rattle.std.specs.Option.{option_map}
 use Rattle.std.specs.Vec.{with_items}
@@ -11,7 +12,8 @@ use mathlib.Core.Bool.{true≢false}
 use Rattle.agent_table.specs.declared.open_questions.OpenQuestion.{OpenQuestion}
 use Rattle.agent_table.specs.declared.open_questions.State.{State}
 use Rattle.agent_table.specs.declared.open_questions.State.TheVariants.{Waiting, Given, Answered, Gone}
-use Rattle.agent_table.specs.OpenQuestion.{is_waiting, is_given, is_owed_by, waits_for, numbered, first_waiting, with_state, without}
+use Rattle.agent_table.specs.OpenQuestion.{is_waiting, is_given, is_owed_by, waits_for, numbered, first_waiting}
+use Rattle.agent_table.specs.OpenQuestion.{with_state, without}
 use Rattle.agent_table.specs.parts.Rising.{Rises, numbers_of}
 use Rattle.agent_table.specs.parts.Waiting.{Queues, queue_of, ChangesQueue}
 use Rattle.agent_table.specs.parts.Kept.{AreKept}
@@ -40,18 +42,22 @@ pub stands-at : (questions lent : List OpenQuestion) (n at : ℕ) (question : Op
 stands-at questions lent n at question same found lt is =
     let here : slice_get questions at ≡ numbered n questions = rw same at found in
     let range : at < length questions = rw same at lt in
-    let place : slice_get questions at ≡ Some question = slice_get_read questions (length questions) at question refl range is in
+    let place : slice_get questions at ≡ Some question =
+    slice_get_read questions (length questions) at question refl range is in
     record { found = sym here ∙ place; place = place }
 
 -- the question read at the place of the first that waits
 pub first-read : (questions : List OpenQuestion) (kind at : ℕ) (question : OpenQuestion)
-    → slice_get questions at ≡ first_waiting kind questions → at < length questions → question ≡ get_or questions at question
+    → slice_get questions at ≡ first_waiting kind questions → at < length questions
+    → question ≡ get_or questions at question
     → first_waiting kind questions ≡ Some question
 first-read questions kind at question found lt is =
     sym found ∙ slice_get_read questions (length questions) at question refl lt is
 
-pub first-stands : (questions : List OpenQuestion) (kind at : ℕ) (question : OpenQuestion) → Rises (numbers_of questions)
-    → slice_get questions at ≡ first_waiting kind questions → at < length questions → question ≡ get_or questions at question
+pub first-stands : (questions : List OpenQuestion) (kind at : ℕ) (question : OpenQuestion)
+    → Rises (numbers_of questions)
+    → slice_get questions at ≡ first_waiting kind questions → at < length questions
+    → question ≡ get_or questions at question
     → StandsAt questions question.number at question
 first-stands questions kind at question rises found lt is = record {
   found =
@@ -60,7 +66,8 @@ first-stands questions kind at question rises found lt is = record {
   place = slice_get_read questions (length questions) at question refl lt is;
 }
 
-module _ {questions : List OpenQuestion} {n at : ℕ} {question : OpenQuestion} (stands : StandsAt questions n at question) where
+module _ {questions : List OpenQuestion} {n at : ℕ} {question : OpenQuestion}
+    (stands : StandsAt questions n at question) where
   pub taken-is : (taken : OpenQuestion) → slice_get questions at ≡ Some taken → taken ≡ question
   taken-is taken is = let both : Some taken ≡ Some question = sym is ∙ stands.place in cc
 
@@ -77,7 +84,8 @@ module _ {questions : List OpenQuestion} {n at : ℕ} {question : OpenQuestion} 
       → IfSome (slice_get lent at) (λ found. written ≡ with_state found.number state lent)
       → written ≡ with_state n state questions
   written-noted lent written state same noted =
-      let P : Option OpenQuestion → Type 0 = λ o. IfSome o (λ found. written ≡ with_state found.number state questions) in
+      let P : Option OpenQuestion → Type 0 =
+      λ o. IfSome o (λ found. written ≡ with_state found.number state questions) in
       let at_questions : P (slice_get questions at) = rw same at noted in
       let one : written ≡ with_state question.number state questions = subst P stands.place at_questions in
       one ∙ ap (λ m. with_state m state questions) (number-is n questions question stands.found)
@@ -99,13 +107,15 @@ changed-first kind n m old new question own same changed =
     subst P (sym own) (subst Q same changed)
 
 -- no open question has the number that comes next
-pub numbered-next : (n : ℕ) (questions : List OpenQuestion) → AllByRecursion (λ number. number < n) (numbers_of questions)
+pub numbered-next : (n : ℕ) (questions : List OpenQuestion)
+    → AllByRecursion (λ number. number < n) (numbers_of questions)
     → numbered n questions ≡ None
 numbered-next n [] below = refl
 numbered-next n (first ∷ questions) below = rw (eqb-below first.number n below.0) (numbered-next n questions below.1)
 
 -- without the number of no question, all stay
-pub without-none : (n : ℕ) (questions : List OpenQuestion) → numbered n questions ≡ None → without n questions ≡ questions
+pub without-none : (n : ℕ) (questions : List OpenQuestion) → numbered n questions ≡ None
+    → without n questions ≡ questions
 without-none n [] none = refl
 without-none n (first ∷ questions) none =
     let P : Bool → Type 0 = λ b. cond b (Some first) (numbered n questions) ≡ None
@@ -132,7 +142,8 @@ owed-idle kind question owed =
 -- what waits for a kind is of that kind
 pub waits-kind : (kind : ℕ) (question : OpenQuestion) → waits_for kind question ≡ true → question.kind.0 ≡ kind
 waits-kind kind question waits =
-    let P : Bool → Type 0 = λ b. (question.kind.0 == kind) ≡ b → (b && is_waiting question.state) ≡ true → question.kind.0 ≡ kind in
+    let P : Bool → Type 0 =
+    λ b. (question.kind.0 == kind) ≡ b → (b && is_waiting question.state) ≡ true → question.kind.0 ≡ kind in
     let cases : (b : Bool) → P b =
     λ b. elim b as P [ true ↦ λ is h. eqb-is question.kind.0 kind is | false ↦ λ is h. absurd (true≢false (sym h)) ] in
     cases (question.kind.0 == kind) refl waits
@@ -142,7 +153,8 @@ option_map-none f None h = refl
 option_map-none f (Some x) h = cc
 
 module _ (questions : List OpenQuestion) (queues : Queues) (next : ℕ) (kept : AreKept questions queues next) where
-  front : (kind : ℕ) → slice_get (queue_of kind queues) 0 ≡ option_map (λ (q : OpenQuestion). q.number) (first_waiting kind questions)
+  front : (kind : ℕ) → slice_get (queue_of kind queues) 0
+      ≡ option_map (λ (q : OpenQuestion). q.number) (first_waiting kind questions)
   front kind =
       ap (λ ns. slice_get ns 0) (kept.queues_of kind)
       ∙ first-filter (λ (q : OpenQuestion). q.number) (waits_for kind) questions
@@ -160,10 +172,12 @@ module _ (questions : List OpenQuestion) (queues : Queues) (next : ℕ) (kept : 
       subst P same (find-numbered (λ (q : OpenQuestion). q.number) (waits_for kind) questions question kept.rising is)
 
   -- the number at the front of the queue is that of the first question that waits
-  pub first-some : (kind n : ℕ) → slice_get (queue_of kind queues) 0 ≡ Some n → numbered n questions ≡ first_waiting kind questions
+  pub first-some : (kind n : ℕ) → slice_get (queue_of kind queues) 0 ≡ Some n
+      → numbered n questions ≡ first_waiting kind questions
   first-some kind n is = same-number kind n (first_waiting kind questions) refl (sym (front kind) ∙ is)
 
   -- the numbers in a queue rise
   pub queue-rises : (kind : ℕ) → Rises (queue_of kind queues)
   queue-rises kind =
-      subst Rises (sym (kept.queues_of kind)) (Rises-filter (λ (q : OpenQuestion). q.number) (waits_for kind) questions kept.rising)
+      subst Rises (sym (kept.queues_of kind))
+      (Rises-filter (λ (q : OpenQuestion). q.number) (waits_for kind) questions kept.rising)

@@ -1,5 +1,6 @@
 -- What each call keeps of the table's fields.
-use Rattle.std.proofs.Common.{◌≡◌, ℕ, ◌+◌, ◌<◌, ◌==◌, Bool, true, false, not, cond, ◌&&◌, List, [], ◌∷◌, ◌++◌, Some, refl, sym, ap, ◌∙◌, subst, arith}
+use Rattle.std.proofs.Common.{◌≡◌, ℕ, ◌+◌, ◌<◌, ◌==◌, Bool, true, false, not, cond, ◌&&◌, List, [], ◌∷◌, ◌++◌, Some}
+use Rattle.std.proofs.Common.{refl, sym, ap, ◌∙◌, subst, arith}
 use Rattle.std.specs.List.{AllByRecursion}
 use Rattle.agent_table.specs.declared.open_questions.OpenQuestion.{OpenQuestion}
 use Rattle.agent_table.specs.declared.open_questions.State.{State}
@@ -7,8 +8,10 @@ use Rattle.agent_table.specs.OpenQuestion.{is_waiting, once_left, waits_for, num
 use Rattle.agent_table.specs.parts.Rising.{Rises, numbers_of}
 use Rattle.agent_table.specs.parts.Waiting.{numbers_waiting, Queues, queue_of, ChangesQueue, AreQueuesOf}
 use Rattle.agent_table.specs.parts.Kept.{AreKept}
-use Rattle.agent_table.proofs.Rising.{eqb-is, Rises-filter, Rises-append, AllByRecursion-append, AllByRecursion-weaker, AllByRecursion-map-filter}
-use Rattle.agent_table.proofs.Waiting.{others, others-absent, waiting-push, waiting-noted, waiting-without, waiting-left}
+use Rattle.agent_table.proofs.Rising.{eqb-is, Rises-filter, Rises-append, AllByRecursion-append}
+use Rattle.agent_table.proofs.Rising.{AllByRecursion-weaker, AllByRecursion-map-filter}
+use Rattle.agent_table.proofs.Waiting.{others, others-absent, waiting-push, waiting-noted, waiting-without}
+use Rattle.agent_table.proofs.Waiting.{waiting-left}
 
 -- ---- the numbers
 
@@ -17,16 +20,19 @@ numbers-noted : (n : ℕ) (state : State) (questions : List OpenQuestion)
 numbers-noted n state [] = refl
 numbers-noted n state (first ∷ questions) =
     elim (first.number == n)
-    as (λ b. (cond b (record first { state = state }) first).number ∷ numbers_of (with_state n state questions) ≡ first.number ∷ numbers_of questions) [
+    as (λ b. (cond b (record first { state = state }) first).number ∷ numbers_of (with_state n state questions)
+    ≡ first.number ∷ numbers_of questions) [
       | true ↦ ap (λ l. first.number ∷ l) (numbers-noted n state questions)
       | false ↦ ap (λ l. first.number ∷ l) (numbers-noted n state questions)
     ]
 
-numbers-left : (kind : ℕ) (questions : List OpenQuestion) → numbers_of (agent_left kind questions) ≡ numbers_of questions
+numbers-left : (kind : ℕ) (questions : List OpenQuestion)
+    → numbers_of (agent_left kind questions) ≡ numbers_of questions
 numbers-left kind [] = refl
 numbers-left kind (first ∷ questions) =
     elim (first.kind.0 == kind)
-    as (λ b. (cond b (record first { state = once_left first.state }) first).number ∷ numbers_of (agent_left kind questions)
+    as (λ b. (cond b (record first { state = once_left first.state }) first).number ∷ numbers_of
+    (agent_left kind questions)
     ≡ first.number ∷ numbers_of questions) [
       | true ↦ ap (λ l. first.number ∷ l) (numbers-left kind questions)
       | false ↦ ap (λ l. first.number ∷ l) (numbers-left kind questions)
@@ -85,23 +91,23 @@ module _ (questions : List OpenQuestion) (old : Queues) (are : AreQueuesOf quest
 -- ---- the calls
 
 module _ {questions : List OpenQuestion} {old : Queues} {next : ℕ} (kept : AreKept questions old next) where
-  -- queues with the same numbers do as well
-  pub kept-queues : (new : Queues) → ((k : ℕ) → queue_of k new ≡ queue_of k old) → AreKept questions new next
-  kept-queues new same = record { rising = kept.rising; below = kept.below; queues_of = λ k. same k ∙ kept.queues_of k }
-
   pub kept-put : (question : OpenQuestion) (new : Queues) → question.number ≡ next → is_waiting question.state ≡ true
       → ChangesQueue question.kind.0 (queue_of question.kind.0 old ++ question.number ∷ []) old new
       → AreKept (questions ++ question ∷ []) new (next + 1)
   kept-put question new is waits changed =
       let further : AllByRecursion (λ number. number < next + 1) (numbers_of questions) =
-      AllByRecursion-weaker (λ number. number < next) (λ number. number < next + 1) (λ number lt. omega arith) (numbers_of questions) kept.below in
+      AllByRecursion-weaker (λ number. number < next) (λ number. number < next + 1) (λ number lt. omega arith)
+      (numbers_of questions) kept.below in
       let below : AllByRecursion (λ number. number < question.number) (numbers_of questions) =
-      (let P : ℕ → Type 0 = λ m. AllByRecursion (λ number. number < m) (numbers_of questions) in subst P (sym is) kept.below) in
+      (let P : ℕ → Type 0 = λ m. AllByRecursion (λ number. number < m) (numbers_of questions) in
+      subst P (sym is) kept.below) in
       record {
-        rising = rw (numbers-push questions question) (Rises-append (numbers_of questions) question.number kept.rising below);
+        rising = rw (numbers-push questions question)
+            (Rises-append (numbers_of questions) question.number kept.rising below);
         below =
             rw (numbers-push questions question)
-            (AllByRecursion-append (λ number. number < next + 1) (numbers_of questions) question.number further (omega arith));
+            (AllByRecursion-append (λ number. number < next + 1) (numbers_of questions) question.number further
+            (omega arith));
         queues_of = queues-push questions old kept.queues_of question new waits changed;
       }
 
@@ -121,7 +127,9 @@ module _ {questions : List OpenQuestion} {old : Queues} {next : ℕ} (kept : Are
     kept-noted state idle still = record {
       rising = rw (numbers-noted n state questions) kept.rising;
       below = rw (numbers-noted n state questions) kept.below;
-      queues_of = queues-same questions old kept.queues_of (with_state n state questions) n question kept.rising found (λ k. waiting-noted k n state questions still) idle;
+      queues_of = queues-same questions old kept.queues_of
+          (with_state n state questions) n question kept.rising found
+          (λ k. waiting-noted k n state questions still) idle;
     }
 
     -- a question waits no more, and is taken out of its queue
@@ -132,15 +140,18 @@ module _ {questions : List OpenQuestion} {old : Queues} {next : ℕ} (kept : Are
       rising = rw (numbers-noted n state questions) kept.rising;
       below = rw (numbers-noted n state questions) kept.below;
       queues_of =
-          queues-others questions old kept.queues_of (with_state n state questions) n question kept.rising found (λ k. waiting-noted k n state questions still) new changed;
+          queues-others questions old kept.queues_of (with_state n state questions) n question kept.rising found
+          (λ k. waiting-noted k n state questions still) new changed;
     }
 
     -- a question that doesn't wait is taken away
     pub kept-taken : is_waiting question.state ≡ false → AreKept (without n questions) old next
     kept-taken idle = record {
       rising = Rises-filter (λ (q : OpenQuestion). q.number) (λ q. not (q.number == n)) questions kept.rising;
-      below = AllByRecursion-map-filter (λ (q : OpenQuestion). q.number) (λ number. number < next) (λ q. not (q.number == n)) questions kept.below;
-      queues_of = queues-same questions old kept.queues_of (without n questions) n question kept.rising found (λ k. waiting-without k n questions) idle;
+      below = AllByRecursion-map-filter (λ (q : OpenQuestion). q.number) (λ number. number < next)
+          (λ q. not (q.number == n)) questions kept.below;
+      queues_of = queues-same questions old kept.queues_of (without n questions) n question kept.rising found
+          (λ k. waiting-without k n questions) idle;
     }
 
     -- a question is taken away, and out of its queue
@@ -148,6 +159,8 @@ module _ {questions : List OpenQuestion} {old : Queues} {next : ℕ} (kept : Are
         → AreKept (without n questions) new next
     kept-dropped new changed = record {
       rising = Rises-filter (λ (q : OpenQuestion). q.number) (λ q. not (q.number == n)) questions kept.rising;
-      below = AllByRecursion-map-filter (λ (q : OpenQuestion). q.number) (λ number. number < next) (λ q. not (q.number == n)) questions kept.below;
-      queues_of = queues-others questions old kept.queues_of (without n questions) n question kept.rising found (λ k. waiting-without k n questions) new changed;
+      below = AllByRecursion-map-filter (λ (q : OpenQuestion). q.number) (λ number. number < next)
+          (λ q. not (q.number == n)) questions kept.below;
+      queues_of = queues-others questions old kept.queues_of (without n questions) n question kept.rising found
+          (λ k. waiting-without k n questions) new changed;
     }

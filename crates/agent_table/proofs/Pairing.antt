@@ -1,5 +1,6 @@
 -- Over a whole run, each open question is the one that was put under its number, and its answer the one given to it.
-use Rattle.std.proofs.Common.{◌≡◌, ℕ, ◌+◌, ◌<◌, ◌≤◌, ◌==◌, Bool, true, false, not, cond, ◌&&◌, List, [], ◌∷◌, map, filter, Option, Some, None, is_none, IfOk, Result, Ok, Err, refl, ◌∙◌, subst, arith}
+use Rattle.std.proofs.Common.{◌≡◌, ℕ, ◌+◌, ◌<◌, ◌≤◌, ◌==◌, Bool, true, false, not, cond, ◌&&◌, List, [], ◌∷◌, map}
+use Rattle.std.proofs.Common.{filter, Option, Some, None, is_none, IfOk, Result, Ok, Err, refl, ◌∙◌, subst, arith}
 use Rattle.std.specs.List.{AllByRecursion, find}
 use Rattle.cynara_keys.specs.declared.results.Kind.{Kind}
 use Rattle.cynara_keys.specs.declared.keys.Question.{Question}
@@ -9,11 +10,14 @@ use Rattle.agent_table.specs.declared.open_questions.State.TheVariants.{Waiting,
 use Rattle.agent_table.specs.declared.refusals.TakeRefusal.{TakeRefusal}
 use Rattle.agent_table.specs.declared.refusals.TakeRefusal.TheVariants.{UnknownNumber, AgentGone, Stopped, NotYet}
 use Rattle.agent_table.specs.declared.table.Taken.{Taken}
-use Rattle.agent_table.specs.OpenQuestion.{numbered, first_waiting, is_owed_by, once_left, noted, without, left_by, agent_left}
+use Rattle.agent_table.specs.OpenQuestion.{numbered, first_waiting, is_owed_by, once_left, noted, without, left_by}
+use Rattle.agent_table.specs.OpenQuestion.{agent_left}
 use Rattle.agent_table.specs.Table.{Table, after_register, after_put, after_next, after_answer}
 use Rattle.agent_table.specs.Refusals.{register_fault, put_fault, take_at, take_from, take_reply, after_take}
-use Rattle.agent_table.specs.Runs.{Call, register, put, next, answer, take, drop_agent, stop, table_after, question_put, answer_given, IsPaired}
-use Rattle.agent_table.proofs.Rising.{eqb-is, eqb-same, eqb-below, eqb-above, eqb-flip, AllByRecursion-append, AllByRecursion-weaker}
+use Rattle.agent_table.specs.Runs.{Call, register, put, next, answer, take, drop_agent, stop, table_after}
+use Rattle.agent_table.specs.Runs.{question_put, answer_given, IsPaired}
+use Rattle.agent_table.proofs.Rising.{eqb-is, eqb-same, eqb-below, eqb-above, eqb-flip, AllByRecursion-append}
+use Rattle.agent_table.proofs.Rising.{AllByRecursion-weaker}
 use Rattle.agent_table.proofs.Waiting.{find-passes}
 
 -- ---- lists
@@ -28,7 +32,11 @@ AllByRecursion-filter : {X : Type 0} (P : X → Type 0) (test : X → Bool) (xs 
 AllByRecursion-filter P test [] all = all
 AllByRecursion-filter P test (x ∷ xs) all =
     let rest = AllByRecursion-filter P test xs all.1 in
-    elim (test x) as (λ b. AllByRecursion P (cond b (x ∷ filter test xs) (filter test xs))) [ true ↦ (all.0, rest) | false ↦ rest ]
+    elim (test x) as (λ b. AllByRecursion P (cond b (x ∷ filter test xs) (filter test xs))) [
+      | true ↦
+          (all.0, rest)
+      | false ↦ rest
+    ]
 
 AllByRecursion-find : {X : Type 0} (P : X → Type 0) (test : X → Bool) (xs : List X) (x : X) → AllByRecursion P xs
     → find test xs ≡ Some x → P x
@@ -51,12 +59,14 @@ AnsweredAs (Answered allowed) given = given ≡ Some allowed
 AnsweredAs Gone given = Unit {0}
 
 -- the question is the one put under its number, and its answer the one given to it
-record Stands (puts : ℕ → Option Question) (given : ℕ → Option Bool) (bound : ℕ) (question : OpenQuestion) : Type 0 where
+record Stands (puts : ℕ → Option Question) (given : ℕ → Option Bool) (bound : ℕ)
+    (question : OpenQuestion) : Type 0 where
   below : question.number < bound
   was_put : puts question.number ≡ Some question.question
   was_answered : AnsweredAs question.state (given question.number)
 
-AnsweredAs-once_left : (state : State) (given : Option Bool) → AnsweredAs state given → AnsweredAs (once_left state) given
+AnsweredAs-once_left : (state : State) (given : Option Bool) → AnsweredAs state given
+    → AnsweredAs (once_left state) given
 AnsweredAs-once_left Waiting given is = tt
 AnsweredAs-once_left Given given is = tt
 AnsweredAs-once_left (Answered allowed) given is = is
@@ -98,7 +108,8 @@ module _ (puts : ℕ → Option Question) (given : ℕ → Option Bool) (table :
 
   stand-answer : (number : ℕ) (allowed owed : Bool)
       → AllByRecursion
-      (Stands puts (λ n. cond (owed && (number == n)) (Some allowed) (given n)) (cond owed (after_answer number allowed table) table).next)
+      (Stands puts (λ n. cond (owed && (number == n)) (Some allowed) (given n))
+      (cond owed (after_answer number allowed table) table).next)
       (cond owed (after_answer number allowed table) table).questions
   stand-answer number allowed false = all
   stand-answer number allowed true =
@@ -106,7 +117,8 @@ module _ (puts : ℕ → Option Question) (given : ℕ → Option Bool) (table :
       let Now : OpenQuestion → Type 0 = Stands puts given_now table.next in
       AllByRecursion-map (Stands puts given table.next) Now (noted number (Answered allowed))
       (λ other s.
-      let P : Bool → Type 0 = λ b. (other.number == number) ≡ b → Now (cond b (record other { state = Answered allowed }) other) in
+      let P : Bool → Type 0 =
+      λ b. (other.number == number) ≡ b → Now (cond b (record other { state = Answered allowed }) other) in
       let cases : (b : Bool) → P b =
       λ b. elim b as P [
         | true ↦ λ is.
@@ -121,10 +133,12 @@ module _ (puts : ℕ → Option Question) (given : ℕ → Option Bool) (table :
 
   stand-without : (number : ℕ) → AllByRecursion (Stands puts given table.next) (without number table.questions)
   stand-without number =
-      AllByRecursion-filter (Stands puts given table.next) (λ question. not (question.number == number)) table.questions all
+      AllByRecursion-filter (Stands puts given table.next)
+      (λ question. not (question.number == number)) table.questions all
 
   stand-take : (number : ℕ) (reply : Result Taken TakeRefusal)
-      → AllByRecursion (Stands puts given (after_take reply number table).next) (after_take reply number table).questions
+      → AllByRecursion (Stands puts given (after_take reply number table).next)
+      (after_take reply number table).questions
   stand-take number (Ok taken) = stand-without number
   stand-take number (Err (UnknownNumber other)) = stand-without number
   stand-take number (Err (AgentGone other)) = stand-without number
@@ -147,7 +161,8 @@ module _ (puts : ℕ → Option Question) (given : ℕ → Option Bool) (table :
       table.questions all
 
 all-stand : (run : List Call)
-    → AllByRecursion (Stands (λ n. question_put n run) (λ n. answer_given n run) (table_after run).next) (table_after run).questions
+    → AllByRecursion (Stands (λ n. question_put n run) (λ n. answer_given n run) (table_after run).next)
+    (table_after run).questions
 all-stand [] = tt
 all-stand (register kind ∷ run) =
     let table = table_after run in
@@ -157,7 +172,8 @@ all-stand (register kind ∷ run) =
     (cond b (after_register kind.0 table) table).questions)
     [ true ↦ all-stand run | false ↦ all-stand run ]
 all-stand (put kind question metadata ∷ run) =
-    stand-put (λ n. question_put n run) (λ n. answer_given n run) (table_after run) (all-stand run) kind question metadata
+    stand-put (λ n. question_put n run) (λ n. answer_given n run) (table_after run)
+    (all-stand run) kind question metadata
     (is_none (put_fault kind (table_after run)))
 all-stand (next kind ∷ run) =
     stand-next (λ n. question_put n run) (λ n. answer_given n run) (table_after run) (all-stand run)
@@ -193,9 +209,10 @@ taken-from run number stopped None is = tt
 taken-from run number stopped (Some question) is =
     let questions = (table_after run).questions in
     let test = λ (q : OpenQuestion). q.number == number in
-    taken-pair run number stopped question question.state (eqb-is question.number number (find-passes test questions question is)) refl
-    (AllByRecursion-find (Stands (λ n. question_put n run) (λ n. answer_given n run) (table_after run).next) test questions question
-    (all-stand run) is)
+    taken-pair run number stopped question question.state
+    (eqb-is question.number number (find-passes test questions question is)) refl
+    (AllByRecursion-find (Stands (λ n. question_put n run) (λ n. answer_given n run) (table_after run).next)
+    test questions question (all-stand run) is)
 
 -- what is taken is the question put under the number, with the answer given to it
 pub all-paired : (run : List Call) (number : ℕ) → IfOk (take_reply number (table_after run)) (IsPaired number run)
@@ -208,7 +225,8 @@ after_next-next : (found : Option OpenQuestion) (table : Table) → (after_next 
 after_next-next None table = refl
 after_next-next (Some found) table = refl
 
-after_take-next : (reply : Result Taken TakeRefusal) (number : ℕ) (table : Table) → (after_take reply number table).next ≡ table.next
+after_take-next : (reply : Result Taken TakeRefusal) (number : ℕ) (table : Table)
+    → (after_take reply number table).next ≡ table.next
 after_take-next (Ok taken) number table = refl
 after_take-next (Err (UnknownNumber other)) number table = refl
 after_take-next (Err (AgentGone other)) number table = refl
@@ -219,7 +237,8 @@ cond-next : (b : Bool) (one other : Table) → one.next ≡ other.next → (cond
 cond-next true one other same = same
 cond-next false one other same = refl
 
-put-unused : (puts : ℕ → Option Question) (table : Table) (kind : Kind) (question : Question) (metadata : List ℕ) (m : ℕ)
+put-unused : (puts : ℕ → Option Question) (table : Table) (kind : Kind) (question : Question) (metadata : List ℕ)
+    (m : ℕ)
     (accepted : Bool) → (table.next ≤ m → puts m ≡ None)
     → (cond accepted (after_put kind question metadata table) table).next ≤ m
     → cond (accepted && (table.next == m)) (Some question) (puts m) ≡ None
@@ -235,14 +254,16 @@ all-unused (register kind ∷ run) m le =
     let same = cond-next (is_none (register_fault kind table)) (after_register kind.0 table) table refl in
     all-unused run m (omega (arith, same))
 all-unused (put kind question metadata ∷ run) m le =
-    put-unused (λ n. question_put n run) (table_after run) kind question metadata m (is_none (put_fault kind (table_after run)))
+    put-unused (λ n. question_put n run) (table_after run) kind question metadata m
+    (is_none (put_fault kind (table_after run)))
     (all-unused run m) le
 all-unused (next kind ∷ run) m le =
     let same = after_next-next (first_waiting kind (table_after run).questions) (table_after run) in
     all-unused run m (omega (arith, same))
 all-unused (answer kind number allowed ∷ run) m le =
     let table = table_after run in
-    let same = cond-next (is_owed_by kind (numbered number table.questions)) (after_answer number allowed table) table refl in
+    let same =
+    cond-next (is_owed_by kind (numbered number table.questions)) (after_answer number allowed table) table refl in
     all-unused run m (omega (arith, same))
 all-unused (take number ∷ run) m le =
     let same = after_take-next (take_reply number (table_after run)) number (table_after run) in

@@ -1,5 +1,6 @@
 -- Lists along which a number rises: one place at most has a number, and what a change at that place makes of the list.
-use Rattle.std.proofs.Common.{◌≡◌, ℕ, ◌<◌, ◌==◌, Bool, true, false, not, cond, List, [], ◌∷◌, ◌++◌, zero, suc, length, map, filter, set, get_or, Some, None, refl, sym, ap, subst, arith}
+use Rattle.std.proofs.Common.{◌≡◌, ℕ, ◌<◌, ◌==◌, Bool, true, false, not, cond, List, [], ◌∷◌, ◌++◌, zero, suc}
+use Rattle.std.proofs.Common.{length, map, filter, set, get_or, Some, None, refl, sym, ap, subst, arith}
 use Rattle.std.specs.List.{AllByRecursion, find, remove}
 use Rattle.std.proofs.lemmas.Bool.Decides.{nat_tests}
 use Rattle.agent_table.specs.parts.Rising.{Rises}
@@ -50,7 +51,8 @@ module _ {X : Type 0} (key : X → ℕ) where
       let P : X → Type 0 = λ v. find (λ w. key w == key v) (y ∷ xs) ≡ Some v in
       subst P (sym is) (rw (eqb-same (key y)) refl)
   find-at (y ∷ xs) (suc at) x rises lt is =
-      rw (eqb-below (key y) (key x) (later (key y) xs at x rises.0 (omega arith) is)) (find-at xs at x rises.1 (omega arith) is)
+      rw (eqb-below (key y) (key x) (later (key y) xs at x rises.0 (omega arith) is))
+      (find-at xs at x rises.1 (omega arith) is)
 
   -- without its number is without it
   pub filter-at : (xs : List X) (at : ℕ) (x : X) → Rises (map key xs) → at < length xs → x ≡ get_or xs at x
@@ -98,7 +100,8 @@ pub AllByRecursion-append : {X : Type 0} (P : X → Type 0) (xs : List X) (x : X
 AllByRecursion-append P [] x all here = (here, tt)
 AllByRecursion-append P (y ∷ xs) x all here = (all.0, AllByRecursion-append P xs x all.1 here)
 
-pub AllByRecursion-weaker : {X : Type 0} (P Q : X → Type 0) → ((x : X) → P x → Q x) → (xs : List X) → AllByRecursion P xs
+pub AllByRecursion-weaker : {X : Type 0} (P Q : X → Type 0) → ((x : X) → P x → Q x) → (xs : List X)
+    → AllByRecursion P xs
     → AllByRecursion Q xs
 AllByRecursion-weaker P Q weaker [] all = tt
 AllByRecursion-weaker P Q weaker (x ∷ xs) all = (weaker x all.0, AllByRecursion-weaker P Q weaker xs all.1)

@@ -1,5 +1,6 @@
 -- What a binary search finds in numbers that rise.
-use Rattle.std.proofs.Common.{◌≡◌, ℕ, ◌<◌, ◌==◌, false, not, List, [], ◌∷◌, zero, suc, length, map, filter, get_or, None, MatchOption, Result, Ok, Err, refl, sym, ap, ◌∙◌, subst, arith, add-one}
+use Rattle.std.proofs.Common.{◌≡◌, ℕ, ◌<◌, ◌==◌, false, not, List, [], ◌∷◌, zero, suc, length, map, filter, get_or}
+use Rattle.std.proofs.Common.{None, MatchOption, Result, Ok, Err, refl, sym, ap, ◌∙◌, subst, arith, add-one}
 use Rattle.std.specs.declared.cmp.Ordering.TheVariants.{Equal}
 use Rattle.std.specs.List.{find, remove, slice_get}
 use Rattle.std.specs.List.Sorted.{IsSortedByKey, IsSearchInRange, IsBinarySearchResult}
@@ -33,7 +34,8 @@ module _ {X : Type 0} (key : X → ℕ) where
   find-nowhere : (n : ℕ) (xs : List X) → ((k : ℕ) (d : X) → k < length xs → (key (get_or xs k d) == n) ≡ false)
       → find (λ x. key x == n) xs ≡ None
   find-nowhere n [] apart = refl
-  find-nowhere n (x ∷ xs) apart = rw (apart 0 x (omega arith)) (find-nowhere n xs (λ k d lt. apart (suc k) d (omega arith)))
+  find-nowhere n (x ∷ xs) apart =
+      rw (apart 0 x (omega arith)) (find-nowhere n xs (λ k d lt. apart (suc k) d (omega arith)))
 
   filter-nowhere : (n : ℕ) (xs : List X) → ((k : ℕ) (d : X) → k < length xs → (key (get_or xs k d) == n) ≡ false)
       → filter (λ x. not (key x == n)) xs ≡ xs

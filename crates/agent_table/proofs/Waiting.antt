@@ -1,5 +1,6 @@
 -- The queues against the open questions: what a change of the one makes of the other.
-use Rattle.std.proofs.Common.{◌≡◌, ℕ, ◌<◌, ◌==◌, Bool, true, false, not, cond, ◌&&◌, List, [], ◌∷◌, ◌++◌, map, filter, Some, refl, sym, ap, ◌∙◌, subst}
+use Rattle.std.proofs.Common.{◌≡◌, ℕ, ◌<◌, ◌==◌, Bool, true, false, not, cond, ◌&&◌, List, [], ◌∷◌, ◌++◌, map}
+use Rattle.std.proofs.Common.{filter, Some, refl, sym, ap, ◌∙◌, subst}
 use Rattle.std.specs.List.{AllByRecursion, find, slice_get}
 use Rattle.std.specs.Option.{option_map}
 use Rattle.agent_table.specs.declared.open_questions.OpenQuestion.{OpenQuestion}
@@ -17,7 +18,10 @@ find-passes test [] x found = cc
 find-passes {X} test (y ∷ xs) x found =
     let P : Bool → Type 0 = λ b. b ≡ test y → cond b (Some y) (find test xs) ≡ Some x → test x ≡ true in
     let cases : (b : Bool) → P b =
-    λ b. elim b as P [ true ↦ λ here is. let same : y ≡ x = cc in ap test (sym same) ∙ sym here | false ↦ λ here is. find-passes test xs x is ] in
+    λ b. elim b as P [
+      | true ↦ λ here is. (let same : y ≡ x = cc in ap test (sym same) ∙ sym here)
+      | false ↦ λ here is. find-passes test xs x is
+    ] in
     cases (test y) refl found
 
 pub find-all : {X : Type 0} (key : X → ℕ) (P : ℕ → Type 0) (test : X → Bool) (xs : List X) (x : X)
@@ -26,7 +30,13 @@ find-all key P test [] x all found = cc
 find-all {X} key P test (y ∷ xs) x all found =
     let Q : Bool → Type 0 = λ b. cond b (Some y) (find test xs) ≡ Some x → P (key x) in
     let cases : (b : Bool) → Q b =
-    λ b. elim b as Q [ true ↦ λ is. (let same : y ≡ x = cc in let R : X → Type 0 = λ v. P (key v) in subst R same all.0) | false ↦ λ is. find-all key P test xs x all.1 is ] in
+    λ b. elim b as Q [
+      | true ↦
+          λ is. (let same : y ≡ x = cc in
+          let R : X → Type 0 = λ v. P (key v) in
+          subst R same all.0)
+      | false ↦ λ is. find-all key P test xs x all.1 is
+    ] in
     cases (test y) found
 
 -- what a test finds first is found by its number too
@@ -34,11 +44,14 @@ pub find-numbered : {X : Type 0} (key : X → ℕ) (test : X → Bool) (xs : Lis
     → find test xs ≡ Some x → find (λ y. key y == key x) xs ≡ Some x
 find-numbered key test [] x rises found = cc
 find-numbered {X} key test (y ∷ xs) x rises found =
-    let Q : Bool → Type 0 = λ b. cond b (Some y) (find test xs) ≡ Some x → find (λ z. key z == key x) (y ∷ xs) ≡ Some x in
+    let Q : Bool → Type 0 =
+    λ b. cond b (Some y) (find test xs) ≡ Some x → find (λ z. key z == key x) (y ∷ xs) ≡ Some x in
     let here : y ≡ x → find (λ z. key z == key x) (y ∷ xs) ≡ Some x =
-    λ same. (let R : X → Type 0 = λ v. find (λ z. key z == key v) (y ∷ xs) ≡ Some v in subst R same (rw (eqb-same (key y)) refl)) in
+    λ same. (let R : X → Type 0 =
+    λ v. find (λ z. key z == key v) (y ∷ xs) ≡ Some v in subst R same (rw (eqb-same (key y)) refl)) in
     let behind : find test xs ≡ Some x → find (λ z. key z == key x) (y ∷ xs) ≡ Some x =
-    λ is. rw (eqb-below (key y) (key x) (find-all key (λ l. key y < l) test xs x rises.0 is)) (find-numbered key test xs x rises.1 is) in
+    λ is. rw (eqb-below (key y) (key x) (find-all key (λ l. key y < l) test xs x rises.0 is))
+    (find-numbered key test xs x rises.1 is) in
     let cases : (b : Bool) → Q b =
     λ b. elim b as Q [ true ↦ λ is. here cc | false ↦ λ is. behind is ] in
     cases (test y) found
@@ -49,7 +62,8 @@ pub first-filter : {X : Type 0} (key : X → ℕ) (test : X → Bool) (xs : List
 first-filter key test [] = refl
 first-filter key test (x ∷ xs) =
     elim (test x)
-    as (λ b. slice_get (map key (cond b (x ∷ filter test xs) (filter test xs))) 0 ≡ option_map key (cond b (Some x) (find test xs)))
+    as (λ b. slice_get (map key (cond b (x ∷ filter test xs) (filter test xs))) 0
+    ≡ option_map key (cond b (Some x) (find test xs)))
     [ true ↦ refl | false ↦ first-filter key test xs ]
 
 -- ---- what waits, after a change
@@ -65,15 +79,19 @@ waiting-push k [] question waits =
 waiting-push k (first ∷ questions) question waits =
     let rest = waiting-push k questions question waits in
     elim (waits_for k first)
-    as (λ b. numbers_of (cond b (first ∷ filter (waits_for k) (questions ++ question ∷ [])) (filter (waits_for k) (questions ++ question ∷ [])))
+    as (λ b. numbers_of (cond b (first ∷ filter (waits_for k) (questions ++ question ∷ []))
+    (filter (waits_for k) (questions ++ question ∷ [])))
     ≡ cond (question.kind.0 == k)
-    (numbers_of (cond b (first ∷ filter (waits_for k) questions) (filter (waits_for k) questions)) ++ question.number ∷ [])
+    (numbers_of (cond b (first ∷ filter (waits_for k) questions) (filter (waits_for k) questions))
+    ++ question.number ∷ [])
     (numbers_of (cond b (first ∷ filter (waits_for k) questions) (filter (waits_for k) questions)))) [
       | true ↦
           ap (λ l. first.number ∷ l) rest
           ∙ elim (question.kind.0 == k)
-          as (λ b. first.number ∷ cond b (numbers_waiting k questions ++ question.number ∷ []) (numbers_waiting k questions)
-          ≡ cond b (first.number ∷ numbers_waiting k questions ++ question.number ∷ []) (first.number ∷ numbers_waiting k questions))
+          as (λ b. first.number ∷ cond b (numbers_waiting k questions ++ question.number ∷ [])
+          (numbers_waiting k questions)
+          ≡ cond b (first.number ∷ numbers_waiting k questions ++ question.number ∷ [])
+          (first.number ∷ numbers_waiting k questions))
           [ true ↦ refl | false ↦ refl ]
       | false ↦ rest
     ]
@@ -97,7 +115,8 @@ waiting-noted k n state (first ∷ questions) still =
       | true ↦ λ is.
           rw still
           (elim (first.kind.0 == k)
-          as (λ c. numbers_of (cond (c && false) (record first { state = state } ∷ filter (waits_for k) (with_state n state questions)) (filter (waits_for k) (with_state n state questions)))
+          as (λ c. numbers_of (cond (c && false) (record first { state = state } ∷ filter (waits_for k)
+          (with_state n state questions)) (filter (waits_for k) (with_state n state questions)))
           ≡ others n (numbers_of (cond W (first ∷ tail) tail))) [
             | true ↦
                 rest
@@ -110,7 +129,8 @@ waiting-noted k n state (first ∷ questions) still =
           ])
       | false ↦ λ is.
           elim W
-          as (λ w. numbers_of (cond w (first ∷ filter (waits_for k) (with_state n state questions)) (filter (waits_for k) (with_state n state questions)))
+          as (λ w. numbers_of (cond w (first ∷ filter (waits_for k) (with_state n state questions))
+          (filter (waits_for k) (with_state n state questions)))
           ≡ others n (numbers_of (cond w (first ∷ tail) tail)))
           [ true ↦ rw is (ap (λ l. first.number ∷ l) rest) | false ↦ rest ]
     ] in
@@ -134,7 +154,8 @@ waiting-without k n (first ∷ questions) =
           [ true ↦ rw is refl | false ↦ refl ]
       | false ↦ λ is.
           elim W
-          as (λ w. numbers_of (cond w (first ∷ filter (waits_for k) (without n questions)) (filter (waits_for k) (without n questions)))
+          as (λ w. numbers_of (cond w (first ∷ filter (waits_for k) (without n questions))
+          (filter (waits_for k) (without n questions)))
           ≡ others n (numbers_of (cond w (first ∷ tail) tail)))
           [ true ↦ rw is (ap (λ l. first.number ∷ l) rest) | false ↦ rest ]
     ] in
@@ -151,7 +172,8 @@ waiting-left_own k [] = refl
 waiting-left_own k (first ∷ questions) =
     let rest = waiting-left_own k questions in
     let P : Bool → Type 0 = λ b. (first.kind.0 == k) ≡ b
-    → numbers_of (filter (waits_for k) (cond b (record first { state = once_left first.state }) first ∷ agent_left k questions)) ≡ [] in
+    → numbers_of (filter (waits_for k)
+    (cond b (record first { state = once_left first.state }) first ∷ agent_left k questions)) ≡ [] in
     let cases : (b : Bool) → P b =
     λ b. elim b as P [ true ↦ λ is. rw (is, once_left-idle first.state) rest | false ↦ λ is. rw is rest ] in
     cases (first.kind.0 == k) refl
@@ -165,7 +187,8 @@ waiting-left_other k kind (first ∷ questions) apart =
     let left = filter (waits_for k) (agent_left kind questions) in
     let W = waits_for k first in
     let P : Bool → Type 0 = λ b. (first.kind.0 == kind) ≡ b
-    → numbers_of (filter (waits_for k) (cond b (record first { state = once_left first.state }) first ∷ agent_left kind questions))
+    → numbers_of (filter (waits_for k)
+    (cond b (record first { state = once_left first.state }) first ∷ agent_left kind questions))
     ≡ numbers_of (cond W (first ∷ tail) tail) in
     let cases : (b : Bool) → P b =
     λ b. elim b as P [
@@ -216,8 +239,10 @@ others-absent k n (first ∷ questions) question rises found idle =
           let Q : ℕ → Type 0 = λ m. AllByRecursion (λ l. m < l) (numbers_of tail) in
           let above : AllByRecursion (λ l. n < l) (numbers_of tail) =
           subst Q (eqb-is first.number n is)
-          (AllByRecursion-map-filter (λ (q : OpenQuestion). q.number) (λ l. first.number < l) (waits_for k) questions rises.0) in
-          let R : Bool → Type 0 = λ w. others n (numbers_of (cond w (first ∷ tail) tail)) ≡ numbers_of (cond w (first ∷ tail) tail) in
+          (AllByRecursion-map-filter (λ (q : OpenQuestion). q.number) (λ l. first.number < l)
+          (waits_for k) questions rises.0) in
+          let R : Bool → Type 0 =
+          λ w. others n (numbers_of (cond w (first ∷ tail) tail)) ≡ numbers_of (cond w (first ∷ tail) tail) in
           subst R (sym still) (others-above n (numbers_of tail) above))
       | false ↦ λ is behind.
           (let rest = others-absent k n questions question rises.1 behind idle in

@@ -6,9 +6,11 @@ use Rattle.agent_table.specs.declared.open_questions.OpenQuestion.{OpenQuestion}
 use Rattle.agent_table.specs.declared.open_questions.State.{State}
 use Rattle.agent_table.specs.declared.open_questions.State.TheVariants.{Waiting, Given, Answered, Gone}
 use Rattle.agent_table.specs.declared.refusals.RegisterRefusal.{RegisterRefusal}
-use Rattle.agent_table.specs.declared.refusals.RegisterRefusal.TheVariants.{Stopped as NoneComes, Taken as KindTaken, Memory as NoRoomToRegister}
+use Rattle.agent_table.specs.declared.refusals.RegisterRefusal.TheVariants.{Stopped as NoneComes, Taken as KindTaken}
+use Rattle.agent_table.specs.declared.refusals.RegisterRefusal.TheVariants.{Memory as NoRoomToRegister}
 use Rattle.agent_table.specs.declared.refusals.PutRefusal.{PutRefusal}
-use Rattle.agent_table.specs.declared.refusals.PutRefusal.TheVariants.{Stopped as NoneIsPut, NoAgent, Full, Spent, Memory as NoRoomToPut}
+use Rattle.agent_table.specs.declared.refusals.PutRefusal.TheVariants.{Stopped as NoneIsPut, NoAgent, Full, Spent}
+use Rattle.agent_table.specs.declared.refusals.PutRefusal.TheVariants.{Memory as NoRoomToPut}
 use Rattle.agent_table.specs.declared.refusals.AnswerRefusal.{AnswerRefusal}
 use Rattle.agent_table.specs.declared.refusals.AnswerRefusal.TheVariants.{UnknownNumber as NotOwed}
 use Rattle.agent_table.specs.declared.refusals.TakeRefusal.{TakeRefusal}
@@ -47,7 +49,8 @@ told question = record { number = question.number; question = question.question;
 
 -- an answer is taken where the agent of the kind owes it
 abbrev pub answer_reply : ℕ → ℕ → Table → Result (Unit {0}) AnswerRefusal
-answer_reply kind number table = if is_owed_by kind (numbered number table.questions) then Ok tt else Err (NotOwed number)
+answer_reply kind number table =
+    if is_owed_by kind (numbered number table.questions) then Ok tt else Err (NotOwed number)
 
 -- the answer that stands by a question, or why there is none
 abbrev pub take_at : OpenQuestion → State → Bool → Result Taken TakeRefusal

@@ -4,7 +4,8 @@ use Rattle.cynara_keys.specs.declared.results.Kind.{Kind}
 use Rattle.cynara_keys.specs.declared.keys.Question.{Question}
 use Rattle.agent_table.specs.declared.table.Taken.{Taken}
 use Rattle.agent_table.specs.OpenQuestion.{numbered, first_waiting, is_owed_by}
-use Rattle.agent_table.specs.Table.{Table, fresh, after_register, after_put, after_next, after_answer, after_drop_agent, after_stop}
+use Rattle.agent_table.specs.Table.{Table, fresh, after_register, after_put, after_next, after_answer}
+use Rattle.agent_table.specs.Table.{after_drop_agent, after_stop}
 use Rattle.agent_table.specs.Refusals.{register_fault, put_fault, take_reply, after_take}
 
 -- a call with its arguments. One that wanted memory changed nothing, and is left out of a run

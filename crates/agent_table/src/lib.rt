@@ -1,8 +1,8 @@
 //! The questions that a check puts to an agent, a program that asks the user.
 //!
-//! A policy of Cynara may name an agent by its kind. The table pairs each question with the answer that the agent of its
-//! kind gave to that very number, and with no other. That agents answer for the policy is Cynara's, as its wiki says; the
-//! numbers, the limits and the order of the refusals are this project's profile.
+//! A policy of Cynara may name an agent by its kind. The table pairs each question with the answer that the agent of
+//! its kind gave to that very number, and with no other. That agents answer for the policy is Cynara's, as its wiki
+//! says; the numbers, the limits and the order of the refusals are this project's profile.
 #![tactic(auto)]
 
 mod limits;

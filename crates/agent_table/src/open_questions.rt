@@ -1,6 +1,7 @@
 // Open questions, in the order of their numbers.
 ghost use Rattle.std.specs.Prelude.{◌≡◌, ◌<◌, length, None, Some, IfSome, MatchOption, slice_get};
-ghost use Rattle.agent_table.specs.OpenQuestion.{numbered, is_owed_by, with_state, without, agent_left, left_by, once_left};
+ghost use Rattle.agent_table.specs.OpenQuestion.{numbered, is_owed_by, with_state, without};
+ghost use Rattle.agent_table.specs.OpenQuestion.{agent_left, left_by, once_left};
 ghost use Rattle.agent_table.specs.parts.Rising.{Rises, numbers_of};
 
 use cynara_keys::{Kind, Metadata, Question};
@@ -28,7 +29,7 @@ pub struct OpenQuestion {
     pub state: State,
 }
 
-// The place of the question with the number, by binary search.
+/// The place of the question with the number, by binary search.
 pub fn place_of(questions: &[OpenQuestion], number: u32) -> Option<usize>
     requires { Rises (numbers_of questions.now) }
     ensures found { MatchOption result (numbered number questions.now ≡ None)
@@ -40,14 +41,14 @@ pub fn place_of(questions: &[OpenQuestion], number: u32) -> Option<usize>
         .ok()
 }
 
-// Whether the agent of the kind has the question and owes its answer.
+/// Whether the agent of the kind has the question and owes its answer.
 pub fn is_owed_by(question: &OpenQuestion, kind: Kind) -> bool
     ensures { result ≡ is_owed_by kind.0 (Some question.now) }
 {
     question.kind == kind && matches!(question.state, State::Given)
 }
 
-// Notes how the question at the place stands now.
+/// Notes how the question at the place stands now.
 pub fn set_state(questions: &mut [OpenQuestion], at: usize, state: State)
     requires rising { Rises (numbers_of questions.old) }
     requires in_range { at < length questions.old }
@@ -57,7 +58,7 @@ pub fn set_state(questions: &mut [OpenQuestion], at: usize, state: State)
     questions[at].state = state;
 }
 
-// Takes the question at the place out. Those behind it move up, which are fewer than `MOST_OPEN`.
+/// Takes the question at the place out. Those behind it move up, which are fewer than `MOST_OPEN`.
 pub fn take_out(questions: &mut Vec<OpenQuestion>, at: usize) -> OpenQuestion
     requires rising { Rises (numbers_of questions.old.items) }
     requires in_range { at < length questions.old.items }
@@ -67,7 +68,7 @@ pub fn take_out(questions: &mut Vec<OpenQuestion>, at: usize) -> OpenQuestion
     questions.remove(at)
 }
 
-// Marks the questions of the kind as gone, but for those that are answered.
+/// Marks the questions of the kind as gone, but for those that are answered.
 pub fn mark_gone(questions: &mut [OpenQuestion], kind: Kind)
     ensures { questions.new ≡ agent_left kind.0 questions.old }
 {

@@ -14,15 +14,17 @@ use cynara_keys::Kind;
 use std::alloc::{AllocError, Global};
 use std::collections::BTreeMap;
 
+/// For each kind that has an agent, the numbers of the questions that wait for it, rising.
 pub type Queues = BTreeMap<u16, Vec<u32>>;
 
+/// Whether the kind has an agent.
 pub fn has_queue(queues: &Queues, kind: Kind) -> bool
     ensures { result ≡ list_any (λ other. other == kind.0) (keys queues.now) }
 {
     queues.contains_key(&kind.0)
 }
 
-// Makes room for an agent of the kind, which has no queue, with nothing that waits for it.
+/// Makes room for an agent of the kind, which has no queue, with nothing that waits for it.
 pub fn open_queue(alloc: Global, queues: &mut Queues, kind: Kind) -> Result<(), AllocError>
     requires { list_any (λ other. other == kind.0) (keys queues.old) ≡ false }
     ensures kinds { OnOk result (keys queues.new ≡ insert_key nat_cmp (keys queues.old) kind.0) }
@@ -33,7 +35,7 @@ pub fn open_queue(alloc: Global, queues: &mut Queues, kind: Kind) -> Result<(), 
     Ok(())
 }
 
-// Drops the queue of the kind, if it has one.
+/// Drops the queue of the kind, if it has one.
 pub fn close_queue(queues: &mut Queues, kind: Kind)
     ensures kinds { keys queues.new ≡ remove_key (λ other. other == kind.0) (keys queues.old) }
     ensures queues { (other : ℕ)
@@ -42,7 +44,7 @@ pub fn close_queue(queues: &mut Queues, kind: Kind)
     let _ = queues.remove(&kind.0);
 }
 
-// The first number in the queue of the kind.
+/// The first number in the queue of the kind.
 pub fn first_number(queues: &Queues, kind: Kind) -> Option<u32>
     ensures { result ≡ slice_get (queue_of kind.0 queues.now) 0 }
 {
@@ -52,7 +54,7 @@ pub fn first_number(queues: &Queues, kind: Kind) -> Option<u32>
     }
 }
 
-// Puts a number at the end of the queue of the kind, which has one.
+/// Puts a number at the end of the queue of the kind, which has one.
 pub fn push_number(queues: &mut Queues, kind: Kind, number: u32) -> Result<(), AllocError>
     requires { list_any (λ other. other == kind.0) (keys queues.old) ≡ true }
     ensures ok { OnOk result
@@ -65,7 +67,7 @@ pub fn push_number(queues: &mut Queues, kind: Kind, number: u32) -> Result<(), A
     Ok(())
 }
 
-// Takes a number out of the queue of the kind, if it stands there. Moves at most `MOST_OPEN` numbers.
+/// Takes a number out of the queue of the kind, if it stands there. Moves at most `MOST_OPEN` numbers.
 pub fn remove_number(queues: &mut Queues, kind: Kind, number: u32)
     requires { Rises (queue_of kind.0 queues.old) }
     ensures { ChangesQueue kind.0 (filter (λ other. not (other == number)) (queue_of kind.0 queues.old))
