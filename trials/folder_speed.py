@@ -1,8 +1,10 @@
 #!/usr/bin/env python3
-"""Times commits of 14 small files and their list into a real folder: the disk of `folder_disk`, and the peer in
-`folder_peer.rs`, which makes the same system calls without proofs. Both run in turn, on folders of their own in the directory
-that is given, or else in this one. Prints the middle of several runs each, their quotient (at most 1.15 is wanted), and how
-many system calls of each kind a commit makes. Needs `rt`, `rustc` and, for the calls, `strace`."""
+"""folder_speed.py [FOLDER]: times commits of 14 small files and their list into a real folder, in that folder or else in this
+one. Takes a minute, and the time of a first build of `folder_disk`, which is some minutes.
+
+The disk of `folder_disk` and the peer in `folder_peer.rs`, which makes the same system calls without proofs, run in turn on
+folders of their own. Prints the middle of several runs each, their quotient (at most 1.15 is wanted), and how many system
+calls of each kind a commit makes. Needs `rt`, `rustc` and, for the calls, `strace`."""
 
 import pathlib
 import re
@@ -54,13 +56,21 @@ def calls(program, folder):
     return {kind: count for kind, count in sorted(counts.items()) if count}
 
 
+def say(text):
+    print(text, file=sys.stderr, flush=True)
+
+
 def main():
-    place = pathlib.Path(sys.argv[1] if len(sys.argv) > 1 else ".").resolve()
+    if len(sys.argv) > 2 or not pathlib.Path(*sys.argv[1:]).is_dir():
+        sys.exit(__doc__)
+    place = pathlib.Path(*sys.argv[1:]).resolve()
     with tempfile.TemporaryDirectory(dir=place) as name:
         scratch = pathlib.Path(name)
+        say("building the program and the peer")
         program, peer = built(scratch)
         times = {program: [], peer: []}
         for run in range(RUNS):
+            say(f"run {run + 1} of {RUNS}")
             for each in (program, peer):
                 times[each].append(micros(each, scratch / f"{each.name}{run}") / COMMITS)
         own, bare = (statistics.median(times[each]) for each in (program, peer))

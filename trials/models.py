@@ -1,12 +1,22 @@
-"""What `local` and `smack-access` answer, written again in plain Python from docs/FORMATS.md. It shares nothing with the
-crates. `local` and `smack_access` give the bytes that are written and the status."""
+#!/usr/bin/env python3
+"""models.py --self-test: compares the models with the worked cases in `examples/`, within a second, and ends with status 1
+at the first difference.
+
+The models say what `local` and `smack-access` answer, written again in plain Python; they share nothing with the crates.
+`smack_model.py` has rules and decisions, `script_model.py` the lines of a script, `device_model.py` the commands. `local` and
+`smack_access` give the bytes that are written and the status."""
+
+import pathlib
+import sys
+
+from device_model import LIMITS, Device
+from script_model import Reader
+from smack_model import decision_text, is_label, is_request, rule_of
 
 MOST_BYTES = 16_777_216
 MOST_IN_LINE = 65_535
-MOST_POLICIES = 65_536
-RESULTS = [b"deny", b"none", b"allow"]
-MODES = b"rwxatlb"
 BAD_COMMAND_LINE = b"fault command line\n", 2
+EXAMPLES = pathlib.Path(__file__).resolve().parent.parent / "examples"
 
 
 def lines_of(text):
@@ -20,103 +30,30 @@ def lines_of(text):
         yield last, end + len(last)
 
 
-def is_name(word):
-    return 1 <= len(word) <= 255 and all(0x21 <= byte <= 0x7E and byte != ord(";") for byte in word) and word not in (b"*", b"#")
-
-
-def step_of(line):
-    """The key and result of a `set`, the question and None of a `check`, or None."""
-    match line.split(b" "):
-        case [b"set", b".", *key, result] if len(key) == 3 and result in RESULTS:
-            if all(word == b"*" or is_name(word) for word in key):
-                return tuple(key), result
-        case [b"check", *question] if len(question) == 3 and all(map(is_name, question)):
-            return tuple(question), None
-    return None
-
-
-def verdict(policies, question):
-    """The result that decides, with its key, or None."""
-    speaking = [
-        (RESULTS.index(result), key)
-        for key, result in policies.items()
-        if result != b"none" and all(own in (b"*", asked) for own, asked in zip(key, question))
-    ]
-    return min(speaking, default=None)
-
-
-def local(script):
-    written, policies, commit = [], {}, 0
+def answers(script, device):
+    """The answer lines to a script, of which the last names the line that is outside the grammar, if there is one."""
+    reader, number = Reader(), 0
     for number, (line, end) in enumerate(lines_of(script), 1):
-        step = step_of(line) if end <= MOST_BYTES and len(line) <= MOST_IN_LINE else None
+        step = reader.step(line) if end <= MOST_BYTES and len(line) <= MOST_IN_LINE else None
         if step is None:
-            written.append(b"syntax %d\n" % number)
-            return b"".join(written), 3
-        words, result = step
-        if result is None:
-            decided = verdict(policies, words)
-            if decided is None:
-                written.append(b"deny %d . default\n" % commit)
-            else:
-                rank, key = decided
-                written.append(b"%s %d . %s\n" % (RESULTS[rank], commit, b" ".join(key)))
-        elif words not in policies and len(policies) == MOST_POLICIES:
-            written.append(b"refused 11 limit policies %d\n" % MOST_POLICIES)
-        else:
-            policies[words] = result
-            commit += 1
-            written.append(b"ok %d\n" % commit)
-    return b"".join(written), 0
+            yield b"syntax %d" % number
+            return
+        if step:
+            yield from device.answer(step)
+    if reader.block:
+        yield b"syntax %d" % (number + 1)
 
 
-def is_label(word):
-    if not 1 <= len(word) <= 255 or word[0:1] == b"-" or word in (b"@", b"?"):
-        return False
-    return all(0x21 <= byte <= 0x7E and byte not in b"/\\'\"" for byte in word)
+def local(script, commit=0):
+    device = Device()
+    device.commit = commit
+    written = list(answers(script, device))
+    is_wrong = bool(written) and written[-1].startswith(b"syntax ")
+    return b"".join(line + b"\n" for line in written), 3 if is_wrong else 0
 
 
-def modes_of(word):
-    """The set of a mode word's letters, or None."""
-    if not 1 <= len(word) <= 64 or any(letter not in MODES + b"-" for letter in word.lower()):
-        return None
-    return set(word.lower()) - set(b"-")
-
-
-def rule_of(line):
-    """The labels and mode sets of a rule line, an empty list where it has no word, or None."""
-    words = [word for word in line.replace(b"\t", b" ").split(b" ") if word]
-    if not words:
-        return []
-    labels, modes = words[:2], [modes_of(word) for word in words[2:]]
-    if not all(map(is_label, labels)) or len(modes) not in (1, 2) or None in modes:
-        return None
-    return labels + modes
-
-
-def decide(rules, subject, object_, asked):
-    """Whether the request is allowed, and by which case."""
-    granted = set()
-    for own_subject, own_object, first, *deny in rules:
-        if (own_subject, own_object) == (subject, object_):
-            granted = (granted | first) - deny[0] if deny else first
-    if ord("w") in granted:
-        granted = granted | {ord("l")}
-    reads = asked <= set(b"rx") or asked == {ord("l")}
-    cases = [
-        (subject == b"*", False),
-        (subject == b"^" and reads, True),
-        (object_ == b"_" and reads, True),
-        (object_ == b"*", True),
-        (subject == object_, True),
-        (asked <= granted, True),
-        (True, False),
-    ]
-    return next((allows, number) for number, (holds, allows) in enumerate(cases, 1) if holds)
-
-
-def smack_access(subject, object_, word, text):
-    asked = modes_of(word)
-    if word[0:1] == b"-" or not is_label(subject) or not is_label(object_) or not asked or ord("b") in asked:
+def smack_access(subject, object_, modes, text):
+    if modes[0:1] == b"-" or not is_label(subject) or not is_label(object_) or not is_request(modes):
         return BAD_COMMAND_LINE
     rules = []
     for number, (line, end) in enumerate(lines_of(text), 1):
@@ -125,5 +62,37 @@ def smack_access(subject, object_, word, text):
             return b"syntax %d\n" % number, 3
         if rule:
             rules.append(rule)
-    allows, case = decide(rules, subject, object_, asked)
-    return b"access %s %d\n" % (b"allow" if allows else b"deny", case), 0
+    return decision_text(rules, subject, object_, modes) + b"\n", 0
+
+
+def answered(words, text):
+    """What the program answers to these words and this input."""
+    match words:
+        case [b"local"]:
+            return local(text)
+        case [b"smack-access", subject, object_, modes]:
+            return smack_access(subject, object_, modes, text)
+    return BAD_COMMAND_LINE
+
+
+def self_test():
+    cases = 0
+    for folder in sorted(path for path in EXAMPLES.iterdir() if path.is_dir()):
+        words = (folder / "words").read_bytes().splitlines()
+        status = int((folder / "status").read_text()) if (folder / "status").exists() else 0
+        wanted = (folder / "output").read_bytes(), status
+        given = answered(words, (folder / "input").read_bytes())
+        if given != wanted:
+            sys.exit(f"{folder.name}: the models answer {given}, and {wanted} is wanted")
+        cases += 1
+    last = LIMITS["commits"]
+    given = local(b"set . c u p allow\nset . c u p allow\n", last - 1)
+    if given != (b"ok %d\nrefused 11 limit commits %d\n" % (last, last), 0):
+        sys.exit(f"the last commit: the models answer {given}")
+    print(f"{cases + 1} worked cases, answered as wanted")
+
+
+if __name__ == "__main__":
+    if sys.argv[1:] != ["--self-test"]:
+        sys.exit(__doc__)
+    self_test()

@@ -1,16 +1,69 @@
-"""The program, as the trials call it. `privilege` builds it where its sources are newer."""
+"""The program, as the trials call it, and how they tell of their way."""
 
 import pathlib
 import subprocess
 import sys
+import tempfile
 
-PROGRAM = pathlib.Path(__file__).resolve().parent.parent / "privilege"
+import models
+
+TOP = pathlib.Path(__file__).resolve().parent.parent
+PROGRAM = TOP / "crates" / "privilege_cli" / "out" / "privilege_cli"
 
 
-def compare(words, text, wanted):
-    """Ends the trial with status 1 where the program writes other bytes than wanted, or ends with another status."""
-    done = subprocess.run([PROGRAM, *words], input=text, stdout=subprocess.PIPE)
-    given = done.stdout, done.returncode
-    if given != wanted:
-        print(f"{words} on {len(text)} bytes, {text[:500]!r}..\n  the program: {given}\n  the model:   {wanted}")
+def build():
+    """Builds the program, where it isn't built from these sources, by the script `privilege`."""
+    with tempfile.TemporaryDirectory() as folder:
+        if subprocess.run([TOP / "privilege", "local"], cwd=folder, stdin=subprocess.DEVNULL).returncode:
+            sys.exit(1)
+
+
+def answered(words, text):
+    """What the program writes in an empty folder of its own, and its status."""
+    with tempfile.TemporaryDirectory() as folder:
+        done = subprocess.run([PROGRAM, *words], input=text, stdout=subprocess.PIPE, cwd=folder)
+    return done.stdout, done.returncode
+
+
+def differ(words, text):
+    return answered(words, text) != models.answered(words, text)
+
+
+def shorter(words, text):
+    """The text with as many lines left out as the program and the models may lack and still differ."""
+    lines = text.splitlines(keepends=True)
+    size = max(1, len(lines) // 2)
+    while size:
+        at = 0
+        while at < len(lines):
+            fewer = lines[:at] + lines[at + size:]
+            if differ(words, b"".join(fewer)):
+                lines = fewer
+            else:
+                at += size
+        size //= 2
+    return b"".join(lines)
+
+
+def compare(words, text):
+    """The status of the program. Ends the trial with status 1 where the models differ from it in the bytes or the status."""
+    given = answered(words, text)
+    if given != models.answered(words, text):
+        if len(text) < 100_000:
+            text = shorter(words, text)
+        print(f"{words} on {len(text)} bytes, {text[:2000]!r}")
+        print(f"  the program: {answered(words, text)}\n  the models:  {models.answered(words, text)}")
         sys.exit(1)
+    return given[1]
+
+
+class Progress:
+    """Says on standard error how far a trial is, at each tenth of it."""
+
+    def __init__(self, count):
+        self.done, self.count = 0, count
+
+    def step(self):
+        self.done += 1
+        if self.done * 10 // self.count != (self.done - 1) * 10 // self.count:
+            print(f"{self.done} of {self.count}", file=sys.stderr, flush=True)

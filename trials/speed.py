@@ -1,7 +1,9 @@
 #!/usr/bin/env python3
-"""Times the program and the peer in `peer.rs` on the same inputs, in turn, and prints the best of three runs each, and where
-GNU time stands in /usr/bin the most memory that each took. The two must answer alike. Build the program before, by
-`privilege`; the peer is built here, by `rustc`. Words of this script, as "rules", choose the inputs whose names have them."""
+"""speed.py [WORD..]: times the program and the peer in `peer.rs` on the same inputs, in turn. Takes some two minutes. Words,
+as `rules`, choose the inputs whose names have them all.
+
+Prints the best of three runs each, and where GNU time stands in /usr/bin the most memory that each took. The two must answer
+alike. The peer is built here, by `rustc`."""
 
 import pathlib
 import random
@@ -10,8 +12,9 @@ import sys
 import tempfile
 import time
 
+from program import PROGRAM, build
+
 HERE = pathlib.Path(__file__).resolve().parent
-PROGRAM = HERE.parent / "crates" / "privilege_cli" / "out" / "privilege_cli"
 MOST_BYTES = 16_777_216
 MOST_POLICIES = 65_536
 GNU_TIME = pathlib.Path("/usr/bin/time")
@@ -69,6 +72,9 @@ def timed(command, file):
 
 
 def main():
+    if any(word.startswith("-") for word in sys.argv[1:]):
+        sys.exit(__doc__)
+    build()
     with tempfile.TemporaryDirectory() as folder:
         peer, file = pathlib.Path(folder) / "peer", pathlib.Path(folder) / "input"
         subprocess.run(["rustc", "--edition", "2021", "-O", "-o", peer, HERE / "peer.rs"], check=True)
@@ -76,13 +82,14 @@ def main():
         for name, words, text in inputs():
             if not all(word in name for word in sys.argv[1:]):
                 continue
+            print(f"{name:36}", end="", flush=True)
             file.write_bytes(text)
             runs = [(timed([PROGRAM, *words], file), timed([peer, *words], file)) for _ in range(3)]
             assert all(ours[2] == theirs[2] for ours, theirs in runs), name
             ours = [min(ours[column] for ours, _ in runs) for column in (0, 1)]
             theirs = [min(theirs[column] for _, theirs in runs) for column in (0, 1)]
             each = "".join(f"{took:8.2f} s{memory:6.0f} MB" for took, memory in (ours, theirs))
-            print(f"{name:36}{each}{text.count(bytes([10])):12,}", flush=True)
+            print(f"{each}{text.count(bytes([10])):12,}", flush=True)
 
 
 main()
