@@ -1,20 +1,18 @@
 -- A list file and the names in it.
-use Rattle.std.proofs.Common.{◌≡◌, ℕ, Bool, true, false, ◌&&◌, ◌==◌, List, [], ◌∷◌, ◌++◌, Some, None, length, cond, refl, sym, ◌∙◌, ap, append_assoc, get_or, ◌<◌, ◌||◌}
+use Rattle.std.proofs.Common.{◌≡◌, ℕ, Bool, true, false, ◌&&◌, ◌==◌, List, [], ◌∷◌, ◌++◌, Some, None, length, cond, refl, sym, ◌∙◌, ap, append_assoc, get_or, ◌<◌}
 use Rattle.std.proofs.lemmas.List.{append-nil}
 use Rattle.std.proofs.lemmas.Bool.{and_parts, and_from, both_ways, ne_eqb, false≢true}
-use Rattle.std.specs.List.{list_all, list_any, AllPass, AllByRecursion}
+use Rattle.std.specs.List.{list_all, AllPass, AllByRecursion}
 use Rattle.std.specs.List.Sorted.{IsStrictlySortedBy}
 use Rattle.std.specs.Ordering.{nat_cmp, is_lt}
 use Rattle.std.specs.Cmp.Lexicographic.{slice_cmp}
 use Rattle.std.specs.declared.cmp.Ordering.{Ordering}
 use Rattle.std.specs.declared.cmp.Ordering.TheVariants.{Less, Equal, Greater}
-use Rattle.std.specs.Str.{bytes_eq}
 use Rattle.std.proofs.lemmas.List.Recursion.{and_at, and_from_places}
 use Rattle.desk_ports.specs.declared.file_sets.SetFile.{SetFile}
 use Rattle.desk_ports.specs.FileName.{is_file_name_byte}
 use Rattle.desk_ports.specs.FileMap.{names_of, NamesRise}
 use Rattle.guard_files.specs.OwnName.{is_listable}
-use Rattle.guard_files.specs.Holding.{is_among}
 use Rattle.guard_files.specs.ListFile.{list_text, in_front, lines_of, rises, are_listable, listed}
 use Rattle.guard_files.proofs.Names.{same-true, same-same, listable}
 
@@ -83,11 +81,6 @@ pub listable_at : (files : List SetFile) (i : ℕ) (file : SetFile) → list_all
 listable_at files i file all within is =
     ap (λ (file : SetFile). is_listable file.name) is
     ∙ and_at (λ (files : List SetFile). list_all is_listable (names_of files)) (λ file. is_listable file.name) refl (λ _ _. refl) files i file within all
-
--- a name is among those of files where a file has it
-pub among_names : (files : List SetFile) (name : List ℕ) → list_any (λ file. bytes_eq file.name name) files ≡ is_among (names_of files) name
-among_names [] name = refl
-among_names (file ∷ files) name = ap (λ found. bytes_eq file.name name || found) (among_names files name)
 
 -- a set's names rise, so they may stand in a list where each of them may
 all_above : (name : List ℕ) (names : List (List ℕ)) → AllByRecursion (λ later. slice_cmp nat_cmp name later ≡ Less) names

@@ -96,10 +96,6 @@ module _ (state : DiskState) (bytes : List ℕ) (set : List SetFile) (gone : Lis
   renewed_leaves : MayLeave renewed renewed.current
   renewed_leaves = touched_only-after (primary_changes gone set) (with_all_durable state) (durable_only state)
 
-  pub renewed_guard : renewed.current guard_name ≡ Some bytes
-  renewed_guard =
-      (left_in_primaries (primary_changes gone set) (primary_changes-plain gone set plain may) state renewed.current renewed_leaves).guard ∙ guarded
-
   renewed_backups : backup_set renewed.current ≡ Ok (Some set)
   renewed_backups =
       (left_in_primaries (primary_changes gone set) (primary_changes-plain gone set plain may) state renewed.current renewed_leaves).same ∙ backups

@@ -92,7 +92,7 @@ fn gone_of(
     ensures { IfOk result (λ gone. gone.items ≡ gone_names held.now set.now) }
 {
     match held {
-        Some(files) => names_without(alloc, files.as_slice(), set.as_slice()),
+        Some(files) => names_without(alloc, files.as_slice(), set),
         None => Ok(Vec::new(alloc)),
     }
 }

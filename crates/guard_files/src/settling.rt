@@ -32,7 +32,7 @@ fn is_held(held: &Option<FileSet>, name: &FileName) -> bool
     ensures { result ≡ is_among (set_names held.now) name.now }
 {
     match held {
-        Some(files) => has_name(files.as_slice(), name),
+        Some(files) => has_name(files, name),
         None => false,
     }
 }

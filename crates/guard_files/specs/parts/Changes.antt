@@ -10,10 +10,6 @@ use Rattle.guard_files.specs.ListFile.{list_text}
 abbrev pub Change : Type 0
 Change = List ℕ × Option (List ℕ)
 
--- the names that are changed
-abbrev pub changed_names : List Change → List (List ℕ)
-changed_names changes = map (λ change. change.0) changes
-
 -- the map after the changes, the first of them first
 abbrev pub changed : List Change → FileMap → FileMap
 changed [] files = files
