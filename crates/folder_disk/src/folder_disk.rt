@@ -1,4 +1,5 @@
-ghost use Rattle.std.specs.Prelude.{◌≡◌, ◌≤◌, None, IfOk};
+ghost use Rattle.std.specs.Prelude.{◌≡◌, ◌≤◌, None, IfOk, string_bytes};
+ghost use Rattle.folder_disk.specs.Paths.{file_path};
 ghost use Rattle.desk_ports.specs.FileMap.{NamesRise};
 ghost use Rattle.desk_ports.specs.Faults.{next_count};
 ghost use Rattle.desk_ports.specs.PortFault.{count_after_call, count_after_refusal};
@@ -45,7 +46,9 @@ impl<R: Files + AllocGlobal + Clone + Drop> FolderDisk<R> {
         })
     }
 
-    fn path_of(&self, name: &FileName) -> Result<String, AllocError> {
+    fn path_of(&self, name: &FileName) -> Result<String, AllocError>
+        ensures { IfOk result (λ path. string_bytes path ≡ file_path (string_bytes self.now.folder) name.now) }
+    {
         paths::file_path(self.rt.alloc(), self.folder.as_str(), name)
     }
 
@@ -79,7 +82,7 @@ impl<R: Files + AllocGlobal + Clone + Drop> FolderDisk<R> {
     {
         if !self.is_settled {
             self.sync_found()?;
-            files::sync_folder(&self.rt, paths::parent_path(self.folder.as_str()))?;
+            self.sync_parent()?;
         }
         self.sync_touched()?;
         files::sync_folder(&self.rt, self.folder.as_str())?;
@@ -93,6 +96,11 @@ impl<R: Files + AllocGlobal + Clone + Drop> FolderDisk<R> {
             files::sync_if_plain(&self.rt, self.path_of(name)?.as_str())?;
         }
         Ok(())
+    }
+
+    fn sync_parent(&self) -> io::Result<()> {
+        let path = paths::parent_path(self.rt.alloc(), self.folder.as_str())?;
+        files::sync_folder(&self.rt, path.as_str())
     }
 
     fn sync_touched(&self) -> io::Result<()> {
