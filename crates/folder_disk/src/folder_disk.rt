@@ -1,4 +1,5 @@
-ghost use Rattle.std.specs.Prelude.{◌≡◌, ◌≤◌, None, IfOk, string_bytes};
+ghost use Rattle.std.specs.Prelude.{◌≡◌, ◌≤◌, ℕ, true, List, None, IfOk, OnOk, OnErr, string_bytes};
+ghost use Rattle.desk_ports.specs.parts.NamesHeld.{has_name};
 ghost use Rattle.folder_disk.specs.Paths.{file_path};
 ghost use Rattle.desk_ports.specs.FileMap.{NamesRise};
 ghost use Rattle.desk_ports.specs.Faults.{next_count};
@@ -60,14 +61,31 @@ impl<R: Files + AllocGlobal + Clone + Drop> FolderDisk<R> {
         }
     }
 
-    // The name counts as touched before anything is asked of the machine.
-    fn write_file(&mut self, name: &FileName, bytes: &[u8]) -> io::Result<()>
-        ensures { self.new.faults ≡ self.old.faults }
+    // Notes that the file of this name is to be made sure of.
+    fn touch(&mut self, name: &FileName) -> Result<(), AllocError>
+        ensures count { self.new.faults ≡ self.old.faults }
+        ensures touched { OnOk result (has_name self.new.touched name.now ≡ true) }
+        ensures kept { (other : List ℕ) → has_name self.old.touched other ≡ true → has_name self.new.touched other ≡ true }
     {
         self.touched.insert(name.copy()?)?;
+        Ok(())
+    }
+
+    // The name counts as touched before anything is asked of the machine: a write that fails may leave a part.
+    fn write_touched(&self, name: &FileName, bytes: &[u8]) -> io::Result<()>
+        requires { has_name self.now.touched name.now ≡ true }
+    {
         let path = self.path_of(name)?;
         let mut file = files::open_to_write(&self.rt, path.as_str())?;
         files::write_whole(&mut file, bytes)
+    }
+
+    fn write_file(&mut self, name: &FileName, bytes: &[u8]) -> io::Result<()>
+        ensures count { self.new.faults ≡ self.old.faults }
+        ensures kept { (other : List ℕ) → has_name self.old.touched other ≡ true → has_name self.new.touched other ≡ true }
+    {
+        self.touch(name)?;
+        self.write_touched(name, bytes)
     }
 
     fn remove_file(&self, name: &FileName) -> io::Result<()> {
@@ -78,7 +96,8 @@ impl<R: Files + AllocGlobal + Clone + Drop> FolderDisk<R> {
     // Makes sure of every touched file, and then of the folder. What an earlier run of the program touched is not known, so the
     // first time every plain file of the folder counts as touched, and so does the folder itself in the one that it stands in.
     fn sync_all(&mut self) -> io::Result<()>
-        ensures { self.new.faults ≡ self.old.faults }
+        ensures count { self.new.faults ≡ self.old.faults }
+        ensures kept { OnErr result (self.new ≡ self.old) }
     {
         if !self.is_settled {
             self.sync_found()?;
