@@ -2,7 +2,8 @@
 use Rattle.std.specs.Prelude.{◌≡◌, ℕ, Bool, true, false, not, ◌&&◌, if◌then◌else◌, List, [], Option, Some, None, is_some, Result, Ok, Err}
 use Rattle.desk_ports.specs.Faults.{next_count}
 use Rattle.desk_ports.specs.FileMap.{FileMap, names_of, AreNamesOf}
-use Rattle.desk_ports.specs.Disk.{DiskState, MayLeave}
+use Rattle.desk_ports.specs.Disk.{DiskState, MayLeave, WhereTold, with_all_durable}
+use Rattle.desk_ports.specs.Moments.{LeavesOnly}
 use Rattle.desk_ports.specs.declared.port_faults.PortFault.{PortFault}
 use Rattle.desk_ports.specs.declared.port_faults.PortFault.TheVariants.{Failed, Memory as NoMemory}
 use Rattle.desk_ports.specs.declared.file_sets.SetFile.{SetFile}
@@ -45,6 +46,15 @@ set_read guarded files = if guarded then backup_set files else primary_set files
 -- the map recovers as one does that a stop at this state may leave
 abbrev pub RecoversAsAllowed : DiskState → FileMap → Type 0
 RecoversAsAllowed before left = (other : FileMap) × MayLeave before other × (recover left ≡ recover other)
+
+-- How a refused mount leaves a disk. Its count rose where a call failed, and only there. A stop meanwhile left what recovers
+-- as something that a stop at entry may leave. A damaged folder holds what it held, and that is durable.
+pub record IsLeftRefused {D : Type 0} (faults : D → ℕ) (state : D → Option DiskState) (moment : D → ℕ)
+    (left_since : D → ℕ → FileMap → Type 0) (old new : D) (refusal : VaultRefusal) : Type 0 where
+  pub count : faults new ≡ count_after_refusal refusal (faults old)
+  pub moments : WhereTold (state old) (λ before. LeavesOnly moment left_since old new (RecoversAsAllowed before))
+  pub damaged : IfDamaged refusal (λ file. WhereTold (state old) (λ before. (recover before.current ≡ Err file)
+      × (state new ≡ Some (with_all_durable before))))
 
 -- the disk tells a store at rest that holds this set, or none
 abbrev pub EndsAtRest : Option (List SetFile) → Option DiskState → Type 0

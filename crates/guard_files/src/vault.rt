@@ -10,6 +10,7 @@ ghost use Rattle.guard_files.specs.Recovery.{recover};
 ghost use Rattle.guard_files.specs.Mounted.{IfDamaged, count_after_mount, RecoversAsAllowed, EndsAtRest};
 ghost use Rattle.guard_files.specs.Settled.{IsSettled, gone_names, IsBeforeOrAfter, EndsSettled};
 
+use crate::mounted::Mounted;
 use crate::prepared::Prepared;
 use crate::refusals::VaultRefusal;
 use crate::settling::settle;
@@ -34,7 +35,8 @@ pub struct Vault<'d, D: Disk> {
 
 impl<'d, D: Disk> Vault<'d, D> {
     /// Mounts the folder, by the calls of `settle`. Refuses `StoreFault`, where a call of the disk failed; `Damaged`, with the
-    /// file, and then nothing in the folder was changed; and `Memory`.
+    /// file, and then nothing in the folder was changed; and `Memory`. Where more is to be known of the disk after a refusal than
+    /// clauses can say here, which hand it on in the answer, `Mounted::find` and then `of` do the same.
     pub fn mount(alloc: Global, disk: &'d mut D) -> Result<Vault<'d, D>, VaultRefusal>
         ensures decided { IfOk result (λ vault. vault.decided ≡ true) }
         ensures held { IfOk result (λ vault. WhereTold (D.state disk.old) (λ before. recover before.current ≡ Ok vault.held)) }
@@ -47,21 +49,25 @@ impl<'d, D: Disk> Vault<'d, D> {
         ensures count { IfOk result (λ vault. D.faults vault.disk.now ≡ D.faults disk.old) }
         ensures same_disk { IfOk result (λ vault. vault.disk.ghost_name ≡ disk.entry.ghost_name) }
     {
-        let names = match StoreNames::new(alloc) {
-            Ok(names) => names,
-            Err(error) => return Err(VaultRefusal::Memory(error)),
-        };
-        let held = match settle(alloc, disk, &names) {
-            Ok(held) => held,
-            Err(refusal) => return Err(refusal),
-        };
-        Ok(Vault {
+        let found = Mounted::find(alloc, disk)?;
+        Ok(Vault::of(alloc, disk, found))
+    }
+
+    /// The vault over a disk on which this set was found last, and which no other call was made on since. Takes no memory.
+    pub fn of(alloc: Global, disk: &'d mut D, found: Mounted) -> Vault<'d, D>
+        ensures decided { result.decided ≡ true }
+        ensures held { result.held ≡ found }
+        ensures disk { result.disk.now ≡ disk.old }
+        ensures same_disk { result.disk.ghost_name ≡ disk.entry.ghost_name }
+    {
+        let Mounted { names, held } = found;
+        Vault {
             disk,
             alloc,
             names,
             held,
             decided: true,
-        })
+        }
     }
 
     /// Settles what the store holds, as a mount does, from whatever state. A refusal leaves the vault undecided.
