@@ -9,7 +9,8 @@ use Rattle.desk_ports.specs.declared.file_names.FileNameRefusal.{FileNameRefusal
 use Rattle.desk_ports.specs.declared.file_names.FileNameRefusal.TheVariants.{Empty, TooLong}
 use Rattle.desk_ports.specs.FileName.{is_file_name_byte, bad_byte_at, IsFileName}
 
-no_fault : (test : Bool) (fault : FileNameRefusal) (rest : Option FileNameRefusal) → cond test (Some fault) rest ≡ None → rest ≡ None
+no_fault : (test : Bool) (fault : FileNameRefusal) (rest : Option FileNameRefusal) → cond test (Some fault) rest ≡ None
+    → rest ≡ None
 no_fault true fault rest is = cc
 no_fault false fault rest is = is
 
@@ -24,7 +25,10 @@ pub name_byte : (name : List ℕ) → IsFileName name → (k : ℕ) → k < leng
 name_byte name is k within =
     let bad = λ (byte : ℕ). not (is_file_name_byte byte) in
     let place = position_or_len bad name in
-    let rest = no_fault (length name == 0) Empty (cond (nat_lt 255 (length name)) (Some TooLong) (bad_byte_at (position bad name))) is in
-    let good = no_place (nat_lt place (length name)) place (no_fault (nat_lt 255 (length name)) TooLong (bad_byte_at (position bad name)) rest) in
+    let fault = bad_byte_at (position bad name) in
+    let long = nat_lt 255 (length name) in
+    let rest = no_fault (length name == 0) Empty (cond long (Some TooLong) fault) is in
+    let good = no_place (nat_lt place (length name)) place (no_fault long TooLong fault rest) in
     let none : length name ≤ place = ltb-false place (length name) good in
-    small_byte (get_or name k 0) (not-false (is_file_name_byte (get_or name k 0)) (fails_before_first bad name k 0 (omega arith)))
+    let byte = get_or name k 0 in
+    small_byte byte (not-false (is_file_name_byte byte) (fails_before_first bad name k 0 (omega arith)))

@@ -118,7 +118,8 @@ pub fn read_whole<F: Read + OpenFile + Drop>(alloc: Global, file: F) -> io::Resu
     read_at_most(alloc, file, MOST_FILE_BYTES)
 }
 
-// All bytes that are left to read, where they are no more than these. A file may have grown since its length was asked for.
+// All bytes that are left to read, where they are no more than these. A file may have grown since its length was
+// asked for.
 fn read_at_most<F: Read + Drop>(alloc: Global, file: F, most: u64) -> io::Result<Vec<u8>>
     requires { most < 2 ^ 63 }
     ensures limit { IfOk result (λ bytes. vec_len bytes ≤ most) }
@@ -132,8 +133,8 @@ fn read_at_most<F: Read + Drop>(alloc: Global, file: F, most: u64) -> io::Result
     Ok(bytes)
 }
 
-/// Writes the bytes over those of the file, and cuts it to their length. A short write is carried on, and a write that is
-/// interrupted is tried again.
+/// Writes the bytes over those of the file, and cuts it to their length. A short write is carried on, and a write
+/// that is interrupted is tried again.
 pub fn write_whole<F: Write + OpenFile>(file: &mut F, bytes: &[u8]) -> io::Result<()>
     ensures { OnOk result (Appends (F.Write.contents file.old) (F.Write.contents file.new) bytes.now) }
 {

@@ -14,8 +14,8 @@ use std::io;
 use std::io::ErrorKind;
 use std::rt::Files;
 
-/// A folder of the machine as a disk. It follows no link out of the folder, and makes files that only their owner may read
-/// and write. It counts each error of the machine.
+/// A folder of the machine as a disk. It follows no link out of the folder, and makes files that only their owner may
+/// read and write. It counts each error of the machine.
 ///
 /// It tells nothing of what its files hold. That a real folder keeps what a disk promises is trusted.
 #[derive(Drop)]
@@ -28,8 +28,8 @@ pub struct FolderDisk<R: Files + AllocGlobal + Clone + Drop> {
 }
 
 impl<R: Files + AllocGlobal + Clone + Drop> FolderDisk<R> {
-    /// The folder of this path, which is made where there is none: its owner alone may use it. Where it can't be made, that is
-    /// the first error that is counted.
+    /// The folder of this path, which is made where there is none: its owner alone may use it. Where it can't be
+    /// made, that is the first error that is counted.
     pub fn open(rt: R, folder: &str) -> Result<FolderDisk<R>, AllocError>
         ensures { IfOk result (λ disk. disk.faults ≤ 1) }
     {
@@ -65,7 +65,8 @@ impl<R: Files + AllocGlobal + Clone + Drop> FolderDisk<R> {
     fn touch(&mut self, name: &FileName) -> Result<(), AllocError>
         ensures count { self.new.faults ≡ self.old.faults }
         ensures touched { OnOk result (has_name self.new.touched name.now ≡ true) }
-        ensures kept { (other : List ℕ) → has_name self.old.touched other ≡ true → has_name self.new.touched other ≡ true }
+        ensures kept { (other : List ℕ) → has_name self.old.touched other ≡ true
+            → has_name self.new.touched other ≡ true }
     {
         self.touched.insert(name.copy()?)?;
         Ok(())
@@ -82,7 +83,8 @@ impl<R: Files + AllocGlobal + Clone + Drop> FolderDisk<R> {
 
     fn write_file(&mut self, name: &FileName, bytes: &[u8]) -> io::Result<()>
         ensures count { self.new.faults ≡ self.old.faults }
-        ensures kept { (other : List ℕ) → has_name self.old.touched other ≡ true → has_name self.new.touched other ≡ true }
+        ensures kept { (other : List ℕ) → has_name self.old.touched other ≡ true
+            → has_name self.new.touched other ≡ true }
     {
         self.touch(name)?;
         self.write_touched(name, bytes)
@@ -93,8 +95,9 @@ impl<R: Files + AllocGlobal + Clone + Drop> FolderDisk<R> {
         files::remove(&self.rt, path.as_str())
     }
 
-    // Makes sure of every touched file, and then of the folder. What an earlier run of the program touched is not known, so the
-    // first time every plain file of the folder counts as touched, and so does the folder itself in the one that it stands in.
+    // Makes sure of every touched file, and then of the folder. What an earlier run of the program touched is not
+    // known, so the first time every plain file of the folder counts as touched, and so does the folder itself in the
+    // one that it stands in.
     fn sync_all(&mut self) -> io::Result<()>
         ensures count { self.new.faults ≡ self.old.faults }
         ensures kept { OnErr result (self.new ≡ self.old) }

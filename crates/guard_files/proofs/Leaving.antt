@@ -1,5 +1,5 @@
--- A mount: the primaries are renewed where the guard stood, and what is left over is removed. Whatever a stop leaves recovers
--- as what was read.
+-- A mount: the primaries are renewed where the guard stood, and what is left over is removed. Whatever a stop leaves
+-- recovers as what was read.
 use Rattle.std.proofs.Common.{◌≡◌, ◌⊎◌, ℕ, Bool, true, false, List, [], ◌∷◌, filter, get_or, Option, Some, None, IsSome, Ok, cond, inl, inr, refl, sym, ◌∙◌, ap, subst}
 use Rattle.std.proofs.lemmas.Bool.{and_parts, both_ways, not-true}
 use Rattle.std.proofs.lemmas.List.Recursion.{or_at}

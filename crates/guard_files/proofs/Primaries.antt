@@ -1,5 +1,5 @@
--- The primaries are made those of the set in the backups, and the guard is taken away: whatever a stop leaves stands for that
--- set.
+-- The primaries are made those of the set in the backups, and the guard is taken away: whatever a stop leaves stands
+-- for that set.
 use Rattle.std.proofs.Common.{◌≡◌, ℕ, true, List, [], ◌∷◌, ◌++◌, map, Some, None, Ok, inl, inr, refl, sym, ◌∙◌, subst}
 use Rattle.std.proofs.lemmas.Bool.{and_parts}
 use Rattle.std.specs.List.{AllByRecursion, list_all}

@@ -1,5 +1,5 @@
--- A save from a store at rest: what each stop in it leaves recovers to the set before or to the set after, and at its end the
--- store is at rest with the set after.
+-- A save from a store at rest: what each stop in it leaves recovers to the set before or to the set after, and at its
+-- end the store is at rest with the set after.
 use Rattle.std.proofs.Common.{◌≡◌, ◌≢◌, ℕ, Bool, true, false, not, ◌||◌, List, [], ◌∷◌, map, filter, Option, Some, None, IsSome, is_some, Ok, cond, inl, inr, refl, sym, ◌∙◌, ap}
 use Rattle.std.proofs.lemmas.Bool.{and_parts, both_ways, cases_Bool, or_parts}
 use Rattle.std.specs.List.{AllByRecursion, list_all}

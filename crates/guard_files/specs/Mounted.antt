@@ -47,8 +47,8 @@ set_read guarded files = if guarded then backup_set files else primary_set files
 abbrev pub RecoversAsAllowed : DiskState → FileMap → Type 0
 RecoversAsAllowed before left = (other : FileMap) × MayLeave before other × (recover left ≡ recover other)
 
--- How a refused mount leaves a disk. Its count rose where a call failed, and only there. A stop meanwhile left what recovers
--- as something that a stop at entry may leave. A damaged folder holds what it held, and that is durable.
+-- How a refused mount leaves a disk. Its count rose where a call failed, and only there. A stop meanwhile left what
+-- recovers as something that a stop at entry may leave. A damaged folder holds what it held, and that is durable.
 pub record IsLeftRefused {D : Type 0} (faults : D → ℕ) (state : D → Option DiskState) (moment : D → ℕ)
     (left_since : D → ℕ → FileMap → Type 0) (old new : D) (refusal : VaultRefusal) : Type 0 where
   pub count : faults new ≡ count_after_refusal refusal (faults old)
@@ -65,22 +65,24 @@ abbrev pub set_names : Option (List SetFile) → List (List ℕ)
 set_names None = []
 set_names (Some files) = names_of files
 
--- Where the guard stood, the own names that are no backups, not the guard, not the list and not of the set go before the
--- primaries are written.
+-- Where the guard stood, the own names that are no backups, not the guard, not the list and not of the set go before
+-- the primaries are written.
 abbrev pub goes : Option (List SetFile) → List ℕ → Bool
 goes held name =
     (not (is_backup name) && not (bytes_eq name guard_name))
     && ((not (bytes_eq name list_name) && not (is_among (set_names held) name)) && is_own name)
 
--- What is left over at the end of a mount: own names that are not the list and not of the set. Where the guard stood only
--- backups are left.
+-- What is left over at the end of a mount: own names that are not the list and not of the set. Where the guard stood
+-- only backups are left.
 abbrev pub is_left_over : Bool → Option (List SetFile) → List ℕ → Bool
 is_left_over true held name = is_backup name && is_own name
 is_left_over false held name =
-    not (bytes_eq name guard_name) && ((not (bytes_eq name list_name) && not (is_among (set_names held) name)) && is_own name)
+    not (bytes_eq name guard_name)
+    && ((not (bytes_eq name list_name) && not (is_among (set_names held) name)) && is_own name)
 
 -- What was read of a folder: its names, whether the guard is there, and the set that it holds.
-pub record IsSurvey (files : FileMap) (held : Option (List SetFile)) (guarded : Bool) (names : List (List ℕ)) : Type 0 where
+pub record IsSurvey (files : FileMap) (held : Option (List SetFile)) (guarded : Bool) (names : List (List ℕ))
+    : Type 0 where
   pub listed : AreNamesOf files names
   pub guard : guarded ≡ is_some (files guard_name)
   pub read : set_read guarded files ≡ Ok held

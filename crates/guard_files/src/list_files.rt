@@ -64,7 +64,8 @@ pub fn names_without(
     files: &[SetFile],
     set: &FileSet,
 ) -> Result<Vec<FileName>, AllocError>
-    ensures { IfOk result (λ names. names.items ≡ filter (λ name. not (is_among (names_of set.now) name)) (names_of files.now)) }
+    ensures { IfOk result (λ names. names.items ≡ filter
+        (λ name. not (is_among (names_of set.now) name)) (names_of files.now)) }
 {
     let mut names = Vec::new(alloc);
     for file in files {

@@ -29,14 +29,18 @@ impl Model for Mounted {
 }
 
 impl Mounted {
-    /// Brings the folder to rest and gives the set that it holds, by the calls of `settle`. Refuses as `Vault::mount` does,
-    /// and says how a refusal leaves the disk.
+    /// Brings the folder to rest and gives the set that it holds, by the calls of `settle`. Refuses as `Vault::mount`
+    /// does, and says how a refusal leaves the disk.
     pub fn find<D: Disk>(alloc: Global, disk: &mut D) -> Result<Mounted, VaultRefusal>
-        ensures held { IfOk result (λ found. WhereTold (D.state disk.old) (λ before. recover before.current ≡ Ok found)) }
+        ensures held { IfOk result (λ found. WhereTold (D.state disk.old)
+            (λ before. recover before.current ≡ Ok found)) }
 
-        // The store is at rest then, and a stop meanwhile left what recovers as something that a stop at entry may leave.
-        ensures settled { IfOk result (λ found. WhereTold (D.state disk.old) (λ before. EndsAtRest found (D.state disk.new))) }
-        ensures moments { IfOk result (λ found. WhereTold (D.state disk.old) (λ before. LeavesOnly D.moment D.left_since disk.old disk.new
+        // The store is at rest then, and a stop meanwhile left what recovers as something that a stop at entry may
+        // leave.
+        ensures settled { IfOk result (λ found. WhereTold (D.state disk.old)
+            (λ before. EndsAtRest found (D.state disk.new))) }
+        ensures moments { IfOk result (λ found. WhereTold (D.state disk.old)
+            (λ before. LeavesOnly D.moment D.left_since disk.old disk.new
             (RecoversAsAllowed before))) }
         ensures count { IfOk result (λ found. D.faults disk.new ≡ D.faults disk.old) }
         ensures refused { IfErr result (IsLeftRefused D.faults D.state D.moment D.left_since disk.old disk.new) }

@@ -1,5 +1,5 @@
-// What clauses on a store don't say: that its calls succeed with ample memory, which calls of the disk they make, and what
-// folders typed by hand stand for.
+// What clauses on a store don't say: that its calls succeed with ample memory, which calls of the disk they make, and
+// what folders typed by hand stand for.
 ghost use Rattle.std.specs.Prelude.{◌≡◌};
 ghost use Rattle.std.specs.List.{list_all};
 ghost use Rattle.guard_files.specs.OwnName.{is_listable as may_stand};
@@ -131,8 +131,8 @@ fn put_mount(alloc: Global, text: &mut Vec<u8>, disk: &mut MemDisk) -> Result<()
     }
 }
 
-/// What a mount of the disk finds, and what the folder holds after it: the files of the set or the damage, a bar, and the
-/// files of the folder, each as `name=bytes;`.
+/// What a mount of the disk finds, and what the folder holds after it: the files of the set or the damage, a bar, and
+/// the files of the folder, each as `name=bytes;`.
 fn mounted_text(alloc: Global, disk: &mut MemDisk) -> Result<Vec<u8>, Fail> {
     let mut text = Vec::new(alloc);
     put_mount(alloc, &mut text, disk)?;

@@ -22,7 +22,11 @@ touching (change ∷ changes) names = touching changes (with_name names change.0
 
 -- the state of a disk after the changes
 abbrev pub after : List Change → DiskState → DiskState
-after changes state = record { current = changed changes state.current; durable = state.durable; touched = touching changes state.touched }
+after changes state = record {
+  current = changed changes state.current;
+  durable = state.durable;
+  touched = touching changes state.touched;
+}
 
 -- each file of the set is written where it is placed
 abbrev pub writes : (List ℕ → List ℕ) → List SetFile → List Change

@@ -108,7 +108,8 @@ fn put_named(text: &mut Vec<u8>, letter: &[u8], name: &FileName) -> Result<(), F
     Ok(text.push(b';')?)
 }
 
-/// The calls, each as a letter (`n` lists the names, `r` reads, `w` writes, `d` removes, `s` syncs) with what it was given.
+/// The calls, each as a letter (`n` lists the names, `r` reads, `w` writes, `d` removes, `s` syncs) with what it was
+/// given.
 fn calls_text(alloc: Global, calls: &[RecordedCall]) -> Result<Vec<u8>, Fail> {
     let mut text = Vec::new(alloc);
     for made in calls {

@@ -30,7 +30,8 @@ fn settle_vault(vault: &mut Vault<MemDisk>) -> Result<(), Fail> {
     Err(Fail::from("the vault stays undecided"))
 }
 
-/// Replaces the held set, and settles the vault. Whether the replacement was done. Where it was not, the vault is undecided.
+/// Replaces the held set, and settles the vault. Whether the replacement was done. Where it was not, the vault is
+/// undecided.
 fn replace_and_settle(alloc: Global, vault: &mut Vault<MemDisk>, next: Held) -> Result<bool, Fail> {
     let is_done = replace(alloc, vault, next.set)?;
     if is_done != vault.is_decided() {

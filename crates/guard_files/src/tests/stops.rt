@@ -14,8 +14,9 @@ const REPLACEMENTS: [(Held, Held, usize); 3] = [
     (NEXT_SET, EMPTY_SET, 6),
 ];
 
-/// Folders that a stop left of a replacement of the first set by the next one, and the set that counts: the guard stands
-/// before any primary is written, or with some of them; it is gone while backups stand; it was not written yet.
+/// Folders that a stop left of a replacement of the first set by the next one, and the set that counts: the guard
+/// stands before any primary is written, or with some of them; it is gone while backups stand; it was not written
+/// yet.
 const LEFT_BY_STOPS: [(Files, Held); 4] = [
     (
         &[
