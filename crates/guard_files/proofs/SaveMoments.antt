@@ -15,7 +15,8 @@ use Rattle.guard_files.proofs.Primaries.{renewed, left_while_renewed, left_while
 use Rattle.guard_files.proofs.Saving.{settled_stands, settled_primaries, backed, raised, last, cleared, left_while_backed, left_while_raised, left_while_cleared, raised_guard, raised_backups, gone_is_plain, cleared_settled}
 
 -- a stop of a store at rest leaves its set
-pub settled_leaves : (held : Option (List SetFile)) (state : DiskState) → IsSettled held state → (left : FileMap) → MayLeave state left
+pub settled_leaves : (held : Option (List SetFile)) (state : DiskState) → IsSettled held state → (left : FileMap)
+    → MayLeave state left
     → recover left ≡ Ok held
 settled_leaves held state settled left leaves =
     let stands = left_in_backups [] tt state (settled_stands held state settled) left leaves in
@@ -39,7 +40,8 @@ module _ {D : Type 0} (state : D → Option DiskState) (moment : D → ℕ) (lef
       (λ left leaves. inl (left_while_backed held set before settled only may left leaves)) (adds before told)
 
   over_guard : (old new : D) → state old ≡ Some (with_all_durable (backed held set before settled only may))
-      → WhereTold (state old) (λ before. AddsOnly moment left_since old new (MayLeave (after guard_up before))) → leaves old new
+      → WhereTold (state old) (λ before. AddsOnly moment left_since old new (MayLeave (after guard_up before)))
+      → leaves old new
   over_guard old new told adds =
       AddsOnly-more moment left_since old new (MayLeave (raised held set before settled only may)) (IsBeforeOrAfter held (Some set))
       (left_while_raised held set before settled only may) (adds _ told)
@@ -56,7 +58,8 @@ module _ {D : Type 0} (state : D → Option DiskState) (moment : D → ℕ) (lef
       is (adds _ told))
 
   over_lowering : (old new : D) → state old ≡ Some (with_all_durable renewed_now)
-      → WhereTold (state old) (λ before. AddsOnly moment left_since old new (MayLeave (after guard_down before))) → leaves old new
+      → WhereTold (state old) (λ before. AddsOnly moment left_since old new (MayLeave (after guard_down before)))
+      → leaves old new
   over_lowering old new told adds =
       AddsOnly-more moment left_since old new (MayLeave (last held set before settled only may)) (IsBeforeOrAfter held (Some set))
       (λ left leaves. inr (left_while_lowered (raised held set before settled only may) [] set (gone_names held set)
@@ -107,7 +110,8 @@ module _ {D : Type 0} (state : D → Option DiskState) (moment : D → ℕ) (lef
   )
 
   -- from a store at rest on
-  from_rest : (old new : D) → ((left : FileMap) → left_since old (moment old) left → MayLeave before left) → leaves old new
+  from_rest : (old new : D) → ((left : FileMap) → left_since old (moment old) left → MayLeave before left)
+      → leaves old new
       → LeavesOnly moment left_since old new (IsBeforeOrAfter held (Some set))
   from_rest old new now adds =
       LeavesOnly-from moment left_since old new (IsBeforeOrAfter held (Some set))
@@ -173,7 +177,8 @@ module _ {D : Type 0} {state : D → Option DiskState} {moment : D → ℕ} {lef
   stopped new adds = from_rest state moment left_since set held before start.settled start.only start.may first new start.now adds
 
   onward : {old : D} {reached : DiskState} (new : D) → At old reached
-      → AddsOnly moment left_since old new (IsBeforeOrAfter held (Some set)) → AddsOnly moment left_since first new (IsBeforeOrAfter held (Some set))
+      → AddsOnly moment left_since old new (IsBeforeOrAfter held (Some set))
+      → AddsOnly moment left_since first new (IsBeforeOrAfter held (Some set))
   onward {old} new so_far adds = AddsOnly-then moment left_since first old new (IsBeforeOrAfter held (Some set)) so_far.adds adds
 
   -- the backups
@@ -181,7 +186,8 @@ module _ {D : Type 0} {state : D → Option DiskState} {moment : D → ℕ} {lef
   in_backups new adds =
       stopped new (over_backups state moment left_since set held before start.settled start.only start.may first new start.told adds)
 
-  pub past_backups : (new : D) → Adds (after (set_writes backup_name set)) first new → Ends (after (set_writes backup_name set)) first new
+  pub past_backups : (new : D) → Adds (after (set_writes backup_name set)) first new
+      → Ends (after (set_writes backup_name set)) first new
       → At new at_backed
   past_backups new adds ends = record {
     tells = told_backed state moment left_since set held before start.settled start.only start.may first new start.told ends;
@@ -198,7 +204,8 @@ module _ {D : Type 0} {state : D → Option DiskState} {moment : D → ℕ} {lef
   pub in_guard : {old : D} (new : D) → At old at_backed → Adds (after guard_up) old new → Stopped new
   in_guard new so_far adds = stopped new (over_guard_on new so_far adds)
 
-  pub past_guard : {old : D} (new : D) → At old at_backed → Adds (after guard_up) old new → Ends (after guard_up) old new → At new at_raised
+  pub past_guard : {old : D} (new : D) → At old at_backed → Adds (after guard_up) old new
+      → Ends (after guard_up) old new → At new at_raised
   past_guard {old} new so_far adds ends = record {
     tells = told_raised state moment left_since set held before start.settled start.only start.may old new so_far.tells ends;
     adds = over_guard_on new so_far adds;
@@ -206,7 +213,8 @@ module _ {D : Type 0} {state : D → Option DiskState} {moment : D → ℕ} {lef
 
   -- the primaries
   over_primaries_on : {old : D} (new : D) (gone : List (List ℕ)) → gone ≡ gone_names held set → At old at_raised
-      → Adds (after (primary_changes gone set)) old new → AddsOnly moment left_since first new (IsBeforeOrAfter held (Some set))
+      → Adds (after (primary_changes gone set)) old new
+      → AddsOnly moment left_since first new (IsBeforeOrAfter held (Some set))
   over_primaries_on {old} new gone is so_far adds =
       onward new so_far
       (over_primaries state moment left_since set held before start.settled start.only start.may old new gone is so_far.tells adds)
@@ -216,7 +224,8 @@ module _ {D : Type 0} {state : D → Option DiskState} {moment : D → ℕ} {lef
   in_primaries new gone is so_far adds = stopped new (over_primaries_on new gone is so_far adds)
 
   pub past_primaries : {old : D} (new : D) (gone : List (List ℕ)) → gone ≡ gone_names held set → At old at_raised
-      → Adds (after (primary_changes gone set)) old new → Ends (after (primary_changes gone set)) old new → At new at_renewed
+      → Adds (after (primary_changes gone set)) old new → Ends (after (primary_changes gone set)) old new
+      → At new at_renewed
   past_primaries {old} new gone is so_far adds ends = record {
     tells = told_renewed state moment left_since set held before start.settled start.only start.may old new gone is so_far.tells ends;
     adds = over_primaries_on new gone is so_far adds;
@@ -232,20 +241,23 @@ module _ {D : Type 0} {state : D → Option DiskState} {moment : D → ℕ} {lef
   pub in_lowering : {old : D} (new : D) → At old at_renewed → Adds (after guard_down) old new → Stopped new
   in_lowering new so_far adds = stopped new (over_lowering_on new so_far adds)
 
-  pub past_lowering : {old : D} (new : D) → At old at_renewed → Adds (after guard_down) old new → Ends (after guard_down) old new → At new at_last
+  pub past_lowering : {old : D} (new : D) → At old at_renewed → Adds (after guard_down) old new
+      → Ends (after guard_down) old new → At new at_last
   past_lowering {old} new so_far adds ends = record {
     tells = told_lowered state moment left_since set held before start.settled start.only start.may old new so_far.tells ends;
     adds = over_lowering_on new so_far adds;
   }
 
   -- the backups' removal, after which no sync follows
-  pub in_cleaning : {old : D} (new : D) (backups : List (List ℕ)) → backups ≡ map backup_name (names_of set) → At old at_last
+  pub in_cleaning : {old : D} (new : D) (backups : List (List ℕ)) → backups ≡ map backup_name (names_of set)
+      → At old at_last
       → Adds (after (backups_away backups)) old new → Stopped new
   in_cleaning {old} new backups are so_far adds =
       stopped new (onward new so_far
       (over_cleaning state moment left_since set held before start.settled start.only start.may old new backups are so_far.tells adds))
 
-  pub past_cleaning : {old : D} (new : D) (backups : List (List ℕ)) → backups ≡ map backup_name (names_of set) → At old at_last
+  pub past_cleaning : {old : D} (new : D) (backups : List (List ℕ)) → backups ≡ map backup_name (names_of set)
+      → At old at_last
       → WhereTold (state old) (λ was. state new ≡ Some (after (backups_away backups) was)) → EndsSettled set (state new)
   past_cleaning {old} new backups are so_far ends =
       told_cleared state moment left_since set held before start.settled start.only start.may old new backups are so_far.tells ends
