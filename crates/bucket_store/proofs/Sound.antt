@@ -1,6 +1,7 @@
 -- What a sound database never breaks, and what a search says of its buckets.
-use Rattle.std.proofs.Common.{◌≡◌, ℕ, ◌+◌, Bool, true, false, not, cond, ◌||◌, ◌&&◌, nat_lt, List, [], ◌∷◌, ◌++◌, length, map, Some, None, get_or, suc, append-nil, refl, sym, ap, ◌∙◌}
+use Rattle.std.proofs.Common.{◌≡◌, ℕ, ◌+◌, Bool, true, false, not, cond, ◌||◌, ◌&&◌, nat_lt, List, [], ◌∷◌, ◌++◌, length, map, Result, Ok, Err, IfOk, IfErr, Some, None, get_or, suc, append-nil, refl, sym, ap, ◌∙◌}
 use Rattle.std.specs.Option.{option_map}
+use Rattle.std.specs.Result.{result_ok}
 use Rattle.std.specs.declared.cmp.Ordering.{Ordering}
 use Rattle.std.specs.declared.cmp.Ordering.TheVariants.{Less, Equal, Greater}
 use Rattle.std.specs.List.{AllByRecursion, filter, list_any, flat_map, find, position, prefix_len}
@@ -150,25 +151,29 @@ position-same test other same xs = ap (λ n. cond (nat_lt n (length xs)) (Some n
         ap (λ b. cond (not b) (1 + prefix_len (λ x. not (test x)) xs) 0) (same x)
         ∙ ap (λ n. cond (not (other x)) (1 + n) 0) (lens xs)
 
-by_name : (name : List ℕ) (buckets : List Bucket)
-    → position (λ heading. same_text heading.name name) (map heading_of buckets)
-    ≡ position (λ (bucket : Bucket). is_eq (text_cmp bucket.name name)) buckets
-by_name name buckets =
-    position-map (λ (heading : Heading). same_text heading.name name) heading_of buckets
-    ∙ position-same (λ (bucket : Bucket). same_text bucket.name name) (λ bucket. is_eq (text_cmp bucket.name name))
-    (λ bucket. sym (text_cmp-equal bucket.name name)) buckets
+module _ (name : List ℕ) (buckets : List Bucket) where
+  by_text : position (λ (bucket : Bucket). same_text bucket.name name) buckets
+      ≡ position (λ (bucket : Bucket). is_eq (text_cmp bucket.name name)) buckets
+  by_text =
+      position-same (λ (bucket : Bucket). same_text bucket.name name) (λ bucket. is_eq (text_cmp bucket.name name))
+      (λ bucket. sym (text_cmp-equal bucket.name name)) buckets
 
-pub place-found : (name : List ℕ) (buckets : List Bucket) (at : ℕ)
-    → StandsAt (λ (bucket : Bucket). text_cmp bucket.name name) buckets at
-    → position (λ (heading : Heading). same_text heading.name name) (map heading_of buckets) ≡ Some at
-place-found name buckets at stands =
-    by_name name buckets ∙ position-StandsAt (λ (bucket : Bucket). text_cmp bucket.name name) stands
+  -- where a search found the bucket of this name, or found that there is none
+  pub bucket-place : (r : Result ℕ ℕ) → IfOk r (StandsAt (λ (bucket : Bucket). text_cmp bucket.name name) buckets)
+      → IfErr r (BelongsAt (λ (bucket : Bucket). text_cmp bucket.name name) buckets)
+      → result_ok r ≡ position (λ (bucket : Bucket). same_text bucket.name name) buckets
+  bucket-place (Ok at) stands belongs =
+      sym (by_text ∙ position-StandsAt (λ (bucket : Bucket). text_cmp bucket.name name) stands)
+  bucket-place (Err at) stands belongs =
+      sym (by_text ∙ position-BelongsAt (λ (bucket : Bucket). text_cmp bucket.name name) belongs)
 
-pub place-absent : (name : List ℕ) (buckets : List Bucket) (at : ℕ)
-    → BelongsAt (λ (bucket : Bucket). text_cmp bucket.name name) buckets at
-    → position (λ (heading : Heading). same_text heading.name name) (map heading_of buckets) ≡ None
-place-absent name buckets at belongs =
-    by_name name buckets ∙ position-BelongsAt (λ (bucket : Bucket). text_cmp bucket.name name) belongs
+  -- the headings have the buckets' names
+  pub heading-place : (r : Result ℕ ℕ) → IfOk r (StandsAt (λ (bucket : Bucket). text_cmp bucket.name name) buckets)
+      → IfErr r (BelongsAt (λ (bucket : Bucket). text_cmp bucket.name name) buckets)
+      → result_ok r ≡ position (λ (heading : Heading). same_text heading.name name) (map heading_of buckets)
+  heading-place r stands belongs =
+      bucket-place r stands belongs
+      ∙ sym (position-map (λ (heading : Heading). same_text heading.name name) heading_of buckets)
 
 -- ---- whether a bucket is there
 

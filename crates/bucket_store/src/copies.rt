@@ -4,7 +4,7 @@ ghost use Rattle.std.specs.List as list;
 ghost use Rattle.cynara_keys.specs.Key.{filter_admits};
 ghost use Rattle.bucket_store.specs.Walk as walk;
 
-use crate::Bucket;
+use crate::{Bucket, Change};
 use cynara_keys::{BucketName, Filter, Kind, Policy};
 use std::alloc::{AllocError, Global};
 
@@ -74,6 +74,17 @@ pub fn all_policies(alloc: Global, policies: &[Policy]) -> Result<Vec<Policy>, A
     let mut copy = Vec::with_capacity(alloc, policies.len())?;
     for policy in policies {
         copy.push(policy.copy()?)?;
+    }
+    Ok(copy)
+}
+
+/// All changes.
+pub fn all_changes(alloc: Global, changes: &[Change]) -> Result<Vec<Change>, AllocError>
+    ensures { IfOk result (λ copy. copy.items ≡ changes.now) }
+{
+    let mut copy = Vec::with_capacity(alloc, changes.len())?;
+    for change in changes {
+        copy.push(change.copy()?)?;
     }
     Ok(copy)
 }
