@@ -128,3 +128,21 @@ held-kind database buckets question deep left start held same rise lt is =
     let own : start < length buckets = subst (λ n. start < n) (length-map buckets heading_of) within in
     subst (λ d. IfSome (outcome_by_places d held.found) (λ outcome. held.found.kind.0 ≡ outcome.result.kind)) same
     (kind-at buckets question deep left (slice_get buckets start) held rise (some-at buckets start own) is)
+
+-- what is held is there
+there-at : {X : Type 0} (of : X → Outcome) (xs : List X) (at : ℕ) (o : Option Outcome) → at < length xs
+    → IfSome (slice_get xs at) (λ x. o ≡ Some (of x)) → is_some o ≡ true
+there-at of [] at o lt is = absurd (omega arith)
+there-at of (x ∷ xs) zero o lt is = ap is_some is
+there-at of (x ∷ xs) (suc at) o lt is = there-at of xs at o (omega arith) is
+
+pub held-there : (database : Database) (buckets : List Bucket) (question : Question) (deep : Bool) (left start : ℕ) (held : Held)
+    → database_of buckets ≡ database → IsStrictlySortedBy bucket_cmp buckets → left ≡ length buckets
+    → start < length database.buckets
+    → IfSome (slice_get buckets start) (λ bucket.
+    IsHeld buckets (answer_within (database_of buckets) question deep left bucket.name) held)
+    → is_some (outcome_by_places database held.found) ≡ true
+held-there database buckets question deep left start held same rise whole lt is =
+    there-at (λ (heading : Heading). answer database heading.name question deep) database.buckets start
+    (outcome_by_places database held.found) lt
+    (held-answer database buckets question deep left start held same rise whole is)

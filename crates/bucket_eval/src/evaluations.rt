@@ -16,6 +16,7 @@ pub fn plain(database: &Database, start: usize, question: &Question, recursive: 
     ensures answer { IfSome (slice_get database.now.buckets start) (λ heading.
         outcome_at database.now result ≡ Some (answer database.now heading.name question.now recursive)) }
     ensures kind { IfSome (outcome_at database.now result) (λ outcome. result.kind.0 ≡ outcome.result.kind) }
+    ensures there { IsSome (outcome_at database.now result) }
 {
     let buckets = database.buckets();
     let asked = Asked {

@@ -1,9 +1,11 @@
 // Nested evaluation as a plain recursion over the buckets.
 ghost use Rattle.std.specs.Prelude.{◌≡◌, ◌<◌, length, slice_get, IfSome, Some};
 ghost use Rattle.std.specs.List.{filter_map, position};
+ghost use Rattle.std.specs.List.Sorted.{IsStrictlySortedBy};
 ghost use Rattle.cynara_keys.specs.Minimum.{first_least};
 ghost use Rattle.cynara_keys.specs.Text.{same_text};
 ghost use Rattle.bucket_store.specs.Database.{database_of};
+ghost use Rattle.bucket_store.specs.Order.{bucket_cmp};
 ghost use Rattle.bucket_store.specs.Walk.{points};
 ghost use Rattle.bucket_store.specs.WellFormed.{IsKept};
 ghost use Rattle.bucket_eval.specs.Evaluation.{contribution_cmp, outcome_of, answer_within};
@@ -181,13 +183,14 @@ fn fallback<'a>(at: usize, bucket: &'a Bucket) -> Held<'a>
     }
 }
 
-// The place of the bucket of this name.
+// The place of the bucket of this name, found by halving.
 fn place_of_bucket(buckets: &[Bucket], name: &[u8]) -> Option<usize>
+    requires { IsStrictlySortedBy bucket_cmp buckets.now }
     ensures { result ≡ position (λ bucket. same_text bucket.name name.now) buckets.now }
 {
     buckets
-        .iter()
-        .position(|bucket| bucket.name().as_slice() == name)
+        .binary_search_by(|bucket| bucket.name().as_slice().cmp(name))
+        .ok()
 }
 
 // The lesser of the two offers, if there are two, and the first where they tie.
