@@ -22,3 +22,6 @@ pub use databases::{Database, Erased};
 pub use limits::{MOST_BUCKETS, MOST_POLICIES};
 pub use policy_changes::{Change, Changes};
 pub use refusals::StoreRefusal;
+
+#[cfg(test)]
+mod tests;
