@@ -1,6 +1,6 @@
 -- The buckets of a database and their policies, by places in the list of buckets.
-use Rattle.std.proofs.Common.{◌≡◌, ℕ, ◌<◌, Bool, true, false, cond, zero, suc, List, [], ◌∷◌, ◌++◌, length, map, slice_get, Option, None, Some, IfSome, refl, sym, ap, ◌∙◌, subst, arith}
-use Rattle.std.specs.declared.cmp.Ordering.TheVariants.{Less, Equal, Greater}
+use Rattle.std.proofs.Common.{◌≡◌, ℕ, Bool, true, false, cond, zero, suc, List, [], ◌∷◌, ◌++◌, map, slice_get, None, Some, refl, sym, ap, ◌∙◌, subst}
+use Rattle.std.specs.declared.cmp.Ordering.TheVariants.{Less}
 use Rattle.std.specs.List.{AllByRecursion, filter, find, flat_map}
 use Rattle.std.specs.List.Sorted.{IsStrictlySortedBy}
 use Rattle.std.specs.Ordering.{is_eq}
@@ -8,13 +8,13 @@ use Rattle.std.specs.Option.{option_map_or}
 use Rattle.std.proofs.lemmas.List.{map-append, append-nil}
 use Rattle.std.proofs.lemmas.List.Elements.{filter-append}
 use Rattle.cynara_keys.specs.PolicyResult.{Ruling, deny}
-use Rattle.cynara_keys.specs.Text.{same_text, text_cmp}
+use Rattle.cynara_keys.specs.Text.{same_text}
 use Rattle.cynara_keys.specs.declared.keys.Policy.{Policy}
 use Rattle.cynara_keys.proofs.Order.{same_text-≡, ≡-same_text, text_cmp-equal}
 use Rattle.bucket_store.specs.Bucket.{Bucket}
-use Rattle.bucket_store.specs.Database.{Database, Heading, Placed, database_of, placed_of, heading_of}
+use Rattle.bucket_store.specs.Database.{Heading, Placed, database_of, placed_of, heading_of}
 use Rattle.bucket_store.specs.Order.{bucket_cmp}
-use Rattle.bucket_eval.specs.Evaluation.{Outcome, policies_of, fallback_of}
+use Rattle.bucket_eval.specs.Evaluation.{policies_of, fallback_of}
 
 -- the policies of the buckets of a name
 held : List Bucket → List ℕ → List Policy

@@ -1,9 +1,8 @@
 -- What policies and buckets answer, and what is left of that as contributions.
-use Rattle.std.proofs.Common.{◌≡◌, ℕ, ◌<◌, Bool, true, false, ◌==◌, cond, List, length, zero, suc, ◌-◌, slice_get, option_and_then, Option, None, Some, IfSome, arith, refl, sym, ap, ◌∙◌, subst}
+use Rattle.std.proofs.Common.{◌≡◌, ℕ, ◌<◌, Bool, true, false, ◌==◌, cond, List, suc, ◌-◌, slice_get, option_and_then, Option, None, Some, arith, sym, ap, ◌∙◌, subst}
 use Rattle.std.specs.List.{filter_map}
 use Rattle.std.specs.List.Sorted.{IsStrictlySortedBy}
 use Rattle.std.specs.Option.{option_map}
-use Rattle.std.proofs.lemmas.Bool.{false≢true}
 use Rattle.cynara_keys.specs.Key.{key_matches}
 use Rattle.cynara_keys.specs.Minimum.{first_least}
 use Rattle.cynara_keys.specs.PolicyResult.{none}
@@ -14,7 +13,7 @@ use Rattle.bucket_store.specs.Bucket.{Bucket}
 use Rattle.bucket_store.specs.Database.{database_of}
 use Rattle.bucket_store.specs.Order.{bucket_cmp}
 use Rattle.bucket_store.specs.Walk.{points, target}
-use Rattle.bucket_eval.specs.Evaluation.{Outcome, Contribution, contribution_cmp, contribution, counted, decided, outcome_of, policies_of, fallback_of, answer_within}
+use Rattle.bucket_eval.specs.Evaluation.{Outcome, Contribution, contribution_cmp, counted, decided, outcome_of, fallback_of, answer_within}
 use Rattle.bucket_eval.specs.parts.Buckets.{outcome_in, outcome_at, IsHeld, IsOffer, Holds, Offers, offered}
 use Rattle.bucket_eval.specs.declared.answers.Found.{Found}
 use Rattle.bucket_eval.specs.declared.nested.Held.{Held}

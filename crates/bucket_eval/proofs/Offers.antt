@@ -1,7 +1,7 @@
 -- The search for the least contribution, from the last policy of a bucket to its first.
-use Rattle.std.proofs.Common.{◌≡◌, ℕ, ◌+◌, ◌-◌, ◌<◌, ◌≤◌, Bool, true, false, cond, List, [], ◌∷◌, length, drop, get_or, Option, None, Some, refl, sym, ap, ◌∙◌, subst, arith}
+use Rattle.std.proofs.Common.{◌≡◌, ℕ, ◌+◌, ◌-◌, ◌<◌, ◌≤◌, Bool, true, false, cond, List, ◌∷◌, length, drop, get_or, Option, None, Some, refl, sym, ap, ◌∙◌, subst, arith}
 use Rattle.std.specs.List.{filter_map, cons_option}
-use Rattle.std.specs.Ordering.{is_gt, ordering_then, min_by_ordering}
+use Rattle.std.specs.Ordering.{is_gt, ordering_then}
 use Rattle.std.proofs.lemmas.List.{drop_all, at_drop_more}
 use Rattle.cynara_keys.specs.Key.{key_cmp}
 use Rattle.cynara_keys.specs.Minimum.{lesser, first_least}

@@ -10,7 +10,7 @@ use Rattle.cynara_keys.specs.declared.keys.Question.{Question}
 use Rattle.bucket_store.specs.Bucket.{Bucket}
 use Rattle.bucket_store.specs.Database.{Database, Heading, database_of, heading_of}
 use Rattle.bucket_store.specs.Order.{bucket_cmp}
-use Rattle.bucket_eval.specs.Evaluation.{Outcome, policies_of, answer_within, answer}
+use Rattle.bucket_eval.specs.Evaluation.{Outcome, answer_within, answer}
 use Rattle.bucket_eval.specs.Found.{outcome_in as outcome_under, outcome_at as outcome_by_places}
 use Rattle.bucket_eval.specs.parts.Buckets.{outcome_in, outcome_at, IsHeld}
 use Rattle.bucket_eval.specs.declared.answers.Found.{Found}

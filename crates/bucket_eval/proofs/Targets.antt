@@ -1,5 +1,5 @@
 -- The bucket that a policy points to is there.
-use Rattle.std.proofs.Common.{◌≡◌, ℕ, ◌+◌, ◌<◌, ◌≤◌, Bool, true, false, not, ◌||◌, cond, zero, suc, List, [], ◌∷◌, ◌++◌, length, map, slice_get, get_or, Option, None, Some, refl, sym, ap, ◌∙◌, subst, arith}
+use Rattle.std.proofs.Common.{◌≡◌, ℕ, ◌+◌, ◌<◌, Bool, true, false, not, ◌||◌, cond, zero, suc, List, [], ◌∷◌, length, map, slice_get, get_or, None, Some, sym, ap, subst, arith}
 use Rattle.std.specs.List.{AllByRecursion, list_any, flat_map, position, position_or_len}
 use Rattle.std.proofs.lemmas.Bool.{false≢true, lt-ltb}
 use Rattle.std.proofs.lemmas.List.Quantifiers.{position-Some}

@@ -1,5 +1,5 @@
 -- Where an answer was found, by places in a database, and how it is described.
-use Rattle.std.specs.Prelude.{ℕ, List, Option, Some, None, slice_get}
+use Rattle.std.specs.Prelude.{ℕ, Option, Some, None, slice_get}
 use Rattle.std.specs.Option.{option_map}
 use Rattle.std.specs.Prelude.{option_and_then}
 use Rattle.cynara_keys.specs.Field.{field_text}

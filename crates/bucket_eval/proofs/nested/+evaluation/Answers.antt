@@ -1,10 +1,10 @@
-use Rattle.std.proofs.Common.{◌≡◌, ℕ, ◌-◌, Bool, true, false, List, slice_get, slice_index_or, Option, None, Some, IfSome, refl, sym, ap, ◌∙◌, subst, arith, rules}
+use Rattle.std.proofs.Common.{◌≡◌, ℕ, ◌-◌, List, slice_get, slice_index_or, Some, IfSome, refl, sym, ◌∙◌, subst, arith}
 use Rattle.std.proofs.lemmas.Option.{slice_get-get_or}
 use Rattle.bucket_store.specs.Bucket.{Bucket}
 use Rattle.bucket_store.specs.Database.{database_of}
 use Rattle.bucket_store.specs.Walk.{target}
 use Rattle.bucket_eval.specs.Evaluation.{answer_within}
-use Rattle.bucket_eval.specs.parts.Buckets.{IsHeld, Holds, Offers, offered}
+use Rattle.bucket_eval.specs.parts.Buckets.{IsHeld, Offers, offered}
 use Rattle.bucket_eval.proofs.Held.{followed-holds, end-held, fallback-answers, offer-answers}
 use Rattle.bucket_eval.proofs.Offers.{least_from, least_from-down, least_from-offer}
 use Rattle.bucket_eval.proofs.Targets.{target-there, target-at}
