@@ -199,15 +199,6 @@ module _ {policies : List Policy} {key : Key} {place : ℕ} (at : HasKeyAt polic
       IsRising-instead at.front at.policy policy at.back (ap (same_key at.policy.key) is ∙ at.same)
       (subst IsRising at.parts rising)
 
-  pub IsRising-set : (policy : Policy) → policy.key ≡ key → IsRising policies → IsRising (set policies place policy)
-  IsRising-set policy is rising = subst IsRising (sym (set-HasKeyAt policy)) (IsRising-HasKeyAt policy is rising)
-
-  pub Reordered-set : (policy : Policy)
-      → Reordered (filter (λ other. not (same_key other.key key)) policies ++ policy ∷ []) (set policies place policy)
-  Reordered-set policy =
-      subst (Reordered (filter (λ other. not (same_key other.key key)) policies ++ policy ∷ [])) (sym (set-HasKeyAt policy))
-      (Reordered-HasKeyAt policy)
-
 module _ {policies : List Policy} {key : Key} {place : ℕ} (at : BelongsAt policies key place) where
   pub HasNoKey-BelongsAt : HasNoKey policies key
   HasNoKey-BelongsAt =
@@ -239,12 +230,3 @@ module _ {policies : List Policy} {key : Key} {place : ℕ} (at : BelongsAt poli
       IsRising-between at.front policy at.back (subst IsRising at.parts rising)
       (subst (λ own. AllByRecursion (λ (other : Policy). ComesBefore other.key own) at.front) (sym is) at.before)
       (subst (λ own. AllByRecursion (λ (other : Policy). ComesBefore own other.key) at.back) (sym is) at.behind)
-
-  pub IsRising-insert : (policy : Policy) → policy.key ≡ key → IsRising policies → IsRising (insert policies place policy)
-  IsRising-insert policy is rising = subst IsRising (sym (insert-BelongsAt policy)) (IsRising-BelongsAt policy is rising)
-
-  pub Reordered-insert : (policy : Policy)
-      → Reordered (filter (λ other. not (same_key other.key key)) policies ++ policy ∷ []) (insert policies place policy)
-  Reordered-insert policy =
-      subst (Reordered (filter (λ other. not (same_key other.key key)) policies ++ policy ∷ [])) (sym (insert-BelongsAt policy))
-      (Reordered-BelongsAt policy)

@@ -279,16 +279,6 @@ module _ (changes : List Change) (buckets : List Bucket) (kept : IsKept buckets)
       (ap (λ list. nat_lt most_policies (length list)) (sym flat-after) ∙ over)
       ∙ ap (λ rule. first_of (rule ∷ [])) (ap cycle (sym view-after) ∙ on)
 
--- what the refusal of a bucket that is not there says of all changes
-pub refuses-first : (database : Database) (changes : List Change) (refusal : StoreRefusal)
-    → NamesFirst (flat_map named_by changes) database refusal → Refuses database (set_policies changes database) refusal
-refuses-first database changes (NoBucket name) first = ap (λ rule. first_of (rule ∷ None ∷ None ∷ limit (with_changes changes database) ∷ cycle (with_changes changes database) ∷ [])) first
-refuses-first database changes RootBucket first = ap (λ rule. first_of (rule ∷ None ∷ None ∷ limit (with_changes changes database) ∷ cycle (with_changes changes database) ∷ [])) first
-refuses-first database changes (BadKind kind) first = ap (λ rule. first_of (rule ∷ None ∷ None ∷ limit (with_changes changes database) ∷ cycle (with_changes changes database) ∷ [])) first
-refuses-first database changes (Limit counted most) first = ap (λ rule. first_of (rule ∷ None ∷ None ∷ limit (with_changes changes database) ∷ cycle (with_changes changes database) ∷ [])) first
-refuses-first database changes (Cycle name) first = ap (λ rule. first_of (rule ∷ None ∷ None ∷ limit (with_changes changes database) ∷ cycle (with_changes changes database) ∷ [])) first
-refuses-first database changes (Memory error) first = (refl, refl)
-
 -- what the refusal of a bucket on a cycle says
 pub refuses-cycle : (database : Database) (changes : List Change) (name : List ℕ) (refusal : StoreRefusal)
     → fault database (set_policies changes database) ≡ Some (Cycle name) → NamesCycle name refusal

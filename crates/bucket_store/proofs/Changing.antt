@@ -125,19 +125,6 @@ module _ (key : Key) where
   abbrev apart : List Policy → List Policy
   apart policies = filter (λ policy. not (same_key policy.key key)) policies
 
-  behind-all : (policies : List Policy) → AllByRecursion (λ (other : Policy). key_cmp other.key key ≡ Greater) policies
-      → filter (λ (policy : Policy). not (same_key policy.key key)) policies
-      ≡ filter (λ (policy : Policy). is_lt (key_cmp policy.key key)) policies ++ filter (λ (policy : Policy). is_gt (key_cmp policy.key key)) policies
-  behind-all policies all =
-      let same = λ (policy : Policy). not (same_key policy.key key) in
-      filter-all same policies
-      (All-weaker (λ (other : Policy). key_cmp other.key key ≡ Greater) (λ other. same other ≡ true)
-      (λ other h. ap not (sym (key_cmp-equal other.key key) ∙ ap is_eq h)) policies all)
-      ∙ (λ i. sym (filter-none (λ (policy : Policy). is_lt (key_cmp policy.key key)) policies
-      (All-weaker (λ (other : Policy). key_cmp other.key key ≡ Greater) (λ other. is_lt (key_cmp other.key key) ≡ false) (λ other h. ap is_lt h) policies all)) i
-      ++ sym (filter-all (λ (policy : Policy). is_gt (key_cmp policy.key key)) policies
-      (All-weaker (λ (other : Policy). key_cmp other.key key ≡ Greater) (λ other. is_gt (key_cmp other.key key) ≡ true) (λ other h. ap is_gt h) policies all)) i)
-
   head-key : (policy : Policy) (policies : List Policy) → AllByRecursion (λ (later : Policy). policy_cmp policy later ≡ Less) policies
       → filter (λ (policy : Policy). not (same_key policy.key key)) policies
       ≡ filter (λ (policy : Policy). is_lt (key_cmp policy.key key)) policies ++ filter (λ (policy : Policy). is_gt (key_cmp policy.key key)) policies

@@ -17,9 +17,6 @@ use Rattle.bucket_store.proofs.Walks.{NoCycle-tested, tested-NoCycle, NoCycle-fe
 
 -- ---- the root bucket alone
 
-fresh_bucket : Bucket
-fresh_bucket = record { name = []; fallback = record { kind = deny; metadata = [] }; policies = [] }
-
 pub fresh_kept : IsKept (record { name = []; fallback = record { kind = deny; metadata = [] }; policies = [] } ∷ [])
 unfolding reaches IsStrictlySortedBy
 fresh_kept = record {

@@ -50,9 +50,6 @@ All-at P [] all i d lt = absurd (omega arith)
 All-at P (x ∷ xs) all zero d lt = all.0
 All-at P (x ∷ xs) all (suc i) d lt = All-at P xs all.1 i d (omega arith)
 
-row_at : List (List Bool) → ℕ → List Bool
-row_at rows i = get_or rows i []
-
 abbrev leads : List (List Bool) → ℕ → ℕ → Bool
 leads rows i j = flag (get_or rows i []) j
 
@@ -185,9 +182,6 @@ module _ (buckets : List Bucket) (rise : IsStrictlySortedBy bucket_cmp buckets)
   kept-true (suc k) i j le within h = direct k i j (omega arith) within (kept-true k i j (omega arith) within h)
 
   -- ---- what a flag says of policies
-
-  own_test : List ℕ → (Policy → Bool) → Placed → Bool
-  own_test own test step = same_text step.bucket own && test step.policy
 
   stands : (i : ℕ) → i < length buckets
       → StandsAt (λ (bucket : Bucket). text_cmp bucket.name (get_or buckets i (bucket_of [] (record { kind = 0; metadata = [] }) [])).name) buckets i

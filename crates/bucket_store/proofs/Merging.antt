@@ -23,7 +23,7 @@ use Rattle.bucket_store.proofs.Lists.{All-weaker, All-append, All-front, All-pas
 use Rattle.std.specs.List.Sorted.{IsSortedBy}
 use Rattle.std.specs.Ordering.{ordering_reverse}
 use Rattle.std.proofs.lemmas.Bool.{true≢false}
-use Rattle.std.proofs.lemmas.List.{length-drop, take_all, drop-drop}
+use Rattle.std.proofs.lemmas.List.{length-drop, drop-drop}
 use Rattle.std.proofs.lemmas.List.Elements.{recursion_from_All}
 use Rattle.std.proofs.lemmas.List.Sorted.{sorted_far, ranks_by}
 use Rattle.bucket_store.proofs.Searching.{below-tied, above-tied, below-front, above-back}
@@ -165,20 +165,6 @@ module _ {policies : List Policy} {changes : List Change} {done : List Policy} {
   pub rest-rises : IsStrictlySortedBy policy_cmp (drop from policies)
   rest-rises = strictly-back done (drop from policies) state.rise
 
-pub merging-start : (policies : List Policy) (changes : List Change) → IsStrictlySortedBy policy_cmp policies → AreInOrder changes
-    → IsMerging policies changes [] 0 0
-merging-start policies changes rise order = record {
-  within = omega arith;
-  made = refl;
-  before = all changes;
-  order = order;
-  rise = rise;
-}
-  where
-    all : (changes : List Change) → AllByRecursion (NoneBehind []) changes
-    all [] = tt
-    all (change ∷ changes) = (tt, all changes)
-
 pub merging-turn : (policies : List Policy) (changes : List Change) (done : List Policy) (from at : ℕ) → IsMerging policies changes done from at
     → at < length changes → (change : Change) → change ≡ get_or changes at change → (done' : List Policy) (taken : ℕ)
     → taken ≤ length (drop from policies)
@@ -205,10 +191,6 @@ merging-turn policies changes done from at state lt change is done' taken short 
       order = order.1;
       rise = subst (IsStrictlySortedBy policy_cmp) (sym now) (edited-rises (done ++ rest) change state.rise);
     }
-
-pub merging-end : (policies : List Policy) (changes : List Change) (done : List Policy) (from at : ℕ) → IsMerging policies changes done from at
-    → length changes ≤ at → done ++ drop from policies ≡ fold edited policies changes
-merging-end policies changes done from at state le = state.made ∙ ap (fold edited policies) (take_all at changes le)
 
 -- ---- changes sorted by key
 

@@ -1,13 +1,12 @@
 -- A bucket removed, and policies erased.
-use Rattle.std.proofs.Common.{◌≡◌, ℕ, ◌-◌, ◌≤◌, Bool, true, false, not, cond, ◌||◌, ◌&&◌, List, [], ◌∷◌, ◌++◌, length, map, get_or, set, Some, None, refl, sym, ap, ◌∙◌, subst, arith}
+use Rattle.std.proofs.Common.{◌≡◌, ℕ, ◌-◌, Bool, true, false, not, cond, ◌||◌, ◌&&◌, List, [], ◌∷◌, ◌++◌, length, map, get_or, set, Some, None, refl, sym, ap, ◌∙◌, subst, arith}
 use Rattle.std.specs.List.{AllByRecursion, filter, flat_map}
 use Rattle.std.specs.List.Sorted.{IsStrictlySortedBy}
 use Rattle.std.proofs.lemmas.Bool.{true≢false, not-true, or_parts, false_from_ne_true}
-use Rattle.std.proofs.lemmas.List.{map-append, set_at, get_or_at, length-append}
+use Rattle.std.proofs.lemmas.List.{map-append, set_at, get_or_at}
 use Rattle.std.proofs.lemmas.List.Elements.{filter-append}
 use Rattle.std.proofs.lemmas.List.Filters.{length-filter_both}
 use Rattle.std.proofs.lemmas.List.Kept.{IsStrictlySortedBy-filter}
-use Rattle.std.proofs.lemmas.Grind.{flat_map-append}
 use Rattle.cynara_keys.specs.Text.{same_text, text_cmp}
 use Rattle.cynara_keys.specs.Key.{filter_admits}
 use Rattle.cynara_keys.specs.declared.keys.Filter.{Filter}
@@ -18,7 +17,7 @@ use Rattle.bucket_store.specs.Database.{Heading, Placed, Database, root, has_buc
 use Rattle.bucket_store.specs.Order.{bucket_cmp, policy_cmp}
 use Rattle.bucket_store.specs.Walk.{target, points_to}
 use Rattle.bucket_store.specs.Change.{concerns, without_bucket, is_admitted, erased, listed}
-use Rattle.bucket_store.specs.Refusal.{fault, remove_bucket, root_bucket, bad_kind, limit, cycle, first_of, is_bad, most_policies}
+use Rattle.bucket_store.specs.Refusal.{fault, remove_bucket, root_bucket, bad_kind, limit, cycle, first_of, is_bad}
 use Rattle.bucket_store.specs.WellFormed.{IsRooted, IsSound, IsKept}
 use Rattle.bucket_store.specs.parts.Edit.{without_links, filled, bucket_of}
 use Rattle.bucket_store.specs.parts.Search.{StandsAt}
@@ -156,13 +155,6 @@ removal-accepted name database apart has sound =
     ∙ ap (λ rule. first_of (rule ∷ cycle next ∷ [])) (limit-sound next still)
     ∙ ap (λ rule. first_of (rule ∷ [])) (cycle-sound next still)
 
-pub removal-of-root : (name : List ℕ) (database : Database) → same_text root name ≡ true → has_bucket name database ≡ true
-    → fault database (remove_bucket name database) ≡ Some RootBucket
-removal-of-root name database same has =
-    let next = without_bucket name database in
-    ap (λ rule. first_of (rule ∷ root_bucket (name ∷ []) ∷ bad_kind [] ∷ limit next ∷ cycle next ∷ [])) (named-found name database has)
-    ∙ ap (λ b. first_of (cond (b || false) (Some RootBucket) None ∷ bad_kind [] ∷ limit next ∷ cycle next ∷ [])) same
-
 -- the root bucket is there, so a bucket that is not there is another
 pub absent-apart : (name : List ℕ) (database : Database) → IsSound database → has_bucket name database ≡ false
     → root_bucket (name ∷ []) ≡ None
@@ -234,19 +226,3 @@ module _ (name : List ℕ) (admitted : Filter) (buckets : List Bucket) (at : ℕ
       let both = length-filter_both (λ (policy : Policy). filter_admits admitted policy.key) (λ policy. not (filter_admits admitted policy.key)) (λ policy. refl) bucket.policies in
       let same = ap length (listed-read name admitted database buckets view at stands bucket is) in
       omega (arith, both, same)
-
-  -- no bucket has more policies than all have
-  pub own-short : IsKept buckets → length bucket.policies ≤ most_policies
-  own-short kept =
-      let element = stands.element in
-      let found = ap (λ (own : Bucket). length own.policies) (found-is buckets at stands bucket is) in
-      let all = ap length (ap (flat_map placed_of) stands.parts ∙ flat_map-append placed_of stands.front (element ∷ stands.back)) in
-      let parts = length-append (flat_map placed_of stands.front) (placed_of element ++ flat_map placed_of stands.back) in
-      let more = length-append (placed_of element) (flat_map placed_of stands.back) in
-      let same = length-placed element.name element.policies in
-      omega (arith, kept.sound.policies, found, all, parts, more, same)
-    where
-      length-placed : (name : List ℕ) (policies : List Policy)
-          → length (map (λ policy. let placed : Placed = record { bucket = name; policy = policy } in placed) policies) ≡ length policies
-      length-placed name [] = refl
-      length-placed name (policy ∷ policies) = omega (arith, length-placed name policies)

@@ -20,10 +20,6 @@ use Rattle.bucket_store.specs.declared.policy_changes.Change.TheVariants.{Set, D
 use Rattle.bucket_store.proofs.Lists.{All-weaker, filter-none}
 use Rattle.bucket_store.proofs.Changing.{edited-rises}
 
--- the policies at a key
-abbrev at_key : Key → Policy → Bool
-at_key key policy = is_eq (key_cmp policy.key key)
-
 -- ---- a rising list is known by what it has at each key
 
 Some-not-nil : {X : Type 0} (x : X) (xs : List X) → x ∷ xs ≡ [] → ⊥

@@ -9,12 +9,12 @@ use Rattle.std.specs.List.{AllByRecursion, filter, list_any, Contains}
 use Rattle.cynara_keys.specs.Text.{same_text}
 use Rattle.cynara_keys.proofs.Order.{same_text-≡, ≡-same_text}
 use Rattle.bucket_store.specs.Database.{Heading, Placed, Database, has_bucket}
-use Rattle.bucket_store.specs.Walk.{points, target, IsStep, IsWalk, end_of, Leads, reaches, is_on_cycle}
+use Rattle.bucket_store.specs.Walk.{points, target, IsStep, IsWalk, end_of, Leads, IsOnCycle, reaches, is_on_cycle}
 use Rattle.bucket_store.specs.WellFormed.{IsRooted}
 use Rattle.bucket_store.proofs.Lists.{any-filter, length-filter-<}
 
 abbrev pub NoCycle : List Placed → Type 0
-NoCycle policies = (name : List ℕ) → Leads policies name name → ⊥
+NoCycle policies = (name : List ℕ) → IsOnCycle policies name → ⊥
 
 -- ---- walks after one another
 
@@ -226,7 +226,7 @@ Targets-walk database rooted from (step ∷ steps) walks =
 
 -- the test answers true exactly for the buckets on a cycle
 pub is_on_cycle-Leads : (database : Database) → AllByRecursion (IsRooted database) database.policies → (name : List ℕ)
-    → Leads database.policies name name → is_on_cycle database name ≡ true
+    → IsOnCycle database.policies name → is_on_cycle database name ≡ true
 is_on_cycle-Leads database rooted name lead =
     reaches-walk database.policies (length database.buckets) database.buckets name name lead.first lead.others (omega arith)
     lead.walks lead.ends (Within-walk database rooted name (lead.first ∷ lead.others) lead.walks)

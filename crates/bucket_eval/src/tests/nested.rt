@@ -2,7 +2,7 @@
 use super::{ALLOW, DENY, NONE};
 use crate::{Answer, describe, plain};
 use bucket_store::{Change, Changes, Database};
-use cynara_keys::{BucketName, Field, Key, Kind, Metadata, Name, PolicyResult, Question};
+use cynara_keys::{BucketName, Kind, Metadata, PolicyResult};
 use std::alloc::Global;
 use std::test::Fail;
 
