@@ -15,7 +15,8 @@ pub AllByRecursion-append : {X : Type 0} (P : X → Type 0) (xs ys : List X) →
 AllByRecursion-append P [] ys front back = back
 AllByRecursion-append P (x ∷ xs) ys front back = (front.0, AllByRecursion-append P xs ys front.1 back)
 
-pub AllByRecursion-weaker : {X : Type 0} (P Q : X → Type 0) → ((x : X) → P x → Q x) → (xs : List X) → AllByRecursion P xs
+pub AllByRecursion-weaker : {X : Type 0} (P Q : X → Type 0) → ((x : X) → P x → Q x) → (xs : List X)
+    → AllByRecursion P xs
     → AllByRecursion Q xs
 AllByRecursion-weaker P Q weaker [] all = tt
 AllByRecursion-weaker P Q weaker (x ∷ xs) all = (weaker x all.0, AllByRecursion-weaker P Q weaker xs all.1)

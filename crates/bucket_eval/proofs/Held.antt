@@ -1,5 +1,6 @@
 -- What policies and buckets answer, and what is left of that as contributions.
-use Rattle.std.proofs.Common.{◌≡◌, ℕ, ◌<◌, Bool, true, cond, List, suc, ◌-◌, slice_get, option_and_then, Option, None, Some, arith, sym, ap, ◌∙◌, subst}
+use Rattle.std.proofs.Common.{◌≡◌, ℕ, ◌<◌, Bool, true, cond, List, suc, ◌-◌, slice_get, option_and_then, Option, None}
+use Rattle.std.proofs.Common.{Some, arith, sym, ap, ◌∙◌, subst}
 use Rattle.std.specs.List.{filter_map}
 use Rattle.std.specs.List.Sorted.{IsStrictlySortedBy}
 use Rattle.cynara_keys.specs.Minimum.{first_least}
@@ -9,7 +10,8 @@ use Rattle.bucket_store.specs.Bucket.{Bucket}
 use Rattle.bucket_store.specs.Database.{database_of}
 use Rattle.bucket_store.specs.Order.{bucket_cmp}
 use Rattle.bucket_store.specs.Walk.{points, target}
-use Rattle.bucket_eval.specs.Evaluation.{Outcome, Contribution, contribution_cmp, decided, outcome_of, fallback_of, answer_within}
+use Rattle.bucket_eval.specs.Evaluation.{Outcome, Contribution, contribution_cmp, decided, outcome_of, fallback_of}
+use Rattle.bucket_eval.specs.Evaluation.{answer_within}
 use Rattle.bucket_eval.specs.parts.Buckets.{outcome_in, outcome_at, IsHeld, Holds, Offers, offered}
 use Rattle.bucket_eval.specs.declared.answers.Found.{Found}
 use Rattle.bucket_eval.specs.declared.nested.Held.{Held}
@@ -17,12 +19,15 @@ use Rattle.bucket_eval.specs.declared.nested.Offer.{Offer}
 use Rattle.bucket_eval.proofs.Buckets.{policies_of-at, fallback_of-at}
 
 -- a policy that points to a bucket and is followed
-pub followed-holds : (buckets : List Bucket) (below : List ℕ → Outcome) (deep : Bool) (name : List ℕ) (policy : Policy) (held : Held)
+pub followed-holds : (buckets : List Bucket) (below : List ℕ → Outcome) (deep : Bool) (name : List ℕ) (policy : Policy)
+    (held : Held)
     → points policy ≡ true → deep ≡ true → IsHeld buckets (below (target policy)) held
     → Holds buckets (outcome_of below deep name policy) (Some held)
 followed-holds buckets below deep name policy held pointing followed is =
-    let outcome : Outcome = record { result = policy.result; cause = record { bucket = name; key = Some policy.key } } in
-    subst (λ b. Holds buckets (cond b (cond deep (Some (below (target policy))) None) (Some outcome)) (Some held)) (sym pointing)
+    let outcome : Outcome =
+    record { result = policy.result; cause = record { bucket = name; key = Some policy.key } } in
+    subst (λ b. Holds buckets (cond b (cond deep (Some (below (target policy))) None) (Some outcome)) (Some held))
+    (sym pointing)
     (subst (λ b. Holds buckets (cond b (Some (below (target policy))) None) (Some held)) (sym followed) is)
 
 -- ---- what a bucket answers
@@ -62,7 +67,8 @@ least_of buckets question deep most name policies =
 answer-more : (buckets : List Bucket) (question : Question) (deep : Bool) (most at : ℕ) (bucket : Bucket)
     → IsStrictlySortedBy bucket_cmp buckets → slice_get buckets at ≡ Some bucket
     → answer_within (database_of buckets) question deep (suc most) bucket.name
-    ≡ decided (fallback_of (database_of buckets) bucket.name) (least_of buckets question deep most bucket.name bucket.policies)
+    ≡ decided (fallback_of (database_of buckets) bucket.name)
+    (least_of buckets question deep most bucket.name bucket.policies)
 unfolding answer_within least_of
 answer-more buckets question deep most at bucket rise is =
     ap (λ policies. decided (fallback_of (database_of buckets) bucket.name)
@@ -82,30 +88,36 @@ end-held buckets question deep left at bucket held end rise is kind of_bucket of
 above : (left : ℕ) → 0 < left → left ≡ suc (left - 1)
 above left some = omega arith
 
-pub fallback-answers : (buckets : List Bucket) (question : Question) (deep : Bool) (left at : ℕ) (bucket : Bucket) (held : Held)
+pub fallback-answers : (buckets : List Bucket) (question : Question) (deep : Bool) (left at : ℕ) (bucket : Bucket)
+    (held : Held)
     → 0 < left → IsStrictlySortedBy bucket_cmp buckets
     → slice_get buckets at ≡ Some bucket
-    → Offers buckets (first_least contribution_cmp (filter_map (offered buckets question deep (left - 1) bucket.name) bucket.policies)) None
+    → Offers buckets (first_least contribution_cmp
+    (filter_map (offered buckets question deep (left - 1) bucket.name) bucket.policies)) None
     → held.found.kind.0 ≡ bucket.fallback.kind → held.found.bucket ≡ at
     → held.found.policy ≡ None → held.result.now ≡ bucket.fallback
     → IsHeld buckets (answer_within (database_of buckets) question deep left bucket.name) held
 unfolding least_of
 fallback-answers buckets question deep left at bucket held some rise is offers kind of_bucket of_policy result =
-    subst (λ n. IsHeld buckets (answer_within (database_of buckets) question deep n bucket.name) held) (sym (above left some))
+    subst (λ n. IsHeld buckets (answer_within (database_of buckets) question deep n bucket.name) held)
+    (sym (above left some))
     (subst (λ o. IsHeld buckets o held) (sym (answer-more buckets question deep (left - 1) at bucket rise is))
     (decided-fallback buckets (fallback_of (database_of buckets) bucket.name)
     (least_of buckets question deep (left - 1) bucket.name bucket.policies) held offers
     (fallback-held buckets at bucket held rise is kind of_bucket of_policy result)))
 
-pub offer-answers : (buckets : List Bucket) (question : Question) (deep : Bool) (left at : ℕ) (bucket : Bucket) (held : Held) (offer : Offer)
+pub offer-answers : (buckets : List Bucket) (question : Question) (deep : Bool) (left at : ℕ) (bucket : Bucket)
+    (held : Held) (offer : Offer)
     → 0 < left → IsStrictlySortedBy bucket_cmp buckets
     → slice_get buckets at ≡ Some bucket
-    → Offers buckets (first_least contribution_cmp (filter_map (offered buckets question deep (left - 1) bucket.name) bucket.policies)) (Some offer)
+    → Offers buckets (first_least contribution_cmp
+    (filter_map (offered buckets question deep (left - 1) bucket.name) bucket.policies)) (Some offer)
     → held.found ≡ offer.found → held.result.now ≡ offer.result.now
     → IsHeld buckets (answer_within (database_of buckets) question deep left bucket.name) held
 unfolding least_of
 offer-answers buckets question deep left at bucket held offer some rise is offers found result =
-    subst (λ n. IsHeld buckets (answer_within (database_of buckets) question deep n bucket.name) held) (sym (above left some))
+    subst (λ n. IsHeld buckets (answer_within (database_of buckets) question deep n bucket.name) held)
+    (sym (above left some))
     (subst (λ o. IsHeld buckets o held) (sym (answer-more buckets question deep (left - 1) at bucket rise is))
     (decided-offer buckets (fallback_of (database_of buckets) bucket.name)
     (least_of buckets question deep (left - 1) bucket.name bucket.policies) offer held offers found result))

@@ -29,7 +29,8 @@ Reordered-append zs (kept h) = kept (Reordered-append zs h)
 Reordered-append zs exchanged = exchanged
 Reordered-append zs (joined h k) = joined (Reordered-append zs h) (Reordered-append zs k)
 
-pub Reordered-append_right : {X : Type 0} {xs ys : List X} (zs : List X) → Reordered xs ys → Reordered (zs ++ xs) (zs ++ ys)
+pub Reordered-append_right : {X : Type 0} {xs ys : List X} (zs : List X) → Reordered xs ys
+    → Reordered (zs ++ xs) (zs ++ ys)
 Reordered-append_right [] h = h
 Reordered-append_right (z ∷ zs) h = kept (Reordered-append_right zs h)
 
@@ -39,7 +40,8 @@ Reordered-to_front [] x = Reordered-refl (x ∷ [])
 Reordered-to_front (y ∷ ys) x = joined (kept (Reordered-to_front ys x)) exchanged
 
 -- an element goes from the end to between two parts
-pub Reordered-middle : {X : Type 0} (xs : List X) (x : X) (ys : List X) → Reordered ((xs ++ ys) ++ x ∷ []) (xs ++ x ∷ ys)
+pub Reordered-middle : {X : Type 0} (xs : List X) (x : X) (ys : List X)
+    → Reordered ((xs ++ ys) ++ x ∷ []) (xs ++ x ∷ ys)
 Reordered-middle [] x ys = Reordered-to_front ys x
 Reordered-middle (first ∷ xs) x ys = kept (Reordered-middle xs x ys)
 
@@ -89,7 +91,8 @@ own-cond : (policy : Policy) (passed : List Policy) (passes : Bool)
 own-cond policy passed true others own = (others, own)
 own-cond policy passed false others own = own
 
-HaveOwnKeys-filter : (test : Policy → Bool) (policies : List Policy) → HaveOwnKeys policies → HaveOwnKeys (filter test policies)
+HaveOwnKeys-filter : (test : Policy → Bool) (policies : List Policy) → HaveOwnKeys policies
+    → HaveOwnKeys (filter test policies)
 HaveOwnKeys-filter test [] own = own
 HaveOwnKeys-filter test (policy ∷ policies) own =
     own-cond policy (filter test policies) (test policy)
@@ -135,7 +138,8 @@ pub filter-none : (key : Key) (policies : List Policy) → HasNoKey policies key
 filter-none key [] none = refl
 filter-none key (policy ∷ policies) none =
     let rest = filter (λ other. not (same_key other.key key)) policies in
-    ap (λ same. cond (not same) (policy ∷ rest) rest) none.0 ∙ ap (λ others. policy ∷ others) (filter-none key policies none.1)
+    ap (λ same. cond (not same) (policy ∷ rest) rest) none.0
+    ∙ ap (λ others. policy ∷ others) (filter-none key policies none.1)
 
 -- one policy in the middle has the key
 pub filter-one : (key : Key) (front : List Policy) (policy : Policy) (back : List Policy)

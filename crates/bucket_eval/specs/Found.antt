@@ -15,7 +15,10 @@ abbrev pub outcome_in : Database → Option ℕ → Heading → Option Outcome
 outcome_in database None heading =
     Some (record { result = heading.fallback; cause = record { bucket = heading.name; key = None } })
 outcome_in database (Some place) heading =
-    option_map (λ policy. record { result = policy.result; cause = record { bucket = heading.name; key = Some policy.key } })
+    option_map (λ policy. record {
+      result = policy.result;
+      cause = record { bucket = heading.name; key = Some policy.key };
+    })
     (slice_get (policies_of database heading.name) place)
 
 -- the outcome that was found, if the places are in the database

@@ -22,8 +22,8 @@ pub use evaluations::{describe, plain};
 
 /// The place of the policy that decides the question, from 0: the least by result (kind, then metadata) and then by key
 /// of the policies that match the question and whose result isn't NONE, and the first of equal ones. `None` where there
-/// is none. No result may be BUCKET, since what it points to isn't here. Takes no memory, and one pass: three fields are
-/// compared for each policy, and results for each that has a say. That the least result decides is Cynara's.
+/// is none. No result may be BUCKET, since what it points to isn't here. Takes no memory, and one pass: three fields
+/// are compared for each policy, and results for each that has a say. That the least result decides is Cynara's.
 pub fn least(policies: &[Policy], question: &Question) -> Option<usize>
     requires { All (λ policy. policy.result.kind ≢ bucket) policies.now }
     ensures decides { MatchOption result (least_policy question.now policies.now ≡ None)

@@ -44,7 +44,8 @@ pub fn within<'a>(asked: Asked<'a>, at: usize, left: usize) -> Held<'a>
     requires kept { IsKept asked.buckets.now }
     requires there { at < length asked.buckets.now }
     ensures { IfSome (slice_get asked.entry.buckets.now at) (λ bucket. IsHeld asked.entry.buckets.now
-        (answer_within (database_of asked.entry.buckets.now) asked.entry.question.now asked.entry.deep left bucket.name) result) }
+        (answer_within (database_of asked.entry.buckets.now) asked.entry.question.now asked.entry.deep left bucket.name)
+        result) }
 {
     let bucket = &asked.buckets[at];
     if left == 0 {
@@ -70,7 +71,8 @@ fn least_offer<'a>(
     requires kept { IsKept asked.buckets.now }
     requires there { slice_get asked.buckets.now at ≡ Some bucket.now }
     ensures { Offers asked.entry.buckets.now (first_least contribution_cmp (filter_map
-        (offered asked.entry.buckets.now asked.entry.question.now asked.entry.deep most bucket.now.name) bucket.now.policies)) result }
+        (offered asked.entry.buckets.now asked.entry.question.now asked.entry.deep most bucket.now.name)
+        bucket.now.policies)) result }
 {
     let policies = bucket.policies();
     let mut best: Option<Offer<'a>> = None;
@@ -97,7 +99,8 @@ fn offer_of<'a>(
     requires bucket { slice_get asked.buckets.now at ≡ Some bucket.now }
     requires policy { slice_get bucket.now.policies place ≡ Some policy.now }
     ensures { Offers asked.entry.buckets.now
-        (offered asked.entry.buckets.now asked.entry.question.now asked.entry.deep most bucket.now.name policy.now) result }
+        (offered asked.entry.buckets.now asked.entry.question.now asked.entry.deep most bucket.now.name policy.now)
+        result }
 {
     if !policy.key.matches(asked.question) {
         return None;

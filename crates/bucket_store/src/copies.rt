@@ -14,7 +14,8 @@ pub fn admitted(
     policies: &[Policy],
     filter: &Filter,
 ) -> Result<Vec<Policy>, AllocError>
-    ensures { IfOk result (λ copy. copy.items ≡ list.filter (λ policy. filter_admits filter.now policy.key) policies.now) }
+    ensures { IfOk result
+        (λ copy. copy.items ≡ list.filter (λ policy. filter_admits filter.now policy.key) policies.now) }
 {
     let mut copy = Vec::new(alloc);
     for policy in policies {
@@ -56,7 +57,8 @@ pub fn not_pointing(
     policies: &[Policy],
     name: &BucketName,
 ) -> Result<Vec<Policy>, AllocError>
-    ensures { IfOk result (λ copy. copy.items ≡ list.filter (λ policy. not (walk.points_to name.now policy)) policies.now) }
+    ensures { IfOk result
+        (λ copy. copy.items ≡ list.filter (λ policy. not (walk.points_to name.now policy)) policies.now) }
 {
     let mut copy = Vec::new(alloc);
     for policy in policies {

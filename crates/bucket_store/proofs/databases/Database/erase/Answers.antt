@@ -31,15 +31,18 @@ returns-in_default-clause-refused c =
 pub overflow_sub-count : goal.overflow_sub-count
 overflow_sub-count c =
     let left = ap length c.in-Ok-not_admitted.ensures in
-    let short = length-filter-≤ (λ (policy : Policy). not (filter_admits c.args.filter.now policy.key)) c.policies.result.now in
+    let short = length-filter-≤ (λ (policy : Policy). not (filter_admits c.args.filter.now policy.key))
+    c.policies.result.now in
     let same = ap length (c.policies.ensures ∙ sym c.policies-2.ensures) in
     omega (arith, left, short, same, c.len.ensures)
 
 -- ---- what is known where the bucket is
 
-stands : (c : In-Ok) → StandsAt (λ (bucket : Bucket). text_cmp bucket.name c.args.name.now) c.self.inside.buckets.items c.in-Ok.place
+stands : (c : In-Ok)
+    → StandsAt (λ (bucket : Bucket). text_cmp bucket.name c.args.name.now) c.self.inside.buckets.items c.in-Ok.place
 stands c =
-    subst (λ (list : List Bucket). StandsAt (λ (bucket : Bucket). text_cmp bucket.name c.args.name.now) list c.in-Ok.place)
+    subst (λ (list : List Bucket). StandsAt (λ (bucket : Bucket). text_cmp bucket.name c.args.name.now)
+    list c.in-Ok.place)
     c.deref.ensures.value c.in-Ok.ensures.found
 
 -- the policies that are left

@@ -6,4 +6,5 @@ pub returns : goal.returns
 returns c =
     rw (← c.self.view_is) (rw (← c.deref.ensures.value)
     (c.ok.ensures.value
-    ∙ heading-place c.args.name.now c.deref.result.now c.place_of_bucket.result c.place_of_bucket.ensures.found c.place_of_bucket.ensures.absent))
+    ∙ heading-place c.args.name.now c.deref.result.now c.place_of_bucket.result c.place_of_bucket.ensures.found
+    c.place_of_bucket.ensures.absent))

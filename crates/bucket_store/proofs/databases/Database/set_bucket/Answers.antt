@@ -22,14 +22,16 @@ good : (c : After-has_room) → is_bad (record { name = c.args.name.now; fallbac
 good c = sym c.is_bad.ensures ∙ c.if-is_bad.false
 
 room : (c : After-has_room)
-    → (is_ok c.place_of_bucket-place.result || nat_lt (length c.self.inside.buckets.items) most_buckets) ≡ c.has_room.result
+    → (is_ok c.place_of_bucket-place.result || nat_lt (length c.self.inside.buckets.items) most_buckets)
+    ≡ c.has_room.result
 room c =
     ap (λ (list : List Bucket). is_ok c.place_of_bucket-place.result || nat_lt (length list) most_buckets)
     (sym c.deref-2.ensures.value) ∙ sym c.has_room.ensures
 
 -- there are no more buckets than there may be
 short : (c : After-has_room) → c.has_room.result ≡ true
-    → length (with_bucket (record { name = c.args.name.now; fallback = c.args.fallback.now }) (database_of c.self.inside.buckets.items)).buckets
+    → length (with_bucket (record { name = c.args.name.now; fallback = c.args.fallback.now })
+    (database_of c.self.inside.buckets.items)).buckets
     ≤ most_buckets
 short c is =
     has-room c.args.name.now c.args.fallback.now c.self.inside.buckets.items c.place_of_bucket-place.result (placed c)
@@ -38,9 +40,11 @@ short c is =
 pub returns-then-not-has_room-clause-refused : goal.returns-then-not-has_room-clause-refused
 returns-then-not-has_room-clause-refused c =
     let way = (goal.at.returns-then-not-has_room-clause-refused c).After-has_room in
-    subst (λ database. fault database (set_bucket c.args.name.now c.args.fallback.now database) ≡ Some (Limit Buckets most_buckets))
+    subst (λ database. fault database (set_bucket c.args.name.now c.args.fallback.now database) ≡ Some
+    (Limit Buckets most_buckets))
     c.self.view_is
-    (heading-limited c.args.name.now c.args.fallback.now c.self.inside.buckets.items c.place_of_bucket-place.result (placed way)
+    (heading-limited c.args.name.now c.args.fallback.now c.self.inside.buckets.items c.place_of_bucket-place.result
+    (placed way)
     (room way ∙ c.if-not-has_room.true) (good way))
 
 pub invariant_of-result : goal.invariant_of-result
@@ -49,7 +53,8 @@ invariant_of-result c =
     let name = c.args.name.now in
     let fallback = c.args.fallback.now in
     let made = c.in-Ok.ensures ∙ ap (headed c.place_of_bucket-place.result name fallback) c.deref-3.ensures.value in
-    Kept-headed name fallback c.self.inside.buckets.items c.place_of_bucket-place.result (placed way) c.in-Ok.buckets.items made
+    Kept-headed name fallback c.self.inside.buckets.items c.place_of_bucket-place.result (placed way)
+    c.in-Ok.buckets.items made
     (good way) (short way c.if-not-has_room.false) c.self.invariant
 
 pub returns-in-Ok-clause-next : goal.returns-in-Ok-clause-next
@@ -58,7 +63,8 @@ returns-in-Ok-clause-next c =
     let name = c.args.name.now in
     let fallback = c.args.fallback.now in
     let made = c.in-Ok.ensures ∙ ap (headed c.place_of_bucket-place.result name fallback) c.deref-3.ensures.value in
-    headed-view name fallback c.self.inside.buckets.items c.place_of_bucket-place.result (placed way) c.in-Ok.buckets.items made
+    headed-view name fallback c.self.inside.buckets.items c.place_of_bucket-place.result (placed way)
+    c.in-Ok.buckets.items made
     ∙ ap (with_bucket (record { name = name; fallback = fallback })) c.self.view_is
 
 pub returns-in-Ok-clause-accepted : goal.returns-in-Ok-clause-accepted

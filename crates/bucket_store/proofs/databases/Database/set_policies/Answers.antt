@@ -1,4 +1,5 @@
-use Rattle.std.proofs.Common.{◌≡◌, ◌≤◌, ◌∙◌, Bool, ap, sym, subst, List, [], map, length, nat_lt, Option, Some, None, get_or, ℕ}
+use Rattle.std.proofs.Common.{◌≡◌, ◌∙◌, Bool, ap, sym, subst, List, [], map, length, nat_lt, Some, None}
+use Rattle.std.proofs.Common.{get_or}
 use Rattle.std.specs.List.{flat_map}
 use Rattle.std.specs.List.Sorted.{IsStrictlySortedBy}
 use Rattle.std.proofs.lemmas.Bool.{ltb-false}
@@ -19,7 +20,8 @@ use Rattle.bucket_store.proofs.Leading.{no-loop, first-loop}
 use Rattle.bucket_store.proofs.Accepting.{view-after, names-after, rooted-after, kept-after, free-after, accepted-after}
 use Rattle.bucket_store.proofs.Accepting.{limited-after, cycle-after, refuses-cycle}
 use Rattle.bucket_store.proofs.databases.Database.set_policies.Goals as goal
-use Rattle.bucket_store.proofs.databases.Database.set_policies.Goals.{In-Ok, After-is_over, Then-not-adds_link, After-least_on_cycle, In-Ok-None, In-Ok-Some}
+use Rattle.bucket_store.proofs.databases.Database.set_policies.Goals.{In-Ok, After-is_over, Then-not-adds_link}
+use Rattle.bucket_store.proofs.databases.Database.set_policies.Goals.{After-least_on_cycle, In-Ok-None, In-Ok-Some}
 
 -- the buckets after the changes
 abbrev after : List Change → List Bucket → List Bucket
@@ -76,18 +78,21 @@ kept-free c named made over =
     let buckets = c.self.inside.buckets.items in
     let kept = c.self.invariant in
     let told = rw c.in-Ok-None.field-0-is at c.in-Ok-None.ensures in
-    let none : IsFirstLoop (closed (length (after changes buckets)) (link_rows (after changes buckets))) (length (after changes buckets)) None =
+    let none : IsFirstLoop (closed (length (after changes buckets)) (link_rows (after changes buckets)))
+    (length (after changes buckets)) None =
     subst (λ (list : List Bucket). IsFirstLoop (closed (length list) (link_rows list)) (length list) None)
     (c.deref-4.ensures.value ∙ made) told in
     kept-after changes buckets kept named (ltb-false most_policies _ (over ∙ c.if-is_over.false))
-    (no-loop (after changes buckets) (names-after changes buckets kept named) (rooted-after changes buckets kept named) none)
+    (no-loop (after changes buckets) (names-after changes buckets kept named) (rooted-after changes buckets kept named)
+    none)
 
 -- ---- the answers
 
 pub returns-then-is_over-clause-refused : goal.returns-then-is_over-clause-refused
 returns-then-is_over-clause-refused c =
     let way = goal.at.returns-then-is_over-clause-refused c in
-    subst (λ (database : Database). fault database (set_policies c.args.changes.now database) ≡ Some (Limit Policies most_policies))
+    subst (λ (database : Database). fault database (set_policies c.args.changes.now database) ≡ Some
+    (Limit Policies most_policies))
     c.self.view_is
     (limited-after c.args.changes.now c.self.inside.buckets.items c.self.invariant (named way.In-Ok)
     (counted way.After-is_over (made way.In-Ok) ∙ c.if-is_over.true))
@@ -152,7 +157,9 @@ returns-in-Ok-Some-clause-refused c =
     (rooted-after changes buckets kept (named way.In-Ok)) at loop in
     let over = counted way.After-is_over (made way.In-Ok) ∙ c.if-is_over.false in
     let on =
-    cycle-after changes buckets kept (named way.In-Ok) over bucket.name (first ∙ ap (λ name. Some (Cycle name)) (sym is)) in
+    cycle-after changes buckets kept (named way.In-Ok) over bucket.name
+    (first ∙ ap (λ name. Some (Cycle name)) (sym is)) in
     refuses-cycle c.args.self.now changes bucket.name c.on_cycle.result
-    (subst (λ (database : Database). fault database (set_policies changes database) ≡ Some (Cycle bucket.name)) c.self.view_is on)
+    (subst (λ (database : Database). fault database (set_policies changes database) ≡ Some (Cycle bucket.name))
+    c.self.view_is on)
     c.on_cycle.ensures
