@@ -42,7 +42,9 @@ impl Model for Database {
 /// What an erasing gives: the database without the policies, and how many they were.
 #[derive(Drop)]
 pub struct Erased {
+    /// The database without them.
     pub database: Database,
+    /// How many were erased.
     pub count: u32,
 }
 
