@@ -10,7 +10,7 @@ use Rattle.bucket_eval.specs.Reordered.{Reordered, nothing, kept, exchanged, joi
 use Rattle.bucket_eval.specs.Rising.{HasNoKey}
 use Rattle.cynara_keys.specs.Minimum.{lesser, first_least}
 use Rattle.bucket_eval.specs.Least.{counts, decision_cmp, least_policy}
-use Rattle.bucket_eval.proofs.Elements.{AllByRecursion-append, AllByRecursion-filter}
+use Rattle.bucket_store.proofs.Lists.{All-append, All-filter}
 use Rattle.bucket_eval.proofs.Decisions.{lesser-swap}
 
 pub Reordered-refl : {X : Type 0} (xs : List X) → Reordered xs xs
@@ -96,7 +96,7 @@ HaveOwnKeys-filter : (test : Policy → Bool) (policies : List Policy) → HaveO
 HaveOwnKeys-filter test [] own = own
 HaveOwnKeys-filter test (policy ∷ policies) own =
     own-cond policy (filter test policies) (test policy)
-    (AllByRecursion-filter (λ other. same_key policy.key other.key ≡ false) test policies own.0)
+    (All-filter (λ other. same_key policy.key other.key ≡ false) test policies own.0)
     (HaveOwnKeys-filter test policies own.1)
 
 first_least-Reordered : {xs ys : List Policy} → HaveOwnKeys xs → Reordered xs ys
@@ -120,7 +120,7 @@ put-own : (policy first : Policy) (rest : List Policy) (same : Bool) → same_ke
     → HaveOwnKeys (cond (not same) (first ∷ rest) rest ++ policy ∷ [])
 put-own policy first rest true same others own = own
 put-own policy first rest false apart others own =
-    (AllByRecursion-append (λ other. same_key first.key other.key ≡ false) rest (policy ∷ []) others (apart, tt), own)
+    (All-append (λ other. same_key first.key other.key ≡ false) rest (policy ∷ []) others (apart, tt), own)
 
 -- a policy takes the place of the one with its key, or comes beside the others
 pub HaveOwnKeys-put : (policy : Policy) (policies : List Policy) → HaveOwnKeys policies
@@ -128,7 +128,7 @@ pub HaveOwnKeys-put : (policy : Policy) (policies : List Policy) → HaveOwnKeys
 HaveOwnKeys-put policy [] own = (tt, tt)
 HaveOwnKeys-put policy (first ∷ policies) own =
     put-own policy first (filter (λ other. not (same_key other.key policy.key)) policies) _ refl
-    (AllByRecursion-filter (λ other. same_key first.key other.key ≡ false)
+    (All-filter (λ other. same_key first.key other.key ≡ false)
     (λ other. not (same_key other.key policy.key)) policies own.0)
     (HaveOwnKeys-put policy policies own.1)
 

@@ -19,8 +19,7 @@ use Rattle.cynara_keys.specs.declared.keys.Policy.{Policy}
 use Rattle.cynara_keys.proofs.Order.{key_total, key_cmp-equal, same_key_equiv}
 use Rattle.bucket_eval.specs.Reordered.{Reordered, HaveOwnKeys}
 use Rattle.bucket_eval.specs.Rising.{ComesBefore, IsRising, HasNoKey, HasKeyAt, BelongsAt}
-use Rattle.bucket_eval.proofs.Elements.{AllByRecursion-append, AllByRecursion-weaker, AllByRecursion-middle}
-use Rattle.bucket_eval.proofs.Elements.{AllByRecursion-front, AllByRecursion-back}
+use Rattle.bucket_store.proofs.Lists.{All-append, All-weaker, All-front, All-back}
 use Rattle.bucket_eval.proofs.Reordered.{filter-none, filter-one, Reordered-middle}
 
 -- ---- keys
@@ -47,7 +46,7 @@ ComesBefore-flip key other after = key_total.antisymm other key ∙ ap ordering_
 pub HaveOwnKeys-IsRising : (policies : List Policy) → IsRising policies → HaveOwnKeys policies
 HaveOwnKeys-IsRising [] rising = tt
 HaveOwnKeys-IsRising (policy ∷ policies) rising = (
-  AllByRecursion-weaker (λ (later : Policy). ComesBefore policy.key later.key)
+  All-weaker (λ (later : Policy). ComesBefore policy.key later.key)
       (λ later. same_key policy.key later.key ≡ false)
       (λ later. same_key-before policy.key later.key) policies rising.0,
   HaveOwnKeys-IsRising policies rising.1,
@@ -73,7 +72,7 @@ found key (policy ∷ policies) zero rising lt equal = record {
   same = sym (key_cmp-equal policy.key key) ∙ ap is_eq (equal policy);
   none_in_front = tt;
   none_behind =
-      AllByRecursion-weaker (λ (later : Policy). ComesBefore policy.key later.key)
+      All-weaker (λ (later : Policy). ComesBefore policy.key later.key)
       (λ later. same_key later.key key ≡ false)
       (λ later before. same_key-behind later.key key
       (sym (key_total.congr policy.key key later.key (equal policy)) ∙ before))
@@ -82,8 +81,8 @@ found key (policy ∷ policies) zero rising lt equal = record {
 found key (first ∷ policies) (suc place) rising lt equal =
     let rest = found key policies place rising.1 (omega arith) equal in
     let before : ComesBefore first.key rest.policy.key =
-    AllByRecursion-middle (λ (later : Policy). ComesBefore first.key later.key) rest.front rest.policy rest.back
-    (subst (AllByRecursion (λ (later : Policy). ComesBefore first.key later.key)) rest.parts rising.0) in
+    (All-back (λ (later : Policy). ComesBefore first.key later.key) rest.front (rest.policy ∷ rest.back)
+    (subst (AllByRecursion (λ (later : Policy). ComesBefore first.key later.key)) rest.parts rising.0)).0 in
     let alike = alike_right key_total rest.policy.key key first.key (key_cmp-same rest.policy.key key rest.same) in
     record {
       front = first ∷ rest.front;
@@ -148,8 +147,8 @@ pub IsRising-between : (front : List Policy) (policy : Policy) (back : List Poli
 IsRising-between [] policy back rising before behind = (behind, rising)
 IsRising-between (first ∷ front) policy back rising before behind =
     let later = λ (other : Policy). ComesBefore first.key other.key in (
-      AllByRecursion-append later front (policy ∷ back) (AllByRecursion-front later front back rising.0)
-          (before.0, AllByRecursion-back later front back rising.0),
+      All-append later front (policy ∷ back) (All-front later front back rising.0)
+          (before.0, All-back later front back rising.0),
       IsRising-between front policy back rising.1 before.1 behind,
     )
 
@@ -159,9 +158,9 @@ pub IsRising-without : (front : List Policy) (policy : Policy) (back : List Poli
 IsRising-without [] policy back rising = rising.1
 IsRising-without (first ∷ front) policy back rising =
     let later = λ (other : Policy). ComesBefore first.key other.key in
-    let behind = AllByRecursion-back later front (policy ∷ back) rising.0 in (
-      AllByRecursion-append later front back
-          (AllByRecursion-front later front (policy ∷ back) rising.0) behind.1,
+    let behind = All-back later front (policy ∷ back) rising.0 in (
+      All-append later front back
+          (All-front later front (policy ∷ back) rising.0) behind.1,
       IsRising-without front policy back rising.1,
     )
 
@@ -169,7 +168,7 @@ IsRising-without (first ∷ front) policy back rising =
 pub IsRising-instead : (front : List Policy) (old new : Policy) (back : List Policy) → same_key old.key new.key ≡ true
     → IsRising (front ++ old ∷ back) → IsRising (front ++ new ∷ back)
 IsRising-instead [] old new back same rising = (
-  AllByRecursion-weaker (λ (later : Policy). ComesBefore old.key later.key) (λ later. ComesBefore new.key later.key)
+  All-weaker (λ (later : Policy). ComesBefore old.key later.key) (λ later. ComesBefore new.key later.key)
       (λ later before. sym (key_total.congr old.key new.key later.key (key_cmp-same old.key new.key same)) ∙ before)
       back
       rising.0,
@@ -177,9 +176,9 @@ IsRising-instead [] old new back same rising = (
 )
 IsRising-instead (first ∷ front) old new back same rising =
     let later = λ (other : Policy). ComesBefore first.key other.key in
-    let behind = AllByRecursion-back later front (old ∷ back) rising.0 in
+    let behind = All-back later front (old ∷ back) rising.0 in
     let alike = alike_right key_total old.key new.key first.key (key_cmp-same old.key new.key same) in (
-      AllByRecursion-append later front (new ∷ back) (AllByRecursion-front later front (old ∷ back) rising.0)
+      All-append later front (new ∷ back) (All-front later front (old ∷ back) rising.0)
           (sym alike ∙ behind.0, behind.1),
       IsRising-instead front old new back same rising.1,
     )
@@ -215,10 +214,10 @@ module _ {policies : List Policy} {key : Key} {place : ℕ} (at : BelongsAt poli
   pub HasNoKey-BelongsAt : HasNoKey policies key
   HasNoKey-BelongsAt =
       subst (λ list. HasNoKey list key) (sym at.parts)
-      (AllByRecursion-append (λ (other : Policy). same_key other.key key ≡ false) at.front at.back
-      (AllByRecursion-weaker (λ (other : Policy). ComesBefore other.key key) (λ other. same_key other.key key ≡ false)
+      (All-append (λ (other : Policy). same_key other.key key ≡ false) at.front at.back
+      (All-weaker (λ (other : Policy). ComesBefore other.key key) (λ other. same_key other.key key ≡ false)
       (λ other. same_key-before other.key key) at.front at.before)
-      (AllByRecursion-weaker (λ (other : Policy). ComesBefore key other.key) (λ other. same_key other.key key ≡ false)
+      (All-weaker (λ (other : Policy). ComesBefore key other.key) (λ other. same_key other.key key ≡ false)
       (λ other. same_key-behind other.key key) at.back at.behind))
 
   -- a policy goes in at the place

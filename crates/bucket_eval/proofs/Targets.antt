@@ -12,7 +12,7 @@ use Rattle.bucket_store.specs.Bucket.{Bucket}
 use Rattle.bucket_store.specs.Database.{Heading, Placed, database_of, placed_of, heading_of, has_bucket}
 use Rattle.bucket_store.specs.Walk.{points, target}
 use Rattle.bucket_store.specs.WellFormed.{IsKept, IsRooted}
-use Rattle.bucket_eval.proofs.Elements.{AllByRecursion-front, AllByRecursion-back}
+use Rattle.bucket_store.proofs.Lists.{All-front, All-back}
 
 all-placed : (P : Placed → Type 0) (name : List ℕ) (policies : List Policy) (place : ℕ) (policy : Policy)
     → AllByRecursion P (map (λ p. record { bucket = name; policy = p }) policies)
@@ -31,9 +31,9 @@ all-at P (first ∷ buckets) zero bucket place policy all is there =
     let same : first ≡ bucket = cc in
     all-placed P bucket.name bucket.policies place policy
     (subst (λ (b : Bucket). AllByRecursion P (placed_of b)) same
-    (AllByRecursion-front P (placed_of first) (flat_map placed_of buckets) all)) there
+    (All-front P (placed_of first) (flat_map placed_of buckets) all)) there
 all-at P (first ∷ buckets) (suc at) bucket place policy all is there =
-    all-at P buckets at bucket place policy (AllByRecursion-back P (placed_of first) (flat_map placed_of buckets) all)
+    all-at P buckets at bucket place policy (All-back P (placed_of first) (flat_map placed_of buckets) all)
     is there
 
 any-below : (name : List ℕ) (buckets : List Bucket)

@@ -1,7 +1,8 @@
-//! Which policy of a bucket decides a question.
+//! What a bucket answers to a question: which of its policies decides, and what the buckets below contribute that its
+//! policies point to.
 //!
-//! That the least result of the matching policies decides is Cynara's rule. That NONE is left out, and that equal
-//! results are ordered by their keys, is this project's profile.
+//! That the least result of the matching policies decides is Cynara's rule. That NONE is left out, that equal results
+//! are ordered by their keys, and how buckets are nested, is this project's profile.
 #![tactic(auto)]
 
 ghost use Rattle.std.specs.Prelude.{◌≡◌, ◌≢◌, ℕ, ◌<◌, ◌≤◌, length, None, slice_get};
