@@ -1,7 +1,7 @@
 -- Decimal numbers, each with one spelling.
-use Rattle.std.specs.Prelude.{ℕ, Bool, false, not, ◌&&◌, nat_le, ◌==◌, if◌then◌else◌, List, [], ◌∷◌, Option, Some, None}
+use Rattle.std.specs.Prelude.{ℕ, Bool, false, not, ◌&&◌, ◌==◌, if◌then◌else◌, List, [], ◌∷◌, Option, Some, None}
 use Rattle.std.specs.Char.{is_ascii_digit}
-use Rattle.std.specs.Str.{all_ascii_digits}
+use Rattle.std.specs.List.{list_all}
 use Rattle.std.specs.Str.Parse.{digits_value}
 use Rattle.line_script.specs.Words.{◌>>=◌}
 
@@ -9,7 +9,7 @@ use Rattle.line_script.specs.Words.{◌>>=◌}
 abbrev pub is_number : List ℕ → Bool
 is_number [] = false
 is_number (digit ∷ []) = is_ascii_digit digit
-is_number (first ∷ next ∷ digits) = not (first == 48) && all_ascii_digits (first ∷ next ∷ digits)
+is_number (first ∷ next ∷ digits) = not (first == 48) && list_all is_ascii_digit (first ∷ next ∷ digits)
 
 -- the number that is written so
 abbrev pub number_of : List ℕ → Option ℕ

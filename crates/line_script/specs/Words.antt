@@ -17,7 +17,7 @@ word reading [] = None
 word reading (first ∷ rest) = option_map (λ value. (value, rest)) (reading first)
 
 -- no word is left
-abbrev pub end_of : List (List ℕ) → Option (Unit {0})
+unfoldable pub end_of : List (List ℕ) → Option (Unit {0})
 end_of [] = Some tt
 end_of (first ∷ rest) = None
 

@@ -1,12 +1,10 @@
-ghost use Rattle.std.specs.Prelude.{◌≡◌, ◌++◌, true, OnOk, OnErr, MatchResult};
-ghost use Rattle.line_script.specs.Refusals.{names_a_rule};
+ghost use Rattle.std.specs.Prelude.{◌≡◌, ◌++◌, OnOk, OnErr};
 ghost use Rattle.line_script.specs.Answers.{answer_text, command_line_text};
-ghost use Rattle.desk_state.specs.declared.refusals.Refusal.TheVariants as refused;
 
 use crate::print_answers::append_answer;
+use crate::rules_broken::RuleBroken;
 use cynara_keys::Kind;
 use desk_ports::Bytes;
-use desk_state::Refusal;
 use std::alloc::AllocError;
 
 /// What a line is answered, or the last line of a run. COMMIT is the number of the last accepted command. RESULT is
@@ -74,27 +72,6 @@ pub enum LineAnswer<'a> {
         file: &'a [u8],
         line: u32,
     },
-}
-
-/// A refusal that names the rule which a command breaks. Want of memory is none, so no line answers it.
-#[derive(Clone, Copy)]
-pub struct RuleBroken<'a> {
-    pub refusal: &'a Refusal,
-    ghost names_a_rule: { names_a_rule refusal.now ≡ true },
-}
-
-impl<'a> RuleBroken<'a> {
-    /// The refusal as an answer, or the want of memory that it is.
-    pub fn of(refusal: &'a Refusal) -> Result<RuleBroken<'a>, AllocError>
-        ensures { MatchResult result
-            (λ broken. broken.refusal.now ≡ refusal.now)
-            (λ error. refusal.now ≡ refused.Memory error) }
-    {
-        match refusal {
-            Refusal::Memory(error) => Err(*error),
-            _ => Ok(RuleBroken { refusal }),
-        }
-    }
 }
 
 /// The line of words that are no command, for a place where there may be no memory to print it.

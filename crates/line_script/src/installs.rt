@@ -1,7 +1,8 @@
 //! The line that installs, behind its first word.
 
+ghost use Rattle.std.specs.Prelude.{◌≡◌, Some, MatchResult};
 ghost use Rattle.line_script.specs.Grammar.{install_at, names_at};
-ghost use Rattle.line_script.specs.parts.Reading.{Gives};
+ghost use Rattle.line_script.specs.parts.Reading.{Gives, Refuses};
 
 use crate::line_words::Words;
 use crate::steps::LineRefusal;
@@ -35,7 +36,9 @@ pub(crate) fn install_line(alloc: Global, words: &mut Words) -> Result<Command, 
 
 /// The names that are left on the line.
 fn name_words(alloc: Global, words: &mut Words) -> Result<Vec<Name>, LineRefusal>
-    ensures { Gives result (names_at words.old) }
+    ensures { MatchResult result
+        (λ names. names_at words.old ≡ Some names.items)
+        (λ refusal. Refuses refusal (names_at words.old)) }
 {
     let mut names = Vec::new(alloc);
     while let Some(text) = words.next() {

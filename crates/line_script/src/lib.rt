@@ -18,11 +18,13 @@ mod print_refusals;
 mod questions;
 mod reader;
 mod results;
+mod rules_broken;
 mod steps;
 mod verbs;
 mod word_forms;
 
-pub use answers::{LineAnswer, RuleBroken, command_line_fault, print};
+pub use answers::{LineAnswer, command_line_fault, print};
 pub use line_fault::write_line_fault;
 pub use reader::Reader;
+pub use rules_broken::RuleBroken;
 pub use steps::{LineRefusal, Step};

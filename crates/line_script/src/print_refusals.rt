@@ -4,8 +4,8 @@ ghost use Rattle.std.specs.Prelude.{◌≡◌, ◌++◌, codes, decimal, OnOk, O
 ghost use Rattle.line_script.specs.Answers.{bucket_text, counted_text, author_text, refusal_text};
 ghost use Rattle.line_script.specs.parts.Appending.{Lengthens};
 
-use crate::answers::RuleBroken;
 use crate::pieces::{append_bucket, append_counted, append_number};
+use crate::rules_broken::RuleBroken;
 use app_registry::Ident;
 use cynara_keys::Counted;
 use desk_ports::Bytes;

@@ -69,11 +69,6 @@ impl Verb {
     pub(crate) fn of_word(word: &[u8]) -> Option<Verb>
         ensures { result ≡ verb_at word.now }
     {
-        for verb in &VERBS {
-            if word == verb.text() {
-                return Some(*verb);
-            }
-        }
-        None
+        VERBS.iter().copied().find(|verb| word == verb.text())
     }
 }

@@ -14,6 +14,7 @@ use smack_rules::{Label, LabelRefusal, Modes};
 use std::alloc::Global;
 
 /// That no word is left.
+#[tactic(auto, unfolding(crate::specs::Words::end_of))]
 pub(crate) fn end_word(words: &mut Words) -> Result<(), LineRefusal>
     ensures { Gives result (end_of words.old) }
 {
