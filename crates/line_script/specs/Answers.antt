@@ -58,22 +58,37 @@ accepted_text commit = codes "ok " ++ (decimal commit ++ codes "\n")
 unfoldable pub erased_text : ℕ → ℕ → List ℕ
 erased_text commit count = codes "ok " ++ (decimal commit ++ (codes " erased " ++ (decimal count ++ codes "\n")))
 
--- a command was refused: the number and the name of the rule that it breaks, and what the rule is about
+-- the number and the name of the rule that a refusal names; want of memory is no rule
+abbrev pub rule_text : Refusal → List ℕ
+rule_text (refusal.Reserved name) = codes "1 reserved"
+rule_text refusal.LayoutThere = codes "2 layout-there"
+rule_text refusal.NoLayout = codes "3 no-layout"
+rule_text (refusal.NoBucket name) = codes "4 no-bucket"
+rule_text refusal.RootBucket = codes "5 root-bucket"
+rule_text (refusal.BadKind kind) = codes "6 bad-kind"
+rule_text (refusal.UnknownUser uid) = codes "7 unknown-user"
+rule_text (refusal.OtherPackage name) = codes "8 other-package"
+rule_text (refusal.OtherAuthor author) = codes "9 other-author"
+rule_text refusal.NotInstalled = codes "10 not-installed"
+rule_text (refusal.Limit counted most) = codes "11 limit"
+rule_text (refusal.Cycle name) = codes "12 cycle"
+rule_text (refusal.Memory error) = []
+
+-- what the rule is about, with a space in front
+abbrev pub subject_text : Refusal → List ℕ
+subject_text (refusal.Reserved name) = codes " " ++ bucket_text name
+subject_text (refusal.NoBucket name) = codes " " ++ bucket_text name
+subject_text (refusal.BadKind kind) = codes " " ++ decimal kind.0
+subject_text (refusal.UnknownUser uid) = codes " " ++ decimal uid
+subject_text (refusal.OtherPackage name) = codes " " ++ name
+subject_text (refusal.OtherAuthor author) = codes " " ++ author_text author
+subject_text (refusal.Limit counted most) = codes " " ++ (counted_text counted ++ (codes " " ++ decimal most))
+subject_text (refusal.Cycle name) = codes " " ++ bucket_text name
+subject_text other = []
+
+-- a command was refused
 unfoldable pub refusal_text : Refusal → List ℕ
-refusal_text (refusal.Reserved name) = codes "refused 1 reserved " ++ (bucket_text name ++ codes "\n")
-refusal_text refusal.LayoutThere = codes "refused 2 layout-there\n"
-refusal_text refusal.NoLayout = codes "refused 3 no-layout\n"
-refusal_text (refusal.NoBucket name) = codes "refused 4 no-bucket " ++ (bucket_text name ++ codes "\n")
-refusal_text refusal.RootBucket = codes "refused 5 root-bucket\n"
-refusal_text (refusal.BadKind kind) = codes "refused 6 bad-kind " ++ (decimal kind.0 ++ codes "\n")
-refusal_text (refusal.UnknownUser uid) = codes "refused 7 unknown-user " ++ (decimal uid ++ codes "\n")
-refusal_text (refusal.OtherPackage name) = codes "refused 8 other-package " ++ (name ++ codes "\n")
-refusal_text (refusal.OtherAuthor author) = codes "refused 9 other-author " ++ (author_text author ++ codes "\n")
-refusal_text refusal.NotInstalled = codes "refused 10 not-installed\n"
-refusal_text (refusal.Limit counted most) =
-    codes "refused 11 limit " ++ (counted_text counted ++ (codes " " ++ (decimal most ++ codes "\n")))
-refusal_text (refusal.Cycle name) = codes "refused 12 cycle " ++ (bucket_text name ++ codes "\n")
-refusal_text (refusal.Memory error) = []
+refusal_text refusal = codes "refused " ++ (rule_text refusal ++ (subject_text refusal ++ codes "\n"))
 
 -- ---- answers to questions
 

@@ -21,7 +21,9 @@ pub(crate) fn set_line(alloc: Global, words: &mut Words) -> Result<Change, LineR
     let bucket = bucket_word(alloc, words)?;
     let key = key_words(alloc, words)?;
     let result = result_word(alloc, words)?;
-    end_word(words)?;
+    let Some(()) = end_word(words) else {
+        return Err(LineRefusal::Syntax);
+    };
     Ok(Change::Set {
         bucket,
         key,
@@ -36,7 +38,9 @@ pub(crate) fn unset_line(alloc: Global, words: &mut Words) -> Result<Change, Lin
 {
     let bucket = bucket_word(alloc, words)?;
     let key = key_words(alloc, words)?;
-    end_word(words)?;
+    let Some(()) = end_word(words) else {
+        return Err(LineRefusal::Syntax);
+    };
     Ok(Change::Delete { bucket, key })
 }
 

@@ -18,7 +18,9 @@ pub(crate) fn bucket_line(alloc: Global, words: &mut Words) -> Result<Command, L
 {
     let bucket = bucket_word(alloc, words)?;
     let fallback = result_word(alloc, words)?;
-    end_word(words)?;
+    let Some(()) = end_word(words) else {
+        return Err(LineRefusal::Syntax);
+    };
     Ok(Command::SetBucket { bucket, fallback })
 }
 
@@ -28,7 +30,9 @@ pub(crate) fn drop_line(alloc: Global, words: &mut Words) -> Result<Command, Lin
     ensures { Gives result (drop_at words.old) }
 {
     let bucket = bucket_word(alloc, words)?;
-    end_word(words)?;
+    let Some(()) = end_word(words) else {
+        return Err(LineRefusal::Syntax);
+    };
     Ok(Command::RemoveBucket { bucket })
 }
 
@@ -39,7 +43,9 @@ pub(crate) fn erase_line(alloc: Global, words: &mut Words) -> Result<Command, Li
 {
     let bucket = bucket_word(alloc, words)?;
     let filter = filter_words(alloc, words)?;
-    end_word(words)?;
+    let Some(()) = end_word(words) else {
+        return Err(LineRefusal::Syntax);
+    };
     Ok(Command::Erase { bucket, filter })
 }
 
@@ -48,7 +54,9 @@ pub(crate) fn erase_line(alloc: Global, words: &mut Words) -> Result<Command, Li
 pub(crate) fn layout_line(words: &mut Words) -> Result<Command, LineRefusal>
     ensures { Gives result (layout_at words.old) }
 {
-    end_word(words)?;
+    let Some(()) = end_word(words) else {
+        return Err(LineRefusal::Syntax);
+    };
     Ok(Command::Layout)
 }
 
@@ -59,7 +67,9 @@ pub(crate) fn user_line(words: &mut Words) -> Result<Command, LineRefusal>
 {
     let uid = uid_word(words)?;
     let kind = user_type_word(words)?;
-    end_word(words)?;
+    let Some(()) = end_word(words) else {
+        return Err(LineRefusal::Syntax);
+    };
     Ok(Command::UserSet { uid, kind })
 }
 
@@ -69,7 +79,9 @@ pub(crate) fn nouser_line(words: &mut Words) -> Result<Command, LineRefusal>
     ensures { Gives result (nouser_at words.old) }
 {
     let uid = uid_word(words)?;
-    end_word(words)?;
+    let Some(()) = end_word(words) else {
+        return Err(LineRefusal::Syntax);
+    };
     Ok(Command::UserRemove { uid })
 }
 
@@ -80,6 +92,8 @@ pub(crate) fn remove_line(alloc: Global, words: &mut Words) -> Result<Command, L
 {
     let app = ident_word(alloc, words)?;
     let scope = scope_word(words)?;
-    end_word(words)?;
+    let Some(()) = end_word(words) else {
+        return Err(LineRefusal::Syntax);
+    };
     Ok(Command::Uninstall { app, scope })
 }

@@ -2,6 +2,7 @@
 
 ghost use Rattle.std.specs.Prelude.{◌≡◌, Some, MatchResult};
 ghost use Rattle.line_script.specs.Grammar.{install_at, names_at};
+ghost use Rattle.line_script.specs.WordForms.{name_at};
 ghost use Rattle.line_script.specs.parts.Reading.{Gives, Refuses};
 
 use crate::line_words::Words;
@@ -42,14 +43,23 @@ fn name_words(alloc: Global, words: &mut Words) -> Result<Vec<Name>, LineRefusal
 {
     let mut names = Vec::new(alloc);
     while let Some(text) = words.next() {
-        match Name::read(alloc, text) {
+        match read_name(alloc, text) {
             Ok(name) => names
                 .push(name)
                 .map_err(AllocError::from)
                 .map_err(LineRefusal::Memory)?,
-            Err(NameRefusal::Memory(error)) => return Err(LineRefusal::Memory(error)),
-            Err(_) => return Err(LineRefusal::Syntax),
+            Err(refusal) => return Err(refusal),
         }
     }
     Ok(names)
+}
+
+fn read_name(alloc: Global, text: &[u8]) -> Result<Name, LineRefusal>
+    ensures { Gives result (name_at text.now) }
+{
+    match Name::read(alloc, text) {
+        Ok(name) => Ok(name),
+        Err(NameRefusal::Memory(error)) => Err(LineRefusal::Memory(error)),
+        Err(_) => Err(LineRefusal::Syntax),
+    }
 }

@@ -20,6 +20,8 @@ mod reader;
 mod results;
 mod rules_broken;
 mod steps;
+#[cfg(test)]
+mod tests;
 mod verbs;
 mod word_forms;
 

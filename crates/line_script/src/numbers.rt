@@ -1,8 +1,9 @@
 //! Decimal numbers.
 
-ghost use Rattle.std.specs.Prelude.{◌≡◌, ◌<◌, ◌^◌, ℕ, Some, decimal, nat_le};
+ghost use Rattle.std.specs.Prelude.{◌≡◌, ◌<◌, ◌^◌, ℕ, Some, None, IsTrue, decimal, nat_le, if◌then◌else◌};
 ghost use Rattle.std.specs.Char.{is_ascii_digit};
 ghost use Rattle.std.specs.List.{list_all};
+ghost use Rattle.std.specs.Str.Parse.{digits_value};
 ghost use Rattle.line_script.specs.Numbers.{is_number, number_that};
 
 use std::str;
@@ -13,11 +14,25 @@ pub(crate) fn read_number(text: &[u8]) -> Option<u32>
     // What a number is printed as is read as that number.
     ensures again { (number : ℕ) → number < 2 ^ 32 → text.now ≡ decimal number → result ≡ Some number }
 {
-    if !is_number(text) {
-        return None;
+    if is_number(text) {
+        number_of_digits(text)
+    } else {
+        None
     }
-    let text = str::from_utf8(text).ok()?;
-    text.parse::<u32>().ok()
+}
+
+/// The number that digits write, where it is no greater than 4294967295.
+fn number_of_digits(text: &[u8]) -> Option<u32>
+    requires { IsTrue (is_number text.now) }
+    ensures { result ≡ (if nat_le (digits_value 10 text.now) 4294967295 then Some (digits_value 10 text.now) else None) }
+{
+    match str::from_utf8(text) {
+        Ok(digits) => match digits.parse::<u32>() {
+            Ok(number) => Some(number),
+            Err(_) => None,
+        },
+        Err(_) => unreachable!(),
+    }
 }
 
 /// Whether a text is a digit, or several of which the first is not zero.

@@ -1,11 +1,10 @@
 //! The texts of refusals.
 
 ghost use Rattle.std.specs.Prelude.{◌≡◌, ◌++◌, codes, decimal, OnOk, OnErr};
-ghost use Rattle.line_script.specs.Answers.{bucket_text, counted_text, author_text, refusal_text};
+ghost use Rattle.line_script.specs.Answers.{bucket_text, counted_text, author_text, rule_text, subject_text, refusal_text};
 ghost use Rattle.line_script.specs.parts.Appending.{Lengthens};
 
 use crate::pieces::{append_bucket, append_counted, append_number};
-use crate::rules_broken::RuleBroken;
 use app_registry::Ident;
 use cynara_keys::Counted;
 use desk_ports::Bytes;
@@ -14,79 +13,98 @@ use std::alloc::AllocError;
 
 /// `refused NUMBER NAME` and what the rule is about.
 #[tactic(auto, unfolding(crate::specs::Answers::refusal_text))]
-pub(crate) fn append_refusal(out: &mut Bytes, broken: &RuleBroken) -> Result<(), AllocError>
-    ensures ok { OnOk result (out.new ≡ out.old ++ refusal_text broken.now.refusal.now) }
+pub(crate) fn append_refusal(out: &mut Bytes, refusal: &Refusal) -> Result<(), AllocError>
+    ensures ok { OnOk result (out.new ≡ out.old ++ refusal_text refusal.now) }
     ensures err { OnErr result (Lengthens out.old out.new) }
 {
-    match broken.refusal {
-        Refusal::Reserved(name) => append_of_bucket(out, b"refused 1 reserved ", name.as_slice()),
-        Refusal::LayoutThere => out.append(b"refused 2 layout-there\n"),
-        Refusal::NoLayout => out.append(b"refused 3 no-layout\n"),
-        Refusal::NoBucket(name) => append_of_bucket(out, b"refused 4 no-bucket ", name.as_slice()),
-        Refusal::RootBucket => out.append(b"refused 5 root-bucket\n"),
-        Refusal::BadKind(kind) => append_of_number(out, b"refused 6 bad-kind ", u64::from(kind.0)),
-        Refusal::UnknownUser(uid) => append_of_number(
-            out,
-            b"refused 7 unknown-user ",
-            u64::from(*uid),
-        ),
-        Refusal::OtherPackage(name) => append_of_text(
-            out,
-            b"refused 8 other-package ",
-            name.as_slice(),
-        ),
-        Refusal::OtherAuthor(author) => append_of_author(out, author),
-        Refusal::NotInstalled => out.append(b"refused 10 not-installed\n"),
-        Refusal::Limit(counted, most) => append_of_limit(out, *counted, *most),
-        Refusal::Cycle(name) => append_of_bucket(out, b"refused 12 cycle ", name.as_slice()),
-        Refusal::Memory(_) => unreachable!(),
+    out.append(b"refused ")?;
+    out.append(rule_text(refusal))?;
+    append_subject(out, refusal)?;
+    out.append(b"\n")
+}
+
+/// `NUMBER NAME` of the rule.
+fn rule_text(refusal: &Refusal) -> &'static [u8]
+    ensures { result.now ≡ rule_text refusal.now }
+{
+    match refusal {
+        Refusal::Reserved(_) => b"1 reserved",
+        Refusal::LayoutThere => b"2 layout-there",
+        Refusal::NoLayout => b"3 no-layout",
+        Refusal::NoBucket(_) => b"4 no-bucket",
+        Refusal::RootBucket => b"5 root-bucket",
+        Refusal::BadKind(_) => b"6 bad-kind",
+        Refusal::UnknownUser(_) => b"7 unknown-user",
+        Refusal::OtherPackage(_) => b"8 other-package",
+        Refusal::OtherAuthor(_) => b"9 other-author",
+        Refusal::NotInstalled => b"10 not-installed",
+        Refusal::Limit(_, _) => b"11 limit",
+        Refusal::Cycle(_) => b"12 cycle",
+        Refusal::Memory(_) => b"",
     }
 }
 
-fn append_of_bucket(out: &mut Bytes, front: &[u8], name: &[u8]) -> Result<(), AllocError>
-    ensures ok { OnOk result (out.new ≡ out.old ++ (front.now ++ (bucket_text name.now ++ codes "\n"))) }
+/// What the rule is about, with a space in front.
+fn append_subject(out: &mut Bytes, refusal: &Refusal) -> Result<(), AllocError>
+    ensures ok { OnOk result (out.new ≡ out.old ++ subject_text refusal.now) }
     ensures err { OnErr result (Lengthens out.old out.new) }
 {
-    out.append(front)?;
-    append_bucket(out, name)?;
-    out.append(b"\n")
+    match refusal {
+        Refusal::Reserved(name) | Refusal::NoBucket(name) | Refusal::Cycle(name) => {
+            append_next_bucket(out, name.as_slice())
+        }
+        Refusal::BadKind(kind) => append_next_number(out, u64::from(kind.0)),
+        Refusal::UnknownUser(uid) => append_next_number(out, u64::from(*uid)),
+        Refusal::OtherPackage(name) => append_next(out, name.as_slice()),
+        Refusal::OtherAuthor(author) => append_next(out, author_bytes(author)),
+        Refusal::Limit(counted, most) => append_limit(out, *counted, *most),
+        Refusal::LayoutThere
+        | Refusal::NoLayout
+        | Refusal::RootBucket
+        | Refusal::NotInstalled
+        | Refusal::Memory(_) => out.append(b""),
+    }
 }
 
-fn append_of_number(out: &mut Bytes, front: &[u8], number: u64) -> Result<(), AllocError>
-    ensures ok { OnOk result (out.new ≡ out.old ++ (front.now ++ (decimal number ++ codes "\n"))) }
+fn append_next(out: &mut Bytes, text: &[u8]) -> Result<(), AllocError>
+    ensures ok { OnOk result (out.new ≡ out.old ++ (codes " " ++ text.now)) }
     ensures err { OnErr result (Lengthens out.old out.new) }
 {
-    out.append(front)?;
-    append_number(out, number)?;
-    out.append(b"\n")
+    out.append(b" ")?;
+    out.append(text)
 }
 
-fn append_of_text(out: &mut Bytes, front: &[u8], text: &[u8]) -> Result<(), AllocError>
-    ensures ok { OnOk result (out.new ≡ out.old ++ (front.now ++ (text.now ++ codes "\n"))) }
+fn append_next_bucket(out: &mut Bytes, name: &[u8]) -> Result<(), AllocError>
+    ensures ok { OnOk result (out.new ≡ out.old ++ (codes " " ++ bucket_text name.now)) }
     ensures err { OnErr result (Lengthens out.old out.new) }
 {
-    out.append(front)?;
-    out.append(text)?;
-    out.append(b"\n")
+    out.append(b" ")?;
+    append_bucket(out, name)
 }
 
-fn append_of_author(out: &mut Bytes, author: &Option<Ident>) -> Result<(), AllocError>
-    ensures ok { OnOk result (out.new ≡ out.old ++ (codes "refused 9 other-author " ++ (author_text author.now ++ codes "\n"))) }
+fn append_next_number(out: &mut Bytes, number: u64) -> Result<(), AllocError>
+    ensures ok { OnOk result (out.new ≡ out.old ++ (codes " " ++ decimal number)) }
     ensures err { OnErr result (Lengthens out.old out.new) }
+{
+    out.append(b" ")?;
+    append_number(out, number)
+}
+
+fn append_limit(out: &mut Bytes, counted: Counted, most: u64) -> Result<(), AllocError>
+    ensures ok { OnOk result (out.new ≡ out.old ++ (codes " " ++ (counted_text counted ++ (codes " " ++ decimal most)))) }
+    ensures err { OnErr result (Lengthens out.old out.new) }
+{
+    out.append(b" ")?;
+    append_counted(out, counted)?;
+    append_next_number(out, most)
+}
+
+/// The author's name, or `-` for none.
+fn author_bytes(author: &Option<Ident>) -> &[u8]
+    ensures { result.now ≡ author_text author.now }
 {
     match author {
-        Some(author) => append_of_text(out, b"refused 9 other-author ", author.as_slice()),
-        None => append_of_text(out, b"refused 9 other-author ", b"-"),
+        Some(author) => author.as_slice(),
+        None => b"-",
     }
-}
-
-fn append_of_limit(out: &mut Bytes, counted: Counted, most: u64) -> Result<(), AllocError>
-    ensures ok { OnOk result (out.new ≡ out.old ++ (codes "refused 11 limit " ++ (counted_text counted ++ (codes " " ++ (decimal most ++ codes "\n"))))) }
-    ensures err { OnErr result (Lengthens out.old out.new) }
-{
-    out.append(b"refused 11 limit ")?;
-    append_counted(out, counted)?;
-    out.append(b" ")?;
-    append_number(out, most)?;
-    out.append(b"\n")
 }

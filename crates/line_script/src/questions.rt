@@ -16,7 +16,9 @@ pub(crate) fn list_line(alloc: Global, words: &mut Words) -> Result<Step, LineRe
 {
     let bucket = bucket_word(alloc, words)?;
     let filter = filter_words(alloc, words)?;
-    end_word(words)?;
+    let Some(()) = end_word(words) else {
+        return Err(LineRefusal::Syntax);
+    };
     Ok(Step::List { bucket, filter })
 }
 
@@ -26,7 +28,9 @@ pub(crate) fn check_line(alloc: Global, words: &mut Words) -> Result<Step, LineR
     ensures { Gives result (check_at words.old) }
 {
     let question = question_words(alloc, words)?;
-    end_word(words)?;
+    let Some(()) = end_word(words) else {
+        return Err(LineRefusal::Syntax);
+    };
     Ok(Step::Check(question))
 }
 
@@ -38,7 +42,9 @@ pub(crate) fn from_line(alloc: Global, words: &mut Words) -> Result<Step, LineRe
     let bucket = bucket_word(alloc, words)?;
     let deep = depth_word(words)?;
     let question = question_words(alloc, words)?;
-    end_word(words)?;
+    let Some(()) = end_word(words) else {
+        return Err(LineRefusal::Syntax);
+    };
     Ok(Step::From {
         bucket,
         deep,
@@ -54,7 +60,9 @@ pub(crate) fn access_line(alloc: Global, words: &mut Words) -> Result<Step, Line
     let subject = label_word(alloc, words)?;
     let object = label_word(alloc, words)?;
     let asked = request_word(words)?;
-    end_word(words)?;
+    let Some(()) = end_word(words) else {
+        return Err(LineRefusal::Syntax);
+    };
     Ok(Step::Access {
         subject,
         object,
@@ -67,6 +75,8 @@ pub(crate) fn access_line(alloc: Global, words: &mut Words) -> Result<Step, Line
 pub(crate) fn status_line(words: &mut Words) -> Result<Step, LineRefusal>
     ensures { Gives result (status_at words.old) }
 {
-    end_word(words)?;
+    let Some(()) = end_word(words) else {
+        return Err(LineRefusal::Syntax);
+    };
     Ok(Step::Status)
 }

@@ -1,9 +1,10 @@
 //! What single words say. Each function takes the next word of a line.
 
+ghost use Rattle.std.specs.Prelude.{◌≡◌};
 ghost use Rattle.line_script.specs.Words.{word, end_of};
 ghost use Rattle.line_script.specs.WordForms.{bucket_at, name_at, field_at, filter_field_at, depth_at};
 ghost use Rattle.line_script.specs.WordForms.{uid_at, user_type_at, scope_at, ident_at, author_at, label_at, request_at};
-ghost use Rattle.line_script.specs.parts.Reading.{Gives, GivesWord};
+ghost use Rattle.line_script.specs.parts.Reading.{GivesWord};
 
 use crate::line_words::Words;
 use crate::numbers::read_number;
@@ -15,12 +16,12 @@ use std::alloc::Global;
 
 /// That no word is left.
 #[tactic(auto, unfolding(crate::specs::Words::end_of))]
-pub(crate) fn end_word(words: &mut Words) -> Result<(), LineRefusal>
-    ensures { Gives result (end_of words.old) }
+pub(crate) fn end_word(words: &mut Words) -> Option<()>
+    ensures { result ≡ end_of words.old }
 {
     match words.next() {
-        Some(_) => Err(LineRefusal::Syntax),
-        None => Ok(()),
+        Some(_) => None,
+        None => Some(()),
     }
 }
 
