@@ -65,13 +65,36 @@ impl Model for Template {
 }
 
 impl Template {
-    ghost use Rattle.std.specs.Prelude.{ℕ, Option};
+    ghost use Rattle.std.specs.Prelude.{ℕ, Option, []};
     ghost use Rattle.std.specs.List.{list_all};
     ghost use Rattle.smack_rules.specs.RuleText.{rules_of};
     ghost use Rattle.rule_templates.specs.TemplateLine.{is_fixed_line};
-    ghost use Rattle.rule_templates.specs.Template.{is_template, template_text};
-    ghost use Rattle.rule_templates.specs.TemplateRead.{ReadsAs};
+    ghost use Rattle.rule_templates.specs.Template.{is_template, template_text, with_one_more};
+    ghost use Rattle.rule_templates.specs.TemplateRead.{ReadsAs, Pushes};
     ghost use Rattle.rule_templates.specs.Expansion.{expansion};
+
+    /// The template without a line. Takes no memory.
+    pub fn empty(alloc: Global) -> Template
+        ensures { result ≡ [] }
+    {
+        Template {
+            lines: Vec::new(alloc),
+        }
+    }
+
+    /// Reads one more line and appends it. Refuses, with the number that the line would have, what `read` refuses, and
+    /// then the template stays as it was.
+    pub fn push_line(&mut self, line: &[u8]) -> Result<(), TemplateRefusal>
+        ensures { Pushes self.old result self.new (with_one_more self.old line.now) }
+    {
+        let number = self.lines.len() as u32 + 1;
+        let parts = test_line(line, number)?;
+        match parts.keep(*self.lines.allocator()) {
+            Ok(line) => self.lines.push(line).map_err(AllocError::from)?,
+            Err(error) => return Err(TemplateRefusal::Memory(error)),
+        }
+        Ok(())
+    }
 
     /// Reads a template: a line a rule, whose words are parted by spaces or tabs. Refuses, at the first wrong line, a
     /// line of another form, a line that would be right but for a word that begins with `~` and is no placeholder, and

@@ -1,0 +1,5 @@
+pub mod DeskState
+pub mod Layout
+pub mod Next
+pub mod Rules
+pub mod IsDesk

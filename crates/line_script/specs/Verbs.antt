@@ -1,0 +1,31 @@
+-- The first words of lines.
+use Rattle.std.specs.Prelude.{ℕ, List, [], ◌∷◌, Option, find, codes}
+use Rattle.cynara_keys.specs.Text.{same_text}
+use Rattle.line_script.specs.declared.verbs.Verb.{Verb}
+use Rattle.line_script.specs.declared.verbs.Verb.TheVariants.{Set, Check, Unset, Bucket, Drop, Erase, List as ListRows, From, Layout, User, NoUser, Install, Remove, Access, Status}
+
+-- the word of each
+abbrev pub verb_text : Verb → List ℕ
+verb_text Set = codes "set"
+verb_text Check = codes "check"
+verb_text Unset = codes "unset"
+verb_text Bucket = codes "bucket"
+verb_text Drop = codes "drop"
+verb_text Erase = codes "erase"
+verb_text ListRows = codes "list"
+verb_text From = codes "from"
+verb_text Layout = codes "layout"
+verb_text User = codes "user"
+verb_text NoUser = codes "nouser"
+verb_text Install = codes "install"
+verb_text Remove = codes "remove"
+verb_text Access = codes "access"
+verb_text Status = codes "status"
+
+abbrev pub verbs : List Verb
+verbs =
+    Set ∷ Check ∷ Unset ∷ Bucket ∷ Drop ∷ Erase ∷ ListRows ∷ From ∷ Layout ∷ User ∷ NoUser ∷ Install ∷ Remove ∷ Access ∷ Status ∷ []
+
+-- what the first word of a line says
+unfoldable pub verb_at : List ℕ → Option Verb
+verb_at text = find (λ verb. same_text text (verb_text verb)) verbs

@@ -1,0 +1,57 @@
+//! Lines that change one policy, behind their first word.
+
+ghost use Rattle.std.specs.Prelude.{Some};
+ghost use Rattle.line_script.specs.Grammar.{set_at, unset_at, change_step};
+ghost use Rattle.line_script.specs.parts.Reading.{Gives};
+
+use crate::line_words::Words;
+use crate::phrases::key_words;
+use crate::results::result_word;
+use crate::steps::{LineRefusal, Step};
+use crate::word_forms::{bucket_word, end_word};
+use bucket_store::{Change, Changes};
+use desk_state::Command;
+use std::alloc::{AllocError, Global};
+
+/// `set BUCKET CLIENT USER PRIVILEGE RESULT`.
+#[tactic(auto, unfolding(crate::specs::Grammar::set_at))]
+pub(crate) fn set_line(alloc: Global, words: &mut Words) -> Result<Change, LineRefusal>
+    ensures { Gives result (set_at words.old) }
+{
+    let bucket = bucket_word(alloc, words)?;
+    let key = key_words(alloc, words)?;
+    let result = result_word(alloc, words)?;
+    let Some(()) = end_word(words) else {
+        return Err(LineRefusal::Syntax);
+    };
+    Ok(Change::Set {
+        bucket,
+        key,
+        result,
+    })
+}
+
+/// `unset BUCKET CLIENT USER PRIVILEGE`.
+#[tactic(auto, unfolding(crate::specs::Grammar::unset_at))]
+pub(crate) fn unset_line(alloc: Global, words: &mut Words) -> Result<Change, LineRefusal>
+    ensures { Gives result (unset_at words.old) }
+{
+    let bucket = bucket_word(alloc, words)?;
+    let key = key_words(alloc, words)?;
+    let Some(()) = end_word(words) else {
+        return Err(LineRefusal::Syntax);
+    };
+    Ok(Change::Delete { bucket, key })
+}
+
+/// One change, as a command of its own.
+pub(crate) fn one_change(alloc: Global, change: Change) -> Result<Step, LineRefusal>
+    ensures { Gives result (Some (change_step change)) }
+{
+    let mut list = Vec::new(alloc);
+    list.push(change)
+        .map_err(AllocError::from)
+        .map_err(LineRefusal::Memory)?;
+    let changes = Changes::of(list);
+    Ok(Step::Command(Command::SetPolicies { changes }))
+}

@@ -1,0 +1,77 @@
+ghost use Rattle.line_script.specs.Grammar.{change_at, line_at, change_of, line_of};
+ghost use Rattle.line_script.specs.Words.{word};
+ghost use Rattle.line_script.specs.Verbs.{verb_at};
+ghost use Rattle.line_script.specs.parts.Reading.{Gives, GivesWord};
+
+use crate::changes::{one_change, set_line, unset_line};
+use crate::commands::{
+    bucket_line, drop_line, erase_line, layout_line, nouser_line, remove_line, user_line,
+};
+use crate::installs::install_line;
+use crate::line_words::Words;
+use crate::questions::{access_line, check_line, from_line, list_line, status_line};
+use crate::steps::{LineRefusal, Step};
+use crate::verbs::Verb;
+use bucket_store::Change;
+use std::alloc::Global;
+
+/// The step of a line that stands outside a block and is neither blank nor a comment.
+#[tactic(auto, unfolding(crate::specs::Grammar::line_of))]
+pub(crate) fn lone_line(alloc: Global, line: &[u8]) -> Result<Step, LineRefusal>
+    ensures { Gives result (line_of line.now) }
+{
+    let mut words = Words::of(line);
+    let verb = verb_word(&mut words)?;
+    line_behind(alloc, verb, &mut words)
+}
+
+/// The change that a line of a batch is.
+#[tactic(auto, unfolding(crate::specs::Grammar::change_of))]
+pub(crate) fn lone_change(alloc: Global, line: &[u8]) -> Result<Change, LineRefusal>
+    ensures { Gives result (change_of line.now) }
+{
+    let mut words = Words::of(line);
+    let verb = verb_word(&mut words)?;
+    change_behind(alloc, verb, &mut words)
+}
+
+fn verb_word(words: &mut Words) -> Result<Verb, LineRefusal>
+    ensures { GivesWord result words.new (word verb_at words.old) }
+{
+    let text = words.next().ok_or(LineRefusal::Syntax)?;
+    Verb::of_word(text).ok_or(LineRefusal::Syntax)
+}
+
+#[tactic(auto, unfolding(crate::specs::Grammar::change_at))]
+fn change_behind(alloc: Global, verb: Verb, words: &mut Words) -> Result<Change, LineRefusal>
+    ensures { Gives result (change_at verb words.old) }
+{
+    match verb {
+        Verb::Set => set_line(alloc, words),
+        Verb::Unset => unset_line(alloc, words),
+        _ => Err(LineRefusal::Syntax),
+    }
+}
+
+#[tactic(auto, unfolding(crate::specs::Grammar::line_at))]
+fn line_behind(alloc: Global, verb: Verb, words: &mut Words) -> Result<Step, LineRefusal>
+    ensures { Gives result (line_at verb words.old) }
+{
+    match verb {
+        Verb::Set => one_change(alloc, set_line(alloc, words)?),
+        Verb::Unset => one_change(alloc, unset_line(alloc, words)?),
+        Verb::Bucket => Ok(Step::Command(bucket_line(alloc, words)?)),
+        Verb::Drop => Ok(Step::Command(drop_line(alloc, words)?)),
+        Verb::Erase => Ok(Step::Command(erase_line(alloc, words)?)),
+        Verb::Layout => Ok(Step::Command(layout_line(words)?)),
+        Verb::User => Ok(Step::Command(user_line(words)?)),
+        Verb::NoUser => Ok(Step::Command(nouser_line(words)?)),
+        Verb::Install => Ok(Step::Command(install_line(alloc, words)?)),
+        Verb::Remove => Ok(Step::Command(remove_line(alloc, words)?)),
+        Verb::List => list_line(alloc, words),
+        Verb::Check => check_line(alloc, words),
+        Verb::From => from_line(alloc, words),
+        Verb::Access => access_line(alloc, words),
+        Verb::Status => status_line(words),
+    }
+}

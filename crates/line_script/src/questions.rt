@@ -1,0 +1,82 @@
+//! Lines that ask and change nothing, behind their first word.
+
+ghost use Rattle.line_script.specs.Grammar.{list_at, check_at, from_at, access_at, status_at};
+ghost use Rattle.line_script.specs.parts.Reading.{Gives};
+
+use crate::line_words::Words;
+use crate::phrases::{filter_words, question_words};
+use crate::steps::{LineRefusal, Step};
+use crate::word_forms::{bucket_word, depth_word, end_word, label_word, request_word};
+use std::alloc::Global;
+
+/// `list BUCKET FILTER FILTER FILTER`.
+#[tactic(auto, unfolding(crate::specs::Grammar::list_at))]
+pub(crate) fn list_line(alloc: Global, words: &mut Words) -> Result<Step, LineRefusal>
+    ensures { Gives result (list_at words.old) }
+{
+    let bucket = bucket_word(alloc, words)?;
+    let filter = filter_words(alloc, words)?;
+    let Some(()) = end_word(words) else {
+        return Err(LineRefusal::Syntax);
+    };
+    Ok(Step::List { bucket, filter })
+}
+
+/// `check CLIENT USER PRIVILEGE`.
+#[tactic(auto, unfolding(crate::specs::Grammar::check_at))]
+pub(crate) fn check_line(alloc: Global, words: &mut Words) -> Result<Step, LineRefusal>
+    ensures { Gives result (check_at words.old) }
+{
+    let question = question_words(alloc, words)?;
+    let Some(()) = end_word(words) else {
+        return Err(LineRefusal::Syntax);
+    };
+    Ok(Step::Check(question))
+}
+
+/// `from BUCKET MODE CLIENT USER PRIVILEGE`.
+#[tactic(auto, unfolding(crate::specs::Grammar::from_at))]
+pub(crate) fn from_line(alloc: Global, words: &mut Words) -> Result<Step, LineRefusal>
+    ensures { Gives result (from_at words.old) }
+{
+    let bucket = bucket_word(alloc, words)?;
+    let deep = depth_word(words)?;
+    let question = question_words(alloc, words)?;
+    let Some(()) = end_word(words) else {
+        return Err(LineRefusal::Syntax);
+    };
+    Ok(Step::From {
+        bucket,
+        deep,
+        question,
+    })
+}
+
+/// `access SUBJECT OBJECT MODES`.
+#[tactic(auto, unfolding(crate::specs::Grammar::access_at))]
+pub(crate) fn access_line(alloc: Global, words: &mut Words) -> Result<Step, LineRefusal>
+    ensures { Gives result (access_at words.old) }
+{
+    let subject = label_word(alloc, words)?;
+    let object = label_word(alloc, words)?;
+    let asked = request_word(words)?;
+    let Some(()) = end_word(words) else {
+        return Err(LineRefusal::Syntax);
+    };
+    Ok(Step::Access {
+        subject,
+        object,
+        asked,
+    })
+}
+
+/// `status`.
+#[tactic(auto, unfolding(crate::specs::Grammar::status_at))]
+pub(crate) fn status_line(words: &mut Words) -> Result<Step, LineRefusal>
+    ensures { Gives result (status_at words.old) }
+{
+    let Some(()) = end_word(words) else {
+        return Err(LineRefusal::Syntax);
+    };
+    Ok(Step::Status)
+}

@@ -1,0 +1,142 @@
+ghost use Rattle.std.specs.Prelude.{◌≡◌, [], IsTrue};
+ghost use Rattle.line_script.specs.Block.{outside, batch, template, failed};
+ghost use Rattle.line_script.specs.Grammar.{is_skipped, outside_at, batch_at, template_at, step_at};
+ghost use Rattle.line_script.specs.Turn.{Turns, is_in_block};
+
+use crate::lines::{lone_change, lone_line};
+use crate::steps::{LineRefusal, Step};
+use bucket_store::{Change, Changes};
+use desk_state::Command;
+use rule_templates::{Template, TemplateRefusal};
+use std::alloc::{AllocError, Global};
+use std::marker::Model;
+use std::mem::replace;
+
+/// Reads a script line by line, and knows whether it is within a block.
+#[derive(Debug, Drop)]
+pub struct Reader {
+    alloc: Global,
+    place: Place,
+}
+
+/// Where a script is, with what a block has gathered.
+#[derive(Debug, Drop)]
+enum Place {
+    Outside,
+    Batch(Vec<Change>),
+    Template(Template),
+    Failed,
+}
+
+impl Model for Reader {
+    ghost use Rattle.line_script.specs.Block.{Block};
+    ghost use Rattle.line_script.specs.parts.Places.{block_of};
+
+    ghost Value = { Block };
+
+    ghost view = { λ reader. block_of reader.place };
+}
+
+impl Reader {
+    /// A reader before the first line of a script.
+    pub fn new(alloc: Global) -> Reader
+        ensures { result ≡ outside }
+    {
+        Reader {
+            alloc,
+            place: Place::Outside,
+        }
+    }
+
+    /// Whether a block was opened and is not ended. A script must not end so.
+    pub fn in_block(&self) -> bool
+        ensures { result ≡ is_in_block self.now }
+    {
+        matches!(self.place, Place::Batch(_) | Place::Template(_))
+    }
+
+    /// Reads one line, given without its newline. Refuses `Syntax` exactly where the line is outside the grammar, unless
+    /// memory runs out first; every line behind a refused one is outside.
+    #[tactic(auto, unfolding(crate::specs::Grammar::step_at))]
+    pub fn line(&mut self, line: &[u8]) -> Result<Step, LineRefusal>
+        ensures { Turns (step_at self.old line.now) result self.new }
+    {
+        match replace(&mut self.place, Place::Failed) {
+            Place::Outside => self.line_outside(line),
+            Place::Batch(changes) => self.line_of_batch(changes, line),
+            Place::Template(template) => self.line_of_template(template, line),
+            Place::Failed => Err(LineRefusal::Syntax),
+        }
+    }
+
+    #[tactic(auto, unfolding(crate::specs::Grammar::outside_at))]
+    fn line_outside(&mut self, line: &[u8]) -> Result<Step, LineRefusal>
+        requires { self.old ≡ failed }
+        ensures { Turns (outside_at line.now) result self.new }
+    {
+        if is_skipped(line) {
+            self.place = Place::Outside;
+            return Ok(Step::Nothing);
+        }
+        if line == b"batch".as_slice() {
+            self.place = Place::Batch(Vec::new(self.alloc));
+            return Ok(Step::Nothing);
+        }
+        if line == b"template".as_slice() {
+            self.place = Place::Template(Template::empty(self.alloc));
+            return Ok(Step::Nothing);
+        }
+        let step = lone_line(self.alloc, line)?;
+        self.place = Place::Outside;
+        Ok(step)
+    }
+
+    #[tactic(auto, unfolding(crate::specs::Grammar::batch_at))]
+    fn line_of_batch(&mut self, mut changes: Vec<Change>, line: &[u8]) -> Result<Step, LineRefusal>
+        requires { self.old ≡ failed }
+        ensures { Turns (batch_at changes.items line.now) result self.new }
+    {
+        if is_skipped(line) {
+            self.place = Place::Batch(changes);
+            return Ok(Step::Nothing);
+        }
+        if line == b"end".as_slice() {
+            self.place = Place::Outside;
+            let changes = Changes::of(changes);
+            return Ok(Step::Command(Command::SetPolicies { changes }));
+        }
+        let change = lone_change(self.alloc, line)?;
+        changes
+            .push(change)
+            .map_err(AllocError::from)
+            .map_err(LineRefusal::Memory)?;
+        self.place = Place::Batch(changes);
+        Ok(Step::Nothing)
+    }
+
+    #[tactic(auto, unfolding(crate::specs::Grammar::template_at))]
+    fn line_of_template(&mut self, mut template: Template, line: &[u8]) -> Result<Step, LineRefusal>
+        requires { self.old ≡ failed }
+        ensures { Turns (template_at «template» line.now) result self.new }
+    {
+        if line == b"end".as_slice() {
+            self.place = Place::Outside;
+            return Ok(Step::Command(Command::SetTemplate { template }));
+        }
+        match template.push_line(line) {
+            Ok(()) => {
+                self.place = Place::Template(template);
+                Ok(Step::Nothing)
+            }
+            Err(TemplateRefusal::Memory(error)) => Err(LineRefusal::Memory(error)),
+            Err(_) => Err(LineRefusal::Syntax),
+        }
+    }
+}
+
+/// Whether a line asks for nothing: it has no byte, or `#` at the front.
+fn is_skipped(line: &[u8]) -> bool
+    ensures { result ≡ is_skipped line.now }
+{
+    matches!(line, [] | [b'#', ..])
+}

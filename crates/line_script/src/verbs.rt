@@ -1,0 +1,74 @@
+ghost use Rattle.std.specs.Prelude.{◌≡◌};
+ghost use Rattle.line_script.specs.Verbs.{verb_text, verb_at};
+
+/// What the first word of a line says, in the order in which words are compared: the most frequent first.
+#[derive(Clone, Copy, Debug)]
+pub(crate) enum Verb {
+    Set,
+    Check,
+    Unset,
+    Bucket,
+    Drop,
+    Erase,
+    List,
+    From,
+    Layout,
+    User,
+    NoUser,
+    Install,
+    Remove,
+    Access,
+    Status,
+}
+
+/// All of them.
+const VERBS: [Verb; 15] = [
+    Verb::Set,
+    Verb::Check,
+    Verb::Unset,
+    Verb::Bucket,
+    Verb::Drop,
+    Verb::Erase,
+    Verb::List,
+    Verb::From,
+    Verb::Layout,
+    Verb::User,
+    Verb::NoUser,
+    Verb::Install,
+    Verb::Remove,
+    Verb::Access,
+    Verb::Status,
+];
+
+impl Verb {
+    /// The word.
+    fn text(self) -> &'static [u8]
+        ensures { result.now ≡ verb_text self }
+    {
+        match self {
+            Verb::Set => b"set",
+            Verb::Check => b"check",
+            Verb::Unset => b"unset",
+            Verb::Bucket => b"bucket",
+            Verb::Drop => b"drop",
+            Verb::Erase => b"erase",
+            Verb::List => b"list",
+            Verb::From => b"from",
+            Verb::Layout => b"layout",
+            Verb::User => b"user",
+            Verb::NoUser => b"nouser",
+            Verb::Install => b"install",
+            Verb::Remove => b"remove",
+            Verb::Access => b"access",
+            Verb::Status => b"status",
+        }
+    }
+
+    /// What a word says as the first of a line, `None` for every other word.
+    #[tactic(auto, unfolding(crate::specs::Verbs::verb_at))]
+    pub(crate) fn of_word(word: &[u8]) -> Option<Verb>
+        ensures { result ≡ verb_at word.now }
+    {
+        VERBS.iter().copied().find(|verb| word == verb.text())
+    }
+}
