@@ -8,6 +8,8 @@
 
 mod commands;
 mod desks;
+mod layout_rules;
+mod names;
 mod refusals;
 
 pub use commands::Command;
