@@ -11,6 +11,7 @@ mod desks;
 mod layout_rules;
 mod names;
 mod refusals;
+mod steps;
 
 pub use commands::Command;
 pub use desks::{Applied, Desk, LAST_COMMIT};

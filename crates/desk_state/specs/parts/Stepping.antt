@@ -57,16 +57,16 @@ registered_refusal commit (registered.Memory error) = Memory error
 -- ---- answers
 
 -- the next desk, where a commit number is left
-pub record IsStep (desk next : DeskState) (erased : ℕ) (applied : Applied) : Type 0 where
-  pub next : applied.desk ≡ next
-  pub erased : applied.erased ≡ erased
+pub record IsStep (desk after : DeskState) (count : ℕ) (applied : Applied) : Type 0 where
+  pub next : applied.desk ≡ after
+  pub erased : applied.erased ≡ count
   pub room : commit_limit desk.commit ≡ None
 
 -- or the refusal of a commit number past the last, or want of memory
 abbrev pub Steps : DeskState → DeskState → ℕ → Result Applied Refusal → Type 0
-Steps desk next erased (Ok applied) = IsStep desk next erased applied
-Steps desk next erased (Err (Memory error)) = Unit {0}
-Steps desk next erased (Err refusal) = commit_limit desk.commit ≡ Some refusal
+Steps desk after count (Ok applied) = IsStep desk after count applied
+Steps desk after count (Err (Memory error)) = Unit {0}
+Steps desk after count (Err refusal) = commit_limit desk.commit ≡ Some refusal
 
 pub record IsApplied (desk : DeskState) (command : Command) (applied : Applied) : Type 0 where
   pub next : applied.desk ≡ next desk command
