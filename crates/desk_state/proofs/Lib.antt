@@ -1,2 +1,4 @@
 pub mod Finding
 pub mod Deciding
+pub mod Filters
+pub mod Owning
