@@ -2,3 +2,4 @@ pub mod Finding
 pub mod Deciding
 pub mod Filters
 pub mod Owning
+pub mod Keeping
