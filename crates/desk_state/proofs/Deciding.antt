@@ -16,7 +16,9 @@ use Rattle.app_registry.specs.declared.refusals.RegistryRefusal.TheVariants as r
 use Rattle.app_registry.specs.declared.refusals.RegistryRefusal.{RegistryRefusal}
 use Rattle.desk_state.specs.DeskState.{DeskState}
 use Rattle.desk_state.specs.Layout.{has_layout}
-use Rattle.desk_state.specs.Next.{request, next, erased_by}
+use Rattle.bucket_store.specs.WellFormed.{IsSound}
+use Rattle.bucket_store.proofs.Sound.{limit-sound, cycle-sound}
+use Rattle.desk_state.specs.Next.{request, leads_to, next, erased_by}
 use Rattle.desk_state.specs.Rules.{first_of, reserved, layout_there, no_layout, fault, Refuses, of_store, of_registry, registry_rule, registry_limit, commit_limit}
 use Rattle.desk_state.specs.parts.Stepping.{IsAllowed, IsStep, Steps, IsApplied, Answers, stored_refusal, registered_refusal, or_last}
 use Rattle.desk_state.specs.declared.commands.Command.{Command}
@@ -91,6 +93,11 @@ store_none None false None last false true c is = cc
 store_none None false None last false false (Some name) is = cc
 store_none None false None true false false None is = refl
 store_none None false None false false false None is = refl
+
+-- a database that stays as it is breaks no rule
+pub quiet : (database : Database) → IsSound database → store.fault database (leads_to database) ≡ None
+quiet database sound =
+    λ i. store.first_of (None ∷ None ∷ None ∷ limit-sound database sound i ∷ cycle-sound database sound i ∷ [])
 
 -- ---- commands on the database
 
