@@ -8,6 +8,7 @@
 
 mod commands;
 mod desks;
+mod following;
 mod layout_rules;
 mod names;
 mod refusals;
