@@ -1,0 +1,9 @@
+pub mod Finding
+pub mod Deciding
+pub mod Filters
+pub mod Owning
+pub mod Keeping
+pub mod Known
+pub mod Settling
+pub mod Granting
+pub mod Appending

@@ -8,7 +8,12 @@
 
 mod commands;
 mod desks;
+mod following;
+mod layout_rules;
+mod names;
 mod refusals;
+mod steps;
+mod store_commands;
 
 pub use commands::Command;
 pub use desks::{Applied, Desk, LAST_COMMIT};
