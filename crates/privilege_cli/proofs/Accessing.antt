@@ -9,7 +9,8 @@ use Rattle.smack_rules.specs.declared.table.PairModes.{PairModes}
 use Rattle.smack_rules.specs.Table.{granted}
 use Rattle.smack_rules.specs.Decision.{decision}
 use Rattle.privilege_cli.specs.Outside.{Had}
-use Rattle.privilege_cli.specs.AccessRun.{rules_read, decided_text, IsDecided, IsReadThrough, AccessAnswers}
+use Rattle.privilege_cli.specs.AccessRun.{rules_read, IsDecided, IsReadThrough, AccessAnswers}
+use Rattle.privilege_cli.specs.Reply.{decided_text}
 use Rattle.privilege_cli.specs.parts.Access.{IsRead, AreLoaded, StopsAtText, AreRead, ReadsRules, WritesAnswer}
 use Rattle.privilege_cli.specs.parts.Local.{counts_source, counts_sink}
 use Rattle.privilege_cli.specs.parts.Runs.{RunsBefore}

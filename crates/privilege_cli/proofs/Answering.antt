@@ -1,13 +1,14 @@
 -- How the answering of a script ends.
-use Rattle.std.proofs.Common.{◌≡◌, ◌<◌, ◌≤◌, ◌+◌, ◌-◌, ◌⊎◌, inl, inr, ℕ, Bool, true, false, List, [], ◌∷◌, ◌++◌, length, take, Option, Some, None, Result, Ok, Err, refl, sym, ap, ◌∙◌, subst, arith, append_assoc, append-nil, length-append}
+use Rattle.std.proofs.Common.{◌≡◌, ◌<◌, ◌≤◌, ◌+◌, ◌-◌, ◌⊎◌, inl, inr, ℕ, Bool, true, false, cond, List, [], ◌∷◌, ◌++◌, length, take, Option, Some, None, Result, Ok, Err, refl, sym, ap, ◌∙◌, subst, arith, append_assoc, append-nil, length-append}
 use Rattle.desk_ports.specs.Content.{Took, ReadToEnd, Appended, AppendedPart}
 use Rattle.desk_ports.proofs.Appends.{Appended-none, Appended-then}
 use Rattle.desk_ports.proofs.Readings.{Took-then, Took-nothing, ReadToEnd-then}
 use Rattle.text_lines.specs.Lines.{HasNoNewline, AreWholeLines, pieces_of, lines_within, line_of}
 use Rattle.text_lines.specs.LineReader.{LineReading, Keeps, HandsOut, GoesPast}
-use Rattle.line_script.specs.Grammar.{step_of}
-use Rattle.privilege_cli.specs.State.{fresh}
-use Rattle.privilege_cli.specs.Script.{read_script, read_lines, line_step, replies}
+use Rattle.line_script.specs.Grammar.{step_at}
+use Rattle.line_script.specs.Turn.{is_in_block}
+use Rattle.desk_state.specs.DeskState.{fresh}
+use Rattle.privilege_cli.specs.Script.{read_script, read_lines, line_step, wrong_line, wrong_at, replies}
 use Rattle.privilege_cli.specs.Outside.{Had}
 use Rattle.privilege_cli.specs.Ending.{IsCut}
 use Rattle.privilege_cli.specs.LocalRun.{AnswersLines, AnswersAllRead}
@@ -40,10 +41,14 @@ Answers-nothing left taken waiting none =
 
 module _ {left left_now taken taken_now : Option (List ℕ)} {now : LocalScript} {reading : LineReading}
     (p : Progress left left_now taken taken_now now reading) where
-  read_is : read_script p.lines ≡ record { steps = p.steps; wrong = None }
+  -- where the reading stands behind the lines
+  read_is : read_script p.lines
+      ≡ record { steps = p.steps; stands = Ok (record { block = now.reader; number = reading.number + 1 }) }
   read_is =
       ap read_script (sym (append-nil p.lines))
-      ∙ (p.read [] (λ over. refl) ∙ ap (λ steps. record { steps = steps; wrong = None }) (append-nil p.steps))
+      ∙ (p.read [] (λ over. refl)
+      ∙ ap (λ steps. record { steps = steps; stands = Ok (record { block = now.reader; number = reading.number + 1 }) })
+      (append-nil p.steps))
 
   answers_are : p.written ++ now.answers ≡ replies fresh (read_script p.lines).steps
   answers_are =
@@ -76,7 +81,7 @@ module _ {left left_now taken taken_now : Option (List ℕ)} {now : LocalScript}
                 | inl whole ↦ inl whole
                 | inr over ↦ inr (ap (λ behind. behind ++ rest) (nothing_behind over) ∙ none (end_when_over over))
               ];
-          right = ap (λ script. script.wrong) read_is;
+          right = rw read_is refl;
           answered = answers_are;
         }
 
@@ -89,45 +94,82 @@ module _ {left left_now taken taken_now : Option (List ℕ)} {now : LocalScript}
   stops : {left_after : Option (List ℕ)} (gives : Gives left_now left_after reading) (rest piece : List ℕ) (pieces : List (List ℕ))
       → (ReadToEnd left left_after → rest ≡ [])
       → pieces_of ((reading.waiting ++ gives.given) ++ rest) ≡ piece ∷ pieces
-      → read_lines (reading.number + 1) (lines_within reading.room (piece ∷ pieces)) ≡ stops_at (reading.number + 1)
+      → read_lines (reading.number + 1) now.reader (lines_within reading.room (piece ∷ pieces)) ≡ stops_at (reading.number + 1)
       → read_script ((p.lines ++ (reading.waiting ++ gives.given)) ++ rest)
-      ≡ record { steps = p.steps; wrong = Some (reading.number + 1) }
+      ≡ record { steps = p.steps; stands = Err (reading.number + 1) }
   stops gives rest piece pieces none first wrong =
       let behind = reading.waiting ++ gives.given in
       ap read_script (append_assoc p.lines behind rest)
       ∙ (p.read (behind ++ rest)
       (λ over. ap (λ behind. behind ++ rest) (nothing_behind gives over) ∙ none (end_when_over gives over))
-      ∙ (ap (λ pieces. with_steps p.steps (read_lines (reading.number + 1) (lines_within reading.room pieces))) first
+      ∙ (ap (λ pieces. with_steps p.steps (read_lines (reading.number + 1) now.reader (lines_within reading.room pieces))) first
       ∙ (ap (with_steps p.steps) wrong
-      ∙ ap (λ steps. record { steps = steps; wrong = Some (reading.number + 1) }) (append-nil p.steps))))
+      ∙ ap (λ steps. record { steps = steps; stands = Err (reading.number + 1) }) (append-nil p.steps))))
 
   module _ {left_after taken_after : Option (List ℕ)} {new : LocalScript} {reading_after : LineReading} where
-    -- the script was answered to its end
-    pub Answers-done : EndsScript left_now left_after taken_now taken_after now new reading reading_after
-        → Answers Done new.answers left left_after taken taken_after
-    Answers-done e =
-        let kept = e.ended.kept in
-        let gives : Gives left_now left_after reading = record { given = kept.given; took = kept.took; ended = kept.ended } in
-        let had = Took-Had left left_after _ (took_all gives) in
-        let rest = had.2 (ended-after p reading_after e.ends gives e.ended.ended) in
-        let input : (p.lines ++ (reading.waiting ++ kept.given)) ++ had.0 ≡ p.lines =
-        ap (λ rest. (p.lines ++ (reading.waiting ++ kept.given)) ++ rest) rest
-        ∙ (append-nil (p.lines ++ (reading.waiting ++ kept.given))
-        ∙ (ap (λ behind. p.lines ++ behind) (sym kept.waiting ∙ e.ended.nothing) ∙ append-nil p.lines)) in
-        record {
-          input = (p.lines ++ (reading.waiting ++ kept.given)) ++ had.0;
-          rest = had.0;
-          answers = p.written ++ now.answers;
-          written = p.written ++ now.answers;
-          had = had.1;
-          answered = (
-            rest,
-            ap (λ input. (read_script input).wrong) input ∙ ap (λ script. script.wrong) read_is,
-            answers_are ∙ ap (λ input. replies fresh (read_script input).steps) (sym input),
-          );
-          appended = Appended-then taken taken_now taken_after p.written now.answers p.appended e.appended;
-          handed = (refl, e.nothing);
-        }
+    -- the script was read to its end
+    module _ (e : EndsScript left_now left_after taken_now taken_after now new reading reading_after) where
+      abbrev at_end : Gives left_now left_after reading
+      at_end = record { given = e.ended.kept.given; took = e.ended.kept.took; ended = e.ended.kept.ended }
+
+      whole_input : (rest : List ℕ) → rest ≡ [] → (p.lines ++ (reading.waiting ++ e.ended.kept.given)) ++ rest ≡ p.lines
+      whole_input rest none =
+          ap (λ rest. (p.lines ++ (reading.waiting ++ e.ended.kept.given)) ++ rest) none
+          ∙ (append-nil (p.lines ++ (reading.waiting ++ e.ended.kept.given))
+          ∙ (ap (λ behind. p.lines ++ behind) (sym e.ended.kept.waiting ∙ e.ended.nothing) ∙ append-nil p.lines))
+
+      -- in no block all lines are right, and else the one behind the last is wrong
+      wrong_is : (inside : Bool) → is_in_block new.reader ≡ inside
+          → wrong_line (read_script p.lines) ≡ cond inside (Some (reading.number + 1)) None
+      wrong_is inside is =
+          ap wrong_line read_is
+          ∙ ap (λ inside. cond inside (Some (reading.number + 1)) None) (ap is_in_block (sym e.same.reader) ∙ is)
+
+      -- outside of a block
+      pub Answers-done : is_in_block new.reader ≡ false → Answers Done new.answers left left_after taken taken_after
+      Answers-done outside =
+          let had = Took-Had left left_after _ (took_all at_end) in
+          let rest = had.2 (ended-after p reading_after e.ends at_end e.ended.ended) in
+          let input = whole_input had.0 rest in
+          record {
+            input = (p.lines ++ (reading.waiting ++ e.ended.kept.given)) ++ had.0;
+            rest = had.0;
+            answers = p.written ++ now.answers;
+            written = p.written ++ now.answers;
+            had = had.1;
+            answered = (
+              rest,
+              ap (λ input. wrong_line (read_script input)) input ∙ wrong_is false outside,
+              answers_are ∙ ap (λ input. replies fresh (read_script input).steps) (sym input),
+            );
+            appended = Appended-then taken taken_now taken_after p.written now.answers p.appended e.appended;
+            handed = (refl, e.nothing);
+          }
+
+      -- within a block
+      pub Answers-unended : (number : ℕ) → number ≡ reading_after.number + 1 → is_in_block new.reader ≡ true
+          → Answers (Line number) new.answers left left_after taken taken_after
+      Answers-unended number is inside =
+          let had = Took-Had left left_after _ (took_all at_end) in
+          let input = whole_input had.0 (had.2 (ended-after p reading_after e.ends at_end e.ended.ended)) in
+          record {
+            input = (p.lines ++ (reading.waiting ++ e.ended.kept.given)) ++ had.0;
+            rest = had.0;
+            answers = p.written ++ now.answers;
+            written = p.written ++ now.answers;
+            had = had.1;
+            answered = (
+              (
+                ap (λ input. wrong_line (read_script input)) input
+                    ∙ (wrong_is true inside ∙ ap Some (ap (λ number. number + 1) (sym e.ended.kept.number) ∙ sym is)),
+                answers_are ∙ ap (λ input. replies fresh (read_script input).steps) (sym input),
+              ),
+              answered_so_far at_end had.0 had.2,
+            );
+            appended = Appended-then taken taken_now taken_after p.written now.answers p.appended e.appended;
+            handed =
+                sym (append-nil (p.written ++ now.answers)) ∙ ap (λ waiting. (p.written ++ now.answers) ++ waiting) (sym e.nothing);
+          }
 
     -- memory ran out
     pub Answers-memory : WantsMemory left_now left_after taken_now taken_after now new reading reading_after
@@ -197,7 +239,7 @@ module _ {left left_now taken taken_now : Option (List ℕ)} {now : LocalScript}
         → Had left left_after ((p.lines ++ (reading.waiting ++ gives.given)) ++ rest) rest
         → (ReadToEnd left left_after → rest ≡ [])
         → read_script ((p.lines ++ (reading.waiting ++ gives.given)) ++ rest)
-        ≡ record { steps = p.steps; wrong = Some (reading.number + 1) }
+        ≡ record { steps = p.steps; stands = Err (reading.number + 1) }
         → Answers (Line number) new.answers left left_after taken taken_after
     at_wrong_line number m gives rest had none read =
         record {
@@ -208,7 +250,7 @@ module _ {left left_now taken taken_now : Option (List ℕ)} {now : LocalScript}
           had = had;
           answered = (
             (
-              ap (λ script. script.wrong) read ∙ ap Some (sym m.number),
+              ap wrong_line read ∙ ap Some (sym m.number),
               answers_are ∙ (ap (λ script. replies fresh script.steps) read_is ∙ ap (λ script. replies fresh script.steps) (sym read)),
             ),
             answered_so_far gives rest none,
@@ -230,7 +272,7 @@ module _ {left left_now taken taken_now : Option (List ℕ)} {now : LocalScript}
               at_wrong_line number m gives had.0 had.1 had.2
               (stops gives had.0 long.0 long.1 had.2
               (ap (λ behind. pieces_of (behind ++ had.0)) (sym kept.waiting) ∙ long.2)
-              (read_lines-past (reading.number + 1) reading.room long.0 long.1
+              (read_lines-past (reading.number + 1) reading.room now.reader long.0 long.1
               (subst (λ longest. (reading.room < length long.0) ⊎ (longest < length (line_of long.0))) p.longest long.3)))
           | inr none ↦
               let line = none.0 in
@@ -245,9 +287,9 @@ module _ {left left_now taken taken_now : Option (List ℕ)} {now : LocalScript}
               (ap (λ behind. pieces_of (behind ++ had.0)) handed.cut
               ∙ (ap pieces_of (append_assoc handed.piece reading_after.waiting had.0)
               ∙ pieces_of-piece reading_after.line handed.piece (reading_after.waiting ++ had.0) handed.line follows))
-              (read_lines-none (reading.number + 1) reading.room handed.piece (pieces_of (reading_after.waiting ++ had.0))
-              (ap (λ line. line_step (Some line)) (line_of-piece reading_after.line handed.piece handed.line)
-              ∙ line_step-none reading_after.line none.1)))
+              (read_lines-none (reading.number + 1) reading.room now.reader handed.piece (pieces_of (reading_after.waiting ++ had.0))
+              (ap (λ line. line_step now.reader (Some line)) (line_of-piece reading_after.line handed.piece handed.line)
+              ∙ line_step-none now.reader reading_after.line none.1)))
         ]
 
 -- a turn that stops the run

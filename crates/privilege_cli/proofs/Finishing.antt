@@ -3,7 +3,7 @@ use Rattle.std.proofs.Common.{◌≡◌, ◌∷◌, ◌++◌, ◌⊎◌, inl, in
 use Rattle.desk_ports.specs.Faults.{next_count}
 use Rattle.desk_ports.specs.Content.{Appended, AppendedPart}
 use Rattle.desk_ports.proofs.Appends.{Appended-then}
-use Rattle.privilege_cli.specs.State.{fresh}
+use Rattle.desk_state.specs.DeskState.{fresh}
 use Rattle.privilege_cli.specs.Outside.{Outside}
 use Rattle.privilege_cli.specs.Ending.{IsCut, IsTried, source_faults_after}
 use Rattle.privilege_cli.specs.LocalRun.{LocalAnswers}

@@ -3,7 +3,7 @@ use Rattle.std.proofs.Common.{◌≡◌, ◌∷◌, ◌++◌, [], ◌⊎◌, inl
 use Rattle.desk_ports.specs.Faults.{next_count}
 use Rattle.desk_ports.specs.Content.{Appended}
 use Rattle.desk_ports.proofs.Appends.{Appended-none, Appended-then}
-use Rattle.privilege_cli.specs.State.{fresh}
+use Rattle.desk_state.specs.DeskState.{fresh}
 use Rattle.privilege_cli.specs.Outside.{Outside}
 use Rattle.privilege_cli.specs.Ending.{status_of, last_line, IsCut, IsTried, CountsFaults, Writes}
 use Rattle.privilege_cli.specs.LocalRun.{LocalAnswers}

@@ -1,8 +1,8 @@
-pub mod Putting
 pub mod Trying
+pub mod Finding
+pub mod Listing
 pub mod Turning
 pub mod Lines
-pub mod Replies
 pub mod Hads
 pub mod Progressing
 pub mod Answering

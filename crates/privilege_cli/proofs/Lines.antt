@@ -1,10 +1,11 @@
 -- The lines of a script, from their pieces.
-use Rattle.std.proofs.Common.{◌≡◌, ◌<◌, ◌≤◌, ◌+◌, ◌-◌, ◌⊎◌, inl, inr, ℕ, Bool, true, false, cond, nat_lt, List, [], ◌∷◌, ◌++◌, length, Option, Some, None, refl, sym, ap, ◌∙◌, subst, arith, append_assoc, append-nil, length-append}
+use Rattle.std.proofs.Common.{◌≡◌, ◌<◌, ◌≤◌, ◌+◌, ◌-◌, ◌⊎◌, inl, inr, ℕ, Bool, true, false, cond, nat_lt, List, [], ◌∷◌, ◌++◌, length, Option, Some, None, Ok, Err, refl, sym, ap, ◌∙◌, subst, arith, append_assoc, append-nil, length-append}
 use Rattle.std.proofs.lemmas.Bool.{lt-ltb, le-ltb}
 use Rattle.std.specs.Option.{option_map_or}
 use Rattle.text_lines.specs.Lines.{HasNoNewline, IsPieceOf, pieces_of, line_of, lines_within}
 use Rattle.text_lines.proofs.Pieces.{pieces_of-newline, pieces_of-last, line_of-newline, line_of-last}
-use Rattle.line_script.specs.Grammar.{step_of}
+use Rattle.line_script.specs.Block.{Block}
+use Rattle.line_script.specs.Grammar.{step_at}
 use Rattle.line_script.specs.declared.steps.Step.{Step}
 use Rattle.privilege_cli.specs.Script.{Script, line_step, with_step, read_lines}
 use Rattle.privilege_cli.specs.parts.Progress.{with_steps}
@@ -52,48 +53,51 @@ length-piece line piece is =
 
 -- a script that stops at this line
 abbrev pub stops_at : ℕ → Script
-stops_at number = record { steps = []; wrong = Some number }
+stops_at number = record { steps = []; stands = Err number }
 
-module _ (number room : ℕ) (piece : List ℕ) (pieces : List (List ℕ)) where
+module _ (number room : ℕ) (block : Block) (piece : List ℕ) (pieces : List (List ℕ)) where
   -- the first line has this step
-  pub read_lines-step : (line : List ℕ) (step : Step) → line_of piece ≡ line → length piece ≤ room → length line ≤ MOST_LINE_BYTES
-      → step_of line ≡ Some step
-      → read_lines number (lines_within room (piece ∷ pieces))
-      ≡ with_step step (read_lines (number + 1) (lines_within (room - length piece) pieces))
-  read_lines-step line step is within short reads =
+  pub read_lines-step : (line : List ℕ) (next : Block) (step : Step) → line_of piece ≡ line → length piece ≤ room
+      → length line ≤ MOST_LINE_BYTES → step_at block line ≡ Some (next, step)
+      → read_lines number block (lines_within room (piece ∷ pieces))
+      ≡ with_step step (read_lines (number + 1) next (lines_within (room - length piece) pieces))
+  read_lines-step line next step is within short reads =
       let later = lines_within (room - length piece) pieces in
-      let behind : Option Step → Script = λ step. option_map_or (λ step. with_step step (read_lines (number + 1) later)) step (stops_at number) in
-      ap (λ past. read_lines number (cond past (None ∷ []) (Some (line_of piece) ∷ later))) (le-ltb room (length piece) within)
-      ∙ (ap (λ line. behind (line_step (Some line))) is
-      ∙ (ap (λ long. behind (cond long None (step_of line))) (le-ltb MOST_LINE_BYTES (length line) short)
+      let behind : Option (Block × Step) → Script =
+      λ read. option_map_or (λ read. with_step read.1 (read_lines (number + 1) read.0 later)) read (stops_at number) in
+      ap (λ past. read_lines number block (cond past (None ∷ []) (Some (line_of piece) ∷ later))) (le-ltb room (length piece) within)
+      ∙ (ap (λ line. behind (line_step block (Some line))) is
+      ∙ (ap (λ long. behind (cond long None (step_at block line))) (le-ltb MOST_LINE_BYTES (length line) short)
       ∙ ap behind reads))
 
   -- the first line has no step
-  pub read_lines-none : line_step (Some (line_of piece)) ≡ None
-      → read_lines number (lines_within room (piece ∷ pieces)) ≡ stops_at number
+  pub read_lines-none : line_step block (Some (line_of piece)) ≡ None
+      → read_lines number block (lines_within room (piece ∷ pieces)) ≡ stops_at number
   read_lines-none none = either (nat_lt room (length piece))
     where
       either : (past : Bool)
-          → read_lines number (cond past (None ∷ []) (Some (line_of piece) ∷ lines_within (room - length piece) pieces)) ≡ stops_at number
+          → read_lines number block (cond past (None ∷ []) (Some (line_of piece) ∷ lines_within (room - length piece) pieces))
+          ≡ stops_at number
       either true = refl
       either false =
-          ap (λ step. option_map_or (λ step. with_step step (read_lines (number + 1) (lines_within (room - length piece) pieces))) step
+          ap (λ read. option_map_or
+          (λ read. with_step read.1 (read_lines (number + 1) read.0 (lines_within (room - length piece) pieces))) read
           (stops_at number)) none
 
   -- the first line is past a limit
   pub read_lines-past : (room < length piece) ⊎ (MOST_LINE_BYTES < length (line_of piece))
-      → read_lines number (lines_within room (piece ∷ pieces)) ≡ stops_at number
+      → read_lines number block (lines_within room (piece ∷ pieces)) ≡ stops_at number
   read_lines-past (inl past) =
-      ap (λ past. read_lines number (cond past (None ∷ []) (Some (line_of piece) ∷ lines_within (room - length piece) pieces)))
+      ap (λ past. read_lines number block (cond past (None ∷ []) (Some (line_of piece) ∷ lines_within (room - length piece) pieces)))
       (lt-ltb room (length piece) past)
   read_lines-past (inr long) =
       read_lines-none
-      (ap (λ long. cond long None (step_of (line_of piece))) (lt-ltb MOST_LINE_BYTES (length (line_of piece)) long))
+      (ap (λ long. cond long None (step_at block (line_of piece))) (lt-ltb MOST_LINE_BYTES (length (line_of piece)) long))
 
-pub line_step-none : (line : List ℕ) → step_of line ≡ None → line_step (Some line) ≡ None
-line_step-none line none = either (nat_lt MOST_LINE_BYTES (length line))
+pub line_step-none : (block : Block) (line : List ℕ) → step_at block line ≡ None → line_step block (Some line) ≡ None
+line_step-none block line none = either (nat_lt MOST_LINE_BYTES (length line))
   where
-    either : (long : Bool) → cond long None (step_of line) ≡ None
+    either : (long : Bool) → cond long None (step_at block line) ≡ None
     either true = refl
     either false = none
 

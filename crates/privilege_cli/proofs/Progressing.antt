@@ -6,21 +6,23 @@ use Rattle.desk_ports.proofs.Readings.{Took-then, Took-nothing, ReadToEnd-then}
 use Rattle.text_lines.specs.Lines.{HasNoNewline, AreWholeLines, pieces_of, lines_within}
 use Rattle.text_lines.specs.LineReader.{LineReading, EndsReading}
 use Rattle.line_script.specs.declared.steps.Step.{Step}
-use Rattle.privilege_cli.specs.State.{fresh, reply}
+use Rattle.line_script.specs.Block.{outside}
+use Rattle.desk_state.specs.DeskState.{fresh}
+use Rattle.privilege_cli.specs.Reply.{reply}
 use Rattle.privilege_cli.specs.Script.{read_script, read_lines, replies}
 use Rattle.privilege_cli.specs.parts.Local.{AnswersNext, Gives}
 use Rattle.privilege_cli.specs.parts.Progress.{Progress, IsOver, with_steps}
 use Rattle.privilege_cli.specs.declared.limits.TheConstants.{MOST_LINE_BYTES, MOST_SCRIPT_BYTES}
 use Rattle.privilege_cli.specs.declared.local_script.LocalScript.{LocalScript}
 use Rattle.privilege_cli.proofs.Lines.{pieces_of-piece, line_of-piece, length-piece, read_lines-step, with_steps-step}
-use Rattle.privilege_cli.proofs.Replies.{replies-after, commit-after}
 use Rattle.privilege_cli.proofs.Hads.{ReadToEnd-still}
 
 -- nothing was read yet
-pub Progress-start : (left taken : Option (List ℕ)) (now : LocalScript) → now.root ≡ fresh → now.answers ≡ []
+pub Progress-start : (left taken : Option (List ℕ)) (now : LocalScript) → now.reader ≡ outside → now.desk ≡ fresh
+    → now.answers ≡ []
     → Progress left left taken taken now
     (record { line = []; number = 0; waiting = []; room = MOST_SCRIPT_BYTES; longest = MOST_LINE_BYTES; is_ended = false })
-Progress-start left taken now state none =
+Progress-start left taken now reader state none =
     record {
       lines = [];
       written = [];
@@ -28,11 +30,10 @@ Progress-start left taken now state none =
       took = Took-nothing left;
       appended = Appended-none taken;
       whole = inl (inl refl);
-      read = λ more may. refl;
-      answered = λ later. ap (λ state. replies state later) (sym state) ∙ ap (λ texts. texts ++ replies now.root later) (sym none);
+      read = λ more may. ap (λ block. read_lines 1 block (lines_within MOST_SCRIPT_BYTES (pieces_of more))) (sym reader);
+      answered = λ later. ap (λ state. replies state later) (sym state) ∙ ap (λ texts. texts ++ replies now.desk later) (sym none);
       ended = λ ended. absurd (cc);
       longest = refl;
-      counted = omega (arith, ap (λ state. state.commit) state);
       within = omega arith;
     }
 
@@ -84,35 +85,35 @@ module _ {left left_now taken taken_now : Option (List ℕ)} {now : LocalScript}
     read_after : (more : List ℕ) → (IsOver reading_after → more ≡ [])
         → read_script ((p.lines ++ n.line.handed_out.piece) ++ more)
         ≡ with_steps (p.steps ++ n.step ∷ [])
-        (read_lines (reading_after.number + 1) (lines_within reading_after.room (pieces_of more)))
+        (read_lines (reading_after.number + 1) new.reader (lines_within reading_after.room (pieces_of more)))
     read_after more may =
         let handed = n.line.handed_out in
         let piece = handed.piece in
         let pieces = pieces_of-piece reading_after.line piece more handed.line (λ none. may (handed.last none)) in
-        let step = read_lines-step (reading.number + 1) reading.room piece (pieces_of more) reading_after.line n.step
+        let step = read_lines-step (reading.number + 1) reading.room now.reader piece (pieces_of more) reading_after.line new.reader n.step
         (line_of-piece reading_after.line piece handed.line) (omega (arith, handed.room))
         (omega (arith, handed.short, p.longest)) n.reads in
         let room : reading.room - length piece ≡ reading_after.room = omega (arith, handed.room) in
         ap read_script (append_assoc p.lines piece more)
         ∙ (p.read (piece ++ more) (λ over. absurd (going over))
-        ∙ (ap (λ pieces. with_steps p.steps (read_lines (reading.number + 1) (lines_within reading.room pieces))) pieces
+        ∙ (ap (λ pieces. with_steps p.steps (read_lines (reading.number + 1) now.reader (lines_within reading.room pieces))) pieces
         ∙ (ap (with_steps p.steps) step
         ∙ (with_steps-step p.steps n.step _
-        ∙ (ap (λ room. with_steps (p.steps ++ n.step ∷ []) (read_lines (reading.number + 1 + 1) (lines_within room (pieces_of more)))) room
-        ∙ ap (λ number. with_steps (p.steps ++ n.step ∷ []) (read_lines (number + 1) (lines_within reading_after.room (pieces_of more))))
+        ∙ (ap (λ room. with_steps (p.steps ++ n.step ∷ []) (read_lines (reading.number + 1 + 1) new.reader (lines_within room (pieces_of more)))) room
+        ∙ ap (λ number. with_steps (p.steps ++ n.step ∷ []) (read_lines (number + 1) new.reader (lines_within reading_after.room (pieces_of more))))
         (sym handed.number))))))
 
     answered_after : (later : List Step)
         → replies fresh ((p.steps ++ n.step ∷ []) ++ later)
-        ≡ ((p.written ++ n.hands.handed) ++ new.answers) ++ replies new.root later
+        ≡ ((p.written ++ n.hands.handed) ++ new.answers) ++ replies new.desk later
     answered_after later =
         let handed = n.hands.handed in
-        let text = reply now.root n.step in
+        let text = reply now.desk n.step in
         ap (replies fresh) (append_assoc p.steps (n.step ∷ []) later)
         ∙ (p.answered (n.step ∷ later)
-        ∙ (ap (λ texts. (p.written ++ now.answers) ++ texts) (replies-after n.step later now.root new.root n.own_keys n.state)
-        ∙ (sym (append_assoc (p.written ++ now.answers) text (replies new.root later))
-        ∙ ap (λ texts. texts ++ replies new.root later)
+        ∙ (ap (λ desk. (p.written ++ now.answers) ++ (text ++ replies desk later)) (sym n.desk)
+        ∙ (sym (append_assoc (p.written ++ now.answers) text (replies new.desk later))
+        ∙ ap (λ texts. texts ++ replies new.desk later)
         (ap (λ answers. (p.written ++ answers) ++ text) n.hands.parts
         ∙ (ap (λ texts. texts ++ text) (sym (append_assoc p.written handed n.waiting))
         ∙ (append_assoc (p.written ++ handed) n.waiting text
@@ -132,6 +133,5 @@ module _ {left left_now taken taken_now : Option (List ℕ)} {now : LocalScript}
           answered = answered_after;
           ended = ended-after reading_after n.ends (record { given = n.line.given; took = n.line.took; ended = n.line.ended });
           longest = handed.longest ∙ p.longest;
-          counted = omega (arith, p.counted, handed.number, n.state.commit, commit-after n.step now.root);
           within = omega (arith, p.within, handed.number, handed.room, length-piece reading_after.line handed.piece handed.line);
         }

@@ -54,6 +54,7 @@ module _ (left left_after taken taken_after : Option (List ℕ)) (old new : Loca
       record {
         appended = all_handed taken taken_after old.answers new.answers handed.0 nothing;
         nothing = nothing;
+        same = handed.2;
         ended = ended;
         ends = ends;
       }

@@ -3,12 +3,11 @@ use Rattle.std.specs.Prelude.{◌≡◌, ◌<◌, ◌+◌, ◌⊎◌, ℕ, List,
 use Rattle.text_lines.specs.Lines.{pieces_of, lines_within}
 use Rattle.smack_rules.specs.declared.modes.Modes.{Modes}
 use Rattle.smack_rules.specs.declared.rule.Rule.{Rule}
-use Rattle.smack_rules.specs.declared.decision.Decision.{Decision}
 use Rattle.smack_rules.specs.Rule.{line_rule}
 use Rattle.smack_rules.specs.RuleText.{with_line}
 use Rattle.smack_rules.specs.Effective.{effective}
 use Rattle.smack_rules.specs.Decision.{decision}
-use Rattle.line_script.specs.Answers.{access_text}
+use Rattle.privilege_cli.specs.Reply.{decided_text}
 use Rattle.privilege_cli.specs.declared.ending.Ending.{Ending}
 use Rattle.privilege_cli.specs.declared.ending.Ending.TheVariants.{Done, Memory, Words, Line, Source, Sink}
 use Rattle.privilege_cli.specs.declared.limits.TheConstants.{MOST_RULES_BYTES}
@@ -22,9 +21,6 @@ rules_of number (Some line ∷ lines) = with_line number (line_rule line) (rules
 -- the rules of a text, or the number of its first wrong line
 abbrev pub rules_read : List ℕ → Result (List Rule) ℕ
 rules_read text = rules_of 1 (lines_within MOST_RULES_BYTES (pieces_of text))
-
-abbrev pub decided_text : Decision → List ℕ
-decided_text decided = access_text decided.allowed decided.rule
 
 -- the input was read to its end, and this is the answer to a request under its rules
 pub record IsDecided (subject object : List ℕ) (asked : Modes) (input left answer : List ℕ) : Type 0 where

@@ -3,9 +3,8 @@ pub mod Ending
 pub mod Outside
 pub mod Commands
 pub mod Script
-pub mod State
+pub mod Reply
 pub mod LocalRun
 pub mod AccessRun
-pub mod InOrder
-pub mod RootPolicies
+pub mod LocalDesk
 pub mod parts

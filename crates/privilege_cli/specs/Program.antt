@@ -6,7 +6,7 @@ use Rattle.privilege_cli.specs.declared.ending.Ending.{Ending}
 use Rattle.privilege_cli.specs.declared.ending.Ending.TheVariants.{Words}
 use Rattle.privilege_cli.specs.Outside.{Outside, Had}
 use Rattle.privilege_cli.specs.Ending.{status_of, CountsFaults, Writes}
-use Rattle.privilege_cli.specs.State.{fresh}
+use Rattle.desk_state.specs.DeskState.{fresh}
 use Rattle.privilege_cli.specs.LocalRun.{LocalAnswers}
 use Rattle.privilege_cli.specs.AccessRun.{AccessAnswers}
 

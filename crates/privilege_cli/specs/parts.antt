@@ -4,3 +4,4 @@ pub mod Progress
 pub mod Runs
 pub mod Access
 pub mod Words
+pub mod Questions

@@ -1,6 +1,7 @@
 // `local`: reads a script from the source, and has the sink take its answers.
 ghost use Rattle.std.specs.Prelude.{◌≡◌, []};
-ghost use Rattle.privilege_cli.specs.State.{fresh};
+ghost use Rattle.line_script.specs.Block.{outside};
+ghost use Rattle.desk_state.specs.DeskState.{fresh};
 ghost use Rattle.privilege_cli.specs.LocalRun.{LocalAnswers};
 ghost use Rattle.privilege_cli.specs.parts.Local.{counts_source, counts_sink};
 ghost use Rattle.privilege_cli.specs.parts.Progress.{Answers, ending_of};
@@ -19,7 +20,9 @@ pub fn run_local<S: Source, K: Sink>(alloc: Global, source: &mut S, sink: &mut K
         (record { left = S.left source.old; source_faults = S.faults source.old; taken = K.taken sink.old; sink_faults = K.faults sink.old })
         (record { left = S.left source.new; source_faults = S.faults source.new; taken = K.taken sink.new; sink_faults = K.faults sink.new }) }
 {
-    let mut script = LocalScript::new(alloc);
+    let Ok(mut script) = LocalScript::new(alloc) else {
+        return Ending::Memory;
+    };
     match answer_script(&mut script, alloc, source, sink) {
         Ok(()) => Ending::Done,
         Err(ending) => finish(&mut script, ending, sink),
@@ -33,7 +36,8 @@ fn answer_script<S: Source, K: Sink>(
     source: &mut S,
     sink: &mut K,
 ) -> Result<(), Ending>
-    requires state { script.old.root ≡ fresh }
+    requires reader { script.old.reader ≡ outside }
+    requires state { script.old.desk ≡ fresh }
     requires answers { script.old.answers ≡ [] }
     ensures answered { Answers (ending_of result) script.new.answers
         (S.left source.old) (S.left source.new) (K.taken sink.old) (K.taken sink.new) }
@@ -42,6 +46,10 @@ fn answer_script<S: Source, K: Sink>(
 {
     let mut lines = LineReader::new(alloc, MOST_LINE_BYTES, MOST_SCRIPT_BYTES)?;
     'lines: while script.answer_next(&mut lines, source, sink)? {}
+    if script.reader.in_block() {
+        // The line behind the last one should have ended the block.
+        return Err(Ending::Line(lines.number() + 1));
+    }
     Ok(())
 }
 

@@ -1,19 +1,20 @@
 // A script that is being answered, line by line.
-ghost use Rattle.std.specs.Prelude.{◌≡◌, ◌+◌, ◌<◌, ◌≤◌, ◌^◌, [], MatchResult};
-ghost use Rattle.privilege_cli.specs.State.{fresh};
+ghost use Rattle.std.specs.Prelude.{◌≡◌, [], IfOk, MatchResult};
+ghost use Rattle.line_script.specs.Block.{outside};
+ghost use Rattle.desk_state.specs.DeskState.{fresh};
 
 use crate::ending::Ending;
-use crate::root_policies::RootPolicies;
+use crate::local_desk::LocalDesk;
 use desk_ports::{Bytes, Sink, Source, write_all};
 use line_script::{LineRefusal, Reader};
-use std::alloc::Global;
+use std::alloc::{AllocError, Global};
 use text_lines::LineReader;
 
-/// What a script has made of the policies, and the answers that the sink hasn't taken yet.
+/// What a script has made of the policy state, and the answers that the sink hasn't taken yet.
 #[derive(Drop)]
 pub struct LocalScript {
     pub reader: Reader,
-    pub root: RootPolicies,
+    pub desk: LocalDesk,
     pub answers: Bytes,
 }
 
@@ -21,15 +22,16 @@ impl LocalScript {
     ghost use Rattle.privilege_cli.specs.parts.Local.{AnswersLine, RefusesLine, Turns, Flushes, HandsOver, counts_source, counts_sink};
 
     /// A script before its first line.
-    pub fn new(alloc: Global) -> LocalScript
-        ensures state { result.root ≡ fresh }
-        ensures answers { result.answers ≡ [] }
+    pub fn new(alloc: Global) -> Result<LocalScript, AllocError>
+        ensures reader { IfOk result (λ script. script.reader ≡ outside) }
+        ensures state { IfOk result (λ script. script.desk ≡ fresh) }
+        ensures answers { IfOk result (λ script. script.answers ≡ []) }
     {
-        LocalScript {
+        Ok(LocalScript {
             reader: Reader::new(alloc),
-            root: RootPolicies::new(alloc),
+            desk: LocalDesk::fresh(alloc)?,
             answers: Bytes::new(alloc),
-        }
+        })
     }
 
     /// Answers the next line of the script, if one is left. The sink takes the answers that wait before the source is
@@ -40,7 +42,6 @@ impl LocalScript {
         source: &mut S,
         sink: &mut K,
     ) -> Result<bool, Ending>
-        requires { self.old.root.commit + 1 < 2 ^ 64 }
         ensures turn { Turns (S.left source.old) (S.left source.new) (K.taken sink.old) (K.taken sink.new)
             self.old self.new lines.old lines.new result }
         ensures source { S.faults source.new ≡ counts_source result (S.faults source.old) }
@@ -68,7 +69,6 @@ impl LocalScript {
 
     // Answers the line with this number.
     fn answer_line(&mut self, line: &[u8], number: u32) -> Result<(), Ending>
-        requires { self.old.root.commit + 1 < 2 ^ 64 }
         ensures { MatchResult result (λ _. AnswersLine self.old self.new line.now) (RefusesLine self.old self.new line.now number) }
     {
         let step = match self.reader.line(line) {
@@ -76,7 +76,7 @@ impl LocalScript {
             Err(LineRefusal::Syntax) => return Err(Ending::Line(number)),
             Err(LineRefusal::Memory(_)) => return Err(Ending::Memory),
         };
-        self.root.answer(step, &mut self.answers)?;
+        self.desk.answer(&step, &mut self.answers)?;
         Ok(())
     }
 

@@ -6,11 +6,11 @@ mod command_words;
 mod ending;
 mod host_words;
 mod limits;
+mod local_desk;
 mod local_run;
 mod local_script;
-mod ordered_policies;
 mod program;
-mod root_policies;
+mod questions;
 mod standard_streams;
 #[cfg(test)]
 mod tests;

@@ -3,10 +3,9 @@ use Rattle.std.specs.Prelude.{◌≡◌, ◌+◌, ◌⊎◌, ℕ, Bool, true, fa
 use Rattle.desk_ports.specs.Faults.{next_count}
 use Rattle.desk_ports.specs.Content.{Took, ReadToEnd, Appended, AppendedPart}
 use Rattle.text_lines.specs.LineReader.{LineReading, HandsOut, Keeps, Ends, EndsReading, GoesPast, IsUnfinished, has_line}
-use Rattle.bucket_eval.specs.Reordered.{HaveOwnKeys}
-use Rattle.line_script.specs.Grammar.{step_of}
+use Rattle.line_script.specs.Grammar.{step_at}
 use Rattle.line_script.specs.declared.steps.Step.{Step}
-use Rattle.privilege_cli.specs.State.{reply, after, IsSameState}
+use Rattle.privilege_cli.specs.Reply.{reply, after}
 use Rattle.privilege_cli.specs.declared.ending.Ending.{Ending}
 use Rattle.privilege_cli.specs.declared.ending.Ending.TheVariants.{Done, Memory, Words, Line, Source, Sink}
 use Rattle.privilege_cli.specs.declared.local_script.LocalScript.{LocalScript}
@@ -20,9 +19,14 @@ abbrev pub counts_sink : {A : Type 0} → Result A Ending → ℕ → ℕ
 counts_sink (Err Sink) count = next_count count
 counts_sink outcome count = count
 
+-- the script stands where it stood, but for the answers that wait
+pub record IsSameScript (old new : LocalScript) : Type 0 where
+  pub reader : new.reader ≡ old.reader
+  pub desk : new.desk ≡ old.desk
+
 -- the answers that waited are taken, or a part of them where the sink failed
 abbrev pub Flushes : Option (List ℕ) → Option (List ℕ) → LocalScript → LocalScript → Result (Unit {0}) Ending → Type 0
-Flushes taken taken_after old new (Ok value) = Appended taken old.answers taken_after × (new.answers ≡ []) × (new.root ≡ old.root)
+Flushes taken taken_after old new (Ok value) = Appended taken old.answers taken_after × (new.answers ≡ []) × IsSameScript old new
 Flushes taken taken_after old new (Err Sink) = AppendedPart taken old.answers taken_after
 Flushes taken taken_after old new (Err ending) = ⊥
 
@@ -36,21 +40,20 @@ pub record Hands (taken taken_after : Option (List ℕ)) (answers waiting : List
 abbrev pub HandsOver : Option (List ℕ) → Option (List ℕ) → LocalScript → LocalScript → LineReading
     → Result (Unit {0}) Ending → Type 0
 HandsOver taken taken_after old new reading (Ok value) =
-    Hands taken taken_after old.answers new.answers × (has_line reading ≡ false → new.answers ≡ []) × (new.root ≡ old.root)
+    Hands taken taken_after old.answers new.answers × (has_line reading ≡ false → new.answers ≡ []) × IsSameScript old new
 HandsOver taken taken_after old new reading (Err Sink) = AppendedPart taken old.answers taken_after
 HandsOver taken taken_after old new reading (Err ending) = ⊥
 
 -- the line's step was done, and its answer waits
 pub record AnswersLine (old new : LocalScript) (line : List ℕ) : Type 0 where
   pub step : Step
-  pub reads : step_of line ≡ Some step
-  pub answers : new.answers ≡ old.answers ++ reply old.root step
-  pub state : IsSameState (after old.root step) new.root
-  pub own_keys : HaveOwnKeys old.root.policies
+  pub reads : step_at old.reader line ≡ Some (new.reader, step)
+  pub answers : new.answers ≡ old.answers ++ reply old.desk step
+  pub desk : new.desk ≡ after old.desk step
 
 -- the line has no step, or memory ran out; no answer was added
 abbrev pub RefusesLine : LocalScript → LocalScript → List ℕ → ℕ → Ending → Type 0
-RefusesLine old new line number (Line wrong) = (wrong ≡ number) × (step_of line ≡ None) × (new.answers ≡ old.answers)
+RefusesLine old new line number (Line wrong) = (wrong ≡ number) × (step_at old.reader line ≡ None) × (new.answers ≡ old.answers)
 RefusesLine old new line number Memory = new.answers ≡ old.answers
 RefusesLine old new line number ending = ⊥
 
@@ -68,15 +71,15 @@ module _ (left left_after taken taken_after : Option (List ℕ)) (old new : Loca
     pub line : HandsOut left left_after reading reading_after
     pub ends : EndsReading left left_after reading reading_after
     pub step : Step
-    pub reads : step_of reading_after.line ≡ Some step
-    pub answers : new.answers ≡ waiting ++ reply old.root step
-    pub state : IsSameState (after old.root step) new.root
-    pub own_keys : HaveOwnKeys old.root.policies
+    pub reads : step_at old.reader reading_after.line ≡ Some (new.reader, step)
+    pub answers : new.answers ≡ waiting ++ reply old.desk step
+    pub desk : new.desk ≡ after old.desk step
 
   -- no line is left, and all answers are taken
   pub record EndsScript : Type 0 where
     pub appended : Appended taken old.answers taken_after
     pub nothing : new.answers ≡ []
+    pub same : IsSameScript old new
     pub ended : Ends left left_after reading reading_after
     pub ends : EndsReading left left_after reading reading_after
 
@@ -91,7 +94,7 @@ module _ (left left_after taken taken_after : Option (List ℕ)) (old new : Loca
     pub ends : EndsReading left left_after reading reading_after
     pub number : line ≡ reading.number + 1
     pub wrong : (Keeps left left_after reading reading_after × GoesPast reading.longest reading.room reading_after.waiting)
-        ⊎ (HandsOut left left_after reading reading_after × (step_of reading_after.line ≡ None))
+        ⊎ (HandsOut left left_after reading reading_after × (step_at old.reader reading_after.line ≡ None))
 
   -- the source failed, when all answers were taken
   pub record FailsToRead : Type 0 where

@@ -4,7 +4,7 @@ use Rattle.desk_ports.specs.Content.{Took, ReadToEnd, Appended}
 use Rattle.text_lines.specs.Lines.{pieces_of, lines_within, AreWholeLines}
 use Rattle.text_lines.specs.LineReader.{LineReading}
 use Rattle.line_script.specs.declared.steps.Step.{Step}
-use Rattle.privilege_cli.specs.State.{fresh}
+use Rattle.desk_state.specs.DeskState.{fresh}
 use Rattle.privilege_cli.specs.Script.{Script, read_lines, read_script, replies}
 use Rattle.privilege_cli.specs.Outside.{Outside, Had}
 use Rattle.privilege_cli.specs.Ending.{IsCut}
@@ -31,11 +31,11 @@ pub record Progress (left left_now taken taken_now : Option (List ℕ)) (now : L
   pub appended : Appended taken written taken_now
   pub whole : AreWholeLines lines ⊎ IsOver reading
   pub read : (more : List ℕ) → (IsOver reading → more ≡ [])
-      → read_script (lines ++ more) ≡ with_steps steps (read_lines (reading.number + 1) (lines_within reading.room (pieces_of more)))
-  pub answered : (later : List Step) → replies fresh (steps ++ later) ≡ (written ++ now.answers) ++ replies now.root later
+      → read_script (lines ++ more)
+      ≡ with_steps steps (read_lines (reading.number + 1) now.reader (lines_within reading.room (pieces_of more)))
+  pub answered : (later : List Step) → replies fresh (steps ++ later) ≡ (written ++ now.answers) ++ replies now.desk later
   pub ended : reading.is_ended ≡ true → ReadToEnd left left_now
   pub longest : reading.longest ≡ MOST_LINE_BYTES
-  pub counted : now.root.commit ≤ reading.number
   pub within : reading.number + reading.room ≤ MOST_SCRIPT_BYTES
 
 abbrev pub ending_of : Result (Unit {0}) Ending → Ending

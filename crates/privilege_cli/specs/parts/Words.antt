@@ -1,6 +1,6 @@
 -- What the command that words name has read and written before the last line of its run.
 use Rattle.std.specs.Prelude.{◌≡◌, Option, Some, None}
-use Rattle.privilege_cli.specs.State.{fresh}
+use Rattle.desk_state.specs.DeskState.{fresh}
 use Rattle.privilege_cli.specs.Outside.{Outside}
 use Rattle.privilege_cli.specs.LocalRun.{LocalAnswers}
 use Rattle.privilege_cli.specs.AccessRun.{AccessAnswers}

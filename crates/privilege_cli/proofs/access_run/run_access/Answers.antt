@@ -1,5 +1,5 @@
 use Rattle.std.proofs.Common.{refl, ap}
-use Rattle.privilege_cli.specs.AccessRun.{decided_text}
+use Rattle.privilege_cli.specs.Reply.{decided_text}
 use Rattle.privilege_cli.proofs.Accessing.{RunsBefore-unread, RunsBefore-written, RunsBefore-unwritten}
 use Rattle.privilege_cli.proofs.access_run.run_access.Goals as goal
 

@@ -1,9 +1,9 @@
-use Rattle.std.proofs.Common.{subst, sym, refl, ap, ◌∙◌, Ok, Err, ◌≡◌, true, false}
+use Rattle.std.proofs.Common.{subst, sym, refl, ap, ◌∙◌, ◌+◌, Ok, Err, ◌≡◌, true, false}
 use Rattle.std.proofs.lemmas.Result.{err_from_is_err_and}
 use Rattle.privilege_cli.specs.parts.Local.{Turns, counts_source, counts_sink}
 use Rattle.privilege_cli.specs.parts.Progress.{Progress}
 use Rattle.privilege_cli.proofs.Progressing.{Progress-start, Progress-next}
-use Rattle.privilege_cli.proofs.Answering.{Answers-nothing, Answers-done, Answers-stopped}
+use Rattle.privilege_cli.proofs.Answering.{Answers-nothing, Answers-done, Answers-unended, Answers-stopped}
 use Rattle.privilege_cli.proofs.local_run.answer_script.Goals as goal
 
 pub returns-in_err-lines-clause-answered : goal.returns-in_err-lines-clause-answered
@@ -16,8 +16,8 @@ lines-init g c =
     record {
       progress = subst (λ lines. Progress (g.S.Source.left c.args.source.now) (g.S.Source.left c.args.source.now)
           (g.K.Sink.taken c.args.sink.now) (g.K.Sink.taken c.args.sink.now) c.args.script.now lines) (sym c.in_ok-lines.ensures)
-          (Progress-start (g.S.Source.left c.args.source.now) (g.K.Sink.taken c.args.sink.now) c.args.script.now c.requires.state
-          c.requires.answers);
+          (Progress-start (g.S.Source.left c.args.source.now) (g.K.Sink.taken c.args.sink.now) c.args.script.now c.requires.reader
+          c.requires.state c.requires.answers);
       source = refl;
       sink = refl;
     }
@@ -39,9 +39,17 @@ lines-preserved g c =
       sink = c.in_ok-answer_next.ensures.sink ∙ c.lines.invariant.sink;
     }
 
+pub returns-then-in_block-clause-answered : goal.returns-then-in_block-clause-answered
+returns-then-in_block-clause-answered g c =
+    let turn = subst (λ found. Turns (g.S.Source.left c.lines.source) (g.S.Source.left c.answer_next.new.source)
+    (g.K.Sink.taken c.lines.sink) (g.K.Sink.taken c.answer_next.new.sink) c.lines.script c.answer_next.new.self c.lines.lines c.answer_next.new.lines (Ok found))
+    c.if-branch.false c.in_ok-answer_next.ensures.turn in
+    Answers-unended c.lines.invariant.progress turn (c.number.result + 1) (ap (λ number. number + 1) c.number.ensures)
+    (sym c.in_block.ensures ∙ c.if-in_block.true)
+
 pub returns-clause-answered : goal.returns-clause-answered
 returns-clause-answered g c =
     let turn = subst (λ found. Turns (g.S.Source.left c.lines.source) (g.S.Source.left c.answer_next.new.source)
     (g.K.Sink.taken c.lines.sink) (g.K.Sink.taken c.answer_next.new.sink) c.lines.script c.answer_next.new.self c.lines.lines c.answer_next.new.lines (Ok found))
     c.if-branch.false c.in_ok-answer_next.ensures.turn in
-    Answers-done c.lines.invariant.progress turn
+    Answers-done c.lines.invariant.progress turn (sym c.in_block.ensures ∙ c.if-in_block.false)
