@@ -1,5 +1,5 @@
 -- Decimal numbers and their spelling.
-use Rattle.std.proofs.Common.{◌≡◌, ℕ, ◌<◌, ◌^◌, ◌==◌, zero, suc, Bool, true, false, not, cond, ◌&&◌, nat_le, ◌≢◌, List, [], ◌∷◌, length, get_or, Option, Some, None, decimal, refl, sym, ap, subst, ◌∙◌, arith, rules}
+use Rattle.std.proofs.Common.{◌≡◌, ℕ, ◌<◌, ◌^◌, zero, suc, Bool, true, false, not, cond, ◌&&◌, nat_le, ◌≢◌, List, [], ◌∷◌, length, get_or, Some, None, decimal, refl, sym, ap, ◌∙◌, arith, rules}
 use Rattle.std.specs.Char.{is_ascii_digit}
 use Rattle.std.specs.List.{list_all}
 use Rattle.std.specs.Str.Parse.{digits_value}

@@ -1,5 +1,5 @@
 -- The exact texts of the answers. Each is one line with its newline.
-use Rattle.std.specs.Prelude.{◌≡◌, ℕ, Bool, true, false, if◌then◌else◌, ◌==◌, List, [], ◌∷◌, ◌++◌, Option, Some, None, decimal, codes}
+use Rattle.std.specs.Prelude.{ℕ, Bool, if◌then◌else◌, ◌==◌, List, [], ◌∷◌, ◌++◌, Option, Some, None, decimal, codes}
 use Rattle.cynara_keys.specs.PolicyResult.{Ruling, deny, none, bucket, allow}
 use Rattle.cynara_keys.specs.declared.limits.Counted.{Counted}
 use Rattle.cynara_keys.specs.declared.limits.Counted.TheVariants.{Commits, Users, Packages, Installs, Grants, Buckets, Policies}

@@ -10,7 +10,6 @@ use Rattle.cynara_keys.specs.declared.keys.Filter.{Filter}
 use Rattle.bucket_store.specs.declared.policy_changes.Change.{Change}
 use Rattle.bucket_store.specs.declared.policy_changes.Change.TheVariants.{Set as SetPolicy, Delete}
 use Rattle.app_registry.specs.Rising.{rising}
-use Rattle.app_registry.specs.declared.installs.Install.{Install}
 use Rattle.rule_templates.specs.Template.{with_one_more}
 use Rattle.rule_templates.specs.declared.lines.TemplateLine.{TemplateLine}
 use Rattle.desk_state.specs.declared.commands.Command.{Command}
