@@ -83,7 +83,7 @@ bare-out desk bare = bare.no_bucket.0
 laid-out : (desk : DeskState) → IsLaidOut desk → has_layout desk.database ≡ true
 laid-out desk laid = laid.buckets.0
 
-laid-owned : (desk : DeskState) → IsLaidOut desk → IsOwned desk.registry desk.database.policies
+pub laid-owned : (desk : DeskState) → IsLaidOut desk → IsOwned desk.registry desk.database.policies
 laid-owned desk laid =
     subst (λ (database : Database). IsOwned desk.registry database.policies) laid.settled (settled-IsOwned desk.registry desk.database)
 

@@ -7,3 +7,6 @@ pub mod Known
 pub mod Settling
 pub mod Granting
 pub mod Appending
+pub mod Linking
+pub mod Touching
+pub mod Commanding

@@ -12,6 +12,7 @@ mod following;
 mod layout_rules;
 mod names;
 mod refusals;
+mod registry_commands;
 mod steps;
 mod store_commands;
 
