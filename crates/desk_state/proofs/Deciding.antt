@@ -26,8 +26,9 @@ use Rattle.app_registry.specs.declared.installs.Scope.TheVariants.{Everyone, One
 use Rattle.app_registry.specs.declared.refusals.TheConstants.{USER_LIMIT, PACKAGE_LIMIT, INSTALL_LIMIT, GRANT_LIMIT}
 use Rattle.app_registry.specs.declared.users.User.{User}
 use Rattle.app_registry.specs.declared.users.UserType.{UserType}
-use Rattle.desk_state.specs.declared.commands.Command.TheVariants.{UserSet, UserRemove, Install as InstallCommand, Uninstall}
-use Rattle.desk_state.specs.Layout.{has_layout, settled}
+use Rattle.desk_state.specs.declared.commands.Command.TheVariants.{Layout, UserSet, UserRemove, Install as InstallCommand, Uninstall}
+use Rattle.desk_state.specs.Layout.{has_layout, settled, laid_out}
+use Rattle.desk_state.specs.parts.Linking.{link_changes}
 use Rattle.bucket_store.specs.WellFormed.{IsSound}
 use Rattle.bucket_store.proofs.Sound.{limit-sound, cycle-sound}
 use Rattle.desk_state.specs.Next.{request, leads_to, next, next_registry, erased_by}
@@ -499,3 +500,74 @@ or_nothing rule = or-none rule
 pub was_installed : (b : Bool) → cond b None (Some registered.NotInstalled) ≡ None → b ≡ true
 was_installed true known = refl
 was_installed false known = cc
+
+-- ---- the layout
+
+module _ (desk : DeskState) (allowed : IsAllowed desk Layout) where
+  behind-commit : (last : Bool) (limit cycle : Option Refusal)
+      → first_of (cond last (Some (Limit Commits LAST_COMMIT)) None ∷ None ∷ limit ∷ cycle ∷ [])
+      ≡ first_of (cond last (Some (Limit Commits LAST_COMMIT)) None ∷ limit ∷ cycle ∷ [])
+  behind-commit true limit cycle = refl
+  behind-commit false limit cycle = refl
+
+  pub layout_fault : fault desk Layout
+      ≡ first_of (commit_limit desk.commit ∷ option_map of_store (store.limit (laid_out desk.database)) ∷ option_map of_store (store.cycle (laid_out desk.database)) ∷ [])
+  layout_fault =
+      plain desk Layout (record { allowed = allowed; rule = refl; count = refl })
+      ∙ behind-commit (desk.commit == LAST_COMMIT) (option_map of_store (store.limit (laid_out desk.database))) (option_map of_store (store.cycle (laid_out desk.database)))
+
+  pub layout_last : (desk.commit == LAST_COMMIT) ≡ true → fault desk Layout ≡ Some (Limit Commits LAST_COMMIT)
+  layout_last last =
+      layout_fault
+      ∙ ap (λ b. first_of (cond b (Some (Limit Commits LAST_COMMIT)) None ∷ option_map of_store (store.limit (laid_out desk.database)) ∷ option_map of_store (store.cycle (laid_out desk.database)) ∷ [])) last
+
+  pub layout_full : (desk.commit == LAST_COMMIT) ≡ false → nat_lt most_buckets (length (laid_out desk.database).buckets) ≡ true
+      → fault desk Layout ≡ Some (Limit Buckets most_buckets)
+  layout_full last full =
+      layout_fault
+      ∙ (λ i. first_of (cond (last i) (Some (Limit Commits LAST_COMMIT)) None
+      ∷ option_map of_store (cond (full i) (Some (stored.Limit Buckets most_buckets)) (cond (nat_lt most_policies (length (laid_out desk.database).policies)) (Some (stored.Limit Policies most_policies)) None))
+      ∷ option_map of_store (store.cycle (laid_out desk.database)) ∷ []))
+
+  module _ (housed : Database) (named : store.no_bucket (flat_map named_by link_changes) housed ≡ None)
+      (follows : with_changes link_changes housed ≡ laid_out desk.database) where
+    layout_at : fault desk Layout
+        ≡ first_of (commit_limit desk.commit ∷ option_map of_store (store.limit (with_changes link_changes housed)) ∷ option_map of_store (store.cycle (with_changes link_changes housed)) ∷ [])
+    layout_at =
+        layout_fault
+        ∙ (λ i. first_of (commit_limit desk.commit ∷ option_map of_store (store.limit (sym follows i)) ∷ option_map of_store (store.cycle (sym follows i)) ∷ []))
+
+    layout_first : (refusal : StoreRefusal) → store.fault housed (store.set_policies link_changes housed) ≡ Some refusal
+        → fault desk Layout ≡ Some (answered (desk.commit == LAST_COMMIT) refusal)
+    layout_first refusal is =
+        layout_at
+        ∙ settles_first (find (λ name. not (has_bucket name housed)) (flat_map named_by link_changes)) false None (desk.commit == LAST_COMMIT)
+        (nat_lt most_buckets (length (with_changes link_changes housed).buckets))
+        (nat_lt most_policies (length (with_changes link_changes housed).policies))
+        (find (is_on_cycle (with_changes link_changes housed)) (map (λ (heading : Heading). heading.name) (with_changes link_changes housed).buckets))
+        refusal named refl refl is
+
+    pub layout_refused : (refusal : StoreRefusal) → store.Refuses housed (store.set_policies link_changes housed) refusal
+        → Refuses desk Layout (stored_refusal desk.commit refusal)
+    layout_refused (stored.Memory error) is = memory desk Layout allowed
+    layout_refused (stored.Limit counted most) is =
+        limited desk Layout (desk.commit == LAST_COMMIT) counted most (layout_first (stored.Limit counted most) is)
+    layout_refused (stored.Cycle name) is = cycled desk Layout (desk.commit == LAST_COMMIT) name (layout_first (stored.Cycle name) is)
+    layout_refused (stored.NoBucket name) is = layout_first (stored.NoBucket name) is
+    layout_refused stored.RootBucket is = layout_first stored.RootBucket is
+    layout_refused (stored.BadKind kind) is = layout_first (stored.BadKind kind) is
+
+    layout_none : store.fault housed (store.set_policies link_changes housed) ≡ None → fault desk Layout ≡ commit_limit desk.commit
+    layout_none is =
+        layout_at
+        ∙ settles_none (find (λ name. not (has_bucket name housed)) (flat_map named_by link_changes)) false None (desk.commit == LAST_COMMIT)
+        (nat_lt most_buckets (length (with_changes link_changes housed).buckets))
+        (nat_lt most_policies (length (with_changes link_changes housed).policies))
+        (find (is_on_cycle (with_changes link_changes housed)) (map (λ (heading : Heading). heading.name) (with_changes link_changes housed).buckets)) is
+
+    pub layout_stepped : store.fault housed (store.set_policies link_changes housed) ≡ None → (after : DeskState)
+        → after ≡ next desk Layout → (answer : Result Applied Refusal) → Steps desk after 0 answer → Answers desk Layout answer
+    layout_stepped is after follows_to (Ok applied) step =
+        record { next = step.next ∙ follows_to; erased = step.erased; accepted = layout_none is ∙ step.room }
+    layout_stepped is after follows_to (Err (Memory error)) step = memory desk Layout allowed
+    layout_stepped is after follows_to (Err refusal) step = layout_none is ∙ step

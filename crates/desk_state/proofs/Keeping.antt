@@ -89,7 +89,7 @@ laid-owned desk laid =
 
 -- ---- a bucket made
 
-has-with : (heading : Heading) (other : List ℕ) (database : Database) → has_bucket other database ≡ true
+pub has-with : (heading : Heading) (other : List ℕ) (database : Database) → has_bucket other database ≡ true
     → has_bucket other (with_bucket heading database) ≡ true
 has-with heading other database has =
     any-put (λ (here : Heading). same_text here.name other) heading_cmp heading

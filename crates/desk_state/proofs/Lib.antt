@@ -10,3 +10,4 @@ pub mod Appending
 pub mod Linking
 pub mod Touching
 pub mod Commanding
+pub mod Laying

@@ -111,14 +111,20 @@ impl Desk {
     }
 }
 
-// Users' numbers have 32 bits, so that no two have one text: a number behind a reference is known to have as many once
-// it is read, and the loop does no more.
+// Users' numbers have 32 bits, so that no two have one text. The loop changes nothing: it says of each number what is
+// known of one that is passed.
 fn numbers_fit(users: &[User])
     ensures { list.AllByRecursion (λ (user : Account). user.uid < 2 ^ 32) users.now }
 {
     for user in users {
-        let _number = user.uid;
+        number_fits(user.uid);
     }
+}
+
+fn number_fits(uid: u32)
+    ensures { uid < 2 ^ 32 }
+{
+    let _ = uid;
 }
 
 fn user_set_changes(alloc: Global, uid: u32, kind: UserType) -> Result<Vec<Change>, AllocError>
