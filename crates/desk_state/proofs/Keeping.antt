@@ -83,13 +83,13 @@ bare-out desk bare = bare.no_bucket.0
 laid-out : (desk : DeskState) → IsLaidOut desk → has_layout desk.database ≡ true
 laid-out desk laid = laid.buckets.0
 
-laid-owned : (desk : DeskState) → IsLaidOut desk → IsOwned desk.registry desk.database.policies
+pub laid-owned : (desk : DeskState) → IsLaidOut desk → IsOwned desk.registry desk.database.policies
 laid-owned desk laid =
     subst (λ (database : Database). IsOwned desk.registry database.policies) laid.settled (settled-IsOwned desk.registry desk.database)
 
 -- ---- a bucket made
 
-has-with : (heading : Heading) (other : List ℕ) (database : Database) → has_bucket other database ≡ true
+pub has-with : (heading : Heading) (other : List ℕ) (database : Database) → has_bucket other database ≡ true
     → has_bucket other (with_bucket heading database) ≡ true
 has-with heading other database has =
     any-put (λ (here : Heading). same_text here.name other) heading_cmp heading

@@ -7,3 +7,7 @@ pub mod Known
 pub mod Settling
 pub mod Granting
 pub mod Appending
+pub mod Linking
+pub mod Touching
+pub mod Commanding
+pub mod Laying

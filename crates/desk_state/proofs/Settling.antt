@@ -24,6 +24,7 @@ use Rattle.bucket_store.specs.parts.Batch.{name_of, key_of}
 use Rattle.bucket_store.specs.declared.policy_changes.Change.{Change}
 use Rattle.bucket_store.specs.declared.policy_changes.Change.TheVariants.{Set, Delete}
 use Rattle.bucket_store.proofs.Lists.{filter-map, filter-none}
+use Rattle.bucket_store.proofs.Searching.{put-rises}
 use Rattle.bucket_store.proofs.Sound.{policy_total, placed_total}
 use Rattle.app_registry.specs.Rising.{rising}
 use Rattle.app_registry.proofs.Grants.{IsGrant}
@@ -96,6 +97,16 @@ fold-at place [] policies = refl
 fold-at place (change ∷ changes) policies =
     fold-at place changes (after_change policies change)
     ∙ ap (λ old. fold (settle place) old changes) (after-at place change policies)
+
+pub fold-rises : (policies : List Placed) (changes : List Change) → IsStrictlySortedBy placed_cmp policies
+    → IsStrictlySortedBy placed_cmp (fold after_change policies changes)
+fold-rises policies [] rise = rise
+fold-rises policies (Set name key result ∷ changes) rise =
+    fold-rises (after_change policies (Set name key result)) changes
+    (put-rises placed_total (in_bucket name (record { key = key; result = result })) policies rise)
+fold-rises policies (Delete name key ∷ changes) rise =
+    fold-rises (after_change policies (Delete name key)) changes
+    (IsStrictlySortedBy-filter placed_cmp (λ (placed : Placed). not (is_at name key placed)) policies rise)
 
 pub fold-append : {A B : Type 0} (f : B → A → B) (start : B) (xs ys : List A) → fold f start (xs ++ ys) ≡ fold f (fold f start xs) ys
 fold-append f start [] ys = refl

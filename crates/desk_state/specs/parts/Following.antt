@@ -1,5 +1,5 @@
 -- The changes of `MAIN` and `MANIFESTS` by which they follow a change of the registry.
-use Rattle.std.specs.Prelude.{ℕ, Bool, true, false, if◌then◌else◌, List, [], ◌∷◌, ◌++◌, map, filter, decimal}
+use Rattle.std.specs.Prelude.{ℕ, Bool, true, false, if◌then◌else◌, List, [], ◌∷◌, ◌++◌, map, filter, decimal, Option, Some, None}
 use Rattle.cynara_keys.specs.PolicyResult.{bucket, allow}
 use Rattle.cynara_keys.specs.declared.fields.Field.TheVariants.{Any, Exact}
 use Rattle.cynara_keys.specs.declared.keys.Key.{Key}
@@ -38,3 +38,8 @@ package_changes name before after =
 -- a user goes, and what the installs for this user granted
 abbrev pub removal_changes : ℕ → List Install → List Change
 removal_changes uid before = delete_user uid ∷ grant_changes false (λ install. is_for_user uid install.scope) before
+
+-- the same for the package of an install, where there is one
+abbrev pub app_changes : Option Install → List Install → List Install → List Change
+app_changes (Some install) before after = package_changes install.package before after
+app_changes None before after = []
