@@ -1,7 +1,9 @@
 -- What the reading of a line gives.
-use Rattle.std.specs.Prelude.{◌≡◌, Bool, true, false, Option, Some, None, Result, Ok, Err}
+use Rattle.std.specs.Prelude.{IsTrue, ◌≡◌, Bool, true, false, Option, Some, None, Result, Ok, Err}
 use Rattle.line_script.specs.Block.{Block, outside, batch, template, failed}
+use Rattle.smack_rules.specs.Modes.{is_request}
 use Rattle.line_script.specs.declared.steps.Step.{Step}
+use Rattle.line_script.specs.declared.steps.Step.TheVariants.{Access}
 use Rattle.line_script.specs.declared.steps.LineRefusal.{LineRefusal}
 use Rattle.line_script.specs.declared.steps.LineRefusal.TheVariants.{Syntax, Memory}
 
@@ -18,3 +20,8 @@ is_in_block outside = false
 is_in_block (batch changes) = true
 is_in_block (template lines) = true
 is_in_block failed = false
+
+-- a decision is asked for only where the modes are a request
+abbrev pub AsksRequest : Step → Type 0
+AsksRequest (Access subject object asked) = IsTrue (is_request asked)
+AsksRequest step = Unit {0}

@@ -1,6 +1,7 @@
 //! Lines that change one policy, behind their first word.
 
-ghost use Rattle.std.specs.Prelude.{Some};
+ghost use Rattle.std.specs.Prelude.{Some, IfOk};
+ghost use Rattle.line_script.specs.Turn.{AsksRequest};
 ghost use Rattle.line_script.specs.Grammar.{set_at, unset_at, change_step};
 ghost use Rattle.line_script.specs.parts.Reading.{Gives};
 
@@ -46,7 +47,8 @@ pub(crate) fn unset_line(alloc: Global, words: &mut Words) -> Result<Change, Lin
 
 /// One change, as a command of its own.
 pub(crate) fn one_change(alloc: Global, change: Change) -> Result<Step, LineRefusal>
-    ensures { Gives result (Some (change_step change)) }
+    ensures step { Gives result (Some (change_step change)) }
+    ensures asked { IfOk result AsksRequest }
 {
     let mut list = Vec::new(alloc);
     list.push(change)

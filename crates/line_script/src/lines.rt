@@ -1,7 +1,9 @@
+ghost use Rattle.std.specs.Prelude.{IfOk};
 ghost use Rattle.line_script.specs.Grammar.{change_at, line_at, change_of, line_of};
 ghost use Rattle.line_script.specs.Words.{word};
 ghost use Rattle.line_script.specs.Verbs.{verb_at};
 ghost use Rattle.line_script.specs.parts.Reading.{Gives, GivesWord};
+ghost use Rattle.line_script.specs.Turn.{AsksRequest};
 
 use crate::changes::{one_change, set_line, unset_line};
 use crate::commands::{
@@ -18,7 +20,8 @@ use std::alloc::Global;
 /// The step of a line that stands outside a block and is neither blank nor a comment.
 #[tactic(auto, unfolding(crate::specs::Grammar::line_of))]
 pub(crate) fn lone_line(alloc: Global, line: &[u8]) -> Result<Step, LineRefusal>
-    ensures { Gives result (line_of line.now) }
+    ensures step { Gives result (line_of line.now) }
+    ensures asked { IfOk result AsksRequest }
 {
     let mut words = Words::of(line);
     let verb = verb_word(&mut words)?;
@@ -55,7 +58,8 @@ fn change_behind(alloc: Global, verb: Verb, words: &mut Words) -> Result<Change,
 
 #[tactic(auto, unfolding(crate::specs::Grammar::line_at))]
 fn line_behind(alloc: Global, verb: Verb, words: &mut Words) -> Result<Step, LineRefusal>
-    ensures { Gives result (line_at verb words.old) }
+    ensures step { Gives result (line_at verb words.old) }
+    ensures asked { IfOk result AsksRequest }
 {
     match verb {
         Verb::Set => one_change(alloc, set_line(alloc, words)?),

@@ -1,6 +1,8 @@
 //! Lines that ask and change nothing, behind their first word.
 
+ghost use Rattle.std.specs.Prelude.{IfOk};
 ghost use Rattle.line_script.specs.Grammar.{list_at, check_at, from_at, access_at, status_at};
+ghost use Rattle.line_script.specs.Turn.{AsksRequest};
 ghost use Rattle.line_script.specs.parts.Reading.{Gives};
 
 use crate::line_words::Words;
@@ -12,7 +14,8 @@ use std::alloc::Global;
 /// `list BUCKET FILTER FILTER FILTER`.
 #[tactic(auto, unfolding(crate::specs::Grammar::list_at))]
 pub(crate) fn list_line(alloc: Global, words: &mut Words) -> Result<Step, LineRefusal>
-    ensures { Gives result (list_at words.old) }
+    ensures step { Gives result (list_at words.old) }
+    ensures asked { IfOk result AsksRequest }
 {
     let bucket = bucket_word(alloc, words)?;
     let filter = filter_words(alloc, words)?;
@@ -25,7 +28,8 @@ pub(crate) fn list_line(alloc: Global, words: &mut Words) -> Result<Step, LineRe
 /// `check CLIENT USER PRIVILEGE`.
 #[tactic(auto, unfolding(crate::specs::Grammar::check_at))]
 pub(crate) fn check_line(alloc: Global, words: &mut Words) -> Result<Step, LineRefusal>
-    ensures { Gives result (check_at words.old) }
+    ensures step { Gives result (check_at words.old) }
+    ensures asked { IfOk result AsksRequest }
 {
     let question = question_words(alloc, words)?;
     let Some(()) = end_word(words) else {
@@ -37,7 +41,8 @@ pub(crate) fn check_line(alloc: Global, words: &mut Words) -> Result<Step, LineR
 /// `from BUCKET MODE CLIENT USER PRIVILEGE`.
 #[tactic(auto, unfolding(crate::specs::Grammar::from_at))]
 pub(crate) fn from_line(alloc: Global, words: &mut Words) -> Result<Step, LineRefusal>
-    ensures { Gives result (from_at words.old) }
+    ensures step { Gives result (from_at words.old) }
+    ensures asked { IfOk result AsksRequest }
 {
     let bucket = bucket_word(alloc, words)?;
     let deep = depth_word(words)?;
@@ -55,7 +60,8 @@ pub(crate) fn from_line(alloc: Global, words: &mut Words) -> Result<Step, LineRe
 /// `access SUBJECT OBJECT MODES`.
 #[tactic(auto, unfolding(crate::specs::Grammar::access_at))]
 pub(crate) fn access_line(alloc: Global, words: &mut Words) -> Result<Step, LineRefusal>
-    ensures { Gives result (access_at words.old) }
+    ensures step { Gives result (access_at words.old) }
+    ensures asked { IfOk result AsksRequest }
 {
     let subject = label_word(alloc, words)?;
     let object = label_word(alloc, words)?;
@@ -73,7 +79,8 @@ pub(crate) fn access_line(alloc: Global, words: &mut Words) -> Result<Step, Line
 /// `status`.
 #[tactic(auto, unfolding(crate::specs::Grammar::status_at))]
 pub(crate) fn status_line(words: &mut Words) -> Result<Step, LineRefusal>
-    ensures { Gives result (status_at words.old) }
+    ensures step { Gives result (status_at words.old) }
+    ensures asked { IfOk result AsksRequest }
 {
     let Some(()) = end_word(words) else {
         return Err(LineRefusal::Syntax);

@@ -1,7 +1,7 @@
-ghost use Rattle.std.specs.Prelude.{◌≡◌, [], IsTrue};
+ghost use Rattle.std.specs.Prelude.{◌≡◌, IfOk, [], IsTrue};
 ghost use Rattle.line_script.specs.Block.{outside, batch, template, failed};
 ghost use Rattle.line_script.specs.Grammar.{is_skipped, outside_at, batch_at, template_at, step_at};
-ghost use Rattle.line_script.specs.Turn.{Turns, is_in_block};
+ghost use Rattle.line_script.specs.Turn.{Turns, is_in_block, AsksRequest};
 
 use crate::lines::{lone_change, lone_line};
 use crate::steps::{LineRefusal, Step};
@@ -59,7 +59,8 @@ impl Reader {
     /// memory runs out first; every line behind a refused one is outside.
     #[tactic(auto, unfolding(crate::specs::Grammar::step_at))]
     pub fn line(&mut self, line: &[u8]) -> Result<Step, LineRefusal>
-        ensures { Turns (step_at self.old line.now) result self.new }
+        ensures turn { Turns (step_at self.old line.now) result self.new }
+        ensures asked { IfOk result AsksRequest }
     {
         match replace(&mut self.place, Place::Failed) {
             Place::Outside => self.line_outside(line),
@@ -72,7 +73,8 @@ impl Reader {
     #[tactic(auto, unfolding(crate::specs::Grammar::outside_at))]
     fn line_outside(&mut self, line: &[u8]) -> Result<Step, LineRefusal>
         requires { self.old ≡ failed }
-        ensures { Turns (outside_at line.now) result self.new }
+        ensures turn { Turns (outside_at line.now) result self.new }
+        ensures asked { IfOk result AsksRequest }
     {
         if is_skipped(line) {
             self.place = Place::Outside;
@@ -94,7 +96,8 @@ impl Reader {
     #[tactic(auto, unfolding(crate::specs::Grammar::batch_at))]
     fn line_of_batch(&mut self, mut changes: Vec<Change>, line: &[u8]) -> Result<Step, LineRefusal>
         requires { self.old ≡ failed }
-        ensures { Turns (batch_at changes.items line.now) result self.new }
+        ensures turn { Turns (batch_at changes.items line.now) result self.new }
+        ensures asked { IfOk result AsksRequest }
     {
         if is_skipped(line) {
             self.place = Place::Batch(changes);
@@ -117,7 +120,8 @@ impl Reader {
     #[tactic(auto, unfolding(crate::specs::Grammar::template_at))]
     fn line_of_template(&mut self, mut template: Template, line: &[u8]) -> Result<Step, LineRefusal>
         requires { self.old ≡ failed }
-        ensures { Turns (template_at «template» line.now) result self.new }
+        ensures turn { Turns (template_at «template» line.now) result self.new }
+        ensures asked { IfOk result AsksRequest }
     {
         if line == b"end".as_slice() {
             self.place = Place::Outside;

@@ -1,6 +1,7 @@
 //! What single words say. Each function takes the next word of a line.
 
-ghost use Rattle.std.specs.Prelude.{◌≡◌};
+ghost use Rattle.std.specs.Prelude.{◌≡◌, IsTrue, IfOk};
+ghost use Rattle.smack_rules.specs.Modes.{is_request};
 ghost use Rattle.line_script.specs.Words.{word, end_of};
 ghost use Rattle.line_script.specs.WordForms.{bucket_at, name_at, field_at, filter_field_at, depth_at};
 ghost use Rattle.line_script.specs.WordForms.{uid_at, user_type_at, scope_at, ident_at, author_at, label_at, request_at};
@@ -201,7 +202,8 @@ pub(crate) fn label_word(alloc: Global, words: &mut Words) -> Result<Label, Line
 
 /// Modes that may be asked for.
 pub(crate) fn request_word(words: &mut Words) -> Result<Modes, LineRefusal>
-    ensures { GivesWord result words.new (word request_at words.old) }
+    ensures word { GivesWord result words.new (word request_at words.old) }
+    ensures request { IfOk result (λ modes. IsTrue (is_request modes)) }
 {
     let Some(text) = words.next() else {
         return Err(LineRefusal::Syntax);
