@@ -1,5 +1,6 @@
 // What the machine is asked to do with files, one small step a function.
-ghost use Rattle.std.specs.Prelude.{IfOk};
+ghost use Rattle.std.specs.Prelude.{◌≡◌, ◌≤◌, ◌<◌, ◌^◌, vec_len, IfSome, IfOk, OnOk};
+ghost use Rattle.std.specs.Io.KnownBytes.{Appends};
 ghost use Rattle.desk_ports.specs.FileMap.{NamesRise};
 
 use desk_ports::{FileName, FileNameRefusal, names_in_order};
@@ -106,21 +107,37 @@ fn open_seen<R: Files + Drop>(
     }
 }
 
-/// All bytes of a file.
-pub fn read_whole<F: Read + OpenFile + Drop>(alloc: Global, file: F) -> io::Result<Vec<u8>> {
+/// All bytes of a file, where they are no more than the limit. A read that is interrupted is tried again.
+pub fn read_whole<F: Read + OpenFile + Drop>(alloc: Global, file: F) -> io::Result<Vec<u8>>
+    ensures limit { IfOk result (λ bytes. vec_len bytes ≤ MOST_FILE_BYTES) }
+    ensures whole { IfOk result (λ bytes. IfSome (F.Read.remaining file) (λ left. bytes.items ≡ left)) }
+{
     if file.metadata()?.len() > MOST_FILE_BYTES {
         return Err(Error::from(ErrorKind::FileTooLarge));
     }
+    read_at_most(alloc, file, MOST_FILE_BYTES)
+}
+
+// All bytes that are left to read, where they are no more than these. A file may have grown since its length was
+// asked for.
+fn read_at_most<F: Read + Drop>(alloc: Global, file: F, most: u64) -> io::Result<Vec<u8>>
+    requires { most < 2 ^ 63 }
+    ensures limit { IfOk result (λ bytes. vec_len bytes ≤ most) }
+    ensures whole { IfOk result (λ bytes. IfSome (F.remaining file) (λ left. bytes.items ≡ left)) }
+{
     let mut bytes = Vec::new(alloc);
-    file.take(MOST_FILE_BYTES + 1).read_to_end(&mut bytes)?;
-    if bytes.len() as u64 > MOST_FILE_BYTES {
+    file.take(most + 1).read_to_end(&mut bytes)?;
+    if bytes.len() as u64 > most {
         return Err(Error::from(ErrorKind::FileTooLarge));
     }
     Ok(bytes)
 }
 
-/// Writes the bytes over those of the file, and cuts it to their length.
-pub fn write_whole<F: Write + OpenFile>(file: &mut F, bytes: &[u8]) -> io::Result<()> {
+/// Writes the bytes over those of the file, and cuts it to their length. A short write is carried on, and a write
+/// that is interrupted is tried again.
+pub fn write_whole<F: Write + OpenFile>(file: &mut F, bytes: &[u8]) -> io::Result<()>
+    ensures { OnOk result (Appends (F.Write.contents file.old) (F.Write.contents file.new) bytes.now) }
+{
     file.write_all(bytes)?;
     file.set_len(bytes.len() as u64)
 }

@@ -1,4 +1,6 @@
-ghost use Rattle.std.specs.Prelude.{◌≡◌, ◌≤◌, None, IfOk};
+ghost use Rattle.std.specs.Prelude.{◌≡◌, ◌≤◌, ℕ, true, List, None, IfOk, OnOk, OnErr, string_bytes};
+ghost use Rattle.desk_ports.specs.parts.NamesHeld.{has_name};
+ghost use Rattle.folder_disk.specs.Paths.{file_path};
 ghost use Rattle.desk_ports.specs.FileMap.{NamesRise};
 ghost use Rattle.desk_ports.specs.Faults.{next_count};
 ghost use Rattle.desk_ports.specs.PortFault.{count_after_call, count_after_refusal};
@@ -12,8 +14,8 @@ use std::io;
 use std::io::ErrorKind;
 use std::rt::Files;
 
-/// A folder of the machine as a disk. It follows no link out of the folder, and makes files that only their owner may read
-/// and write. It counts each error of the machine.
+/// A folder of the machine as a disk. It follows no link out of the folder, and makes files that only their owner may
+/// read and write. It counts each error of the machine.
 ///
 /// It tells nothing of what its files hold. That a real folder keeps what a disk promises is trusted.
 #[derive(Drop)]
@@ -26,8 +28,8 @@ pub struct FolderDisk<R: Files + AllocGlobal + Clone + Drop> {
 }
 
 impl<R: Files + AllocGlobal + Clone + Drop> FolderDisk<R> {
-    /// The folder of this path, which is made where there is none: its owner alone may use it. Where it can't be made, that is
-    /// the first error that is counted.
+    /// The folder of this path, which is made where there is none: its owner alone may use it. Where it can't be
+    /// made, that is the first error that is counted.
     pub fn open(rt: R, folder: &str) -> Result<FolderDisk<R>, AllocError>
         ensures { IfOk result (λ disk. disk.faults ≤ 1) }
     {
@@ -45,7 +47,9 @@ impl<R: Files + AllocGlobal + Clone + Drop> FolderDisk<R> {
         })
     }
 
-    fn path_of(&self, name: &FileName) -> Result<String, AllocError> {
+    fn path_of(&self, name: &FileName) -> Result<String, AllocError>
+        ensures { IfOk result (λ path. string_bytes path ≡ file_path (string_bytes self.now.folder) name.now) }
+    {
         paths::file_path(self.rt.alloc(), self.folder.as_str(), name)
     }
 
@@ -57,14 +61,33 @@ impl<R: Files + AllocGlobal + Clone + Drop> FolderDisk<R> {
         }
     }
 
-    // The name counts as touched before anything is asked of the machine.
-    fn write_file(&mut self, name: &FileName, bytes: &[u8]) -> io::Result<()>
-        ensures { self.new.faults ≡ self.old.faults }
+    // Notes that the file of this name is to be made sure of.
+    fn touch(&mut self, name: &FileName) -> Result<(), AllocError>
+        ensures count { self.new.faults ≡ self.old.faults }
+        ensures touched { OnOk result (has_name self.new.touched name.now ≡ true) }
+        ensures kept { (other : List ℕ) → has_name self.old.touched other ≡ true
+            → has_name self.new.touched other ≡ true }
     {
         self.touched.insert(name.copy()?)?;
+        Ok(())
+    }
+
+    // The name counts as touched before anything is asked of the machine: a write that fails may leave a part.
+    fn write_touched(&self, name: &FileName, bytes: &[u8]) -> io::Result<()>
+        requires { has_name self.now.touched name.now ≡ true }
+    {
         let path = self.path_of(name)?;
         let mut file = files::open_to_write(&self.rt, path.as_str())?;
         files::write_whole(&mut file, bytes)
+    }
+
+    fn write_file(&mut self, name: &FileName, bytes: &[u8]) -> io::Result<()>
+        ensures count { self.new.faults ≡ self.old.faults }
+        ensures kept { (other : List ℕ) → has_name self.old.touched other ≡ true
+            → has_name self.new.touched other ≡ true }
+    {
+        self.touch(name)?;
+        self.write_touched(name, bytes)
     }
 
     fn remove_file(&self, name: &FileName) -> io::Result<()> {
@@ -72,14 +95,16 @@ impl<R: Files + AllocGlobal + Clone + Drop> FolderDisk<R> {
         files::remove(&self.rt, path.as_str())
     }
 
-    // Makes sure of every touched file, and then of the folder. What an earlier run of the program touched is not known, so the
-    // first time every plain file of the folder counts as touched, and so does the folder itself in the one that it stands in.
+    // Makes sure of every touched file, and then of the folder. What an earlier run of the program touched is not
+    // known, so the first time every plain file of the folder counts as touched, and so does the folder itself in the
+    // one that it stands in.
     fn sync_all(&mut self) -> io::Result<()>
-        ensures { self.new.faults ≡ self.old.faults }
+        ensures count { self.new.faults ≡ self.old.faults }
+        ensures kept { OnErr result (self.new ≡ self.old) }
     {
         if !self.is_settled {
             self.sync_found()?;
-            files::sync_folder(&self.rt, paths::parent_path(self.folder.as_str()))?;
+            self.sync_parent()?;
         }
         self.sync_touched()?;
         files::sync_folder(&self.rt, self.folder.as_str())?;
@@ -93,6 +118,11 @@ impl<R: Files + AllocGlobal + Clone + Drop> FolderDisk<R> {
             files::sync_if_plain(&self.rt, self.path_of(name)?.as_str())?;
         }
         Ok(())
+    }
+
+    fn sync_parent(&self) -> io::Result<()> {
+        let path = paths::parent_path(self.rt.alloc(), self.folder.as_str())?;
+        files::sync_folder(&self.rt, path.as_str())
     }
 
     fn sync_touched(&self) -> io::Result<()> {

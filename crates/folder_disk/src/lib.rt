@@ -1,7 +1,7 @@
 //! A folder of the machine as a disk.
 //!
-//! What the machine's calls give and take, no clause can say: this crate is part of what is trusted. It tells nothing of what
-//! its files hold; proved of it are the counts of failures, and that names come in order.
+//! What the machine's calls give and take, no clause can say: this crate is part of what is trusted. It tells nothing
+//! of what its files hold; proved of it are the counts of failures, and that names come in order.
 #![tactic(auto)]
 
 mod files;

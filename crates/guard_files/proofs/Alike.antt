@@ -5,7 +5,8 @@ use Rattle.guard_files.specs.OwnName.{guard_name, list_name, primary_name, backu
 use Rattle.guard_files.specs.ListFile.{listed}
 use Rattle.guard_files.specs.Recovery.{Recovered, with_file, files_at, set_of, set_named, set_listed, backup_set, primary_set, recover, names_or_none, named_by, names_at, protected, AgreeAt, RecoversAlike}
 
-files_alike : (place : List ℕ → List ℕ) (files others : FileMap) (names : List (List ℕ)) → AgreeAt (map place names) files others
+files_alike : (place : List ℕ → List ℕ) (files others : FileMap) (names : List (List ℕ))
+    → AgreeAt (map place names) files others
     → files_at place others names ≡ files_at place files names
 files_alike place files others [] agree = refl
 files_alike place files others (name ∷ names) agree =
@@ -13,21 +14,25 @@ files_alike place files others (name ∷ names) agree =
     ∙ ap (with_file name (files (place name))) (files_alike place files others names agree.1)
 
 named_alike : (place : List ℕ → List ℕ) (files others : FileMap) (names : Option (List (List ℕ)))
-    → AgreeAt (map place (names_or_none names)) files others → set_named place others names ≡ set_named place files names
+    → AgreeAt (map place (names_or_none names)) files others
+    → set_named place others names ≡ set_named place files names
 named_alike place files others None agree = refl
 named_alike place files others (Some names) agree = ap set_of (files_alike place files others names agree)
 
 listed_alike : (place : List ℕ → List ℕ) (absent : Recovered) (files others : FileMap) (list : Option (List ℕ))
-    → AgreeAt (map place (named_by list)) files others → set_listed place absent others list ≡ set_listed place absent files list
+    → AgreeAt (map place (named_by list)) files others
+    → set_listed place absent others list ≡ set_listed place absent files list
 listed_alike place absent files others None agree = refl
 listed_alike place absent files others (Some bytes) agree = named_alike place files others (listed bytes) agree
 
-pub backups_alike : (files others : FileMap) → AgreeAt (names_at backup_name files) files others → backup_set others ≡ backup_set files
+pub backups_alike : (files others : FileMap) → AgreeAt (names_at backup_name files) files others
+    → backup_set others ≡ backup_set files
 unfolding backup_set names_at
 backups_alike files others agree =
     ap (set_listed backup_name _ others) (sym agree.0) ∙ listed_alike backup_name _ files others (files (backup_name list_name)) agree.1
 
-pub primaries_alike : (files others : FileMap) → AgreeAt (names_at primary_name files) files others → primary_set others ≡ primary_set files
+pub primaries_alike : (files others : FileMap) → AgreeAt (names_at primary_name files) files others
+    → primary_set others ≡ primary_set files
 unfolding primary_set names_at
 primaries_alike files others agree =
     ap (set_listed primary_name _ others) (sym agree.0) ∙ listed_alike primary_name _ files others (files list_name) agree.1

@@ -15,7 +15,8 @@ apart_name : (name other : List ℕ) → bytes_eq other name ≡ false → other
 apart_name name other differs same = both_ways (bytes_eq other name) differs (same-same other name same)
 
 -- removed where it was not, a name stays without a file
-pub removals-none : (names : List (List ℕ)) (files : FileMap) (name : List ℕ) → files name ≡ None → changed (removals names) files name ≡ None
+pub removals-none : (names : List (List ℕ)) (files : FileMap) (name : List ℕ) → files name ≡ None
+    → changed (removals names) files name ≡ None
 removals-none [] files name none = none
 removals-none (first ∷ names) files name none =
     removals-none names (with_content files first None) name (at_first (bytes_eq first name))
@@ -41,14 +42,16 @@ removals-apart (first ∷ names) name none =
     let both = or_parts (bytes_eq first name) (is_among names name) none in
     (apart_name name first both.0, removals-apart names name both.1)
 
-pub writes-apart : (place : List ℕ → List ℕ) (set : List SetFile) (name : List ℕ) → is_among (map place (names_of set)) name ≡ false
+pub writes-apart : (place : List ℕ → List ℕ) (set : List SetFile) (name : List ℕ)
+    → is_among (map place (names_of set)) name ≡ false
     → Apart (writes place set) name
 writes-apart place [] name none = tt
 writes-apart place (file ∷ rest) name none =
     let both = or_parts (bytes_eq (place file.name) name) (is_among (map place (names_of rest)) name) none in
     (apart_name name (place file.name) both.0, writes-apart place rest name both.1)
 
-Apart-append : (first second : List Change) (name : List ℕ) → Apart first name → Apart second name → Apart (first ++ second) name
+Apart-append : (first second : List Change) (name : List ℕ) → Apart first name → Apart second name
+    → Apart (first ++ second) name
 Apart-append [] second name apart more = more
 Apart-append (change ∷ first) second name apart more = (apart.0, Apart-append first second name apart.1 more)
 
@@ -60,7 +63,8 @@ set_writes-apart place set name none =
     (apart_name name (place list_name) both.0, tt)
 
 -- no backup's name is among plain names
-pub plain_not_among : (names : List (List ℕ)) (name : List ℕ) → AllByRecursion IsPlain names → is_backup name ≡ true → is_among names name ≡ false
+pub plain_not_among : (names : List (List ℕ)) (name : List ℕ) → AllByRecursion IsPlain names → is_backup name ≡ true
+    → is_among names name ≡ false
 plain_not_among [] name plain backup = refl
 plain_not_among (first ∷ names) name plain backup = elim (cases_Bool (bytes_eq first name)) [
   | inl same ↦ absurd (both_ways (is_backup first) plain.0.plain (ap is_backup (same-true first name same) ∙ backup))
@@ -68,7 +72,8 @@ plain_not_among (first ∷ names) name plain backup = elim (cases_Bool (bytes_eq
 ]
 
 -- a name among others that passes the test is among those that pass it
-passes : (goes : Bool) (first name : List ℕ) (rest : List (List ℕ)) → is_among rest name ≡ true → is_among (cond goes (first ∷ rest) rest) name ≡ true
+passes : (goes : Bool) (first name : List ℕ) (rest : List (List ℕ)) → is_among rest name ≡ true
+    → is_among (cond goes (first ∷ rest) rest) name ≡ true
 passes true first name rest is = at_test (bytes_eq first name)
   where
     at_test : (test : Bool) → (test || is_among rest name) ≡ true
@@ -76,7 +81,8 @@ passes true first name rest is = at_test (bytes_eq first name)
     at_test false = is
 passes false first name rest is = is
 
-pub among-filter : (test : List ℕ → Bool) (names : List (List ℕ)) (name : List ℕ) → test name ≡ true → is_among names name ≡ true
+pub among-filter : (test : List ℕ → Bool) (names : List (List ℕ)) (name : List ℕ) → test name ≡ true
+    → is_among names name ≡ true
     → is_among (filter test names) name ≡ true
 among-filter test [] name pass is = absurd (false≢true is)
 among-filter test (first ∷ names) name pass is = elim (or_cases (bytes_eq first name) (is_among names name) is) [
@@ -90,7 +96,8 @@ among-filter test (first ∷ names) name pass is = elim (or_cases (bytes_eq firs
 is_there : (content : Option (List ℕ)) (bytes : List ℕ) → content ≡ Some bytes → IsSome content
 is_there content bytes is = subst IsSome (sym is) refl
 
-all_there : (set : List SetFile) (files : FileMap) → AllByRecursion (λ file. files (primary_name file.name) ≡ Some file.bytes) set
+all_there : (set : List SetFile) (files : FileMap)
+    → AllByRecursion (λ file. files (primary_name file.name) ≡ Some file.bytes) set
     → AllByRecursion (λ name. IsSome (files name)) (names_of set)
 all_there [] files holds = tt
 all_there (file ∷ rest) files holds = (is_there (files file.name) file.bytes holds.0, all_there rest files holds.1)

@@ -16,13 +16,15 @@ no_bad_place (byte ∷ bytes) all =
     let one : 1 + position_or_len (λ byte. not (is_file_name_byte byte)) bytes ≡ suc (length bytes) = omega (arith, rest) in
     ap (λ good. cond (not (not good)) (1 + position_or_len (λ byte. not (is_file_name_byte byte)) bytes) 0) both.0 ∙ one
 
-no_bad_byte : (bytes : List ℕ) → list_all is_file_name_byte bytes ≡ true → position (λ byte. not (is_file_name_byte byte)) bytes ≡ None
+no_bad_byte : (bytes : List ℕ) → list_all is_file_name_byte bytes ≡ true
+    → position (λ byte. not (is_file_name_byte byte)) bytes ≡ None
 no_bad_byte bytes all =
     let place = position_or_len (λ byte. not (is_file_name_byte byte)) bytes in
     let past : length bytes ≤ place = omega (arith, no_bad_place bytes all) in
     ap (λ test. cond test (Some place) None) (le-ltb place (length bytes) past)
 
-pub file_name : (bytes : List ℕ) → 0 < length bytes → length bytes ≤ 255 → list_all is_file_name_byte bytes ≡ true → IsFileName bytes
+pub file_name : (bytes : List ℕ) → 0 < length bytes → length bytes ≤ 255 → list_all is_file_name_byte bytes ≡ true
+    → IsFileName bytes
 file_name bytes some most all =
     let bad = position (λ byte. not (is_file_name_byte byte)) bytes in
     let not_empty : (length bytes == 0) ≡ false = ne_eqb (length bytes) 0 (λ none. omega (arith, none)) in
@@ -30,7 +32,8 @@ file_name bytes some most all =
     ∙ ap (λ test. cond test (Some TooLong) (bad_byte_at bad)) (le-ltb 255 (length bytes) most)
     ∙ ap bad_byte_at (no_bad_byte bytes all)
 
-all-append : (first second : List ℕ) → list_all is_file_name_byte first ≡ true → list_all is_file_name_byte second ≡ true
+all-append : (first second : List ℕ) → list_all is_file_name_byte first ≡ true
+    → list_all is_file_name_byte second ≡ true
     → list_all is_file_name_byte (first ++ second) ≡ true
 all-append [] second all more = more
 all-append (byte ∷ first) second all more =

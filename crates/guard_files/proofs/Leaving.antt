@@ -1,5 +1,5 @@
--- A mount: the primaries are renewed where the guard stood, and what is left over is removed. Whatever a stop leaves recovers
--- as what was read.
+-- A mount: the primaries are renewed where the guard stood, and what is left over is removed. Whatever a stop leaves
+-- recovers as what was read.
 use Rattle.std.proofs.Common.{◌≡◌, ◌⊎◌, ℕ, Bool, true, false, List, [], ◌∷◌, filter, get_or, Option, Some, None, IsSome, Ok, cond, inl, inr, refl, sym, ◌∙◌, ap, subst}
 use Rattle.std.proofs.lemmas.Bool.{and_parts, both_ways, not-true}
 use Rattle.std.proofs.lemmas.List.Recursion.{or_at}
@@ -21,7 +21,8 @@ use Rattle.guard_files.proofs.Stages.{IsPlain, Apart, PrimariesStand, left_as_du
 use Rattle.guard_files.proofs.Primaries.{durable_only}
 
 -- a name that a folder has is among its names
-pub among-listed : (files : FileMap) (names : List (List ℕ)) (name : List ℕ) → AreNamesOf files names → IsSome (files name) → is_among names name ≡ true
+pub among-listed : (files : FileMap) (names : List (List ℕ)) (name : List ℕ) → AreNamesOf files names
+    → IsSome (files name) → is_among names name ≡ true
 among-listed files names name are there =
     let place = (are name).1 there in
     or_at (λ (names : List (List ℕ)). is_among names name) (λ other. bytes_eq other name) refl (λ _ _. refl) names place.0 name place.1
@@ -37,7 +38,8 @@ none_or_listed files names name are = at_file (files name) refl
     at_file (Some bytes) is = inr (among-listed files names name are (subst IsSome (sym is) refl))
 
 -- what a filter lets through
-pub all_filtered : (test : List ℕ → Bool) (P : List ℕ → Type 0) (names : List (List ℕ)) → ((name : List ℕ) → test name ≡ true → P name)
+pub all_filtered : (test : List ℕ → Bool) (P : List ℕ → Type 0) (names : List (List ℕ))
+    → ((name : List ℕ) → test name ≡ true → P name)
     → AllByRecursion P (filter test names)
 all_filtered test P [] gives = tt
 all_filtered test P (name ∷ names) gives = at_name (test name) refl (all_filtered test P names gives)
@@ -48,7 +50,8 @@ all_filtered test P (name ∷ names) gives = at_name (test name) refl (all_filte
     at_name false is rest = rest
 
 -- a name that fails the test is apart from the removals of those that pass it
-pub filtered_apart : (test : List ℕ → Bool) (names : List (List ℕ)) (name : List ℕ) → test name ≡ false → Apart (removals (filter test names)) name
+pub filtered_apart : (test : List ℕ → Bool) (names : List (List ℕ)) (name : List ℕ) → test name ≡ false
+    → Apart (removals (filter test names)) name
 filtered_apart test [] name fails = tt
 filtered_apart test (first ∷ names) name fails = at_first (test first) refl (filtered_apart test names name fails)
   where

@@ -6,6 +6,7 @@ pub mod Rows
 pub mod Stages
 pub mod Primaries
 pub mod Reading
+pub mod Searching
 pub mod Among
 pub mod Saving
 pub mod SaveMoments

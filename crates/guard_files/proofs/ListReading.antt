@@ -16,11 +16,13 @@ use Rattle.guard_files.specs.parts.Last.{last_name}
 use Rattle.guard_files.proofs.Lists.{lines_of-text, lines_of-names, listed-text, text-listed, list_text-push}
 
 -- a text of names and more, read to its end
-pub listed-whole : (bytes : List ℕ) (names : List (List ℕ)) → are_listable names ≡ true → list_text names ++ [] ≡ bytes → listed bytes ≡ Some names
+pub listed-whole : (bytes : List ℕ) (names : List (List ℕ)) → are_listable names ≡ true
+    → list_text names ++ [] ≡ bytes → listed bytes ≡ Some names
 listed-whole bytes names may is = ap listed (sym is ∙ append-nil (list_text names)) ∙ listed-text names may
 
 -- where the bytes are a list file, its names are those so far and the lines of the rest
-names_are : (bytes rest : List ℕ) (names found : List (List ℕ)) → are_listable names ≡ true → list_text names ++ rest ≡ bytes
+names_are : (bytes rest : List ℕ) (names found : List (List ℕ)) → are_listable names ≡ true
+    → list_text names ++ rest ≡ bytes
     → listed bytes ≡ Some found → found ≡ names ++ lines_of rest
 names_are bytes rest names found may is some =
     let spelled = text-listed bytes found some in
@@ -30,12 +32,14 @@ none_where : (found : Option (List (List ℕ))) → ((names : List (List ℕ)) �
 none_where None never = refl
 none_where (Some names) never = absurd (never names refl)
 
-list_all-append : (test : List ℕ → Bool) (first second : List (List ℕ)) → list_all test (first ++ second) ≡ true → list_all test second ≡ true
+list_all-append : (test : List ℕ → Bool) (first second : List (List ℕ)) → list_all test (first ++ second) ≡ true
+    → list_all test second ≡ true
 list_all-append test [] second all = all
 list_all-append test (name ∷ first) second all = list_all-append test first second (and_parts _ _ all).1
 
 -- a line that may not stand in a list
-pub listed-bad_line : (bytes line after : List ℕ) (names : List (List ℕ)) (rest : List ℕ) → are_listable names ≡ true → list_text names ++ rest ≡ bytes
+pub listed-bad_line : (bytes line after : List ℕ) (names : List (List ℕ)) (rest : List ℕ) → are_listable names ≡ true
+    → list_text names ++ rest ≡ bytes
     → lines_of rest ≡ line ∷ lines_of after → is_listable line ≡ false → listed bytes ≡ None
 listed-bad_line bytes line after names rest may is lines bad =
     none_where (listed bytes) (λ found some.
@@ -45,7 +49,8 @@ listed-bad_line bytes line after names rest may is lines bad =
     both_ways (is_listable line) bad (and_parts _ _ (ap (list_all is_listable) (sym lines) ∙ tail)).0)
 
 -- each name is below what is above the last
-below-trans : (a b c : List ℕ) → is_lt (slice_cmp nat_cmp a b) ≡ true → is_lt (slice_cmp nat_cmp b c) ≡ true → is_lt (slice_cmp nat_cmp a c) ≡ true
+below-trans : (a b c : List ℕ) → is_lt (slice_cmp nat_cmp a b) ≡ true → is_lt (slice_cmp nat_cmp b c) ≡ true
+    → is_lt (slice_cmp nat_cmp a c) ≡ true
 below-trans a b c first second =
     ap is_lt (nat_list_cmp_total.trans a b c (less (slice_cmp nat_cmp a b) first) (less (slice_cmp nat_cmp b c) second))
   where
@@ -54,17 +59,20 @@ below-trans a b c first second =
     less Equal is = absurd (false≢true is)
     less Greater is = absurd (false≢true is)
 
-all_below_last : (name next : List ℕ) (names : List (List ℕ)) → list_all (λ later. is_lt (slice_cmp nat_cmp name later)) (next ∷ names) ≡ true
+all_below_last : (name next : List ℕ) (names : List (List ℕ))
+    → list_all (λ later. is_lt (slice_cmp nat_cmp name later)) (next ∷ names) ≡ true
     → is_lt (slice_cmp nat_cmp name (last_name (next ∷ names))) ≡ true
 all_below_last name next [] all = (and_parts _ _ all).0
 all_below_last name next (more ∷ names) all = all_below_last name more names (and_parts _ _ all).1
 
-all_push : (test : List ℕ → Bool) (names : List (List ℕ)) (line : List ℕ) → list_all test names ≡ true → test line ≡ true
+all_push : (test : List ℕ → Bool) (names : List (List ℕ)) (line : List ℕ) → list_all test names ≡ true
+    → test line ≡ true
     → list_all test (names ++ line ∷ []) ≡ true
 all_push test [] line all one = and_from _ _ one refl
 all_push test (name ∷ names) line all one = let both = and_parts _ _ all in and_from _ _ both.0 (all_push test names line both.1 one)
 
-rises-push : (names : List (List ℕ)) (line : List ℕ) → rises names ≡ true → is_lt (slice_cmp nat_cmp (last_name names) line) ≡ true
+rises-push : (names : List (List ℕ)) (line : List ℕ) → rises names ≡ true
+    → is_lt (slice_cmp nat_cmp (last_name names) line) ≡ true
     → rises (names ++ line ∷ []) ≡ true
 rises-push [] line rising above = refl
 rises-push (name ∷ []) line rising above = and_from _ _ (and_from _ _ above refl) refl
@@ -87,15 +95,18 @@ last_name-push (name ∷ []) line = refl
 last_name-push (name ∷ next ∷ names) line = last_name-push (next ∷ names) line
 
 -- in names that rise a line is above the last before it
-rises-at : (names : List (List ℕ)) (line : List ℕ) (more : List (List ℕ)) → 0 < length line → rises (names ++ line ∷ more) ≡ true
+rises-at : (names : List (List ℕ)) (line : List ℕ) (more : List (List ℕ)) → 0 < length line
+    → rises (names ++ line ∷ more) ≡ true
     → is_lt (slice_cmp nat_cmp (last_name names) line) ≡ true
 rises-at [] [] more some rising = absurd (omega arith)
 rises-at [] (byte ∷ line) more some rising = refl
 rises-at (name ∷ []) line more some rising = (and_parts _ _ (and_parts _ _ rising).0).0
 rises-at (name ∷ next ∷ names) line more some rising = rises-at (next ∷ names) line more some (and_parts _ _ rising).1
 
-pub listed-unsorted : (bytes line after : List ℕ) (names : List (List ℕ)) (rest : List ℕ) → are_listable names ≡ true → list_text names ++ rest ≡ bytes
-    → lines_of rest ≡ line ∷ lines_of after → 0 < length line → is_lt (slice_cmp nat_cmp (last_name names) line) ≡ false → listed bytes ≡ None
+pub listed-unsorted : (bytes line after : List ℕ) (names : List (List ℕ)) (rest : List ℕ) → are_listable names ≡ true
+    → list_text names ++ rest ≡ bytes
+    → lines_of rest ≡ line ∷ lines_of after → 0 < length line
+    → is_lt (slice_cmp nat_cmp (last_name names) line) ≡ false → listed bytes ≡ None
 listed-unsorted bytes line after names rest may is lines some unsorted =
     none_where (listed bytes) (λ found listing.
     let whole = names_are bytes rest names found may is listing ∙ ap (λ more. names ++ more) lines in
@@ -104,14 +115,16 @@ listed-unsorted bytes line after names rest may is lines some unsorted =
     (rises-at names line (lines_of after) some (ap rises (sym whole) ∙ rising)))
 
 -- a last line without a newline
-lines_of-cut : (byte : ℕ) (bytes : List ℕ) → list_all (λ byte. not (byte == 10)) (byte ∷ bytes) ≡ true → lines_of (byte ∷ bytes) ≡ (byte ∷ bytes) ∷ []
+lines_of-cut : (byte : ℕ) (bytes : List ℕ) → list_all (λ byte. not (byte == 10)) (byte ∷ bytes) ≡ true
+    → lines_of (byte ∷ bytes) ≡ (byte ∷ bytes) ∷ []
 lines_of-cut byte [] all = ap (λ test. cond test ([] ∷ []) ((byte ∷ []) ∷ [])) (not-true (byte == 10) (and_parts _ _ all).0)
 lines_of-cut byte (next ∷ bytes) all =
     let both = and_parts _ _ all in
     ap (λ test. cond test ([] ∷ lines_of (next ∷ bytes)) (in_front byte (lines_of (next ∷ bytes)))) (not-true (byte == 10) both.0)
     ∙ ap (in_front byte) (lines_of-cut next bytes both.1)
 
-no_newline : (bytes : List ℕ) → length bytes ≤ position_or_len (λ byte. byte == 10) bytes → list_all (λ byte. not (byte == 10)) bytes ≡ true
+no_newline : (bytes : List ℕ) → length bytes ≤ position_or_len (λ byte. byte == 10) bytes
+    → list_all (λ byte. not (byte == 10)) bytes ≡ true
 no_newline [] past = refl
 no_newline (byte ∷ bytes) past = at_byte (byte == 10) refl (no_newline bytes)
   where
@@ -138,7 +151,8 @@ found_some false place end is = absurd (cc)
 longer : (text : List ℕ) → text ++ 10 ∷ [] ≡ text → ⊥
 longer text is = omega (arith, length-append text (10 ∷ []), ap length is)
 
-pub listed-cut : (bytes : List ℕ) (names : List (List ℕ)) (rest : List ℕ) → are_listable names ≡ true → list_text names ++ rest ≡ bytes
+pub listed-cut : (bytes : List ℕ) (names : List (List ℕ)) (rest : List ℕ) → are_listable names ≡ true
+    → list_text names ++ rest ≡ bytes
     → 0 < length rest → position (λ byte. byte == 10) rest ≡ None → listed bytes ≡ None
 listed-cut bytes names [] may is some none = absurd (omega arith)
 listed-cut bytes names (byte ∷ rest) may is some none =
@@ -157,11 +171,13 @@ pub record FirstLine (rest : List ℕ) (end : ℕ) : Type 0 where
   pub split : rest ≡ take end rest ++ 10 ∷ drop (suc end) rest
   pub lines : lines_of rest ≡ take end rest ∷ lines_of (drop (suc end) rest)
 
-first_line : (rest : List ℕ) (end : ℕ) → position_or_len (λ byte. byte == 10) rest ≡ end → end < length rest → FirstLine rest end
+first_line : (rest : List ℕ) (end : ℕ) → position_or_len (λ byte. byte == 10) rest ≡ end → end < length rest
+    → FirstLine rest end
 first_line [] end is within = absurd (omega arith)
 first_line (byte ∷ bytes) end is within = at_byte (byte == 10) refl end is within (first_line bytes)
   where
-    at_byte : (test : Bool) → (byte == 10) ≡ test → (end : ℕ) → position_or_len (λ byte. byte == 10) (byte ∷ bytes) ≡ end
+    at_byte : (test : Bool) → (byte == 10) ≡ test → (end : ℕ)
+        → position_or_len (λ byte. byte == 10) (byte ∷ bytes) ≡ end
         → end < length (byte ∷ bytes)
         → ((end : ℕ) → position_or_len (λ byte. byte == 10) bytes ≡ end → end < length bytes → FirstLine bytes end)
         → FirstLine (byte ∷ bytes) end
@@ -203,8 +219,10 @@ none_left [] empty is ended = refl
 none_left (byte ∷ rest) empty is ended = absurd (omega (arith, eqb-true (length (byte ∷ rest)) 0 (sym is ∙ ended)))
 
 -- one more line was read
-pub read_more : (names items : List (List ℕ)) (rest bytes line after : List ℕ) (end : ℕ) → items ≡ names ++ line ∷ [] → line ≡ take end rest
-    → after ≡ drop (end + 1) rest → FirstLine rest end → list_text names ++ rest ≡ bytes → list_text items ++ after ≡ bytes
+pub read_more : (names items : List (List ℕ)) (rest bytes line after : List ℕ) (end : ℕ) → items ≡ names ++ line ∷ []
+    → line ≡ take end rest
+    → after ≡ drop (end + 1) rest → FirstLine rest end → list_text names ++ rest ≡ bytes
+    → list_text items ++ after ≡ bytes
 read_more names items rest bytes line after end items_are line_is after_is first so_far =
     ap (λ (items : List (List ℕ)). list_text items ++ after) items_are
     ∙ ap (λ text. text ++ after) (list_text-push names line)

@@ -1,20 +1,18 @@
 -- A list file and the names in it.
-use Rattle.std.proofs.Common.{◌≡◌, ℕ, Bool, true, false, ◌&&◌, ◌==◌, List, [], ◌∷◌, ◌++◌, Some, None, length, cond, refl, sym, ◌∙◌, ap, append_assoc, get_or, ◌<◌, ◌||◌}
+use Rattle.std.proofs.Common.{◌≡◌, ℕ, Bool, true, false, ◌&&◌, ◌==◌, List, [], ◌∷◌, ◌++◌, Some, None, length, cond, refl, sym, ◌∙◌, ap, append_assoc, get_or, ◌<◌}
 use Rattle.std.proofs.lemmas.List.{append-nil}
 use Rattle.std.proofs.lemmas.Bool.{and_parts, and_from, both_ways, ne_eqb, false≢true}
-use Rattle.std.specs.List.{list_all, list_any, AllPass, AllByRecursion}
+use Rattle.std.specs.List.{list_all, AllPass, AllByRecursion}
 use Rattle.std.specs.List.Sorted.{IsStrictlySortedBy}
 use Rattle.std.specs.Ordering.{nat_cmp, is_lt}
 use Rattle.std.specs.Cmp.Lexicographic.{slice_cmp}
 use Rattle.std.specs.declared.cmp.Ordering.{Ordering}
 use Rattle.std.specs.declared.cmp.Ordering.TheVariants.{Less, Equal, Greater}
-use Rattle.std.specs.Str.{bytes_eq}
 use Rattle.std.proofs.lemmas.List.Recursion.{and_at, and_from_places}
 use Rattle.desk_ports.specs.declared.file_sets.SetFile.{SetFile}
 use Rattle.desk_ports.specs.FileName.{is_file_name_byte}
 use Rattle.desk_ports.specs.FileMap.{names_of, NamesRise}
 use Rattle.guard_files.specs.OwnName.{is_listable}
-use Rattle.guard_files.specs.Holding.{is_among}
 use Rattle.guard_files.specs.ListFile.{list_text, in_front, lines_of, rises, are_listable, listed}
 use Rattle.guard_files.proofs.Names.{same-true, same-same, listable}
 
@@ -22,7 +20,8 @@ no_newline : (byte : ℕ) → is_file_name_byte byte ≡ true → (byte == 10) �
 no_newline byte is = ne_eqb byte 10 (λ newline. both_ways (is_file_name_byte byte) (ap is_file_name_byte newline) is)
 
 -- a line without a newline in it, and the one that ends it
-pub lines_of-line : (line rest : List ℕ) → list_all is_file_name_byte line ≡ true → lines_of (line ++ 10 ∷ rest) ≡ line ∷ lines_of rest
+pub lines_of-line : (line rest : List ℕ) → list_all is_file_name_byte line ≡ true
+    → lines_of (line ++ 10 ∷ rest) ≡ line ∷ lines_of rest
 lines_of-line [] rest all = refl
 lines_of-line (byte ∷ line) rest all =
     let both = and_parts _ _ all in
@@ -70,7 +69,8 @@ text-listed bytes names is =
     (λ both. let parts = and_parts _ _ both in (same-true _ _ parts.0, parts.1)) is
 
 -- one more name
-pub list_text-push : (names : List (List ℕ)) (name : List ℕ) → list_text (names ++ name ∷ []) ≡ (list_text names ++ name) ++ 10 ∷ []
+pub list_text-push : (names : List (List ℕ)) (name : List ℕ)
+    → list_text (names ++ name ∷ []) ≡ (list_text names ++ name) ++ 10 ∷ []
 list_text-push [] name = refl
 list_text-push (first ∷ names) name =
     ap (λ rest. first ++ 10 ∷ rest) (list_text-push names name)
@@ -78,19 +78,16 @@ list_text-push (first ∷ names) name =
     ∙ ap (λ front. front ++ 10 ∷ []) (sym (append_assoc first (10 ∷ list_text names) name))
 
 -- the name of a file whose names may all stand in a list
-pub listable_at : (files : List SetFile) (i : ℕ) (file : SetFile) → list_all is_listable (names_of files) ≡ true → i < length files
+pub listable_at : (files : List SetFile) (i : ℕ) (file : SetFile) → list_all is_listable (names_of files) ≡ true
+    → i < length files
     → file ≡ get_or files i file → is_listable file.name ≡ true
 listable_at files i file all within is =
     ap (λ (file : SetFile). is_listable file.name) is
     ∙ and_at (λ (files : List SetFile). list_all is_listable (names_of files)) (λ file. is_listable file.name) refl (λ _ _. refl) files i file within all
 
--- a name is among those of files where a file has it
-pub among_names : (files : List SetFile) (name : List ℕ) → list_any (λ file. bytes_eq file.name name) files ≡ is_among (names_of files) name
-among_names [] name = refl
-among_names (file ∷ files) name = ap (λ found. bytes_eq file.name name || found) (among_names files name)
-
 -- a set's names rise, so they may stand in a list where each of them may
-all_above : (name : List ℕ) (names : List (List ℕ)) → AllByRecursion (λ later. slice_cmp nat_cmp name later ≡ Less) names
+all_above : (name : List ℕ) (names : List (List ℕ))
+    → AllByRecursion (λ later. slice_cmp nat_cmp name later ≡ Less) names
     → list_all (λ later. is_lt (slice_cmp nat_cmp name later)) names ≡ true
 all_above name [] above = refl
 all_above name (later ∷ names) above = and_from _ _ (ap is_lt above.0) (all_above name names above.1)
@@ -100,7 +97,8 @@ unfolding IsStrictlySortedBy
 rises-from [] rising = refl
 rises-from (name ∷ names) rising = and_from _ _ (all_above name names rising.0) (rises-from names rising.1)
 
-above_all : (name : List ℕ) (names : List (List ℕ)) → list_all (λ later. is_lt (slice_cmp nat_cmp name later)) names ≡ true
+above_all : (name : List ℕ) (names : List (List ℕ))
+    → list_all (λ later. is_lt (slice_cmp nat_cmp name later)) names ≡ true
     → AllByRecursion (λ later. slice_cmp nat_cmp name later ≡ Less) names
 above_all name [] above = tt
 above_all name (later ∷ names) above =

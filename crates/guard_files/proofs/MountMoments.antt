@@ -22,11 +22,13 @@ use Rattle.guard_files.proofs.Leaving.{among-listed, all_filtered, goes_plain, l
 use Rattle.guard_files.proofs.Mounting.{leftover, low, low_stands, low_reads, low_guard_apart, low_apart, low_own, rest, rest_stands, rest_guard_apart, rest_apart, rest_own}
 
 -- what the guard's name among the names tells
-guard_there : (files : FileMap) (names : List (List ℕ)) (name : List ℕ) → AreNamesOf files names → is_among names name ≡ true → IsSome (files name)
+guard_there : (files : FileMap) (names : List (List ℕ)) (name : List ℕ) → AreNamesOf files names
+    → is_among names name ≡ true → IsSome (files name)
 guard_there files names name are is =
     (are name).0 (Contains-from_any {eq = λ asked other. bytes_eq other asked} (λ asked other same. sym (same-true other asked same)) name names is)
 
-pub guard_is : (files : FileMap) (names : List (List ℕ)) → AreNamesOf files names → is_among names guard_name ≡ is_some (files guard_name)
+pub guard_is : (files : FileMap) (names : List (List ℕ)) → AreNamesOf files names
+    → is_among names guard_name ≡ is_some (files guard_name)
 guard_is files names are = at_guard (files guard_name) refl
   where
     at_guard : (found : Option (List ℕ)) → files guard_name ≡ found → is_among names guard_name ≡ is_some found
@@ -36,7 +38,8 @@ guard_is files names are = at_guard (files guard_name) refl
     ]
     at_guard (Some bytes) is = among-listed files names guard_name are (subst IsSome (sym is) refl)
 
-pub recover-read : (files : FileMap) (guarded : Bool) (found : Recovered) → guarded ≡ is_some (files guard_name) → set_read guarded files ≡ found
+pub recover-read : (files : FileMap) (guarded : Bool) (found : Recovered) → guarded ≡ is_some (files guard_name)
+    → set_read guarded files ≡ found
     → recover files ≡ found
 unfolding recover
 recover-read files guarded found is read = ap (λ guarded. set_read guarded files) (sym is) ∙ read
@@ -61,7 +64,8 @@ module _ {D : Type 0} (state : D → Option DiskState) (moment : D → ℕ) (lef
   abbrev Stays : FileMap → Type 0
   Stays left = recover left ≡ Ok (Some set)
 
-  pub over_renewal : (old new : D) (going : List (List ℕ)) (files : List SetFile) → going ≡ gone → files ≡ set → state old ≡ Some (with_all_durable base)
+  pub over_renewal : (old new : D) (going : List (List ℕ)) (files : List SetFile) → going ≡ gone → files ≡ set
+      → state old ≡ Some (with_all_durable base)
       → WhereTold (state old) (λ before. AddsOnly moment left_since old new (MayLeave (after (primary_changes going files) before)))
       → AddsOnly moment left_since old new (λ left. recover left ≡ Ok (Some set))
   over_renewal old new going files going_is files_is told adds =
@@ -71,7 +75,8 @@ module _ {D : Type 0} (state : D → Option DiskState) (moment : D → ℕ) (lef
       (subst (λ (going : List (List ℕ)). AddsOnly moment left_since old new (MayLeave (after (primary_changes going files) (with_all_durable base)))) going_is
       (adds (with_all_durable base) told)))
 
-  pub told_renewal : (old new : D) (going : List (List ℕ)) (files : List SetFile) → going ≡ gone → files ≡ set → state old ≡ Some (with_all_durable base)
+  pub told_renewal : (old new : D) (going : List (List ℕ)) (files : List SetFile) → going ≡ gone → files ≡ set
+      → state old ≡ Some (with_all_durable base)
       → WhereTold (state old) (λ before. state new ≡ Some (with_all_durable (after (primary_changes going files) before)))
       → state new ≡ Some (with_all_durable (after (primary_changes gone set) (with_all_durable base)))
   told_renewal old new going files going_is files_is told done =
@@ -116,7 +121,8 @@ module _ {D : Type 0} (state : D → Option DiskState) (moment : D → ℕ) (lef
 module _ {D : Type 0} (state : D → Option DiskState) (moment : D → ℕ) (left_since : D → ℕ → FileMap → Type 0)
     (base : DiskState) (held : Option (List SetFile)) (names : List (List ℕ)) (unguarded : base.current guard_name ≡ None)
     (reads : primary_set base.current ≡ Ok held) (are : AreNamesOf base.current names) where
-  pub over_rest : (old new : D) (extra : List (List ℕ)) → extra ≡ filter (is_left_over false held) names → state old ≡ Some (with_all_durable base)
+  pub over_rest : (old new : D) (extra : List (List ℕ)) → extra ≡ filter (is_left_over false held) names
+      → state old ≡ Some (with_all_durable base)
       → WhereTold (state old) (λ before. AddsOnly moment left_since old new (MayLeave (after (removals extra) before)))
       → AddsOnly moment left_since old new (λ left. recover left ≡ Ok held)
   over_rest old new extra extra_is told adds =
@@ -128,7 +134,8 @@ module _ {D : Type 0} (state : D → Option DiskState) (moment : D → ℕ) (lef
       (adds (with_all_durable base) told))
 
   pub ends_unguarded : (new : D) (extra : List (List ℕ)) → extra ≡ filter (is_left_over false held) names
-      → state new ≡ Some (with_all_durable (after (removals extra) (with_all_durable base))) → EndsAtRest held (state new)
+      → state new ≡ Some (with_all_durable (after (removals extra) (with_all_durable base)))
+      → EndsAtRest held (state new)
   ends_unguarded new extra extra_is told = (
     with_all_durable (after (removals (rest base held names unguarded reads are)) (with_all_durable base)),
     subst (λ (extra : List (List ℕ)). state new ≡ Some (with_all_durable (after (removals extra) (with_all_durable base)))) extra_is told,

@@ -22,7 +22,8 @@ use Rattle.guard_files.proofs.Saving.{as_placed}
 use Rattle.guard_files.proofs.Leaving.{none_or_listed, all_filtered, filtered_apart, goes_plain}
 
 -- a name of neither the list nor the set
-not_own : (held : Option (List SetFile)) (name : List ℕ) → bytes_eq name list_name ≡ false → is_among (set_names held) name ≡ false → is_own name ≡ true
+not_own : (held : Option (List SetFile)) (name : List ℕ) → bytes_eq name list_name ≡ false
+    → is_among (set_names held) name ≡ false → is_own name ≡ true
     → ((not (bytes_eq name list_name) && not (is_among (set_names held) name)) && is_own name) ≡ true
 not_own held name not_list not_held own = and_from _ _ (and_from _ _ (ap not not_list) (ap not not_held)) own
 
@@ -65,10 +66,12 @@ module _ (before : DiskState) (bytes : List ℕ) (set : List SetFile) (names : L
   changes_plain : InPrimaries (primary_changes going set)
   changes_plain = primary_changes-plain going set going_plain set_may
 
-  off_guard : (name : List ℕ) → name ≢ guard_name → low.current name ≡ changed (primary_changes going set) before.current name
+  off_guard : (name : List ℕ) → name ≢ guard_name
+      → low.current name ≡ changed (primary_changes going set) before.current name
   off_guard name other = content-other (changed (primary_changes going set) before.current) guard_name name None (λ same. other (sym same))
 
-  backup_gone : (name : List ℕ) → is_own name ≡ true → is_backup name ≡ true → changed (removals leftover) low.current name ≡ None
+  backup_gone : (name : List ℕ) → is_own name ≡ true → is_backup name ≡ true
+      → changed (removals leftover) low.current name ≡ None
   backup_gone name own backup =
       elim (none_or_listed before.current names name are) [
         | inl none ↦
@@ -79,7 +82,8 @@ module _ (before : DiskState) (bytes : List ℕ) (set : List SetFile) (names : L
         | inr there ↦ removals-among leftover low.current name (among-filter (is_left_over true (Some set)) names name (and_from _ _ backup own) there)
       ]
 
-  plain_gone : (name : List ℕ) → is_own name ≡ true → is_backup name ≡ false → is_among (own_names (Some set)) name ≡ false
+  plain_gone : (name : List ℕ) → is_own name ≡ true → is_backup name ≡ false
+      → is_among (own_names (Some set)) name ≡ false
       → changed (removals leftover) low.current name ≡ None
   plain_gone name own plain absent =
       changed-other (removals leftover) low.current name (apart_from_backups (removals leftover) leftover_backups name plain)
@@ -126,7 +130,8 @@ found_each name (Some bytes) (Ok rest) set P gives is =
 is_there : (content : Option (List ℕ)) (bytes : List ℕ) → content ≡ Some bytes → IsSome content
 is_there content bytes is = subst IsSome (sym is) refl
 
-files_there : (files : FileMap) (names : List (List ℕ)) (set : List SetFile) → files_at primary_name files names ≡ Ok set
+files_there : (files : FileMap) (names : List (List ℕ)) (set : List SetFile)
+    → files_at primary_name files names ≡ Ok set
     → AllByRecursion (λ name. IsSome (files name)) (names_of set)
 files_there files [] [] is = tt
 files_there files [] (file ∷ set) is = absurd (cc)
@@ -139,12 +144,14 @@ pub record IsRead (held : Option (List SetFile)) (files : FileMap) : Type 0 wher
   pub there : AllByRecursion (λ name. IsSome (files name)) (own_names held)
   pub unlisted : held ≡ None → files list_name ≡ None
 
-read_named : (files : FileMap) (bytes : List ℕ) (found : Option (List (List ℕ))) (held : Option (List SetFile)) → files list_name ≡ Some bytes
+read_named : (files : FileMap) (bytes : List ℕ) (found : Option (List (List ℕ))) (held : Option (List SetFile))
+    → files list_name ≡ Some bytes
     → listed bytes ≡ found → set_named primary_name files found ≡ Ok held → IsRead held files
 read_named files bytes None held some are is = absurd (cc)
 read_named files bytes (Some names) held some are is = at_files (files_at primary_name files names) refl is
   where
-    at_files : (read : Result (List SetFile) (List ℕ)) → files_at primary_name files names ≡ read → set_of read ≡ Ok held → IsRead held files
+    at_files : (read : Result (List SetFile) (List ℕ)) → files_at primary_name files names ≡ read
+        → set_of read ≡ Ok held → IsRead held files
     at_files (Err absent) read is = absurd (cc)
     at_files (Ok set) read is =
         let whole : Some set ≡ held = cc in
@@ -230,8 +237,10 @@ module _ (before : DiskState) (held : Option (List SetFile)) (names : List (List
   kept_own None apart = tt
   kept_own (Some files) apart = (changed-other (removals rest) before.current list_name list_apart, kept_names (names_of files) apart)
 
-  not_listed : (held : Option (List SetFile)) (name : List ℕ) → (held ≡ None → before.current list_name ≡ None) → is_among (own_names held) name ≡ false
-      → is_among names name ≡ true → (before.current name ≡ None) ⊎ ((bytes_eq name list_name ≡ false) × (is_among (set_names held) name ≡ false))
+  not_listed : (held : Option (List SetFile)) (name : List ℕ) → (held ≡ None → before.current list_name ≡ None)
+      → is_among (own_names held) name ≡ false
+      → is_among names name ≡ true
+      → (before.current name ≡ None) ⊎ ((bytes_eq name list_name ≡ false) × (is_among (set_names held) name ≡ false))
   not_listed None name none absent there = elim (names_cases name list_name) [
     | inl same ↦ inl (ap before.current same ∙ none refl)
     | inr other ↦ inr (same-other name list_name other, refl)
@@ -239,7 +248,8 @@ module _ (before : DiskState) (held : Option (List SetFile)) (names : List (List
   not_listed (Some files) name none absent there =
       let both = or_parts (bytes_eq list_name name) (is_among (names_of files) name) absent in inr (turned name list_name both.0, both.1)
 
-  own_gone : (name : List ℕ) → is_own name ≡ true → is_among (own_names held) name ≡ false → changed (removals rest) before.current name ≡ None
+  own_gone : (name : List ℕ) → is_own name ≡ true → is_among (own_names held) name ≡ false
+      → changed (removals rest) before.current name ≡ None
   own_gone name own absent =
       elim (none_or_listed before.current names name are) [
         | inl none ↦ removals-none rest before.current name none

@@ -39,9 +39,6 @@ front-backup name = take_at name (126 ∷ []) _ (omega (arith, length-append nam
 pub backup-same : (name other : List ℕ) → backup_name name ≡ backup_name other → name ≡ other
 backup-same name other same = sym (front-backup name) ∙ ap front same ∙ front-backup other
 
-pub not_backup : (name other : List ℕ) → is_backup name ≡ false → name ≢ backup_name other
-not_backup name other plain same = both_ways (is_backup name) plain (ap is_backup same ∙ is_backup-backup other)
-
 -- what a listable name is
 pub record Listable (name : List ℕ) : Type 0 where
   pub bytes : list_all is_file_name_byte name ≡ true

@@ -1,5 +1,5 @@
--- The primaries are made those of the set in the backups, and the guard is taken away: whatever a stop leaves stands for that
--- set.
+-- The primaries are made those of the set in the backups, and the guard is taken away: whatever a stop leaves stands
+-- for that set.
 use Rattle.std.proofs.Common.{◌≡◌, ℕ, true, List, [], ◌∷◌, ◌++◌, map, Some, None, Ok, inl, inr, refl, sym, ◌∙◌, subst}
 use Rattle.std.proofs.lemmas.Bool.{and_parts}
 use Rattle.std.specs.List.{AllByRecursion, list_all}
@@ -16,7 +16,8 @@ use Rattle.guard_files.proofs.Sets.{changed-append, content-same, content-other,
 use Rattle.guard_files.proofs.Stages.{IsPlain, InBackups, InPrimaries, left_in_primaries, left_at_guard, PrimariesStand, recover-unguarded, recover-guarded, recover-either, list_plain, list_not_guard, all_untouched}
 
 -- changes of a set's files, of names that are removed
-pub in_primaries-append : (first second : List Change) → InPrimaries first → InPrimaries second → InPrimaries (first ++ second)
+pub in_primaries-append : (first second : List Change) → InPrimaries first → InPrimaries second
+    → InPrimaries (first ++ second)
 in_primaries-append [] second all more = more
 in_primaries-append (change ∷ first) second all more = (all.0, in_primaries-append first second all.1 more)
 
@@ -28,7 +29,8 @@ pub removals_plain : (names : List (List ℕ)) → AllByRecursion IsPlain names 
 removals_plain [] plain = tt
 removals_plain (name ∷ names) plain = (plain.0, removals_plain names plain.1)
 
-pub removals_backups : (names : List (List ℕ)) → AllByRecursion (λ name. is_backup name ≡ true) names → InBackups (removals names)
+pub removals_backups : (names : List (List ℕ)) → AllByRecursion (λ name. is_backup name ≡ true) names
+    → InBackups (removals names)
 removals_backups [] backups = tt
 removals_backups (name ∷ names) backups = (backups.0, removals_backups names backups.1)
 
@@ -46,7 +48,8 @@ pub set_writes-backups : (set : List SetFile) → InBackups (set_writes backup_n
 set_writes-backups set =
     in_backups-append (writes backup_name set) (list_write backup_name set ∷ []) (files_backups set) (is_backup-backup list_name, tt)
 
-pub primary_changes-plain : (gone : List (List ℕ)) (set : List SetFile) → AllByRecursion IsPlain gone → are_listable (names_of set) ≡ true
+pub primary_changes-plain : (gone : List (List ℕ)) (set : List SetFile) → AllByRecursion IsPlain gone
+    → are_listable (names_of set) ≡ true
     → InPrimaries (primary_changes gone set)
 primary_changes-plain gone set plain may =
     in_primaries-append (removals gone) (set_writes primary_name set) (removals_plain gone plain)
@@ -72,7 +75,8 @@ kept_plain (file ∷ rest) files others same all holds =
     let is = listable file.name both.0 in
     (same file.name (record { plain = is.plain; not_guard = is.not_guard }) ∙ holds.0, kept_plain rest files others same both.1 holds.1)
 
-pub holds_plain : (set : List SetFile) (files others : FileMap) → ((name : List ℕ) → IsPlain name → others name ≡ files name)
+pub holds_plain : (set : List SetFile) (files others : FileMap)
+    → ((name : List ℕ) → IsPlain name → others name ≡ files name)
     → are_listable (names_of set) ≡ true → Holds primary_name set files → Holds primary_name set others
 holds_plain set files others same may holds = record {
   list = same list_name (record { plain = list_plain; not_guard = list_not_guard }) ∙ holds.list;
@@ -95,10 +99,6 @@ module _ (state : DiskState) (bytes : List ℕ) (set : List SetFile) (gone : Lis
 
   renewed_leaves : MayLeave renewed renewed.current
   renewed_leaves = touched_only-after (primary_changes gone set) (with_all_durable state) (durable_only state)
-
-  pub renewed_guard : renewed.current guard_name ≡ Some bytes
-  renewed_guard =
-      (left_in_primaries (primary_changes gone set) (primary_changes-plain gone set plain may) state renewed.current renewed_leaves).guard ∙ guarded
 
   renewed_backups : backup_set renewed.current ≡ Ok (Some set)
   renewed_backups =

@@ -12,7 +12,8 @@ use Rattle.guard_files.proofs.Lists.{text-listed}
 
 -- the files read have the names asked for
 one_more : (name : List ℕ) (names : List (List ℕ)) (found : Option (List ℕ)) (others : Result (List SetFile) (List ℕ)) (set : List SetFile)
-    → ((files : List SetFile) → others ≡ Ok files → names_of files ≡ names) → with_file name found others ≡ Ok set → names_of set ≡ name ∷ names
+    → ((files : List SetFile) → others ≡ Ok files → names_of files ≡ names) → with_file name found others ≡ Ok set
+    → names_of set ≡ name ∷ names
 one_more name names None others set rest is = absurd (cc)
 one_more name names (Some bytes) (Err absent) set rest is = absurd (cc)
 one_more name names (Some bytes) (Ok files) set rest is =
@@ -26,7 +27,8 @@ names_of-files_at place files [] (file ∷ set) is = absurd (cc)
 names_of-files_at place files (name ∷ names) set is =
     one_more name names (files (place name)) (files_at place files names) set (names_of-files_at place files names) is
 
-pub set_of-Ok : (read : Result (List SetFile) (List ℕ)) (set : List SetFile) → set_of read ≡ Ok (Some set) → read ≡ Ok set
+pub set_of-Ok : (read : Result (List SetFile) (List ℕ)) (set : List SetFile) → set_of read ≡ Ok (Some set)
+    → read ≡ Ok set
 set_of-Ok (Ok files) set is = cc
 set_of-Ok (Err absent) set is = absurd (cc)
 
@@ -39,23 +41,27 @@ named_may place files (Some names) set may is =
     ap are_listable (names_of-files_at place files names set (set_of-Ok (files_at place files names) set is)) ∙ may names refl
 
 listed_may : (place : List ℕ → List ℕ) (absent : Recovered) (files : FileMap) (list : Option (List ℕ)) (set : List SetFile)
-    → (absent ≡ Ok (Some set) → ⊥) → set_listed place absent files list ≡ Ok (Some set) → are_listable (names_of set) ≡ true
+    → (absent ≡ Ok (Some set) → ⊥) → set_listed place absent files list ≡ Ok (Some set)
+    → are_listable (names_of set) ≡ true
 listed_may place absent files None set none is = absurd (none is)
 listed_may place absent files (Some bytes) set none is =
     named_may place files (listed bytes) set (λ names found. (text-listed bytes names found).1) is
 
-pub primaries_may : (files : FileMap) (set : List SetFile) → primary_set files ≡ Ok (Some set) → are_listable (names_of set) ≡ true
+pub primaries_may : (files : FileMap) (set : List SetFile) → primary_set files ≡ Ok (Some set)
+    → are_listable (names_of set) ≡ true
 unfolding primary_set
 primaries_may files set is = listed_may primary_name (Ok None) files (files list_name) set (λ same. cc) is
 
-pub backups_may : (files : FileMap) (set : List SetFile) → backup_set files ≡ Ok (Some set) → are_listable (names_of set) ≡ true
+pub backups_may : (files : FileMap) (set : List SetFile) → backup_set files ≡ Ok (Some set)
+    → are_listable (names_of set) ≡ true
 unfolding backup_set
 backups_may files set is = listed_may backup_name (Err (backup_name list_name)) files (files (backup_name list_name)) set (λ same. cc) is
 
 -- one more file was read, or was absent
 module _ (place : List ℕ → List ℕ) (files : FileMap) where
   after_first : (name : List ℕ) (found : Option (List ℕ)) (others more : Result (List SetFile) (List ℕ)) (set : List SetFile) (file : SetFile)
-      → ((rest : List SetFile) → others ≡ Ok rest → more ≡ Ok (rest ++ file ∷ [])) → with_file name found others ≡ Ok set
+      → ((rest : List SetFile) → others ≡ Ok rest → more ≡ Ok (rest ++ file ∷ []))
+      → with_file name found others ≡ Ok set
       → with_file name found more ≡ Ok (set ++ file ∷ [])
   after_first name None others more set file goes is = absurd (cc)
   after_first name (Some bytes) (Err absent) more set file goes is = absurd (cc)
@@ -63,7 +69,8 @@ module _ (place : List ℕ → List ℕ) (files : FileMap) where
       let whole : record { name = name; bytes = bytes } ∷ rest ≡ set = cc in
       ap (with_file name (Some bytes)) (goes rest refl) ∙ ap (λ set. Ok (set ++ file ∷ [])) whole
 
-  pub files_at-push : (names : List (List ℕ)) (set : List SetFile) (name bytes : List ℕ) → files_at place files names ≡ Ok set
+  pub files_at-push : (names : List (List ℕ)) (set : List SetFile) (name bytes : List ℕ)
+      → files_at place files names ≡ Ok set
       → files (place name) ≡ Some bytes → files_at place files (names ++ name ∷ []) ≡ Ok (set ++ record { name = name; bytes = bytes } ∷ [])
   files_at-push [] set name bytes is found =
       let none : [] ≡ set = cc in
@@ -73,12 +80,14 @@ module _ (place : List ℕ → List ℕ) (files : FileMap) where
       (record { name = name; bytes = bytes }) (λ rest read. files_at-push names rest name bytes read found) is
 
   absent_first : (first name : List ℕ) (found : Option (List ℕ)) (others more : Result (List SetFile) (List ℕ)) (set : List SetFile)
-      → ((rest : List SetFile) → others ≡ Ok rest → more ≡ Err name) → with_file first found others ≡ Ok set → with_file first found more ≡ Err name
+      → ((rest : List SetFile) → others ≡ Ok rest → more ≡ Err name) → with_file first found others ≡ Ok set
+      → with_file first found more ≡ Err name
   absent_first first name None others more set goes is = absurd (cc)
   absent_first first name (Some bytes) (Err absent) more set goes is = absurd (cc)
   absent_first first name (Some bytes) (Ok rest) more set goes is = ap (with_file first (Some bytes)) (goes rest refl)
 
-  pub files_at-absent : (names : List (List ℕ)) (set : List SetFile) (name : List ℕ) (more : List (List ℕ)) → files_at place files names ≡ Ok set
+  pub files_at-absent : (names : List (List ℕ)) (set : List SetFile) (name : List ℕ) (more : List (List ℕ))
+      → files_at place files names ≡ Ok set
       → files (place name) ≡ None → files_at place files (names ++ name ∷ more) ≡ Err name
   files_at-absent [] set name more is none = ap (λ content. with_file name content (files_at place files more)) none
   files_at-absent (first ∷ names) set name more is none =
@@ -108,18 +117,22 @@ module _ (guarded : Bool) (files : FileMap) where
       → set_read guarded files ≡ Err (placed guarded list_name)
   set_read-bad_list bytes some none = listed_with bytes some ∙ ap (set_named (placed guarded) files) none
 
-  pub set_read-whole : (bytes : List ℕ) (names : List (List ℕ)) (set : List SetFile) → files (placed guarded list_name) ≡ Some bytes
-      → listed bytes ≡ Some names → files_at (placed guarded) files names ≡ Ok set → set_read guarded files ≡ Ok (Some set)
+  pub set_read-whole : (bytes : List ℕ) (names : List (List ℕ)) (set : List SetFile)
+      → files (placed guarded list_name) ≡ Some bytes
+      → listed bytes ≡ Some names → files_at (placed guarded) files names ≡ Ok set
+      → set_read guarded files ≡ Ok (Some set)
   set_read-whole bytes names set some are read =
       listed_with bytes some ∙ ap (set_named (placed guarded) files) are ∙ ap set_of read
 
-  pub set_read-absent : (bytes : List ℕ) (names : List (List ℕ)) (name : List ℕ) → files (placed guarded list_name) ≡ Some bytes
+  pub set_read-absent : (bytes : List ℕ) (names : List (List ℕ)) (name : List ℕ)
+      → files (placed guarded list_name) ≡ Some bytes
       → listed bytes ≡ Some names → files_at (placed guarded) files names ≡ Err name → set_read guarded files ≡ Err name
   set_read-absent bytes names name some are read =
       listed_with bytes some ∙ ap (set_named (placed guarded) files) are ∙ ap set_of read
 
 -- from one fact of the damaged file to another
-pub IfDamaged-more : (refusal : VaultRefusal) (P Q : List ℕ → Type 0) → ((file : List ℕ) → P file → Q file) → IfDamaged refusal P → IfDamaged refusal Q
+pub IfDamaged-more : (refusal : VaultRefusal) (P Q : List ℕ → Type 0) → ((file : List ℕ) → P file → Q file)
+    → IfDamaged refusal P → IfDamaged refusal Q
 IfDamaged-more StoreFault P Q more is = tt
 IfDamaged-more (Damaged file) P Q more is = more file is
 IfDamaged-more (Memory error) P Q more is = tt

@@ -21,7 +21,8 @@ or_right false b none = none
 or_right true b none = absurd (true≢false none)
 
 -- what is untouched after the changes was so before them
-pub touching-less : (changes : List Change) (names : NameSet) (name : List ℕ) → touching changes names name ≡ false → names name ≡ false
+pub touching-less : (changes : List Change) (names : NameSet) (name : List ℕ) → touching changes names name ≡ false
+    → names name ≡ false
 touching-less [] names name none = none
 touching-less (change ∷ changes) names name none =
     or_right (bytes_eq change.0 name) (names name) (touching-less changes (with_name names change.0) name none)
@@ -41,7 +42,8 @@ may_leave-disturbed state next name content left disturbed may other none =
     ∙ ap (λ files. files other) disturbed.durable
 
 -- what is read now is something that a stop may leave
-pub touched_only-after : (changes : List Change) (state : DiskState) → IsTouchedOnly state → IsTouchedOnly (after changes state)
+pub touched_only-after : (changes : List Change) (state : DiskState) → IsTouchedOnly state
+    → IsTouchedOnly (after changes state)
 touched_only-after [] state only = only
 touched_only-after (change ∷ changes) state only =
     touched_only-after changes (with_touched state change.0 change.1) (λ name none.
@@ -80,7 +82,8 @@ module _ {D : Type 0} (state : D → Option DiskState) (moment : D → ℕ) (lef
             (may_leave-more (done ++ (name, content) ∷ []) rest before left may)));
       }
     where
-      regroup : (done : List Change) (change : Change) (rest : List Change) → done ++ change ∷ rest ≡ (done ++ change ∷ []) ++ rest
+      regroup : (done : List Change) (change : Change) (rest : List Change)
+          → done ++ change ∷ rest ≡ (done ++ change ∷ []) ++ rest
       regroup [] change rest = refl
       regroup (first ∷ done) change rest = ap (λ changes. first ∷ changes) (regroup done change rest)
 
@@ -99,12 +102,14 @@ module _ {D : Type 0} (state : D → Option DiskState) (moment : D → ℕ) (lef
       (λ other none. may_leave-disturbed (after done before) failed.0 name content left failed.2 may other
       (sym (ap (λ names. names other) (touching-append done ((name, content) ∷ []) before.touched)) ∙ none)))))
     where
-      grouped : (done : List Change) (change : Change) (rest : List Change) → done ++ change ∷ rest ≡ (done ++ change ∷ []) ++ rest
+      grouped : (done : List Change) (change : Change) (rest : List Change)
+          → done ++ change ∷ rest ≡ (done ++ change ∷ []) ++ rest
       grouped [] change rest = refl
       grouped (first ∷ done) change rest = ap (λ changes. first ∷ changes) (grouped done change rest)
 
   -- a row in a row
-  pub IsAfter-row : (all done row rest : List Change) (old now next : D) → all ≡ (done ++ row) ++ rest → IsAfter all done old now
+  pub IsAfter-row : (all done row rest : List Change) (old now next : D) → all ≡ (done ++ row) ++ rest
+      → IsAfter all done old now
       → WhereTold (state now) (λ before. state next ≡ Some (after row before))
       → WhereTold (state now) (λ before. AddsOnly moment left_since now next (MayLeave (after row before)))
       → IsAfter all (done ++ row) old next
@@ -124,7 +129,8 @@ module _ {D : Type 0} (state : D → Option DiskState) (moment : D → ℕ) (lef
           (may_leave-more (done ++ row) rest before left
           (subst (λ state. MayLeave state left) (sym (after-append done row before)) may))
 
-  pub IsAfter-row_failed : (all done row rest : List Change) (old now next : D) → all ≡ (done ++ row) ++ rest → IsAfter all done old now
+  pub IsAfter-row_failed : (all done row rest : List Change) (old now next : D) → all ≡ (done ++ row) ++ rest
+      → IsAfter all done old now
       → WhereTold (state now) (λ before. AddsOnly moment left_since now next (MayLeave (after row before)))
       → WhereTold (state old) (λ before. AddsOnly moment left_since old next (MayLeave (after all before)))
   IsAfter-row_failed all done row rest old now next is so_far moments before told =
@@ -136,12 +142,14 @@ module _ {D : Type 0} (state : D → Option DiskState) (moment : D → ℕ) (lef
       (moments (after done before) (so_far.reached before told)))
 
   -- and then all of it was made durable
-  pub IsAfter-durable : (all : List Change) (old now next : D) → IsAfter all all old now → MakesDurable (state now) (state next)
+  pub IsAfter-durable : (all : List Change) (old now next : D) → IsAfter all all old now
+      → MakesDurable (state now) (state next)
       → WhereTold (state old) (λ before. state next ≡ Some (with_all_durable (after all before)))
   IsAfter-durable all old now next so_far durable before told = durable (after all before) (so_far.reached before told)
 
   -- a stop at the sync leaves nothing new
-  pub IsAfter-synced : (all : List Change) (old now next : D) → IsAfter all all old now → MakesDurable (state now) (state next)
+  pub IsAfter-synced : (all : List Change) (old now next : D) → IsAfter all all old now
+      → MakesDurable (state now) (state next)
       → WhereTold (state now) IsTouchedOnly
       → WhereTold (state next) (Elapses (moment now) (moment next) (left_since now) (left_since next))
       → WhereTold (state old) (λ before. AddsOnly moment left_since old next (MayLeave (after all before)))
@@ -153,7 +161,8 @@ module _ {D : Type 0} (state : D → Option DiskState) (moment : D → ℕ) (lef
       (AddsOnly-call moment left_since now next P (with_all_durable (after all before)) (time _ there)
       (λ left may name none. may name refl ∙ only (after all before) reached name none))
 
-  pub IsAfter-unsynced : (all : List Change) (old now next : D) → IsAfter all all old now → KeepsState (state now) (state next)
+  pub IsAfter-unsynced : (all : List Change) (old now next : D) → IsAfter all all old now
+      → KeepsState (state now) (state next)
       → WhereTold (state next) (Elapses (moment now) (moment next) (left_since now) (left_since next))
       → WhereTold (state old) (λ before. AddsOnly moment left_since old next (MayLeave (after all before)))
   IsAfter-unsynced all old now next so_far kept time before told =
@@ -208,7 +217,8 @@ named_so_far files i file within is =
     ap names_of (take_more files i file within ∙ ap (λ y. take i files ++ y ∷ []) (sym is)) ∙ map-append (λ (file : SetFile). file.name) (take i files) (file ∷ [])
 
 -- the items so far, and those that are left
-pub items_so_far : {X : Type 0} (items : List X) (i : ℕ) (x : X) → i < length items → x ≡ get_or items i x → take (i + 1) items ≡ take i items ++ x ∷ []
+pub items_so_far : {X : Type 0} (items : List X) (i : ℕ) (x : X) → i < length items → x ≡ get_or items i x
+    → take (i + 1) items ≡ take i items ++ x ∷ []
 items_so_far items i x within is = take_more items i x within ∙ ap (λ y. take i items ++ y ∷ []) (sym is)
 
 pub items_split : {X : Type 0} (items : List X) (i : ℕ) (x : X) → i < length items → x ≡ get_or items i x

@@ -15,7 +15,8 @@ use Rattle.guard_files.proofs.Primaries.{renewed, left_while_renewed, left_while
 use Rattle.guard_files.proofs.Saving.{settled_stands, settled_primaries, backed, raised, last, cleared, left_while_backed, left_while_raised, left_while_cleared, raised_guard, raised_backups, gone_is_plain, cleared_settled}
 
 -- a stop of a store at rest leaves its set
-pub settled_leaves : (held : Option (List SetFile)) (state : DiskState) → IsSettled held state → (left : FileMap) → MayLeave state left
+pub settled_leaves : (held : Option (List SetFile)) (state : DiskState) → IsSettled held state → (left : FileMap)
+    → MayLeave state left
     → recover left ≡ Ok held
 settled_leaves held state settled left leaves =
     let stands = left_in_backups [] tt state (settled_stands held state settled) left leaves in
@@ -32,19 +33,20 @@ module _ {D : Type 0} (state : D → Option DiskState) (moment : D → ℕ) (lef
       renewed (raised held set before settled only may) [] set (gone_names held set) (raised_guard held set before settled only may)
       (raised_backups held set before settled only may) may (gone_is_plain held set before settled only may)
 
-  pub over_backups : (old new : D) → state old ≡ Some before
+  over_backups : (old new : D) → state old ≡ Some before
       → WhereTold (state old) (λ before. AddsOnly moment left_since old new (MayLeave (after (set_writes backup_name set) before))) → leaves old new
   over_backups old new told adds =
       AddsOnly-more moment left_since old new (MayLeave (after (set_writes backup_name set) before)) (IsBeforeOrAfter held (Some set))
       (λ left leaves. inl (left_while_backed held set before settled only may left leaves)) (adds before told)
 
-  pub over_guard : (old new : D) → state old ≡ Some (with_all_durable (backed held set before settled only may))
-      → WhereTold (state old) (λ before. AddsOnly moment left_since old new (MayLeave (after guard_up before))) → leaves old new
+  over_guard : (old new : D) → state old ≡ Some (with_all_durable (backed held set before settled only may))
+      → WhereTold (state old) (λ before. AddsOnly moment left_since old new (MayLeave (after guard_up before)))
+      → leaves old new
   over_guard old new told adds =
       AddsOnly-more moment left_since old new (MayLeave (raised held set before settled only may)) (IsBeforeOrAfter held (Some set))
       (left_while_raised held set before settled only may) (adds _ told)
 
-  pub over_primaries : (old new : D) (gone : List (List ℕ)) → gone ≡ gone_names held set
+  over_primaries : (old new : D) (gone : List (List ℕ)) → gone ≡ gone_names held set
       → state old ≡ Some (with_all_durable (raised held set before settled only may))
       → WhereTold (state old) (λ before. AddsOnly moment left_since old new (MayLeave (after (primary_changes gone set) before))) → leaves old new
   over_primaries old new gone is told adds =
@@ -55,8 +57,9 @@ module _ {D : Type 0} (state : D → Option DiskState) (moment : D → ℕ) (lef
       (subst (λ gone. AddsOnly moment left_since old new (MayLeave (after (primary_changes gone set) (with_all_durable (raised held set before settled only may)))))
       is (adds _ told))
 
-  pub over_lowering : (old new : D) → state old ≡ Some (with_all_durable renewed_now)
-      → WhereTold (state old) (λ before. AddsOnly moment left_since old new (MayLeave (after guard_down before))) → leaves old new
+  over_lowering : (old new : D) → state old ≡ Some (with_all_durable renewed_now)
+      → WhereTold (state old) (λ before. AddsOnly moment left_since old new (MayLeave (after guard_down before)))
+      → leaves old new
   over_lowering old new told adds =
       AddsOnly-more moment left_since old new (MayLeave (last held set before settled only may)) (IsBeforeOrAfter held (Some set))
       (λ left leaves. inr (left_while_lowered (raised held set before settled only may) [] set (gone_names held set)
@@ -64,7 +67,7 @@ module _ {D : Type 0} (state : D → Option DiskState) (moment : D → ℕ) (lef
       (gone_is_plain held set before settled only may) left leaves))
       (adds _ told)
 
-  pub over_cleaning : (old new : D) (backups : List (List ℕ)) → backups ≡ map backup_name (names_of set)
+  over_cleaning : (old new : D) (backups : List (List ℕ)) → backups ≡ map backup_name (names_of set)
       → state old ≡ Some (with_all_durable (last held set before settled only may))
       → WhereTold (state old) (λ before. AddsOnly moment left_since old new (MayLeave (after (backups_away backups) before))) → leaves old new
   over_cleaning old new backups are told adds =
@@ -74,29 +77,29 @@ module _ {D : Type 0} (state : D → Option DiskState) (moment : D → ℕ) (lef
       are (adds _ told))
 
   -- the states at the ends of the steps
-  pub told_backed : (old new : D) → state old ≡ Some before
+  told_backed : (old new : D) → state old ≡ Some before
       → WhereTold (state old) (λ before. state new ≡ Some (with_all_durable (after (set_writes backup_name set) before)))
       → state new ≡ Some (with_all_durable (backed held set before settled only may))
   told_backed old new told done = done before told
 
-  pub told_raised : (old new : D) → state old ≡ Some (with_all_durable (backed held set before settled only may))
+  told_raised : (old new : D) → state old ≡ Some (with_all_durable (backed held set before settled only may))
       → WhereTold (state old) (λ before. state new ≡ Some (with_all_durable (after guard_up before)))
       → state new ≡ Some (with_all_durable (raised held set before settled only may))
   told_raised old new told done = done _ told
 
-  pub told_renewed : (old new : D) (gone : List (List ℕ)) → gone ≡ gone_names held set
+  told_renewed : (old new : D) (gone : List (List ℕ)) → gone ≡ gone_names held set
       → state old ≡ Some (with_all_durable (raised held set before settled only may))
       → WhereTold (state old) (λ before. state new ≡ Some (with_all_durable (after (primary_changes gone set) before)))
       → state new ≡ Some (with_all_durable renewed_now)
   told_renewed old new gone is told done =
       subst (λ gone. state new ≡ Some (with_all_durable (after (primary_changes gone set) (with_all_durable (raised held set before settled only may))))) is (done _ told)
 
-  pub told_lowered : (old new : D) → state old ≡ Some (with_all_durable renewed_now)
+  told_lowered : (old new : D) → state old ≡ Some (with_all_durable renewed_now)
       → WhereTold (state old) (λ before. state new ≡ Some (with_all_durable (after guard_down before)))
       → state new ≡ Some (with_all_durable (last held set before settled only may))
   told_lowered old new told done = done _ told
 
-  pub told_cleared : (old new : D) (backups : List (List ℕ)) → backups ≡ map backup_name (names_of set)
+  told_cleared : (old new : D) (backups : List (List ℕ)) → backups ≡ map backup_name (names_of set)
       → state old ≡ Some (with_all_durable (last held set before settled only may))
       → WhereTold (state old) (λ before. state new ≡ Some (after (backups_away backups) before))
       → EndsSettled set (state new)
@@ -107,11 +110,154 @@ module _ {D : Type 0} (state : D → Option DiskState) (moment : D → ℕ) (lef
   )
 
   -- from a store at rest on
-  pub from_rest : (old new : D) → ((left : FileMap) → left_since old (moment old) left → MayLeave before left) → leaves old new
+  from_rest : (old new : D) → ((left : FileMap) → left_since old (moment old) left → MayLeave before left)
+      → leaves old new
       → LeavesOnly moment left_since old new (IsBeforeOrAfter held (Some set))
   from_rest old new now adds =
       LeavesOnly-from moment left_since old new (IsBeforeOrAfter held (Some set))
       (λ left was. inl (settled_leaves held before settled left (now left was))) adds
 
-  pub on : (old mid new : D) → leaves old mid → leaves mid new → leaves old new
-  on old mid new first second = AddsOnly-then moment left_since old mid new (IsBeforeOrAfter held (Some set)) first second
+-- What is known at the start of a save: the store is at rest, and the disk tells its state.
+pub record Start {D : Type 0} (state : D → Option DiskState) (moment : D → ℕ) (left_since : D → ℕ → FileMap → Type 0)
+    (set : List SetFile) (held : Option (List SetFile)) (before : DiskState) (first : D) : Type 0 where
+  pub settled : IsSettled held before
+  pub only : IsTouchedOnly before
+  pub may : are_listable (names_of set) ≡ true
+  pub told : state first ≡ Some before
+  pub now : (left : FileMap) → left_since first (moment first) left → MayLeave before left
+
+pub start_of : {D : Type 0} (state : D → Option DiskState) (moment : D → ℕ) (left_since : D → ℕ → FileMap → Type 0)
+    (set : List SetFile) (held : Option (List SetFile)) (before : DiskState) (first : D) → IsSettled held before
+    → WhereTold (state first) IsTouchedOnly → are_listable (names_of set) ≡ true → state first ≡ Some before
+    → ((left : FileMap) → WhereTold (state first) (λ now. left_since first (moment first) left → MayLeave now left))
+    → Start state moment left_since set held before first
+start_of state moment left_since set held before first settled only may told now = record {
+  settled = settled;
+  only = only before told;
+  may = may;
+  told = told;
+  now = λ left was. now left before told was;
+}
+
+-- So far in a save: what the disk tells now, and that a stop since the start left the set before or the set after.
+pub record SoFar {D : Type 0} (state : D → Option DiskState) (moment : D → ℕ) (left_since : D → ℕ → FileMap → Type 0)
+    (set : List SetFile) (held : Option (List SetFile)) (first now : D) (reached : DiskState) : Type 0 where
+  pub tells : state now ≡ Some reached
+  pub adds : AddsOnly moment left_since first now (IsBeforeOrAfter held (Some set))
+
+module _ {D : Type 0} {state : D → Option DiskState} {moment : D → ℕ} {left_since : D → ℕ → FileMap → Type 0} {set : List SetFile}
+    {held : Option (List SetFile)} {before : DiskState} {first : D} (start : Start state moment left_since set held before first) where
+  -- such a step adds
+  abbrev Adds : (DiskState → DiskState) → D → D → Type 0
+  Adds step old new = WhereTold (state old) (λ was. AddsOnly moment left_since old new (MayLeave (step was)))
+
+  -- and ends durable
+  abbrev Ends : (DiskState → DiskState) → D → D → Type 0
+  Ends step old new = WhereTold (state old) (λ was. state new ≡ Some (with_all_durable (step was)))
+
+  abbrev At : D → DiskState → Type 0
+  At now reached = SoFar state moment left_since set held first now reached
+
+  abbrev Stopped : D → Type 0
+  Stopped new = LeavesOnly moment left_since first new (IsBeforeOrAfter held (Some set))
+
+  abbrev at_backed : DiskState
+  at_backed = with_all_durable (backed held set before start.settled start.only start.may)
+
+  abbrev at_raised : DiskState
+  at_raised = with_all_durable (raised held set before start.settled start.only start.may)
+
+  abbrev at_renewed : DiskState
+  at_renewed = with_all_durable (renewed_now state moment left_since set held before start.settled start.only start.may)
+
+  abbrev at_last : DiskState
+  at_last = with_all_durable (last held set before start.settled start.only start.may)
+
+  stopped : (new : D) → AddsOnly moment left_since first new (IsBeforeOrAfter held (Some set)) → Stopped new
+  stopped new adds = from_rest state moment left_since set held before start.settled start.only start.may first new start.now adds
+
+  onward : {old : D} {reached : DiskState} (new : D) → At old reached
+      → AddsOnly moment left_since old new (IsBeforeOrAfter held (Some set))
+      → AddsOnly moment left_since first new (IsBeforeOrAfter held (Some set))
+  onward {old} new so_far adds = AddsOnly-then moment left_since first old new (IsBeforeOrAfter held (Some set)) so_far.adds adds
+
+  -- the backups
+  pub in_backups : (new : D) → Adds (after (set_writes backup_name set)) first new → Stopped new
+  in_backups new adds =
+      stopped new (over_backups state moment left_since set held before start.settled start.only start.may first new start.told adds)
+
+  pub past_backups : (new : D) → Adds (after (set_writes backup_name set)) first new
+      → Ends (after (set_writes backup_name set)) first new
+      → At new at_backed
+  past_backups new adds ends = record {
+    tells = told_backed state moment left_since set held before start.settled start.only start.may first new start.told ends;
+    adds = over_backups state moment left_since set held before start.settled start.only start.may first new start.told adds;
+  }
+
+  -- the guard
+  over_guard_on : {old : D} (new : D) → At old at_backed → Adds (after guard_up) old new
+      → AddsOnly moment left_since first new (IsBeforeOrAfter held (Some set))
+  over_guard_on {old} new so_far adds =
+      onward new so_far
+      (over_guard state moment left_since set held before start.settled start.only start.may old new so_far.tells adds)
+
+  pub in_guard : {old : D} (new : D) → At old at_backed → Adds (after guard_up) old new → Stopped new
+  in_guard new so_far adds = stopped new (over_guard_on new so_far adds)
+
+  pub past_guard : {old : D} (new : D) → At old at_backed → Adds (after guard_up) old new
+      → Ends (after guard_up) old new → At new at_raised
+  past_guard {old} new so_far adds ends = record {
+    tells = told_raised state moment left_since set held before start.settled start.only start.may old new so_far.tells ends;
+    adds = over_guard_on new so_far adds;
+  }
+
+  -- the primaries
+  over_primaries_on : {old : D} (new : D) (gone : List (List ℕ)) → gone ≡ gone_names held set → At old at_raised
+      → Adds (after (primary_changes gone set)) old new
+      → AddsOnly moment left_since first new (IsBeforeOrAfter held (Some set))
+  over_primaries_on {old} new gone is so_far adds =
+      onward new so_far
+      (over_primaries state moment left_since set held before start.settled start.only start.may old new gone is so_far.tells adds)
+
+  pub in_primaries : {old : D} (new : D) (gone : List (List ℕ)) → gone ≡ gone_names held set → At old at_raised
+      → Adds (after (primary_changes gone set)) old new → Stopped new
+  in_primaries new gone is so_far adds = stopped new (over_primaries_on new gone is so_far adds)
+
+  pub past_primaries : {old : D} (new : D) (gone : List (List ℕ)) → gone ≡ gone_names held set → At old at_raised
+      → Adds (after (primary_changes gone set)) old new → Ends (after (primary_changes gone set)) old new
+      → At new at_renewed
+  past_primaries {old} new gone is so_far adds ends = record {
+    tells = told_renewed state moment left_since set held before start.settled start.only start.may old new gone is so_far.tells ends;
+    adds = over_primaries_on new gone is so_far adds;
+  }
+
+  -- the guard's removal
+  over_lowering_on : {old : D} (new : D) → At old at_renewed → Adds (after guard_down) old new
+      → AddsOnly moment left_since first new (IsBeforeOrAfter held (Some set))
+  over_lowering_on {old} new so_far adds =
+      onward new so_far
+      (over_lowering state moment left_since set held before start.settled start.only start.may old new so_far.tells adds)
+
+  pub in_lowering : {old : D} (new : D) → At old at_renewed → Adds (after guard_down) old new → Stopped new
+  in_lowering new so_far adds = stopped new (over_lowering_on new so_far adds)
+
+  pub past_lowering : {old : D} (new : D) → At old at_renewed → Adds (after guard_down) old new
+      → Ends (after guard_down) old new → At new at_last
+  past_lowering {old} new so_far adds ends = record {
+    tells = told_lowered state moment left_since set held before start.settled start.only start.may old new so_far.tells ends;
+    adds = over_lowering_on new so_far adds;
+  }
+
+  -- the backups' removal, after which no sync follows
+  pub in_cleaning : {old : D} (new : D) (backups : List (List ℕ)) → backups ≡ map backup_name (names_of set)
+      → At old at_last
+      → Adds (after (backups_away backups)) old new → Stopped new
+  in_cleaning {old} new backups are so_far adds =
+      stopped new (onward new so_far
+      (over_cleaning state moment left_since set held before start.settled start.only start.may old new backups are so_far.tells adds))
+
+  pub past_cleaning : {old : D} (new : D) (backups : List (List ℕ)) → backups ≡ map backup_name (names_of set)
+      → At old at_last
+      → WhereTold (state old) (λ was. state new ≡ Some (after (backups_away backups) was)) → EndsSettled set (state new)
+  past_cleaning {old} new backups are so_far ends =
+      told_cleared state moment left_since set held before start.settled start.only start.may old new backups are so_far.tells ends

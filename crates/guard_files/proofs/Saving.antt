@@ -1,5 +1,5 @@
--- A save from a store at rest: what each stop in it leaves recovers to the set before or to the set after, and at its end the
--- store is at rest with the set after.
+-- A save from a store at rest: what each stop in it leaves recovers to the set before or to the set after, and at its
+-- end the store is at rest with the set after.
 use Rattle.std.proofs.Common.{◌≡◌, ◌≢◌, ℕ, Bool, true, false, not, ◌||◌, List, [], ◌∷◌, map, filter, Option, Some, None, IsSome, is_some, Ok, cond, inl, inr, refl, sym, ◌∙◌, ap}
 use Rattle.std.proofs.lemmas.Bool.{and_parts, both_ways, cases_Bool, or_parts}
 use Rattle.std.specs.List.{AllByRecursion, list_all}
@@ -41,7 +41,8 @@ settled_stands held state settled = record {
       (names_at primary_name state.durable) settled.unguarded settled.untouched.1;
 }
 
-pub settled_primaries : (held : Option (List SetFile)) (state : DiskState) → IsSettled held state → primary_set state.durable ≡ Ok held
+pub settled_primaries : (held : Option (List SetFile)) (state : DiskState) → IsSettled held state
+    → primary_set state.durable ≡ Ok held
 settled_primaries held state settled = sym (recover-unguarded state.durable settled.unguarded) ∙ settled.recovers
 
 -- the names that go are plain
@@ -80,7 +81,8 @@ as_placed names name absent = ap (λ found. bytes_eq list_name name || found) (p
     placed (first ∷ names) = ap (λ found. bytes_eq first name || found) (placed names)
 
 -- a name of neither set, and one that does not go, was not held
-not_held : (held : Option (List SetFile)) (set : List SetFile) (name : List ℕ) → is_among (own_names (Some set)) name ≡ false
+not_held : (held : Option (List SetFile)) (set : List SetFile) (name : List ℕ)
+    → is_among (own_names (Some set)) name ≡ false
     → is_among (gone_names held set) name ≡ false → is_among (own_names held) name ≡ false
 not_held None set name absent stays = refl
 not_held (Some files) set name absent stays =
@@ -155,7 +157,8 @@ module _ (held : Option (List SetFile)) (set : List SetFile) (before : DiskState
       recover-unguarded left stands.unguarded ∙ stands.same
       ∙ primaries_read set last.current may (lowered_holds raised [] set (gone_names held set) raised_guard raised_backups may gone_is_plain)
 
-  untouched_after : (names : List (List ℕ)) → AllByRecursion IsPlain names → AllByRecursion (λ name. cleared.touched name ≡ false) names
+  untouched_after : (names : List (List ℕ)) → AllByRecursion IsPlain names
+      → AllByRecursion (λ name. cleared.touched name ≡ false) names
   untouched_after [] plain = tt
   untouched_after (name ∷ names) plain = (
     touching-other (backups_away (map backup_name (names_of set))) no_names name
@@ -196,7 +199,8 @@ module _ (held : Option (List SetFile)) (set : List SetFile) (before : DiskState
   held_plain : AllByRecursion IsPlain (own_names held)
   held_plain = own_plain held (λ files is. primaries_may before.durable files (settled_primaries held before settled ∙ ap Ok is))
     where
-      own_plain : (held : Option (List SetFile)) → ((files : List SetFile) → held ≡ Some files → are_listable (names_of files) ≡ true)
+      own_plain : (held : Option (List SetFile))
+          → ((files : List SetFile) → held ≡ Some files → are_listable (names_of files) ≡ true)
           → AllByRecursion IsPlain (own_names held)
       own_plain None listables = tt
       own_plain (Some files) listables =
@@ -219,7 +223,8 @@ module _ (held : Option (List SetFile)) (set : List SetFile) (before : DiskState
   ]
 
   -- a plain name
-  no_plain : (name : List ℕ) → is_own name ≡ true → is_backup name ≡ false → is_among (own_names (Some set)) name ≡ false
+  no_plain : (name : List ℕ) → is_own name ≡ true → is_backup name ≡ false
+      → is_among (own_names (Some set)) name ≡ false
       → cleared.current name ≡ None
   no_plain name own plain absent =
       changed-other (backups_away (map backup_name (names_of set))) last.current name

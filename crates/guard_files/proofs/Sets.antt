@@ -18,30 +18,35 @@ use Rattle.guard_files.proofs.Names.{same-same, same-other, listable}
 use Rattle.guard_files.proofs.Lists.{listed-text}
 
 files_read : (place : List ℕ → List ℕ) (set : List SetFile) (files : FileMap)
-    → AllByRecursion (λ file. files (place file.name) ≡ Some file.bytes) set → files_at place files (names_of set) ≡ Ok set
+    → AllByRecursion (λ file. files (place file.name) ≡ Some file.bytes) set
+    → files_at place files (names_of set) ≡ Ok set
 files_read place [] files all = refl
 files_read place (file ∷ rest) files all =
     ap (λ found. with_file file.name found (files_at place files (names_of rest))) all.0
     ∙ ap (with_file file.name (Some file.bytes)) (files_read place rest files all.1)
 
-pub set_read : (place : List ℕ → List ℕ) (absent : Recovered) (set : List SetFile) (files : FileMap) → are_listable (names_of set) ≡ true
+pub set_read : (place : List ℕ → List ℕ) (absent : Recovered) (set : List SetFile) (files : FileMap)
+    → are_listable (names_of set) ≡ true
     → Holds place set files → set_listed place absent files (files (place list_name)) ≡ Ok (Some set)
 set_read place absent set files may holds =
     ap (set_listed place absent files) holds.list
     ∙ ap (set_named place files) (listed-text (names_of set) may)
     ∙ ap set_of (files_read place set files holds.each)
 
-pub backups_read : (set : List SetFile) (files : FileMap) → are_listable (names_of set) ≡ true → Holds backup_name set files
+pub backups_read : (set : List SetFile) (files : FileMap) → are_listable (names_of set) ≡ true
+    → Holds backup_name set files
     → backup_set files ≡ Ok (Some set)
 unfolding backup_set
 backups_read set files may holds = set_read backup_name _ set files may holds
 
-pub primaries_read : (set : List SetFile) (files : FileMap) → are_listable (names_of set) ≡ true → Holds primary_name set files
+pub primaries_read : (set : List SetFile) (files : FileMap) → are_listable (names_of set) ≡ true
+    → Holds primary_name set files
     → primary_set files ≡ Ok (Some set)
 unfolding primary_set
 primaries_read set files may holds = set_read primary_name _ set files may holds
 
-pub content-same : (files : FileMap) (name : List ℕ) (content : Option (List ℕ)) → with_content files name content name ≡ content
+pub content-same : (files : FileMap) (name : List ℕ) (content : Option (List ℕ))
+    → with_content files name content name ≡ content
 content-same files name content = ap (λ test. cond test content (files name)) (same-same name name refl)
 
 pub content-other : (files : FileMap) (name other : List ℕ) (content : Option (List ℕ)) → name ≢ other
@@ -49,15 +54,18 @@ pub content-other : (files : FileMap) (name other : List ℕ) (content : Option 
 content-other files name other content differ = ap (λ test. cond test content (files other)) (same-other name other differ)
 
 -- the changes one after the other
-pub changed-append : (first second : List Change) (files : FileMap) → changed (first ++ second) files ≡ changed second (changed first files)
+pub changed-append : (first second : List Change) (files : FileMap)
+    → changed (first ++ second) files ≡ changed second (changed first files)
 changed-append [] second files = refl
 changed-append (change ∷ first) second files = changed-append first second (with_content files change.0 change.1)
 
-pub touching-append : (first second : List Change) (names : NameSet) → touching (first ++ second) names ≡ touching second (touching first names)
+pub touching-append : (first second : List Change) (names : NameSet)
+    → touching (first ++ second) names ≡ touching second (touching first names)
 touching-append [] second names = refl
 touching-append (change ∷ first) second names = touching-append first second (with_name names change.0)
 
-pub after-append : (first second : List Change) (state : DiskState) → after (first ++ second) state ≡ after second (after first state)
+pub after-append : (first second : List Change) (state : DiskState)
+    → after (first ++ second) state ≡ after second (after first state)
 after-append first second state =
     λ i. record { current = changed-append first second state.current i; durable = state.durable; touched = touching-append first second state.touched i }
 
@@ -86,7 +94,8 @@ below_apart name later below same =
     below_not_same (slice_cmp nat_cmp name later) below (is_eq-slice_cmp name later ∙ same-same name later (sym same))
 
 -- the names behind one that is below them all are other names
-pub later_apart : (place : List ℕ → List ℕ) (injective : (a b : List ℕ) → place a ≡ place b → a ≡ b) (name : List ℕ) (set : List SetFile)
+pub later_apart : (place : List ℕ → List ℕ) (injective : (a b : List ℕ) → place a ≡ place b
+    → a ≡ b) (name : List ℕ) (set : List SetFile)
     → list_all (λ later. is_lt (slice_cmp nat_cmp name later)) (names_of set) ≡ true
     → AllByRecursion (λ file. place file.name ≢ place name) set
 later_apart place injective name [] below = tt
@@ -95,12 +104,14 @@ later_apart place injective name (file ∷ rest) below =
     (λ same. below_apart name file.name both.0 (injective file.name name same), later_apart place injective name rest both.1)
 
 all_other : (place : List ℕ → List ℕ) (name : List ℕ) (set : List SetFile)
-    → AllByRecursion (λ file. place file.name ≢ name) set → AllByRecursion (λ change. change.0 ≢ name) (writes place set)
+    → AllByRecursion (λ file. place file.name ≢ name) set
+    → AllByRecursion (λ change. change.0 ≢ name) (writes place set)
 all_other place name [] apart = tt
 all_other place name (file ∷ rest) apart = (apart.0, all_other place name rest apart.1)
 
 -- each file of a set is where it was written
-pub written-each : (place : List ℕ → List ℕ) (injective : (a b : List ℕ) → place a ≡ place b → a ≡ b) (set : List SetFile) (files : FileMap)
+pub written-each : (place : List ℕ → List ℕ) (injective : (a b : List ℕ) → place a ≡ place b
+    → a ≡ b) (set : List SetFile) (files : FileMap)
     → rises (names_of set) ≡ true
     → AllByRecursion (λ file. changed (writes place set) files (place file.name) ≡ Some file.bytes) set
 written-each place injective [] files rising = tt
@@ -132,7 +143,8 @@ not_the_list place injective (file ∷ rest) all =
     (λ same. (listable file.name both.0).not_list (sym (injective list_name file.name same)), not_the_list place injective rest both.1)
 
 -- a set that is written whole is there
-pub holds_written : (place : List ℕ → List ℕ) (injective : (a b : List ℕ) → place a ≡ place b → a ≡ b) (set : List SetFile) (files : FileMap)
+pub holds_written : (place : List ℕ → List ℕ) (injective : (a b : List ℕ) → place a ≡ place b
+    → a ≡ b) (set : List SetFile) (files : FileMap)
     → are_listable (names_of set) ≡ true → Holds place set (changed (set_writes place set) files)
 holds_written place injective set files may =
     let both = and_parts _ _ may in

@@ -19,7 +19,8 @@ named_listable : (list : Option (List ℕ)) → list_all is_listable (named_by l
 named_listable None = refl
 named_listable (Some bytes) = at_names (listed bytes) refl
   where
-    at_names : (found : Option (List (List ℕ))) → listed bytes ≡ found → list_all is_listable (names_or_none found) ≡ true
+    at_names : (found : Option (List (List ℕ))) → listed bytes ≡ found
+        → list_all is_listable (names_or_none found) ≡ true
     at_names None is = refl
     at_names (Some names) is = (and_parts _ _ (text-listed bytes names is).1).0
 
@@ -28,7 +29,8 @@ pub record IsPlain (name : List ℕ) : Type 0 where
   pub plain : is_backup name ≡ false
   pub not_guard : name ≢ guard_name
 
-primaries_plain : (names : List (List ℕ)) → list_all is_listable names ≡ true → AllByRecursion IsPlain (map primary_name names)
+primaries_plain : (names : List (List ℕ)) → list_all is_listable names ≡ true
+    → AllByRecursion IsPlain (map primary_name names)
 primaries_plain [] all = tt
 primaries_plain (name ∷ names) all =
     let both = and_parts _ _ all in
@@ -71,12 +73,14 @@ InPrimaries changes = AllByRecursion (λ change. IsPlain change.0) changes
 abbrev pub Apart : List Change → List ℕ → Type 0
 Apart changes name = AllByRecursion (λ change. change.0 ≢ name) changes
 
-pub apart_from_backups : (changes : List Change) → InBackups changes → (name : List ℕ) → is_backup name ≡ false → Apart changes name
+pub apart_from_backups : (changes : List Change) → InBackups changes → (name : List ℕ) → is_backup name ≡ false
+    → Apart changes name
 apart_from_backups [] all name plain = tt
 apart_from_backups (change ∷ changes) all name plain =
     (λ same. both_ways (is_backup name) plain (ap is_backup (sym same) ∙ all.0), apart_from_backups changes all.1 name plain)
 
-pub apart_from_primaries : (changes : List Change) → InPrimaries changes → (name : List ℕ) → is_backup name ≡ true → Apart changes name
+pub apart_from_primaries : (changes : List Change) → InPrimaries changes → (name : List ℕ) → is_backup name ≡ true
+    → Apart changes name
 apart_from_primaries [] all name backup = tt
 apart_from_primaries (change ∷ changes) all name backup =
     (λ same. both_ways (is_backup name) (ap is_backup (sym same) ∙ all.0.plain) backup, apart_from_primaries changes all.1 name backup)
@@ -125,7 +129,8 @@ pub record LeavesPrimaries (state : DiskState) (left : FileMap) : Type 0 where
   pub unguarded : left guard_name ≡ None
   pub same : primary_set left ≡ primary_set state.durable
 
-pub left_in_backups : (changes : List Change) → InBackups changes → (state : DiskState) → PrimariesStand state → (left : FileMap)
+pub left_in_backups : (changes : List Change) → InBackups changes → (state : DiskState) → PrimariesStand state
+    → (left : FileMap)
     → MayLeave (after changes state) left → LeavesPrimaries state left
 left_in_backups changes in_backups state stand left may = record {
   unguarded = left_as_durable changes state left guard_name (apart_from_backups changes in_backups guard_name guard_plain) stand.guard_free may ∙ stand.unguarded;
@@ -159,11 +164,13 @@ guard_alone : (content : Option (List ℕ)) (names : List (List ℕ)) → AllByR
 guard_alone content [] apart = tt
 guard_alone content (name ∷ names) apart = ((λ same. apart.0 (sym same), tt), guard_alone content names apart.1)
 
-plain_not_guard : (names : List (List ℕ)) → AllByRecursion IsPlain names → AllByRecursion (λ name. name ≢ guard_name) names
+plain_not_guard : (names : List (List ℕ)) → AllByRecursion IsPlain names
+    → AllByRecursion (λ name. name ≢ guard_name) names
 plain_not_guard [] plain = tt
 plain_not_guard (name ∷ names) plain = (plain.0.not_guard, plain_not_guard names plain.1)
 
-backup_not_guard : (names : List (List ℕ)) → AllByRecursion (λ name. is_backup name ≡ true) names → AllByRecursion (λ name. name ≢ guard_name) names
+backup_not_guard : (names : List (List ℕ)) → AllByRecursion (λ name. is_backup name ≡ true) names
+    → AllByRecursion (λ name. name ≢ guard_name) names
 backup_not_guard [] backup = tt
 backup_not_guard (name ∷ names) backup =
     (λ same. both_ways (is_backup name) (ap is_backup same ∙ guard_plain) backup.0, backup_not_guard names backup.1)
@@ -186,13 +193,15 @@ pub recover-unguarded : (files : FileMap) → files guard_name ≡ None → reco
 unfolding recover
 recover-unguarded files none = ap (λ found. cond (is_some found) (backup_set files) (primary_set files)) none
 
-pub recover-guarded : (files : FileMap) (bytes : List ℕ) → files guard_name ≡ Some bytes → recover files ≡ backup_set files
+pub recover-guarded : (files : FileMap) (bytes : List ℕ) → files guard_name ≡ Some bytes
+    → recover files ≡ backup_set files
 unfolding recover
 recover-guarded files bytes some = ap (λ found. cond (is_some found) (backup_set files) (primary_set files)) some
 
 pub recover-either : (files : FileMap) → (recover files ≡ backup_set files) ⊎ (recover files ≡ primary_set files)
 recover-either files = at_guard (files guard_name) refl
   where
-    at_guard : (found : Option (List ℕ)) → files guard_name ≡ found → (recover files ≡ backup_set files) ⊎ (recover files ≡ primary_set files)
+    at_guard : (found : Option (List ℕ)) → files guard_name ≡ found
+        → (recover files ≡ backup_set files) ⊎ (recover files ≡ primary_set files)
     at_guard None none = inr (recover-unguarded files none)
     at_guard (Some bytes) some = inl (recover-guarded files bytes some)

@@ -33,11 +33,15 @@ are_listable names = list_all is_listable names && rises names
 -- The names of a list file, or none where the bytes are no list of set files: where they are not the spelling of their
 -- lines, or a line may not stand there, or the lines do not rise.
 unfoldable pub listed : List ℕ → Option (List (List ℕ))
-listed bytes = if bytes_eq (list_text (lines_of bytes)) bytes && are_listable (lines_of bytes) then Some (lines_of bytes) else None
+listed bytes =
+    if bytes_eq (list_text (lines_of bytes)) bytes && are_listable (lines_of bytes) then Some (lines_of bytes)
+    else None
 
 -- The spelling of names that may stand in a list reads back, and a list file is the one spelling of its names.
 abbrev pub ReadsBack : Type 0
 ReadsBack = (names : List (List ℕ)) → are_listable names ≡ true → listed (list_text names) ≡ Some names
 
 abbrev pub IsOneSpelling : Type 0
-IsOneSpelling = (bytes : List ℕ) (names : List (List ℕ)) → listed bytes ≡ Some names → (list_text names ≡ bytes) × (are_listable names ≡ true)
+IsOneSpelling =
+    (bytes : List ℕ) (names : List (List ℕ)) → listed bytes ≡ Some names
+    → (list_text names ≡ bytes) × (are_listable names ≡ true)

@@ -2,7 +2,8 @@
 use Rattle.std.specs.Prelude.{◌≡◌, ℕ, Bool, true, false, not, ◌&&◌, if◌then◌else◌, List, [], Option, Some, None, is_some, Result, Ok, Err}
 use Rattle.desk_ports.specs.Faults.{next_count}
 use Rattle.desk_ports.specs.FileMap.{FileMap, names_of, AreNamesOf}
-use Rattle.desk_ports.specs.Disk.{DiskState, MayLeave}
+use Rattle.desk_ports.specs.Disk.{DiskState, MayLeave, WhereTold, with_all_durable}
+use Rattle.desk_ports.specs.Moments.{LeavesOnly}
 use Rattle.desk_ports.specs.declared.port_faults.PortFault.{PortFault}
 use Rattle.desk_ports.specs.declared.port_faults.PortFault.TheVariants.{Failed, Memory as NoMemory}
 use Rattle.desk_ports.specs.declared.file_sets.SetFile.{SetFile}
@@ -46,6 +47,15 @@ set_read guarded files = if guarded then backup_set files else primary_set files
 abbrev pub RecoversAsAllowed : DiskState → FileMap → Type 0
 RecoversAsAllowed before left = (other : FileMap) × MayLeave before other × (recover left ≡ recover other)
 
+-- How a refused mount leaves a disk. Its count rose where a call failed, and only there. A stop meanwhile left what
+-- recovers as something that a stop at entry may leave. A damaged folder holds what it held, and that is durable.
+pub record IsLeftRefused {D : Type 0} (faults : D → ℕ) (state : D → Option DiskState) (moment : D → ℕ)
+    (left_since : D → ℕ → FileMap → Type 0) (old new : D) (refusal : VaultRefusal) : Type 0 where
+  pub count : faults new ≡ count_after_refusal refusal (faults old)
+  pub moments : WhereTold (state old) (λ before. LeavesOnly moment left_since old new (RecoversAsAllowed before))
+  pub damaged : IfDamaged refusal (λ file. WhereTold (state old) (λ before. (recover before.current ≡ Err file)
+      × (state new ≡ Some (with_all_durable before))))
+
 -- the disk tells a store at rest that holds this set, or none
 abbrev pub EndsAtRest : Option (List SetFile) → Option DiskState → Type 0
 EndsAtRest held told = (after : DiskState) × (told ≡ Some after) × IsSettled held after
@@ -55,22 +65,24 @@ abbrev pub set_names : Option (List SetFile) → List (List ℕ)
 set_names None = []
 set_names (Some files) = names_of files
 
--- Where the guard stood, the own names that are no backups, not the guard, not the list and not of the set go before the
--- primaries are written.
+-- Where the guard stood, the own names that are no backups, not the guard, not the list and not of the set go before
+-- the primaries are written.
 abbrev pub goes : Option (List SetFile) → List ℕ → Bool
 goes held name =
     (not (is_backup name) && not (bytes_eq name guard_name))
     && ((not (bytes_eq name list_name) && not (is_among (set_names held) name)) && is_own name)
 
--- What is left over at the end of a mount: own names that are not the list and not of the set. Where the guard stood only
--- backups are left.
+-- What is left over at the end of a mount: own names that are not the list and not of the set. Where the guard stood
+-- only backups are left.
 abbrev pub is_left_over : Bool → Option (List SetFile) → List ℕ → Bool
 is_left_over true held name = is_backup name && is_own name
 is_left_over false held name =
-    not (bytes_eq name guard_name) && ((not (bytes_eq name list_name) && not (is_among (set_names held) name)) && is_own name)
+    not (bytes_eq name guard_name)
+    && ((not (bytes_eq name list_name) && not (is_among (set_names held) name)) && is_own name)
 
 -- What was read of a folder: its names, whether the guard is there, and the set that it holds.
-pub record IsSurvey (files : FileMap) (held : Option (List SetFile)) (guarded : Bool) (names : List (List ℕ)) : Type 0 where
+pub record IsSurvey (files : FileMap) (held : Option (List SetFile)) (guarded : Bool) (names : List (List ℕ))
+    : Type 0 where
   pub listed : AreNamesOf files names
   pub guard : guarded ≡ is_some (files guard_name)
   pub read : set_read guarded files ≡ Ok held

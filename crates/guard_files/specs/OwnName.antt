@@ -42,8 +42,8 @@ is_primary name = (bytes_eq name guard_name || bytes_eq name list_name) || is_de
 unfoldable pub is_own : List ℕ → Bool
 is_own name = is_primary name || (is_backup name && is_primary (front name))
 
--- may stand in a list of a set's files: a file name that leaves room for the `~` of its backup, and an own name, but not
--- the guard's, not the list's and not that of a backup
+-- may stand in a list of a set's files: a file name that leaves room for the `~` of its backup, and an own name, but
+-- not the guard's, not the list's and not that of a backup
 unfoldable pub is_listable : List ℕ → Bool
 is_listable name =
     ((not (length name == 0) && nat_le (length name) 254) && list_all is_file_name_byte name)

@@ -36,7 +36,8 @@ abbrev pub set_listed : (List ℕ → List ℕ) → Recovered → FileMap → Op
 set_listed place absent files None = absent
 set_listed place absent files (Some bytes) = set_named place files (listed bytes)
 
--- The set in the backups, and the set in the primaries. Backups without a list are damage, primaries without one are no set.
+-- The set in the backups, and the set in the primaries. Backups without a list are damage, primaries without one are
+-- no set.
 unfoldable pub backup_set : FileMap → Recovered
 backup_set files = set_listed backup_name (Err (backup_name list_name)) files (files (backup_name list_name))
 
@@ -60,12 +61,15 @@ unfoldable pub names_at : (List ℕ → List ℕ) → FileMap → List (List ℕ
 names_at place files = place list_name ∷ map place (named_by (files (place list_name)))
 
 unfoldable pub protected : FileMap → List (List ℕ)
-protected files = guard_name ∷ (if is_some (files guard_name) then names_at backup_name files else names_at primary_name files)
+protected files =
+    guard_name
+    ∷ (if is_some (files guard_name) then names_at backup_name files else names_at primary_name files)
 
 -- both maps have the same at each of these names
 abbrev pub AgreeAt : List (List ℕ) → FileMap → FileMap → Type 0
 AgreeAt names files others = AllByRecursion (λ name. files name ≡ others name) names
 
--- The law that carries every promise on stops: what agrees at the protected names recovers to the same, damage included.
+-- The law that carries every promise on stops: what agrees at the protected names recovers to the same, damage
+-- included.
 abbrev pub RecoversAlike : Type 0
 RecoversAlike = (files others : FileMap) → AgreeAt (protected files) files others → recover others ≡ recover files

@@ -4,6 +4,7 @@
 mod laws;
 mod list_files;
 mod list_reading;
+mod mounted;
 mod own_names;
 mod prepared;
 mod refusals;
@@ -12,11 +13,14 @@ mod set_reading;
 mod settling;
 mod steps;
 mod store_names;
+#[cfg(test)]
+mod tests;
 mod vault;
 
 pub use laws::{agreement_keeps_recovery, list_reads_back};
 pub use list_files::{backup_of, backups_of, has_name, list_bytes, names_without};
 pub use list_reading::read_list;
+pub use mounted::Mounted;
 pub use own_names::{is_backup, is_guard, is_list, is_listable, is_own};
 pub use prepared::Prepared;
 pub use refusals::{VaultRefusal, refusal_of};

@@ -1,14 +1,12 @@
 // The list of a set's files, as bytes and as names.
 ghost use Rattle.std.specs.Prelude.{◌≡◌, true, map, filter, not, IfOk};
-ghost use Rattle.std.specs.List.{list_any};
-ghost use Rattle.std.specs.Str.{bytes_eq};
-ghost use Rattle.desk_ports.specs.FileMap.{names_of};
+ghost use Rattle.desk_ports.specs.FileMap.{names_of, NamesRise};
 ghost use Rattle.guard_files.specs.OwnName.{backup_name, is_listable as may_stand};
 ghost use Rattle.guard_files.specs.ListFile.{list_text, listed, are_listable};
 ghost use Rattle.guard_files.specs.Holding.{is_among};
 
 use crate::store_names::fixed_name;
-use desk_ports::{Bytes, FileName, SetFile};
+use desk_ports::{Bytes, FileName, FileSet, SetFile};
 use std::alloc::{AllocError, Global};
 
 /// The bytes of the list of these files: their names in order, each with a newline behind it.
@@ -46,30 +44,32 @@ pub fn backups_of(alloc: Global, files: &[SetFile]) -> Result<Vec<FileName>, All
     Ok(backups)
 }
 
-fn any_named(files: &[SetFile], name: &FileName) -> bool
-    ensures { result ≡ list_any (λ file. bytes_eq file.name name.now) files.now }
-{
-    files.iter().any(|file| file.name == *name)
-}
-
-/// Whether one of the files has this name.
-pub fn has_name(files: &[SetFile], name: &FileName) -> bool
+fn has_name_in(files: &[SetFile], name: &FileName) -> bool
+    requires { NamesRise (names_of files.now) }
     ensures { result ≡ is_among (names_of files.now) name.now }
 {
-    any_named(files, name)
+    files.binary_search_by(|file| file.name.cmp(name)).is_ok()
 }
 
-/// The names of the first files that the second have not, in their order.
+/// Whether a file of the set has this name.
+pub fn has_name(set: &FileSet, name: &FileName) -> bool
+    ensures { result ≡ is_among (names_of set.now) name.now }
+{
+    has_name_in(set.as_slice(), name)
+}
+
+/// The names of the files that the set has not, in their order.
 pub fn names_without(
     alloc: Global,
     files: &[SetFile],
-    others: &[SetFile],
+    set: &FileSet,
 ) -> Result<Vec<FileName>, AllocError>
-    ensures { IfOk result (λ names. names.items ≡ filter (λ name. not (is_among (names_of others.now) name)) (names_of files.now)) }
+    ensures { IfOk result (λ names. names.items ≡ filter
+        (λ name. not (is_among (names_of set.now) name)) (names_of files.now)) }
 {
     let mut names = Vec::new(alloc);
     for file in files {
-        if !has_name(others, &file.name) {
+        if !has_name(set, &file.name) {
             names.push(file.name.copy()?)?;
         }
     }

@@ -60,9 +60,11 @@ impl Prepared {
     /// Makes the calls of the save, and gives back the set. Takes no memory. The clauses are those of `save_set`.
     pub fn save<D: Disk>(self, disk: &mut D, names: &StoreNames) -> Result<FileSet, Failed>
         ensures set { IfOk result (λ set. set ≡ self.set) }
-        ensures done { OnOk result (WhereTold (D.state disk.old) (λ before. (held : Option (List SetFile)) → IsSettled held before → self.gone ≡ gone_names held self.set
+        ensures done { OnOk result (WhereTold (D.state disk.old) (λ before. (held : Option (List SetFile))
+            → IsSettled held before → self.gone ≡ gone_names held self.set
             → EndsSettled self.set (D.state disk.new))) }
-        ensures moments { WhereTold (D.state disk.old) (λ before. (held : Option (List SetFile)) → IsSettled held before → self.gone ≡ gone_names held self.set
+        ensures moments { WhereTold (D.state disk.old) (λ before. (held : Option (List SetFile))
+            → IsSettled held before → self.gone ≡ gone_names held self.set
             → LeavesOnly D.moment D.left_since disk.old disk.new (IsBeforeOrAfter held (Some self.set))) }
         ensures count { D.faults disk.new ≡ count_after_call result (D.faults disk.old) }
     {
@@ -92,7 +94,7 @@ fn gone_of(
     ensures { IfOk result (λ gone. gone.items ≡ gone_names held.now set.now) }
 {
     match held {
-        Some(files) => names_without(alloc, files.as_slice(), set.as_slice()),
+        Some(files) => names_without(alloc, files.as_slice(), set),
         None => Ok(Vec::new(alloc)),
     }
 }

@@ -13,9 +13,9 @@ use crate::steps::{drop_backups, lower_guard, raise_guard, save_backups, save_pr
 use crate::store_names::StoreNames;
 use desk_ports::{Disk, Failed, FileName, SetFile};
 
-/// Makes the calls of a save, in this order: the backups of the next set and of its list, a sync, the guard, a sync; the
-/// primaries that go are removed, those of the next set and their list are written, a sync; the guard is removed, a sync;
-/// the backups are removed. The names of the backups and the bytes of the list are given. Takes no memory.
+/// Makes the calls of a save, in this order: the backups of the next set and of its list, a sync, the guard, a sync;
+/// the primaries that go are removed, those of the next set and their list are written, a sync; the guard is removed,
+/// a sync; the backups are removed. The names of the backups and the bytes of the list are given. Takes no memory.
 pub fn save_set<D: Disk>(
     disk: &mut D,
     names: &StoreNames,
@@ -29,11 +29,13 @@ pub fn save_set<D: Disk>(
     requires listable { are_listable (names_of set.now) ≡ true }
 
     // From a store at rest it ends with a store at rest that holds the next set.
-    ensures done { OnOk result (WhereTold (D.state disk.old) (λ before. (held : Option (List SetFile)) → IsSettled held before → gone.now ≡ gone_names held set.now
+    ensures done { OnOk result (WhereTold (D.state disk.old) (λ before. (held : Option (List SetFile))
+        → IsSettled held before → gone.now ≡ gone_names held set.now
         → EndsSettled set.now (D.state disk.new))) }
 
     // A stop at any moment leaves the set before or the set after.
-    ensures moments { WhereTold (D.state disk.old) (λ before. (held : Option (List SetFile)) → IsSettled held before → gone.now ≡ gone_names held set.now
+    ensures moments { WhereTold (D.state disk.old) (λ before. (held : Option (List SetFile)) → IsSettled held before
+        → gone.now ≡ gone_names held set.now
         → LeavesOnly D.moment D.left_since disk.old disk.new (IsBeforeOrAfter held (Some set.now))) }
     ensures count { D.faults disk.new ≡ count_after_call result (D.faults disk.old) }
 {

@@ -26,7 +26,8 @@ pub fn read_placed<D: Disk>(
     ensures content { IfOk result (λ content. Reads (D.state disk.old) (placed guarded name.now) content) }
     ensures undamaged { IfErr result (λ refusal. IfDamaged refusal (λ file. ⊥)) }
     ensures kept { KeepsState (D.state disk.old) (D.state disk.new) }
-    ensures moments { WhereTold (D.state disk.old) (λ before. AddsOnly D.moment D.left_since disk.old disk.new (MayLeave before)) }
+    ensures moments { WhereTold (D.state disk.old)
+        (λ before. AddsOnly D.moment D.left_since disk.old disk.new (MayLeave before)) }
     ensures count { D.faults disk.new ≡ count_after_mount result (D.faults disk.old) }
 {
     if guarded {
@@ -55,10 +56,13 @@ pub fn read_files<D: Disk>(
 ) -> Result<Vec<SetFile>, VaultRefusal>
     requires { list_all is_listable list.now ≡ true }
     ensures named { IfOk result (λ files. names_of files.items ≡ list.now) }
-    ensures read { IfOk result (λ files. WhereTold (D.state disk.old) (λ before. files_at (placed guarded) before.current list.now ≡ Ok files.items)) }
-    ensures damaged { IfErr result (λ refusal. IfDamaged refusal (λ file. WhereTold (D.state disk.old) (λ before. files_at (placed guarded) before.current list.now ≡ Err file))) }
+    ensures read { IfOk result (λ files. WhereTold (D.state disk.old)
+        (λ before. files_at (placed guarded) before.current list.now ≡ Ok files.items)) }
+    ensures damaged { IfErr result (λ refusal. IfDamaged refusal (λ file. WhereTold (D.state disk.old)
+        (λ before. files_at (placed guarded) before.current list.now ≡ Err file))) }
     ensures kept { KeepsState (D.state disk.old) (D.state disk.new) }
-    ensures moments { WhereTold (D.state disk.old) (λ before. AddsOnly D.moment D.left_since disk.old disk.new (MayLeave before)) }
+    ensures moments { WhereTold (D.state disk.old)
+        (λ before. AddsOnly D.moment D.left_since disk.old disk.new (MayLeave before)) }
     ensures count { D.faults disk.new ≡ count_after_mount result (D.faults disk.old) }
 {
     let mut files = Vec::new(alloc);
@@ -97,7 +101,8 @@ fn list_content<D: Disk>(
     ensures content { IfOk result (λ content. Reads (D.state disk.old) (placed guarded list_name) content) }
     ensures undamaged { IfErr result (λ refusal. IfDamaged refusal (λ file. ⊥)) }
     ensures kept { KeepsState (D.state disk.old) (D.state disk.new) }
-    ensures moments { WhereTold (D.state disk.old) (λ before. AddsOnly D.moment D.left_since disk.old disk.new (MayLeave before)) }
+    ensures moments { WhereTold (D.state disk.old)
+        (λ before. AddsOnly D.moment D.left_since disk.old disk.new (MayLeave before)) }
     ensures count { D.faults disk.new ≡ count_after_mount result (D.faults disk.old) }
 {
     if guarded {
@@ -124,8 +129,8 @@ fn list_file(names: &StoreNames, guarded: bool) -> Result<FileName, AllocError>
     }
 }
 
-/// Reads the set of the backups where the guard stands, else that of the primaries. One disk call for the list file, and
-/// one for each file that it names, up to the first that is absent.
+/// Reads the set of the backups where the guard stands, else that of the primaries. One disk call for the list file,
+/// and one for each file that it names, up to the first that is absent.
 pub fn read_set<D: Disk>(
     alloc: Global,
     disk: &mut D,
@@ -133,10 +138,13 @@ pub fn read_set<D: Disk>(
     guarded: bool,
 ) -> Result<Option<FileSet>, VaultRefusal>
     ensures some { IfOk result (λ held. guarded ≡ true → IsSome held) }
-    ensures read { IfOk result (λ held. WhereTold (D.state disk.old) (λ before. set_read guarded before.current ≡ Ok held)) }
-    ensures damaged { IfErr result (λ refusal. IfDamaged refusal (λ file. WhereTold (D.state disk.old) (λ before. set_read guarded before.current ≡ Err file))) }
+    ensures read { IfOk result (λ held. WhereTold (D.state disk.old)
+        (λ before. set_read guarded before.current ≡ Ok held)) }
+    ensures damaged { IfErr result (λ refusal. IfDamaged refusal (λ file. WhereTold (D.state disk.old)
+        (λ before. set_read guarded before.current ≡ Err file))) }
     ensures kept { KeepsState (D.state disk.old) (D.state disk.new) }
-    ensures moments { WhereTold (D.state disk.old) (λ before. AddsOnly D.moment D.left_since disk.old disk.new (MayLeave before)) }
+    ensures moments { WhereTold (D.state disk.old)
+        (λ before. AddsOnly D.moment D.left_since disk.old disk.new (MayLeave before)) }
     ensures count { D.faults disk.new ≡ count_after_mount result (D.faults disk.old) }
 {
     let file = match list_file(names, guarded) {

@@ -9,7 +9,8 @@ ghost use Rattle.desk_ports.specs.Moments.{AddsOnly, LeavesOnly};
 ghost use Rattle.guard_files.specs.OwnName.{guard_name};
 ghost use Rattle.guard_files.specs.Recovery.{backup_set, primary_set, recover};
 ghost use Rattle.guard_files.specs.Holding.{is_among};
-ghost use Rattle.guard_files.specs.Mounted.{IfDamaged, count_after_mount, goes as does_go, is_left_over as left_over, set_names, RecoversAsAllowed, EndsAtRest, IsSurvey};
+ghost use Rattle.guard_files.specs.Mounted.{IfDamaged, count_after_mount, RecoversAsAllowed, EndsAtRest, IsSurvey};
+ghost use Rattle.guard_files.specs.Mounted.{goes as does_go, is_left_over as left_over, set_names};
 ghost use Rattle.guard_files.specs.parts.Changes.{after, removals, primary_changes, guard_down};
 
 use crate::list_files::{has_name, list_bytes};
@@ -32,7 +33,7 @@ fn is_held(held: &Option<FileSet>, name: &FileName) -> bool
     ensures { result ≡ is_among (set_names held.now) name.now }
 {
     match held {
-        Some(files) => has_name(files.as_slice(), name),
+        Some(files) => has_name(files, name),
         None => false,
     }
 }
@@ -95,7 +96,8 @@ fn leftover(
 fn tidy<D: Disk>(disk: &mut D, rest: &[FileName]) -> Result<(), Failed>
     ensures done { OnOk result ((base : DiskState) → D.state disk.old ≡ Some (with_all_durable base)
         → D.state disk.new ≡ Some (with_all_durable (after (removals rest.now) (with_all_durable base)))) }
-    ensures moments { WhereTold (D.state disk.old) (λ before. AddsOnly D.moment D.left_since disk.old disk.new (MayLeave (after (removals rest.now) before))) }
+    ensures moments { WhereTold (D.state disk.old)
+        (λ before. AddsOnly D.moment D.left_since disk.old disk.new (MayLeave (after (removals rest.now) before))) }
     ensures count { D.faults disk.new ≡ count_after_call result (D.faults disk.old) }
 {
     remove_files(disk, rest)?;
@@ -116,11 +118,15 @@ fn restore<D: Disk>(
     listing: &[FileName],
 ) -> Result<(), VaultRefusal>
     requires { held.now ≡ Some set.now }
-    ensures done { OnOk result ((base : DiskState) → D.state disk.old ≡ Some (with_all_durable base) → D.state disk.new ≡ Some (with_all_durable
-        (after guard_down (with_all_durable (after (primary_changes (filter (does_go (Some set.now)) listing.now) set.now) (with_all_durable base)))))) }
+    ensures done { OnOk result ((base : DiskState) → D.state disk.old ≡ Some (with_all_durable base)
+        → D.state disk.new ≡ Some (with_all_durable
+        (after guard_down (with_all_durable (after (primary_changes (filter (does_go
+        (Some set.now)) listing.now) set.now) (with_all_durable base)))))) }
     ensures undamaged { IfErr result (λ refusal. IfDamaged refusal (λ file. ⊥)) }
-    ensures moments { (base : DiskState) (bytes : List ℕ) → D.state disk.old ≡ Some (with_all_durable base) → base.current guard_name ≡ Some bytes
-        → backup_set base.current ≡ Ok (Some set.now) → AddsOnly D.moment D.left_since disk.old disk.new (λ left. recover left ≡ Ok (Some set.now)) }
+    ensures moments { (base : DiskState) (bytes : List ℕ) → D.state disk.old ≡ Some (with_all_durable base)
+        → base.current guard_name ≡ Some bytes
+        → backup_set base.current ≡ Ok (Some set.now) → AddsOnly D.moment D.left_since disk.old disk.new
+        (λ left. recover left ≡ Ok (Some set.now)) }
     ensures count { D.faults disk.new ≡ count_after_mount result (D.faults disk.old) }
 {
     let gone = match going(alloc, held, listing) {
@@ -151,10 +157,13 @@ fn finish_guarded<D: Disk>(
     listing: &[FileName],
 ) -> Result<(), VaultRefusal>
     requires { held.now ≡ Some set.now }
-    ensures done { OnOk result ((base : DiskState) (bytes : List ℕ) → D.state disk.old ≡ Some (with_all_durable base) → base.current guard_name ≡ Some bytes
-        → backup_set base.current ≡ Ok (Some set.now) → AreNamesOf base.current listing.now → EndsAtRest (Some set.now) (D.state disk.new)) }
+    ensures done { OnOk result ((base : DiskState) (bytes : List ℕ) → D.state disk.old ≡ Some (with_all_durable base)
+        → base.current guard_name ≡ Some bytes
+        → backup_set base.current ≡ Ok (Some set.now) → AreNamesOf base.current listing.now
+        → EndsAtRest (Some set.now) (D.state disk.new)) }
     ensures undamaged { IfErr result (λ refusal. IfDamaged refusal (λ file. ⊥)) }
-    ensures moments { (base : DiskState) (bytes : List ℕ) → D.state disk.old ≡ Some (with_all_durable base) → base.current guard_name ≡ Some bytes
+    ensures moments { (base : DiskState) (bytes : List ℕ) → D.state disk.old ≡ Some (with_all_durable base)
+        → base.current guard_name ≡ Some bytes
         → backup_set base.current ≡ Ok (Some set.now) → AreNamesOf base.current listing.now
         → AddsOnly D.moment D.left_since disk.old disk.new (λ left. recover left ≡ Ok (Some set.now)) }
     ensures count { D.faults disk.new ≡ count_after_mount result (D.faults disk.old) }
@@ -180,10 +189,13 @@ fn finish<D: Disk>(
     held: &Option<FileSet>,
     listing: &[FileName],
 ) -> Result<(), VaultRefusal>
-    ensures done { OnOk result ((base : DiskState) → D.state disk.old ≡ Some (with_all_durable base) → base.current guard_name ≡ None
-        → primary_set base.current ≡ Ok held.now → AreNamesOf base.current listing.now → EndsAtRest held.now (D.state disk.new)) }
+    ensures done { OnOk result ((base : DiskState) → D.state disk.old ≡ Some (with_all_durable base)
+        → base.current guard_name ≡ None
+        → primary_set base.current ≡ Ok held.now → AreNamesOf base.current listing.now
+        → EndsAtRest held.now (D.state disk.new)) }
     ensures undamaged { IfErr result (λ refusal. IfDamaged refusal (λ file. ⊥)) }
-    ensures moments { (base : DiskState) → D.state disk.old ≡ Some (with_all_durable base) → base.current guard_name ≡ None
+    ensures moments { (base : DiskState) → D.state disk.old ≡ Some (with_all_durable base)
+        → base.current guard_name ≡ None
         → primary_set base.current ≡ Ok held.now → AreNamesOf base.current listing.now
         → AddsOnly D.moment D.left_since disk.old disk.new (λ left. recover left ≡ Ok held.now) }
     ensures count { D.faults disk.new ≡ count_after_mount result (D.faults disk.old) }
@@ -213,11 +225,14 @@ fn survey_of<D: Disk>(
     names: &StoreNames,
 ) -> Result<Survey, VaultRefusal>
     ensures some { IfOk result (λ found. found.guarded ≡ true → IsSome found.held) }
-    ensures done { IfOk result (λ found. WhereTold (D.state disk.old) (λ before. (D.state disk.new ≡ Some (with_all_durable before))
+    ensures done { IfOk result (λ found. WhereTold (D.state disk.old) (λ before.
+        (D.state disk.new ≡ Some (with_all_durable before))
         × IsSurvey before.current found.held found.guarded found.listing.items)) }
-    ensures damaged { IfErr result (λ refusal. IfDamaged refusal (λ file. WhereTold (D.state disk.old) (λ before. (recover before.current ≡ Err file)
+    ensures damaged { IfErr result (λ refusal. IfDamaged refusal (λ file. WhereTold (D.state disk.old) (λ before.
+        (recover before.current ≡ Err file)
         × (D.state disk.new ≡ Some (with_all_durable before))))) }
-    ensures moments { WhereTold (D.state disk.old) (λ before. AddsOnly D.moment D.left_since disk.old disk.new (MayLeave before)) }
+    ensures moments { WhereTold (D.state disk.old)
+        (λ before. AddsOnly D.moment D.left_since disk.old disk.new (MayLeave before)) }
     ensures count { D.faults disk.new ≡ count_after_mount result (D.faults disk.old) }
 {
     match disk.sync() {
@@ -239,22 +254,25 @@ fn survey_of<D: Disk>(
     }
 }
 
-/// Brings a folder to rest, whatever a stop made of it, and gives the set that it holds, or nothing where it holds none. It
-/// makes all durable and reads the names; it reads the set from the backups where the guard stands, else from the primaries.
-/// Where the guard stood it renews the primaries and takes the guard away. Then it removes what is left over of the own
-/// names. A damaged folder is left as it is. It may be stopped too, at any moment.
+/// Brings a folder to rest, whatever a stop made of it, and gives the set that it holds, or nothing where it holds
+/// none. It makes all durable and reads the names; it reads the set from the backups where the guard stands, else
+/// from the primaries. Where the guard stood it renews the primaries and takes the guard away. Then it removes what
+/// is left over of the own names. A damaged folder is left as it is. It may be stopped too, at any moment.
 pub fn settle<D: Disk>(
     alloc: Global,
     disk: &mut D,
     names: &StoreNames,
 ) -> Result<Option<FileSet>, VaultRefusal>
     ensures held { IfOk result (λ held. WhereTold (D.state disk.old) (λ before. recover before.current ≡ Ok held)) }
-    ensures settled { IfOk result (λ held. WhereTold (D.state disk.old) (λ before. EndsAtRest held (D.state disk.new))) }
-    ensures damaged { IfErr result (λ refusal. IfDamaged refusal (λ file. WhereTold (D.state disk.old) (λ before. (recover before.current ≡ Err file)
+    ensures settled { IfOk result (λ held. WhereTold (D.state disk.old)
+        (λ before. EndsAtRest held (D.state disk.new))) }
+    ensures damaged { IfErr result (λ refusal. IfDamaged refusal (λ file. WhereTold (D.state disk.old) (λ before.
+        (recover before.current ≡ Err file)
         × (D.state disk.new ≡ Some (with_all_durable before))))) }
 
     // A stop at any moment leaves what recovers as something that a stop at entry may leave.
-    ensures moments { WhereTold (D.state disk.old) (λ before. LeavesOnly D.moment D.left_since disk.old disk.new (RecoversAsAllowed before)) }
+    ensures moments { WhereTold (D.state disk.old)
+        (λ before. LeavesOnly D.moment D.left_since disk.old disk.new (RecoversAsAllowed before)) }
     ensures count { D.faults disk.new ≡ count_after_mount result (D.faults disk.old) }
 {
     let found = match survey_of(alloc, disk, names) {

@@ -1,5 +1,6 @@
-// The parts of a save and of a mount, each a row of calls on the disk in one order. A part that ends well leaves the state
-// after exactly its changes; however it ends, a stop in it leaves no map that a stop after all of its changes may not leave.
+// The parts of a save and of a mount, each a row of calls on the disk in one order. A part that ends well leaves the
+// state after exactly its changes; however it ends, a stop in it leaves no map that a stop after all of its changes
+// may not leave.
 ghost use Rattle.std.specs.Prelude.{◌≡◌, [], ◌∷◌, map, Some, OnOk};
 ghost use Rattle.desk_ports.specs.PortFault.{count_after_call};
 ghost use Rattle.desk_ports.specs.FileMap.{names_of};
@@ -7,14 +8,17 @@ ghost use Rattle.desk_ports.specs.Disk.{WhereTold, MayLeave, with_all_durable};
 ghost use Rattle.desk_ports.specs.Moments.{AddsOnly};
 ghost use Rattle.guard_files.specs.OwnName.{guard_name, list_name, primary_name, backup_name};
 ghost use Rattle.guard_files.specs.ListFile.{list_text};
-ghost use Rattle.guard_files.specs.parts.Changes.{after, writes, removals, set_writes, primary_changes, guard_up, guard_down, backups_away};
+ghost use Rattle.guard_files.specs.parts.Changes.{after, writes, removals, set_writes, primary_changes};
+ghost use Rattle.guard_files.specs.parts.Changes.{guard_up, guard_down, backups_away};
 
 use desk_ports::{Disk, Failed, FileName, SetFile};
 
 /// Removes each file of these names, in their order. One disk call for each.
 pub fn remove_files<D: Disk>(disk: &mut D, names: &[FileName]) -> Result<(), Failed>
-    ensures done { OnOk result (WhereTold (D.state disk.old) (λ before. D.state disk.new ≡ Some (after (removals names.now) before))) }
-    ensures moments { WhereTold (D.state disk.old) (λ before. AddsOnly D.moment D.left_since disk.old disk.new (MayLeave (after (removals names.now) before))) }
+    ensures done { OnOk result (WhereTold (D.state disk.old)
+        (λ before. D.state disk.new ≡ Some (after (removals names.now) before))) }
+    ensures moments { WhereTold (D.state disk.old)
+        (λ before. AddsOnly D.moment D.left_since disk.old disk.new (MayLeave (after (removals names.now) before))) }
     ensures count { D.faults disk.new ≡ count_after_call result (D.faults disk.old) }
 {
     for name in names {
@@ -25,8 +29,11 @@ pub fn remove_files<D: Disk>(disk: &mut D, names: &[FileName]) -> Result<(), Fai
 
 /// Writes each file of a set under its own name. One disk call for each.
 pub fn write_primaries<D: Disk>(disk: &mut D, files: &[SetFile]) -> Result<(), Failed>
-    ensures done { OnOk result (WhereTold (D.state disk.old) (λ before. D.state disk.new ≡ Some (after (writes primary_name files.now) before))) }
-    ensures moments { WhereTold (D.state disk.old) (λ before. AddsOnly D.moment D.left_since disk.old disk.new (MayLeave (after (writes primary_name files.now) before))) }
+    ensures done { OnOk result (WhereTold (D.state disk.old)
+        (λ before. D.state disk.new ≡ Some (after (writes primary_name files.now) before))) }
+    ensures moments { WhereTold (D.state disk.old)
+        (λ before. AddsOnly D.moment D.left_since disk.old disk.new (MayLeave
+        (after (writes primary_name files.now) before))) }
     ensures count { D.faults disk.new ≡ count_after_call result (D.faults disk.old) }
 {
     for file in files {
@@ -35,15 +42,19 @@ pub fn write_primaries<D: Disk>(disk: &mut D, files: &[SetFile]) -> Result<(), F
     Ok(())
 }
 
-/// Writes the backup of each file of a set. The names are those of the backups, in the files' order. One disk call for each.
+/// Writes the backup of each file of a set. The names are those of the backups, in the files' order. One disk call
+/// for each.
 pub fn write_backups<D: Disk>(
     disk: &mut D,
     names: &[FileName],
     files: &[SetFile],
 ) -> Result<(), Failed>
     requires { names.now ≡ map backup_name (names_of files.now) }
-    ensures done { OnOk result (WhereTold (D.state disk.old) (λ before. D.state disk.new ≡ Some (after (writes backup_name files.now) before))) }
-    ensures moments { WhereTold (D.state disk.old) (λ before. AddsOnly D.moment D.left_since disk.old disk.new (MayLeave (after (writes backup_name files.now) before))) }
+    ensures done { OnOk result (WhereTold (D.state disk.old)
+        (λ before. D.state disk.new ≡ Some (after (writes backup_name files.now) before))) }
+    ensures moments { WhereTold (D.state disk.old)
+        (λ before. AddsOnly D.moment D.left_since disk.old disk.new (MayLeave
+        (after (writes backup_name files.now) before))) }
     ensures count { D.faults disk.new ≡ count_after_call result (D.faults disk.old) }
 {
     for i in 0..files.len() {
@@ -55,8 +66,10 @@ pub fn write_backups<D: Disk>(
 /// Writes the guard, and makes it durable. Two disk calls.
 pub fn raise_guard<D: Disk>(disk: &mut D, guard: &FileName) -> Result<(), Failed>
     requires { guard.now ≡ guard_name }
-    ensures done { OnOk result (WhereTold (D.state disk.old) (λ before. D.state disk.new ≡ Some (with_all_durable (after guard_up before)))) }
-    ensures moments { WhereTold (D.state disk.old) (λ before. AddsOnly D.moment D.left_since disk.old disk.new (MayLeave (after guard_up before))) }
+    ensures done { OnOk result (WhereTold (D.state disk.old)
+        (λ before. D.state disk.new ≡ Some (with_all_durable (after guard_up before)))) }
+    ensures moments { WhereTold (D.state disk.old)
+        (λ before. AddsOnly D.moment D.left_since disk.old disk.new (MayLeave (after guard_up before))) }
     ensures count { D.faults disk.new ≡ count_after_call result (D.faults disk.old) }
 {
     disk.write(guard, &[])?;
@@ -66,16 +79,18 @@ pub fn raise_guard<D: Disk>(disk: &mut D, guard: &FileName) -> Result<(), Failed
 /// Removes the guard, and makes that durable. Two disk calls.
 pub fn lower_guard<D: Disk>(disk: &mut D, guard: &FileName) -> Result<(), Failed>
     requires { guard.now ≡ guard_name }
-    ensures done { OnOk result (WhereTold (D.state disk.old) (λ before. D.state disk.new ≡ Some (with_all_durable (after guard_down before)))) }
-    ensures moments { WhereTold (D.state disk.old) (λ before. AddsOnly D.moment D.left_since disk.old disk.new (MayLeave (after guard_down before))) }
+    ensures done { OnOk result (WhereTold (D.state disk.old)
+        (λ before. D.state disk.new ≡ Some (with_all_durable (after guard_down before)))) }
+    ensures moments { WhereTold (D.state disk.old)
+        (λ before. AddsOnly D.moment D.left_since disk.old disk.new (MayLeave (after guard_down before))) }
     ensures count { D.faults disk.new ≡ count_after_call result (D.faults disk.old) }
 {
     disk.remove(guard)?;
     disk.sync()
 }
 
-/// Writes the backup of each file of a set and then that of their list, and makes them durable: the first two steps of a
-/// save.
+/// Writes the backup of each file of a set and then that of their list, and makes them durable: the first two steps
+/// of a save.
 pub fn save_backups<D: Disk>(
     disk: &mut D,
     backups: &[FileName],
@@ -86,8 +101,11 @@ pub fn save_backups<D: Disk>(
     requires names { backups.now ≡ map backup_name (names_of files.now) }
     requires list_name { list_backup.now ≡ backup_name list_name }
     requires list { list.now ≡ list_text (names_of files.now) }
-    ensures done { OnOk result (WhereTold (D.state disk.old) (λ before. D.state disk.new ≡ Some (with_all_durable (after (set_writes backup_name files.now) before)))) }
-    ensures moments { WhereTold (D.state disk.old) (λ before. AddsOnly D.moment D.left_since disk.old disk.new (MayLeave (after (set_writes backup_name files.now) before))) }
+    ensures done { OnOk result (WhereTold (D.state disk.old)
+        (λ before. D.state disk.new ≡ Some (with_all_durable (after (set_writes backup_name files.now) before)))) }
+    ensures moments { WhereTold (D.state disk.old)
+        (λ before. AddsOnly D.moment D.left_since disk.old disk.new (MayLeave
+        (after (set_writes backup_name files.now) before))) }
     ensures count { D.faults disk.new ≡ count_after_call result (D.faults disk.old) }
 {
     write_backups(disk, backups, files)?;
@@ -107,8 +125,11 @@ pub fn save_primaries<D: Disk>(
 ) -> Result<(), Failed>
     requires list_name { list_file.now ≡ list_name }
     requires list { list.now ≡ list_text (names_of files.now) }
-    ensures done { OnOk result (WhereTold (D.state disk.old) (λ before. D.state disk.new ≡ Some (with_all_durable (after (primary_changes gone.now files.now) before)))) }
-    ensures moments { WhereTold (D.state disk.old) (λ before. AddsOnly D.moment D.left_since disk.old disk.new (MayLeave (after (primary_changes gone.now files.now) before))) }
+    ensures done { OnOk result (WhereTold (D.state disk.old)
+        (λ before. D.state disk.new ≡ Some (with_all_durable (after (primary_changes gone.now files.now) before)))) }
+    ensures moments { WhereTold (D.state disk.old)
+        (λ before. AddsOnly D.moment D.left_since disk.old disk.new (MayLeave
+        (after (primary_changes gone.now files.now) before))) }
     ensures count { D.faults disk.new ≡ count_after_call result (D.faults disk.old) }
 {
     remove_files(disk, gone)?;
@@ -125,8 +146,11 @@ pub fn drop_backups<D: Disk>(
     backups: &[FileName],
 ) -> Result<(), Failed>
     requires { list_backup.now ≡ backup_name list_name }
-    ensures done { OnOk result (WhereTold (D.state disk.old) (λ before. D.state disk.new ≡ Some (after (backups_away backups.now) before))) }
-    ensures moments { WhereTold (D.state disk.old) (λ before. AddsOnly D.moment D.left_since disk.old disk.new (MayLeave (after (backups_away backups.now) before))) }
+    ensures done { OnOk result (WhereTold (D.state disk.old)
+        (λ before. D.state disk.new ≡ Some (after (backups_away backups.now) before))) }
+    ensures moments { WhereTold (D.state disk.old)
+        (λ before. AddsOnly D.moment D.left_since disk.old disk.new (MayLeave
+        (after (backups_away backups.now) before))) }
     ensures count { D.faults disk.new ≡ count_after_call result (D.faults disk.old) }
 {
     disk.remove(list_backup)?;

@@ -10,6 +10,7 @@ ghost use Rattle.guard_files.specs.Recovery.{recover};
 ghost use Rattle.guard_files.specs.Mounted.{IfDamaged, count_after_mount, RecoversAsAllowed, EndsAtRest};
 ghost use Rattle.guard_files.specs.Settled.{IsSettled, gone_names, IsBeforeOrAfter, EndsSettled};
 
+use crate::mounted::Mounted;
 use crate::prepared::Prepared;
 use crate::refusals::VaultRefusal;
 use crate::settling::settle;
@@ -21,8 +22,9 @@ use std::alloc::{AllocError, Global};
 #[derive(Clone, Copy, Debug, PartialEq, Eq)]
 pub struct StoreFault;
 
-/// An atomic store for a set of files in a folder. It replaces the whole set at once: a stop at any moment leaves the set
-/// before or the set after. Clauses see its disk, the set that it holds, and whether it is decided which set that is.
+/// An atomic store for a set of files in a folder. It replaces the whole set at once: a stop at any moment leaves the
+/// set before or the set after. Clauses see its disk, the set that it holds, and whether it is decided which set that
+/// is.
 #[derive(Drop)]
 pub struct Vault<'d, D: Disk> {
     disk: &'d mut D,
@@ -33,46 +35,62 @@ pub struct Vault<'d, D: Disk> {
 }
 
 impl<'d, D: Disk> Vault<'d, D> {
-    /// Mounts the folder, by the calls of `settle`. Refuses `StoreFault`, where a call of the disk failed; `Damaged`, with the
-    /// file, and then nothing in the folder was changed; and `Memory`.
+    /// Mounts the folder, by the calls of `settle`. Refuses `StoreFault`, where a call of the disk failed; `Damaged`,
+    /// with the file, and then nothing in the folder was changed; and `Memory`. Where more is to be known of the disk
+    /// after a refusal than clauses can say here, which hand it on in the answer, `Mounted::find` and then `of` do
+    /// the same.
     pub fn mount(alloc: Global, disk: &'d mut D) -> Result<Vault<'d, D>, VaultRefusal>
         ensures decided { IfOk result (λ vault. vault.decided ≡ true) }
-        ensures held { IfOk result (λ vault. WhereTold (D.state disk.old) (λ before. recover before.current ≡ Ok vault.held)) }
+        ensures held { IfOk result (λ vault. WhereTold (D.state disk.old)
+            (λ before. recover before.current ≡ Ok vault.held)) }
 
-        // The store is at rest then, and a stop meanwhile left what recovers as something that a stop at entry may leave.
-        ensures settled { IfOk result (λ vault. WhereTold (D.state disk.old) (λ before. EndsAtRest vault.held (D.state vault.disk.now))) }
-        ensures moments { IfOk result (λ vault. WhereTold (D.state disk.old) (λ before. LeavesOnly D.moment D.left_since disk.old vault.disk.now
+        // The store is at rest then, and a stop meanwhile left what recovers as something that a stop at entry may
+        // leave.
+        ensures settled { IfOk result (λ vault. WhereTold (D.state disk.old)
+            (λ before. EndsAtRest vault.held (D.state vault.disk.now))) }
+        ensures moments { IfOk result (λ vault. WhereTold (D.state disk.old)
+            (λ before. LeavesOnly D.moment D.left_since disk.old vault.disk.now
             (RecoversAsAllowed before))) }
-        ensures damaged { IfErr result (λ refusal. IfDamaged refusal (λ file. WhereTold (D.state disk.old) (λ before. recover before.current ≡ Err file))) }
+        ensures damaged { IfErr result (λ refusal. IfDamaged refusal (λ file. WhereTold (D.state disk.old)
+            (λ before. recover before.current ≡ Err file))) }
         ensures count { IfOk result (λ vault. D.faults vault.disk.now ≡ D.faults disk.old) }
         ensures same_disk { IfOk result (λ vault. vault.disk.ghost_name ≡ disk.entry.ghost_name) }
     {
-        let names = match StoreNames::new(alloc) {
-            Ok(names) => names,
-            Err(error) => return Err(VaultRefusal::Memory(error)),
-        };
-        let held = match settle(alloc, disk, &names) {
-            Ok(held) => held,
-            Err(refusal) => return Err(refusal),
-        };
-        Ok(Vault {
+        let found = Mounted::find(alloc, disk)?;
+        Ok(Vault::of(alloc, disk, found))
+    }
+
+    /// The vault over a disk on which this set was found last, and which no other call was made on since. Takes no
+    /// memory.
+    pub fn of(alloc: Global, disk: &'d mut D, found: Mounted) -> Vault<'d, D>
+        ensures decided { result.decided ≡ true }
+        ensures held { result.held ≡ found }
+        ensures disk { result.disk.now ≡ disk.old }
+        ensures same_disk { result.disk.ghost_name ≡ disk.entry.ghost_name }
+    {
+        let Mounted { names, held } = found;
+        Vault {
             disk,
             alloc,
             names,
             held,
             decided: true,
-        })
+        }
     }
 
     /// Settles what the store holds, as a mount does, from whatever state. A refusal leaves the vault undecided.
     pub fn remount(&mut self) -> Result<(), VaultRefusal>
         ensures decided { OnOk result (self.new.decided ≡ true) }
         ensures undecided { OnErr result (self.new.decided ≡ false) }
-        ensures held { OnOk result (WhereTold (D.state self.old.disk.now) (λ before. recover before.current ≡ Ok self.new.held)) }
-        ensures settled { OnOk result (WhereTold (D.state self.old.disk.now) (λ before. EndsAtRest self.new.held (D.state self.new.disk.now))) }
-        ensures moments { WhereTold (D.state self.old.disk.now) (λ before. LeavesOnly D.moment D.left_since self.old.disk.now self.new.disk.now
+        ensures held { OnOk result (WhereTold (D.state self.old.disk.now)
+            (λ before. recover before.current ≡ Ok self.new.held)) }
+        ensures settled { OnOk result (WhereTold (D.state self.old.disk.now)
+            (λ before. EndsAtRest self.new.held (D.state self.new.disk.now))) }
+        ensures moments { WhereTold (D.state self.old.disk.now)
+            (λ before. LeavesOnly D.moment D.left_since self.old.disk.now self.new.disk.now
             (RecoversAsAllowed before)) }
-        ensures damaged { IfErr result (λ refusal. IfDamaged refusal (λ file. WhereTold (D.state self.old.disk.now) (λ before. (recover before.current ≡ Err file)
+        ensures damaged { IfErr result (λ refusal. IfDamaged refusal (λ file. WhereTold (D.state self.old.disk.now)
+            (λ before. (recover before.current ≡ Err file)
             × (D.state self.new.disk.now ≡ Some (with_all_durable before))))) }
         ensures count { D.faults self.new.disk.now ≡ count_after_mount result (D.faults self.old.disk.now) }
         ensures same_disk { self.new.disk.ghost_name ≡ self.old.disk.ghost_name }
@@ -113,8 +131,8 @@ impl<'d, D: Disk> Vault<'d, D> {
         Prepared::new(self.alloc, &self.held, set)
     }
 
-    /// Replaces the held set by the prepared one, by the calls of `save_set`. Takes no memory. After `StoreFault` the vault
-    /// is undecided.
+    /// Replaces the held set by the prepared one, by the calls of `save_set`. Takes no memory. After `StoreFault` the
+    /// vault is undecided.
     pub fn replace(&mut self, prepared: Prepared) -> Result<(), StoreFault>
         requires decided { self.old.decided ≡ true }
         requires prepared { prepared.gone ≡ gone_names self.old.held prepared.set }
@@ -123,12 +141,13 @@ impl<'d, D: Disk> Vault<'d, D> {
         ensures decided { OnOk result (self.new.decided ≡ true) }
         ensures undecided { OnErr result (self.new.decided ≡ false) }
 
-        // From a store at rest, as a mount, a remount and a replacement leave it, it ends with a store at rest that holds
-        // the new set, and a stop at any moment of the call leaves the set before or the set after.
+        // From a store at rest, as a mount, a remount and a replacement leave it, it ends with a store at rest that
+        // holds the new set, and a stop at any moment of the call leaves the set before or the set after.
         ensures settled { OnOk result (WhereTold (D.state self.old.disk.now) (λ before. IsSettled self.old.held before
             → EndsSettled prepared.set (D.state self.new.disk.now))) }
         ensures moments { WhereTold (D.state self.old.disk.now) (λ before. IsSettled self.old.held before
-            → LeavesOnly D.moment D.left_since self.old.disk.now self.new.disk.now (IsBeforeOrAfter self.old.held (Some prepared.set))) }
+            → LeavesOnly D.moment D.left_since self.old.disk.now self.new.disk.now (IsBeforeOrAfter self.old.held
+            (Some prepared.set))) }
 
         // It fails only where a call of the disk did, once.
         ensures count { OnOk result (D.faults self.new.disk.now ≡ D.faults self.old.disk.now) }

@@ -10,10 +10,6 @@ use Rattle.guard_files.specs.ListFile.{list_text}
 abbrev pub Change : Type 0
 Change = List ℕ × Option (List ℕ)
 
--- the names that are changed
-abbrev pub changed_names : List Change → List (List ℕ)
-changed_names changes = map (λ change. change.0) changes
-
 -- the map after the changes, the first of them first
 abbrev pub changed : List Change → FileMap → FileMap
 changed [] files = files
@@ -26,7 +22,11 @@ touching (change ∷ changes) names = touching changes (with_name names change.0
 
 -- the state of a disk after the changes
 abbrev pub after : List Change → DiskState → DiskState
-after changes state = record { current = changed changes state.current; durable = state.durable; touched = touching changes state.touched }
+after changes state = record {
+  current = changed changes state.current;
+  durable = state.durable;
+  touched = touching changes state.touched;
+}
 
 -- each file of the set is written where it is placed
 abbrev pub writes : (List ℕ → List ℕ) → List SetFile → List Change

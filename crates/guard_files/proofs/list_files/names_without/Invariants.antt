@@ -4,4 +4,4 @@ use Rattle.guard_files.specs.Holding.{is_among}
 use Rattle.guard_files.proofs.list_files.names_without.Given as goal
 
 abbrev pub invariant-loop-file : goal.invariant-loop-file
-invariant-loop-file l = l.names.items ≡ filter (λ name. not (is_among (names_of l.others) name)) (names_of (take l.file-index l.files))
+invariant-loop-file l = l.names.items ≡ filter (λ name. not (is_among (names_of l.set) name)) (names_of (take l.file-index l.files))

@@ -7,16 +7,39 @@ use Rattle.guard_files.proofs.settling.restore.Goals as goal
 
 pub returns-in-Err-save_primaries-clause-moments : goal.returns-in-Err-save_primaries-clause-moments
 returns-in-Err-save_primaries-clause-moments g c base bytes told guarded backups =
-    (over_renewal g.D.Disk.state g.D.Disk.moment g.D.Disk.left_since base bytes c.args.set.now c.args.listing.now guarded backups c.args.disk.now c.save_primaries.new.disk c.deref.result.now c.as_slice-2.result.now (c.deref.ensures.value ∙ c.in-Ok.ensures ∙ ap (λ held. filter (goes held) c.args.listing.now) c.requires) c.as_slice-2.ensures.files told c.save_primaries.ensures.moments)
+    let gone = c.deref.ensures.value ∙ c.in-Ok.ensures ∙ ap (λ held. filter (goes held) c.args.listing.now) c.requires in
+    over_renewal g.D.Disk.state g.D.Disk.moment g.D.Disk.left_since base bytes c.args.set.now c.args.listing.now guarded backups
+    c.args.disk.now c.save_primaries.new.disk c.deref.result.now c.as_slice-2.result.now gone c.as_slice-2.ensures.files told
+    c.save_primaries.ensures.moments
 
 pub returns-in-Ok-lower_guard-clause-moments : goal.returns-in-Ok-lower_guard-clause-moments
 returns-in-Ok-lower_guard-clause-moments g c base bytes told guarded backups =
-    AddsOnly-then g.D.Disk.moment g.D.Disk.left_since c.args.disk.now c.save_primaries.new.disk c.lower_guard.new.disk (λ left. recover left ≡ Ok (Some c.args.set.now))
-    (over_renewal g.D.Disk.state g.D.Disk.moment g.D.Disk.left_since base bytes c.args.set.now c.args.listing.now guarded backups c.args.disk.now c.save_primaries.new.disk c.deref.result.now c.as_slice-2.result.now (c.deref.ensures.value ∙ c.in-Ok.ensures ∙ ap (λ held. filter (goes held) c.args.listing.now) c.requires) c.as_slice-2.ensures.files told c.save_primaries.ensures.moments)
-    (over_fall g.D.Disk.state g.D.Disk.moment g.D.Disk.left_since base bytes c.args.set.now c.args.listing.now guarded backups c.save_primaries.new.disk c.lower_guard.new.disk (told_renewal g.D.Disk.state g.D.Disk.moment g.D.Disk.left_since base bytes c.args.set.now c.args.listing.now guarded backups c.args.disk.now c.save_primaries.new.disk c.deref.result.now c.as_slice-2.result.now (c.deref.ensures.value ∙ c.in-Ok.ensures ∙ ap (λ held. filter (goes held) c.args.listing.now) c.requires) c.as_slice-2.ensures.files told c.in-Ok-save_primaries.ensures.done) c.lower_guard.ensures.moments)
+    let gone = c.deref.ensures.value ∙ c.in-Ok.ensures ∙ ap (λ held. filter (goes held) c.args.listing.now) c.requires in
+    let renewal =
+    over_renewal g.D.Disk.state g.D.Disk.moment g.D.Disk.left_since base bytes c.args.set.now c.args.listing.now guarded backups
+    c.args.disk.now c.save_primaries.new.disk c.deref.result.now c.as_slice-2.result.now gone c.as_slice-2.ensures.files told
+    c.save_primaries.ensures.moments in
+    let renewed =
+    told_renewal g.D.Disk.state g.D.Disk.moment g.D.Disk.left_since base bytes c.args.set.now c.args.listing.now guarded backups
+    c.args.disk.now c.save_primaries.new.disk c.deref.result.now c.as_slice-2.result.now gone c.as_slice-2.ensures.files told
+    c.in-Ok-save_primaries.ensures.done in
+    AddsOnly-then g.D.Disk.moment g.D.Disk.left_since c.args.disk.now c.save_primaries.new.disk c.lower_guard.new.disk
+    (λ left. recover left ≡ Ok (Some c.args.set.now)) renewal
+    (over_fall g.D.Disk.state g.D.Disk.moment g.D.Disk.left_since base bytes c.args.set.now c.args.listing.now guarded backups
+    c.save_primaries.new.disk c.lower_guard.new.disk renewed c.lower_guard.ensures.moments)
 
 pub returns-clause-moments : goal.returns-clause-moments
 returns-clause-moments g c base bytes told guarded backups =
-    AddsOnly-then g.D.Disk.moment g.D.Disk.left_since c.args.disk.now c.save_primaries.new.disk c.lower_guard.new.disk (λ left. recover left ≡ Ok (Some c.args.set.now))
-    (over_renewal g.D.Disk.state g.D.Disk.moment g.D.Disk.left_since base bytes c.args.set.now c.args.listing.now guarded backups c.args.disk.now c.save_primaries.new.disk c.deref.result.now c.as_slice-2.result.now (c.deref.ensures.value ∙ c.in-Ok.ensures ∙ ap (λ held. filter (goes held) c.args.listing.now) c.requires) c.as_slice-2.ensures.files told c.save_primaries.ensures.moments)
-    (over_fall g.D.Disk.state g.D.Disk.moment g.D.Disk.left_since base bytes c.args.set.now c.args.listing.now guarded backups c.save_primaries.new.disk c.lower_guard.new.disk (told_renewal g.D.Disk.state g.D.Disk.moment g.D.Disk.left_since base bytes c.args.set.now c.args.listing.now guarded backups c.args.disk.now c.save_primaries.new.disk c.deref.result.now c.as_slice-2.result.now (c.deref.ensures.value ∙ c.in-Ok.ensures ∙ ap (λ held. filter (goes held) c.args.listing.now) c.requires) c.as_slice-2.ensures.files told c.in-Ok-save_primaries.ensures.done) c.lower_guard.ensures.moments)
+    let gone = c.deref.ensures.value ∙ c.in-Ok.ensures ∙ ap (λ held. filter (goes held) c.args.listing.now) c.requires in
+    let renewal =
+    over_renewal g.D.Disk.state g.D.Disk.moment g.D.Disk.left_since base bytes c.args.set.now c.args.listing.now guarded backups
+    c.args.disk.now c.save_primaries.new.disk c.deref.result.now c.as_slice-2.result.now gone c.as_slice-2.ensures.files told
+    c.save_primaries.ensures.moments in
+    let renewed =
+    told_renewal g.D.Disk.state g.D.Disk.moment g.D.Disk.left_since base bytes c.args.set.now c.args.listing.now guarded backups
+    c.args.disk.now c.save_primaries.new.disk c.deref.result.now c.as_slice-2.result.now gone c.as_slice-2.ensures.files told
+    c.in-Ok-save_primaries.ensures.done in
+    AddsOnly-then g.D.Disk.moment g.D.Disk.left_since c.args.disk.now c.save_primaries.new.disk c.lower_guard.new.disk
+    (λ left. recover left ≡ Ok (Some c.args.set.now)) renewal
+    (over_fall g.D.Disk.state g.D.Disk.moment g.D.Disk.left_since base bytes c.args.set.now c.args.listing.now guarded backups
+    c.save_primaries.new.disk c.lower_guard.new.disk renewed c.lower_guard.ensures.moments)

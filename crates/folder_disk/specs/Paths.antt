@@ -1,0 +1,11 @@
+-- Paths of a folder's files.
+use Rattle.std.specs.Prelude.{ℕ, List, ◌∷◌, ◌++◌}
+use lib.Chars.{codes}
+
+-- the folder, a slash, and the file's name
+abbrev pub file_path : List ℕ → List ℕ → List ℕ
+file_path folder name = folder ++ 47 ∷ name
+
+-- the folder's own name of the folder that it stands in
+abbrev pub parent_path : List ℕ → List ℕ
+parent_path folder = folder ++ codes "/.."
