@@ -1,5 +1,7 @@
 -- A search for the first least of the elements that count, from the end of a list to its front.
-use Rattle.std.proofs.Common.{◌≡◌, ◌≢◌, ℕ, ◌+◌, ◌-◌, ◌<◌, ◌≤◌, Bool, true, false, cond, List, [], ◌∷◌, length, drop, get_or, slice_get, Option, None, Some, IfSome, MatchOption, refl, sym, ap, ◌∙◌, subst, inl, inr, arith}
+use Rattle.std.proofs.Common.{◌≡◌, ◌≢◌, ℕ, ◌+◌, ◌-◌, ◌<◌, ◌≤◌, Bool, true, false, cond, List, [], ◌∷◌, length, drop}
+use Rattle.std.proofs.Common.{get_or, slice_get, Option, None, Some, IfSome, MatchOption, refl, sym, ap, ◌∙◌, subst}
+use Rattle.std.proofs.Common.{inl, inr, arith}
 use Rattle.std.specs.declared.cmp.Ordering.{Ordering}
 use Rattle.std.specs.declared.cmp.Ordering.TheVariants.{Less, Equal, Greater}
 use Rattle.std.specs.Cmp.{IsTotalOrder}
@@ -13,7 +15,8 @@ use Rattle.std.proofs.lemmas.List.Elements.{All-from_recursion, recursion_from_A
 use Rattle.cynara_keys.specs.Minimum.{lesser, first_least}
 use Rattle.cynara_keys.proofs.Minimum.{first_least-all, first_least-none, first_least-before}
 
-pub min-after : {X : Type 0} (order : Ordering) (x other : X) → is_gt order ≡ true → min_by_ordering order x other ≡ other
+pub min-after : {X : Type 0} (order : Ordering) (x other : X) → is_gt order ≡ true
+    → min_by_ordering order x other ≡ other
 min-after Less x other after = absurd (false≢true after)
 min-after Equal x other after = absurd (false≢true after)
 min-after Greater x other after = refl
@@ -30,7 +33,8 @@ empty-cond test x xs passed true is others empty = cc
 empty-cond test x xs passed false is others empty = (is, others empty)
 
 -- where no element passes, each fails
-filter-empty : {X : Type 0} (test : X → Bool) (xs : List X) → filter test xs ≡ [] → AllByRecursion (λ x. test x ≡ false) xs
+filter-empty : {X : Type 0} (test : X → Bool) (xs : List X) → filter test xs ≡ []
+    → AllByRecursion (λ x. test x ≡ false) xs
 filter-empty test [] empty = tt
 filter-empty test (x ∷ xs) empty = empty-cond test x xs (filter test xs) (test x) refl (filter-empty test xs) empty
 
@@ -51,11 +55,13 @@ module _ {X : Type 0} (counts : X → Bool) (cmp : X → X → Ordering) where
 
   pub best_of-none : (xs : List X) → best_of xs ≡ None → All (λ x. counts x ≡ false) xs
   best_of-none xs none =
-      All-from_recursion (λ x. counts x ≡ false) xs (filter-empty counts xs (first_least-none cmp (filter counts xs) none))
+      All-from_recursion (λ x. counts x ≡ false) xs
+      (filter-empty counts xs (first_least-none cmp (filter counts xs) none))
 
   -- the place of the first least of those that count, from a place on
   pub record IsBest (xs : List X) (from : ℕ) (best : Option ℕ) : Type 0 where
-    pub decides : MatchOption best (best_of (drop from xs) ≡ None) (λ place. slice_get xs place ≡ best_of (drop from xs))
+    pub decides : MatchOption best (best_of (drop from xs) ≡ None)
+        (λ place. slice_get xs place ≡ best_of (drop from xs))
     pub in_range : IfSome best (λ place. place < length xs)
     pub first : IfSome best (λ place. (k : ℕ) → from ≤ k → k < place → slice_get xs k ≢ best_of (drop from xs))
 
@@ -64,7 +70,8 @@ module _ {X : Type 0} (counts : X → Bool) {cmp : X → X → Ordering} (order 
       (λ best. All (λ other. is_gt (cmp best other) ≡ false) (filter counts xs))
   best_of-before xs = lifted (best_of counts cmp xs) (first_least-before order (filter counts xs))
     where
-      lifted : (best : Option X) → IfSome best (λ x. AllByRecursion (λ other. is_gt (cmp x other) ≡ false) (filter counts xs))
+      lifted : (best : Option X)
+          → IfSome best (λ x. AllByRecursion (λ other. is_gt (cmp x other) ≡ false) (filter counts xs))
           → IfSome best (λ x. All (λ other. is_gt (cmp x other) ≡ false) (filter counts xs))
       lifted None before = tt
       lifted (Some x) before = All-from_recursion (λ other. is_gt (cmp x other) ≡ false) (filter counts xs) before
@@ -103,7 +110,8 @@ module _ {X : Type 0} (counts : X → Bool) {cmp : X → X → Ordering} (order 
   IsBest-silent xs at best x lt is silent best_is =
       same xs at best (more xs at x false lt is silent)
       (λ e. false≢true (sym silent
-      ∙ subst (λ o. IfSome o (λ y. counts y ≡ true)) (sym e ∙ slice_get_read xs (length xs) at x refl lt is) (best_of-counts counts cmp (drop at xs))))
+      ∙ subst (λ o. IfSome o (λ y. counts y ≡ true)) (sym e ∙ slice_get_read xs (length xs) at x refl lt is)
+      (best_of-counts counts cmp (drop at xs))))
       best_is
 
   -- an element that comes after the least of those behind it
@@ -123,7 +131,8 @@ module _ {X : Type 0} (counts : X → Bool) {cmp : X → X → Ordering} (order 
       best_is
 
   -- an element that doesn't come after the least of those behind it
-  pub IsBest-instead : (xs : List X) (at place : ℕ) (x other : X) → at < length xs → x ≡ get_or xs at x → counts x ≡ true
+  pub IsBest-instead : (xs : List X) (at place : ℕ) (x other : X) → at < length xs → x ≡ get_or xs at x
+      → counts x ≡ true
       → other ≡ get_or xs place other → is_gt (cmp x other) ≡ false
       → IsBest counts cmp xs (at + 1) (Some place) → IsBest counts cmp xs at (Some at)
   IsBest-instead xs at place x other lt is speaks other_is before best_is =
@@ -143,7 +152,8 @@ module _ {X : Type 0} (counts : X → Bool) {cmp : X → X → Ordering} (order 
       ∙ sym (more xs at x true lt is speaks ∙ ap (λ rest. Some (lesser cmp x rest)) best_is.decides))
 
 -- the same, with one place fewer to look at
-pub IsBest-down : {X : Type 0} {counts : X → Bool} {cmp : X → X → Ordering} {xs : List X} {left : ℕ} {best alike : Option ℕ}
+pub IsBest-down : {X : Type 0} {counts : X → Bool} {cmp : X → X
+    → Ordering} {xs : List X} {left : ℕ} {best alike : Option ℕ}
     → 0 < left → best ≡ alike → IsBest counts cmp xs left best → IsBest counts cmp xs (left - 1 + 1) alike
 IsBest-down {counts = counts} {cmp = cmp} {xs = xs} {left = left} {best = best} some is best_is =
     let above : left ≡ left - 1 + 1 = omega arith in

@@ -1,5 +1,6 @@
 -- How policies decide.
-use Rattle.std.proofs.Common.{◌≡◌, ℕ, ◌≤◌, Bool, true, false, List, Option, None, Some, IfSome, IfNone, slice_get, refl, sym, ap, ◌∙◌, subst, arith}
+use Rattle.std.proofs.Common.{◌≡◌, ℕ, ◌≤◌, Bool, true, false, List, Option, None, Some, IfSome, IfNone, slice_get, refl}
+use Rattle.std.proofs.Common.{sym, ap, ◌∙◌, subst, arith}
 use Rattle.std.specs.List.{All, filter}
 use Rattle.std.specs.declared.cmp.Ordering.{Ordering}
 use Rattle.std.specs.declared.cmp.Ordering.TheVariants.{Less, Equal, Greater}
@@ -29,7 +30,8 @@ then-equal Greater second h = refl
 
 -- policies with different keys never tie
 pub decision_cmp-apart : (x y : Policy) → same_key x.key y.key ≡ false → is_eq (decision_cmp x y) ≡ false
-decision_cmp-apart x y apart = then-equal (result_cmp x.result y.result) (key_cmp x.key y.key) (key_cmp-equal x.key y.key ∙ apart)
+decision_cmp-apart x y apart =
+    then-equal (result_cmp x.result y.result) (key_cmp x.key y.key) (key_cmp-equal x.key y.key ∙ apart)
 
 min-swap : (x y : Policy) (there back : Ordering) → there ≡ ordering_reverse back → is_eq there ≡ false
     → min_by_ordering there x y ≡ min_by_ordering back y x
@@ -49,9 +51,11 @@ ahead : (x y : Policy) → is_gt (decision_cmp x y) ≡ false → lesser decisio
 ahead x y before = min-before (decision_cmp x y) x y before
 
 -- the lesser of three, of which the one or the other or neither comes after the third
-triple-swap : (x y z : Policy) (first second : Bool) → is_gt (decision_cmp x z) ≡ first → is_gt (decision_cmp y z) ≡ second
+triple-swap : (x y z : Policy) (first second : Bool) → is_gt (decision_cmp x z) ≡ first
+    → is_gt (decision_cmp y z) ≡ second
     → same_key x.key y.key ≡ false
-    → lesser decision_cmp x (Some (lesser decision_cmp y (Some z))) ≡ lesser decision_cmp y (Some (lesser decision_cmp x (Some z)))
+    → lesser decision_cmp x (Some (lesser decision_cmp y (Some z))) ≡ lesser decision_cmp y
+    (Some (lesser decision_cmp x (Some z)))
 triple-swap x y z true true hx hy apart =
     ap (λ other. lesser decision_cmp x (Some other)) (behind y z hy) ∙ behind x z hx
     ∙ sym (ap (λ other. lesser decision_cmp y (Some other)) (behind x z hx) ∙ behind y z hy)
@@ -70,7 +74,8 @@ triple-swap x y z false false hx hy apart =
     ∙ sym (ap (λ other. lesser decision_cmp y (Some other)) (ahead x z hx))
 
 pub lesser-swap : (x y : Policy) (rest : Option Policy) → same_key x.key y.key ≡ false
-    → lesser decision_cmp x (Some (lesser decision_cmp y rest)) ≡ lesser decision_cmp y (Some (lesser decision_cmp x rest))
+    → lesser decision_cmp x (Some (lesser decision_cmp y rest)) ≡ lesser decision_cmp y
+    (Some (lesser decision_cmp x rest))
 lesser-swap x y None apart = pair-swap x y apart
 lesser-swap x y (Some z) apart = triple-swap x y z _ _ refl refl apart
 
@@ -79,7 +84,8 @@ lesser-swap x y (Some z) apart = triple-swap x y z _ _ refl refl apart
 -- what decides has a say, and no policy that has a say decides before it
 decides-among : (question : Question) (policies : List Policy) (chosen : Option Policy)
     → IfSome chosen (λ policy. counts question policy ≡ true)
-    → IfSome chosen (λ policy. All (λ other. is_gt (decision_cmp policy other) ≡ false) (filter (counts question) policies))
+    → IfSome chosen (λ policy. All (λ other. is_gt (decision_cmp policy other) ≡ false)
+    (filter (counts question) policies))
     → IfSome chosen (DecidesAmong question policies)
 decides-among question policies None counted before = tt
 decides-among question policies (Some policy) counted before = (counted, before)
@@ -108,4 +114,5 @@ pub IsBest-whole : {question : Question} {policies : List Policy} {left : ℕ} {
     × IfNone best (NoneCounts question policies)
 IsBest-whole {question} {policies} {left} {best} end best_is =
     let start : left ≡ 0 = omega arith in
-    whole-found question policies best (subst (λ n. IsBest (counts question) decision_cmp policies n best) start best_is)
+    whole-found question policies best
+    (subst (λ n. IsBest (counts question) decision_cmp policies n best) start best_is)

@@ -1,4 +1,3 @@
-pub mod Elements
 mod Best
 pub mod Buckets
 mod Offers

@@ -1,8 +1,9 @@
 -- The search for the least contribution, from the last policy of a bucket to its first.
-use Rattle.std.proofs.Common.{◌≡◌, ℕ, ◌+◌, ◌-◌, ◌<◌, ◌≤◌, Bool, true, false, cond, List, [], ◌∷◌, length, drop, get_or, Option, None, Some, refl, sym, ap, ◌∙◌, subst, arith}
+use Rattle.std.proofs.Common.{◌≡◌, ℕ, ◌+◌, ◌-◌, ◌<◌, Bool, true, false, cond, List, ◌∷◌, length, drop, get_or, Option}
+use Rattle.std.proofs.Common.{None, Some, refl, sym, ap, ◌∙◌, subst, arith}
 use Rattle.std.specs.List.{filter_map, cons_option}
-use Rattle.std.specs.Ordering.{is_gt, ordering_then, min_by_ordering}
-use Rattle.std.proofs.lemmas.List.{drop_all, at_drop_more}
+use Rattle.std.specs.Ordering.{is_gt, ordering_then}
+use Rattle.std.proofs.lemmas.List.{at_drop_more}
 use Rattle.cynara_keys.specs.Key.{key_cmp}
 use Rattle.cynara_keys.specs.Minimum.{lesser, first_least}
 use Rattle.cynara_keys.specs.PolicyResult.{result_cmp}
@@ -31,11 +32,6 @@ after-is : (buckets : List Bucket) (first second : Contribution) (offer other : 
 after-is buckets first second offer other is other_is =
     λ i. is_gt (ordering_then (result_cmp (is.result i) (other_is.result i)) (key_cmp (is.key i) (other_is.key i)))
 
-silent : (buckets : List Bucket) (made rest : Option Contribution) (best : Option Offer)
-    → Offers buckets made None → Offers buckets rest best → Offers buckets (combined made rest) best
-silent buckets None rest best none rest_is = rest_is
-silent buckets (Some made) rest best none rest_is = absurd none
-
 only : (buckets : List Bucket) (made rest : Option Contribution) (offer : Offer)
     → Offers buckets made (Some offer) → Offers buckets rest None → Offers buckets (combined made rest) (Some offer)
 only buckets None rest offer is rest_is = absurd is
@@ -44,22 +40,26 @@ only buckets (Some made) (Some least) offer is rest_is = absurd rest_is
 
 after : (buckets : List Bucket) (made rest : Option Contribution) (offer other : Offer)
     → is_gt (ordering_then (result_cmp offer.result.now other.result.now) (key_cmp offer.key.now other.key.now)) ≡ true
-    → Offers buckets made (Some offer) → Offers buckets rest (Some other) → Offers buckets (combined made rest) (Some other)
+    → Offers buckets made (Some offer) → Offers buckets rest (Some other)
+    → Offers buckets (combined made rest) (Some other)
 after buckets None rest offer other greater is rest_is = absurd is
 after buckets (Some made) None offer other greater is rest_is = absurd rest_is
 after buckets (Some made) (Some least) offer other greater is rest_is =
     subst (λ chosen. IsOffer buckets chosen other)
-    (sym (min-after (contribution_cmp made least) made least (sym (after-is buckets made least offer other is rest_is) ∙ greater)))
+    (sym (min-after (contribution_cmp made least) made least
+    (sym (after-is buckets made least offer other is rest_is) ∙ greater)))
     rest_is
 
 instead : (buckets : List Bucket) (made rest : Option Contribution) (offer other : Offer)
     → is_gt (ordering_then (result_cmp offer.result.now other.result.now) (key_cmp offer.key.now other.key.now)) ≡ false
-    → Offers buckets made (Some offer) → Offers buckets rest (Some other) → Offers buckets (combined made rest) (Some offer)
+    → Offers buckets made (Some offer) → Offers buckets rest (Some other)
+    → Offers buckets (combined made rest) (Some offer)
 instead buckets None rest offer other less is rest_is = absurd is
 instead buckets (Some made) None offer other less is rest_is = absurd rest_is
 instead buckets (Some made) (Some least) offer other less is rest_is =
     subst (λ chosen. IsOffer buckets chosen offer)
-    (sym (min-before (contribution_cmp made least) made least (sym (after-is buckets made least offer other is rest_is) ∙ less)))
+    (sym (min-before (contribution_cmp made least) made least
+    (sym (after-is buckets made least offer other is rest_is) ∙ less)))
     is
 
 between : (buckets : List Bucket) (made rest : Option Contribution) (offer other : Offer) (is_after : Bool)
@@ -81,12 +81,8 @@ module _ (buckets : List Bucket) (offered : Policy → Option Contribution) wher
   abbrev pub least_from : List Policy → ℕ → Option Contribution
   least_from policies at = first_least contribution_cmp (filter_map offered (drop at policies))
 
-  pub least_from-end : (policies : List Policy) (at : ℕ) → length policies ≤ at → Offers buckets (least_from policies at) None
-  least_from-end policies at le =
-      subst (λ least. Offers buckets least None)
-      (sym (ap (λ others. first_least contribution_cmp (filter_map offered others)) (drop_all at policies le))) tt
-
-  least_from-more : (policies : List Policy) (at : ℕ) (policy : Policy) → at < length policies → policy ≡ get_or policies at policy
+  least_from-more : (policies : List Policy) (at : ℕ) (policy : Policy) → at < length policies
+      → policy ≡ get_or policies at policy
       → least_from policies at ≡ combined (offered policy) (least_from policies (at + 1))
   least_from-more policies at policy lt is =
       at_drop_more (λ others. first_least contribution_cmp (filter_map offered others)) policies at policy lt
@@ -108,15 +104,10 @@ module _ (buckets : List Bucket) (offered : Policy → Option Contribution) wher
       subst (λ o. Offers buckets (least_from policies (left - 1 + 1)) o) is
       (subst (λ n. Offers buckets (least_from policies n) best) above offers)
 
-  pub least_from-silent : (policies : List Policy) (at : ℕ) (policy : Policy) (best : Option Offer) → at < length policies
-      → policy ≡ get_or policies at policy → Offers buckets (offered policy) None
-      → Offers buckets (least_from policies (at + 1)) best → Offers buckets (least_from policies at) best
-  least_from-silent policies at policy best lt is none rest =
-      more policies at policy best lt is (silent buckets (offered policy) (least_from policies (at + 1)) best none rest)
-
   pub least_from-offer : (policies : List Policy) (at : ℕ) (policy : Policy) (offer : Offer) (best : Option Offer)
       → at < length policies → policy ≡ get_or policies at policy → Offers buckets (offered policy) (Some offer)
-      → Offers buckets (least_from policies (at + 1)) best → Offers buckets (least_from policies at) (Some (chosen offer best))
+      → Offers buckets (least_from policies (at + 1)) best
+      → Offers buckets (least_from policies at) (Some (chosen offer best))
   least_from-offer policies at policy offer best lt is made rest =
       more policies at policy (Some (chosen offer best)) lt is
       (chosen-offers buckets (offered policy) (least_from policies (at + 1)) offer best made rest)

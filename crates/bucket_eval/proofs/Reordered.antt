@@ -10,7 +10,7 @@ use Rattle.bucket_eval.specs.Reordered.{Reordered, nothing, kept, exchanged, joi
 use Rattle.bucket_eval.specs.Rising.{HasNoKey}
 use Rattle.cynara_keys.specs.Minimum.{lesser, first_least}
 use Rattle.bucket_eval.specs.Least.{counts, decision_cmp, least_policy}
-use Rattle.bucket_eval.proofs.Elements.{AllByRecursion-append, AllByRecursion-filter}
+use Rattle.bucket_store.proofs.Lists.{All-append, All-filter}
 use Rattle.bucket_eval.proofs.Decisions.{lesser-swap}
 
 pub Reordered-refl : {X : Type 0} (xs : List X) → Reordered xs xs
@@ -29,7 +29,8 @@ Reordered-append zs (kept h) = kept (Reordered-append zs h)
 Reordered-append zs exchanged = exchanged
 Reordered-append zs (joined h k) = joined (Reordered-append zs h) (Reordered-append zs k)
 
-pub Reordered-append_right : {X : Type 0} {xs ys : List X} (zs : List X) → Reordered xs ys → Reordered (zs ++ xs) (zs ++ ys)
+pub Reordered-append_right : {X : Type 0} {xs ys : List X} (zs : List X) → Reordered xs ys
+    → Reordered (zs ++ xs) (zs ++ ys)
 Reordered-append_right [] h = h
 Reordered-append_right (z ∷ zs) h = kept (Reordered-append_right zs h)
 
@@ -39,7 +40,8 @@ Reordered-to_front [] x = Reordered-refl (x ∷ [])
 Reordered-to_front (y ∷ ys) x = joined (kept (Reordered-to_front ys x)) exchanged
 
 -- an element goes from the end to between two parts
-pub Reordered-middle : {X : Type 0} (xs : List X) (x : X) (ys : List X) → Reordered ((xs ++ ys) ++ x ∷ []) (xs ++ x ∷ ys)
+pub Reordered-middle : {X : Type 0} (xs : List X) (x : X) (ys : List X)
+    → Reordered ((xs ++ ys) ++ x ∷ []) (xs ++ x ∷ ys)
 Reordered-middle [] x ys = Reordered-to_front ys x
 Reordered-middle (first ∷ xs) x ys = kept (Reordered-middle xs x ys)
 
@@ -89,11 +91,12 @@ own-cond : (policy : Policy) (passed : List Policy) (passes : Bool)
 own-cond policy passed true others own = (others, own)
 own-cond policy passed false others own = own
 
-HaveOwnKeys-filter : (test : Policy → Bool) (policies : List Policy) → HaveOwnKeys policies → HaveOwnKeys (filter test policies)
+HaveOwnKeys-filter : (test : Policy → Bool) (policies : List Policy) → HaveOwnKeys policies
+    → HaveOwnKeys (filter test policies)
 HaveOwnKeys-filter test [] own = own
 HaveOwnKeys-filter test (policy ∷ policies) own =
     own-cond policy (filter test policies) (test policy)
-    (AllByRecursion-filter (λ other. same_key policy.key other.key ≡ false) test policies own.0)
+    (All-filter (λ other. same_key policy.key other.key ≡ false) test policies own.0)
     (HaveOwnKeys-filter test policies own.1)
 
 first_least-Reordered : {xs ys : List Policy} → HaveOwnKeys xs → Reordered xs ys
@@ -117,7 +120,7 @@ put-own : (policy first : Policy) (rest : List Policy) (same : Bool) → same_ke
     → HaveOwnKeys (cond (not same) (first ∷ rest) rest ++ policy ∷ [])
 put-own policy first rest true same others own = own
 put-own policy first rest false apart others own =
-    (AllByRecursion-append (λ other. same_key first.key other.key ≡ false) rest (policy ∷ []) others (apart, tt), own)
+    (All-append (λ other. same_key first.key other.key ≡ false) rest (policy ∷ []) others (apart, tt), own)
 
 -- a policy takes the place of the one with its key, or comes beside the others
 pub HaveOwnKeys-put : (policy : Policy) (policies : List Policy) → HaveOwnKeys policies
@@ -125,7 +128,7 @@ pub HaveOwnKeys-put : (policy : Policy) (policies : List Policy) → HaveOwnKeys
 HaveOwnKeys-put policy [] own = (tt, tt)
 HaveOwnKeys-put policy (first ∷ policies) own =
     put-own policy first (filter (λ other. not (same_key other.key policy.key)) policies) _ refl
-    (AllByRecursion-filter (λ other. same_key first.key other.key ≡ false)
+    (All-filter (λ other. same_key first.key other.key ≡ false)
     (λ other. not (same_key other.key policy.key)) policies own.0)
     (HaveOwnKeys-put policy policies own.1)
 
@@ -135,7 +138,8 @@ pub filter-none : (key : Key) (policies : List Policy) → HasNoKey policies key
 filter-none key [] none = refl
 filter-none key (policy ∷ policies) none =
     let rest = filter (λ other. not (same_key other.key key)) policies in
-    ap (λ same. cond (not same) (policy ∷ rest) rest) none.0 ∙ ap (λ others. policy ∷ others) (filter-none key policies none.1)
+    ap (λ same. cond (not same) (policy ∷ rest) rest) none.0
+    ∙ ap (λ others. policy ∷ others) (filter-none key policies none.1)
 
 -- one policy in the middle has the key
 pub filter-one : (key : Key) (front : List Policy) (policy : Policy) (back : List Policy)

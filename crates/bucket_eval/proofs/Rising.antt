@@ -1,5 +1,7 @@
 -- What a search finds in policies in the order of their keys, and what keeps that order.
-use Rattle.std.proofs.Common.{◌≡◌, ℕ, ◌+◌, ◌<◌, ◌≤◌, true, false, not, List, [], ◌∷◌, ◌++◌, zero, suc, length, take, drop, set, get_or, Result, Ok, Err, IfOk, IfErr, refl, sym, ap, ◌∙◌, subst, arith, add-one}
+use Rattle.std.proofs.Common.{◌≡◌, ℕ, ◌+◌, ◌<◌, ◌≤◌, true, false, not, List, [], ◌∷◌, ◌++◌, zero, suc, length, take}
+use Rattle.std.proofs.Common.{drop, set, get_or, Result, Ok, Err, IfOk, IfErr, refl, sym, ap, ◌∙◌, subst, arith}
+use Rattle.std.proofs.Common.{add-one}
 use Rattle.std.specs.declared.cmp.Ordering.{Ordering}
 use Rattle.std.specs.declared.cmp.Ordering.TheVariants.{Less, Equal, Greater}
 use Rattle.std.specs.List.{AllByRecursion, AllByRecursion-prop, HoldsAt, filter, insert}
@@ -7,7 +9,8 @@ use Rattle.std.specs.List.Sorted.{IsSortedBy, IsSearchInRange, IsBinarySearchRes
 use Rattle.std.specs.Ordering.{is_lt, is_eq, ordering_reverse, Ordering-set}
 use mathlib.Core.HLevel.{×_prop, Unit-prop}
 use Rattle.std.proofs.lemmas.Cmp.{alike_right}
-use Rattle.std.proofs.lemmas.List.{get_or-take, get_or-drop, length-drop, length-take-le, take-append-drop, set_at, take_at, drop_at}
+use Rattle.std.proofs.lemmas.List.{get_or-take, get_or-drop, length-drop, length-take-le, take-append-drop, set_at}
+use Rattle.std.proofs.lemmas.List.{take_at, drop_at}
 use Rattle.std.proofs.lemmas.List.Elements.{recursion_from_All}
 use Rattle.std.proofs.lemmas.List.Sorted.{searchable_from_sorted}
 use Rattle.cynara_keys.specs.Key.{key_cmp, same_key}
@@ -16,7 +19,7 @@ use Rattle.cynara_keys.specs.declared.keys.Policy.{Policy}
 use Rattle.cynara_keys.proofs.Order.{key_total, key_cmp-equal, same_key_equiv}
 use Rattle.bucket_eval.specs.Reordered.{Reordered, HaveOwnKeys}
 use Rattle.bucket_eval.specs.Rising.{ComesBefore, IsRising, HasNoKey, HasKeyAt, BelongsAt}
-use Rattle.bucket_eval.proofs.Elements.{AllByRecursion-append, AllByRecursion-weaker, AllByRecursion-middle, AllByRecursion-front, AllByRecursion-back}
+use Rattle.bucket_store.proofs.Lists.{All-append, All-weaker, All-front, All-back}
 use Rattle.bucket_eval.proofs.Reordered.{filter-none, filter-one, Reordered-middle}
 
 -- ---- keys
@@ -43,7 +46,8 @@ ComesBefore-flip key other after = key_total.antisymm other key ∙ ap ordering_
 pub HaveOwnKeys-IsRising : (policies : List Policy) → IsRising policies → HaveOwnKeys policies
 HaveOwnKeys-IsRising [] rising = tt
 HaveOwnKeys-IsRising (policy ∷ policies) rising = (
-  AllByRecursion-weaker (λ (later : Policy). ComesBefore policy.key later.key) (λ later. same_key policy.key later.key ≡ false)
+  All-weaker (λ (later : Policy). ComesBefore policy.key later.key)
+      (λ later. same_key policy.key later.key ≡ false)
       (λ later. same_key-before policy.key later.key) policies rising.0,
   HaveOwnKeys-IsRising policies rising.1,
 )
@@ -51,7 +55,8 @@ HaveOwnKeys-IsRising (policy ∷ policies) rising = (
 -- an invariant of a type is to be a proposition
 pub IsRising-prop : (policies : List Policy) → IsProp (IsRising policies)
 IsRising-prop [] = Unit-prop
-IsRising-prop (policy ∷ policies) = ×_prop (AllByRecursion-prop _ (λ later. Ordering-set _ _) policies) (IsRising-prop policies)
+IsRising-prop (policy ∷ policies) =
+    ×_prop (AllByRecursion-prop _ (λ later. Ordering-set _ _) policies) (IsRising-prop policies)
 
 -- ---- where a search ends
 
@@ -67,15 +72,17 @@ found key (policy ∷ policies) zero rising lt equal = record {
   same = sym (key_cmp-equal policy.key key) ∙ ap is_eq (equal policy);
   none_in_front = tt;
   none_behind =
-      AllByRecursion-weaker (λ (later : Policy). ComesBefore policy.key later.key) (λ later. same_key later.key key ≡ false)
-      (λ later before. same_key-behind later.key key (sym (key_total.congr policy.key key later.key (equal policy)) ∙ before))
+      All-weaker (λ (later : Policy). ComesBefore policy.key later.key)
+      (λ later. same_key later.key key ≡ false)
+      (λ later before. same_key-behind later.key key
+      (sym (key_total.congr policy.key key later.key (equal policy)) ∙ before))
       policies rising.0;
 }
 found key (first ∷ policies) (suc place) rising lt equal =
     let rest = found key policies place rising.1 (omega arith) equal in
     let before : ComesBefore first.key rest.policy.key =
-    AllByRecursion-middle (λ (later : Policy). ComesBefore first.key later.key) rest.front rest.policy rest.back
-    (subst (AllByRecursion (λ (later : Policy). ComesBefore first.key later.key)) rest.parts rising.0) in
+    (All-back (λ (later : Policy). ComesBefore first.key later.key) rest.front (rest.policy ∷ rest.back)
+    (subst (AllByRecursion (λ (later : Policy). ComesBefore first.key later.key)) rest.parts rising.0)).0 in
     let alike = alike_right key_total rest.policy.key key first.key (key_cmp-same rest.policy.key key rest.same) in
     record {
       front = first ∷ rest.front;
@@ -118,7 +125,8 @@ absent key policies place le parted = record {
       (ComesBefore-flip (get_or policies (place + k) d).key key (parted.1 (place + k) d (omega arith) there)));
 }
 
-pub searched : (key : Key) (policies : List Policy) → IsRising policies → (r : Result ℕ ℕ) → IsSearchInRange r (length policies)
+pub searched : (key : Key) (policies : List Policy) → IsRising policies → (r : Result ℕ ℕ)
+    → IsSearchInRange r (length policies)
     → IsBinarySearchResult (λ (policy : Policy). key_cmp policy.key key) policies r → IfOk r (HasKeyAt policies key)
     × IfErr r (BelongsAt policies key)
 searched key policies rising (Ok place) range equal = (found key policies place rising range equal, tt)
@@ -139,8 +147,8 @@ pub IsRising-between : (front : List Policy) (policy : Policy) (back : List Poli
 IsRising-between [] policy back rising before behind = (behind, rising)
 IsRising-between (first ∷ front) policy back rising before behind =
     let later = λ (other : Policy). ComesBefore first.key other.key in (
-      AllByRecursion-append later front (policy ∷ back) (AllByRecursion-front later front back rising.0)
-          (before.0, AllByRecursion-back later front back rising.0),
+      All-append later front (policy ∷ back) (All-front later front back rising.0)
+          (before.0, All-back later front back rising.0),
       IsRising-between front policy back rising.1 before.1 behind,
     )
 
@@ -150,9 +158,9 @@ pub IsRising-without : (front : List Policy) (policy : Policy) (back : List Poli
 IsRising-without [] policy back rising = rising.1
 IsRising-without (first ∷ front) policy back rising =
     let later = λ (other : Policy). ComesBefore first.key other.key in
-    let behind = AllByRecursion-back later front (policy ∷ back) rising.0 in (
-      AllByRecursion-append later front back
-          (AllByRecursion-front later front (policy ∷ back) rising.0) behind.1,
+    let behind = All-back later front (policy ∷ back) rising.0 in (
+      All-append later front back
+          (All-front later front (policy ∷ back) rising.0) behind.1,
       IsRising-without front policy back rising.1,
     )
 
@@ -160,16 +168,17 @@ IsRising-without (first ∷ front) policy back rising =
 pub IsRising-instead : (front : List Policy) (old new : Policy) (back : List Policy) → same_key old.key new.key ≡ true
     → IsRising (front ++ old ∷ back) → IsRising (front ++ new ∷ back)
 IsRising-instead [] old new back same rising = (
-  AllByRecursion-weaker (λ (later : Policy). ComesBefore old.key later.key) (λ later. ComesBefore new.key later.key)
-      (λ later before. sym (key_total.congr old.key new.key later.key (key_cmp-same old.key new.key same)) ∙ before) back
+  All-weaker (λ (later : Policy). ComesBefore old.key later.key) (λ later. ComesBefore new.key later.key)
+      (λ later before. sym (key_total.congr old.key new.key later.key (key_cmp-same old.key new.key same)) ∙ before)
+      back
       rising.0,
   rising.1,
 )
 IsRising-instead (first ∷ front) old new back same rising =
     let later = λ (other : Policy). ComesBefore first.key other.key in
-    let behind = AllByRecursion-back later front (old ∷ back) rising.0 in
+    let behind = All-back later front (old ∷ back) rising.0 in
     let alike = alike_right key_total old.key new.key first.key (key_cmp-same old.key new.key same) in (
-      AllByRecursion-append later front (new ∷ back) (AllByRecursion-front later front (old ∷ back) rising.0)
+      All-append later front (new ∷ back) (All-front later front (old ∷ back) rising.0)
           (sym alike ∙ behind.0, behind.1),
       IsRising-instead front old new back same rising.1,
     )
@@ -189,62 +198,49 @@ module _ {policies : List Policy} {key : Key} {place : ℕ} (at : HasKeyAt polic
       ∙ filter-one key at.front at.policy at.back at.none_in_front at.same at.none_behind
 
   pub Reordered-HasKeyAt : (policy : Policy)
-      → Reordered (filter (λ other. not (same_key other.key key)) policies ++ policy ∷ []) (at.front ++ policy ∷ at.back)
+      → Reordered (filter (λ other. not (same_key other.key key)) policies ++ policy ∷ [])
+      (at.front ++ policy ∷ at.back)
   Reordered-HasKeyAt policy =
       subst (λ list. Reordered (list ++ policy ∷ []) (at.front ++ policy ∷ at.back)) (sym filter-HasKeyAt)
       (Reordered-middle at.front policy at.back)
 
-  pub IsRising-HasKeyAt : (policy : Policy) → policy.key ≡ key → IsRising policies → IsRising (at.front ++ policy ∷ at.back)
+  pub IsRising-HasKeyAt : (policy : Policy) → policy.key ≡ key → IsRising policies
+      → IsRising (at.front ++ policy ∷ at.back)
   IsRising-HasKeyAt policy is rising =
       IsRising-instead at.front at.policy policy at.back (ap (same_key at.policy.key) is ∙ at.same)
       (subst IsRising at.parts rising)
-
-  pub IsRising-set : (policy : Policy) → policy.key ≡ key → IsRising policies → IsRising (set policies place policy)
-  IsRising-set policy is rising = subst IsRising (sym (set-HasKeyAt policy)) (IsRising-HasKeyAt policy is rising)
-
-  pub Reordered-set : (policy : Policy)
-      → Reordered (filter (λ other. not (same_key other.key key)) policies ++ policy ∷ []) (set policies place policy)
-  Reordered-set policy =
-      subst (Reordered (filter (λ other. not (same_key other.key key)) policies ++ policy ∷ [])) (sym (set-HasKeyAt policy))
-      (Reordered-HasKeyAt policy)
 
 module _ {policies : List Policy} {key : Key} {place : ℕ} (at : BelongsAt policies key place) where
   pub HasNoKey-BelongsAt : HasNoKey policies key
   HasNoKey-BelongsAt =
       subst (λ list. HasNoKey list key) (sym at.parts)
-      (AllByRecursion-append (λ (other : Policy). same_key other.key key ≡ false) at.front at.back
-      (AllByRecursion-weaker (λ (other : Policy). ComesBefore other.key key) (λ other. same_key other.key key ≡ false)
+      (All-append (λ (other : Policy). same_key other.key key ≡ false) at.front at.back
+      (All-weaker (λ (other : Policy). ComesBefore other.key key) (λ other. same_key other.key key ≡ false)
       (λ other. same_key-before other.key key) at.front at.before)
-      (AllByRecursion-weaker (λ (other : Policy). ComesBefore key other.key) (λ other. same_key other.key key ≡ false)
+      (All-weaker (λ (other : Policy). ComesBefore key other.key) (λ other. same_key other.key key ≡ false)
       (λ other. same_key-behind other.key key) at.back at.behind))
 
   -- a policy goes in at the place
   pub insert-BelongsAt : (policy : Policy) → insert policies place policy ≡ at.front ++ policy ∷ at.back
   insert-BelongsAt policy =
       ap (λ list. insert list place policy) at.parts
-      ∙ ap (λ front. front ++ policy ∷ drop place (at.front ++ at.back)) (take_at at.front at.back place at.length_front)
+      ∙ ap (λ front. front ++ policy ∷ drop place (at.front ++ at.back))
+      (take_at at.front at.back place at.length_front)
       ∙ ap (λ back. at.front ++ policy ∷ back) (drop_at at.front at.back place at.length_front)
 
   pub filter-BelongsAt : filter (λ other. not (same_key other.key key)) policies ≡ policies
   filter-BelongsAt = filter-none key policies HasNoKey-BelongsAt
 
   pub Reordered-BelongsAt : (policy : Policy)
-      → Reordered (filter (λ other. not (same_key other.key key)) policies ++ policy ∷ []) (at.front ++ policy ∷ at.back)
+      → Reordered (filter (λ other. not (same_key other.key key)) policies ++ policy ∷ [])
+      (at.front ++ policy ∷ at.back)
   Reordered-BelongsAt policy =
       subst (λ list. Reordered (list ++ policy ∷ []) (at.front ++ policy ∷ at.back)) (sym (filter-BelongsAt ∙ at.parts))
       (Reordered-middle at.front policy at.back)
 
-  pub IsRising-BelongsAt : (policy : Policy) → policy.key ≡ key → IsRising policies → IsRising (at.front ++ policy ∷ at.back)
+  pub IsRising-BelongsAt : (policy : Policy) → policy.key ≡ key → IsRising policies
+      → IsRising (at.front ++ policy ∷ at.back)
   IsRising-BelongsAt policy is rising =
       IsRising-between at.front policy at.back (subst IsRising at.parts rising)
       (subst (λ own. AllByRecursion (λ (other : Policy). ComesBefore other.key own) at.front) (sym is) at.before)
       (subst (λ own. AllByRecursion (λ (other : Policy). ComesBefore own other.key) at.back) (sym is) at.behind)
-
-  pub IsRising-insert : (policy : Policy) → policy.key ≡ key → IsRising policies → IsRising (insert policies place policy)
-  IsRising-insert policy is rising = subst IsRising (sym (insert-BelongsAt policy)) (IsRising-BelongsAt policy is rising)
-
-  pub Reordered-insert : (policy : Policy)
-      → Reordered (filter (λ other. not (same_key other.key key)) policies ++ policy ∷ []) (insert policies place policy)
-  Reordered-insert policy =
-      subst (Reordered (filter (λ other. not (same_key other.key key)) policies ++ policy ∷ [])) (sym (insert-BelongsAt policy))
-      (Reordered-BelongsAt policy)

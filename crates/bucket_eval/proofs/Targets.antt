@@ -1,5 +1,6 @@
 -- The bucket that a policy points to is there.
-use Rattle.std.proofs.Common.{◌≡◌, ℕ, ◌+◌, ◌<◌, ◌≤◌, Bool, true, false, not, ◌||◌, cond, zero, suc, List, [], ◌∷◌, ◌++◌, length, map, slice_get, get_or, Option, None, Some, refl, sym, ap, ◌∙◌, subst, arith}
+use Rattle.std.proofs.Common.{◌≡◌, ℕ, ◌+◌, ◌<◌, Bool, true, false, not, ◌||◌, cond, zero, suc, List, [], ◌∷◌, length}
+use Rattle.std.proofs.Common.{map, slice_get, get_or, None, Some, sym, ap, subst, arith}
 use Rattle.std.specs.List.{AllByRecursion, list_any, flat_map, position, position_or_len}
 use Rattle.std.proofs.lemmas.Bool.{false≢true, lt-ltb}
 use Rattle.std.proofs.lemmas.List.Quantifiers.{position-Some}
@@ -11,10 +12,11 @@ use Rattle.bucket_store.specs.Bucket.{Bucket}
 use Rattle.bucket_store.specs.Database.{Heading, Placed, database_of, placed_of, heading_of, has_bucket}
 use Rattle.bucket_store.specs.Walk.{points, target}
 use Rattle.bucket_store.specs.WellFormed.{IsKept, IsRooted}
-use Rattle.bucket_eval.proofs.Elements.{AllByRecursion-front, AllByRecursion-back}
+use Rattle.bucket_store.proofs.Lists.{All-front, All-back}
 
 all-placed : (P : Placed → Type 0) (name : List ℕ) (policies : List Policy) (place : ℕ) (policy : Policy)
-    → AllByRecursion P (map (λ p. record { bucket = name; policy = p }) policies) → slice_get policies place ≡ Some policy
+    → AllByRecursion P (map (λ p. record { bucket = name; policy = p }) policies)
+    → slice_get policies place ≡ Some policy
     → P (record { bucket = name; policy = policy })
 all-placed P name [] place policy all is = cc
 all-placed P name (first ∷ policies) zero policy all is =
@@ -29,9 +31,10 @@ all-at P (first ∷ buckets) zero bucket place policy all is there =
     let same : first ≡ bucket = cc in
     all-placed P bucket.name bucket.policies place policy
     (subst (λ (b : Bucket). AllByRecursion P (placed_of b)) same
-    (AllByRecursion-front P (placed_of first) (flat_map placed_of buckets) all)) there
+    (All-front P (placed_of first) (flat_map placed_of buckets) all)) there
 all-at P (first ∷ buckets) (suc at) bucket place policy all is there =
-    all-at P buckets at bucket place policy (AllByRecursion-back P (placed_of first) (flat_map placed_of buckets) all) is there
+    all-at P buckets at bucket place policy (All-back P (placed_of first) (flat_map placed_of buckets) all)
+    is there
 
 any-below : (name : List ℕ) (buckets : List Bucket)
     → list_any (λ (heading : Heading). same_text heading.name name) (map heading_of buckets) ≡ true
@@ -39,7 +42,8 @@ any-below : (name : List ℕ) (buckets : List Bucket)
 any-below name [] any = absurd (false≢true any)
 any-below name (bucket ∷ buckets) any = first (same_text bucket.name name) any (any-below name buckets)
   where
-    first : (same : Bool) → same || list_any (λ (heading : Heading). same_text heading.name name) (map heading_of buckets) ≡ true
+    first : (same : Bool) → same
+        || list_any (λ (heading : Heading). same_text heading.name name) (map heading_of buckets) ≡ true
         → (list_any (λ (heading : Heading). same_text heading.name name) (map heading_of buckets) ≡ true
         → position_or_len (λ (b : Bucket). same_text b.name name) buckets < length buckets)
         → cond (not same) (1 + position_or_len (λ (b : Bucket). same_text b.name name) buckets) 0 < suc (length buckets)
@@ -60,7 +64,8 @@ pub target-there : (buckets : List Bucket) (at : ℕ) (bucket : Bucket) (place :
     → position (λ (other : Bucket). same_text other.name name) buckets ≡ None → ⊥
 target-there buckets at bucket place policy kept is there points name named none =
     let rooted = all-at (IsRooted (database_of buckets)) buckets at bucket place policy kept.sound.rooted is there in
-    let found = position-there name buckets (subst (λ n. has_bucket n (database_of buckets) ≡ true) (sym named) (rooted.target points)) in
+    let found = position-there name buckets
+    (subst (λ n. has_bucket n (database_of buckets) ≡ true) (sym named) (rooted.target points)) in
     cc
 
 -- the bucket at that place is the target

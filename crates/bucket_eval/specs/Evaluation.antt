@@ -1,6 +1,8 @@
--- What a bucket answers to a question. Each of its policies that matches contributes its result, or, where it points to a
--- bucket, what that one answers. NONE is left out. The least contribution decides, and where there is none the fallback.
-use Rattle.std.specs.Prelude.{ℕ, zero, suc, Bool, ◌==◌, if◌then◌else◌, List, [], length, map, filter, find, Option, None, Some}
+-- What a bucket answers to a question. Each of its policies that matches contributes its result, or, where it points to
+-- a bucket, what that one answers. NONE is left out. The least contribution decides, and where there is none the
+-- fallback.
+use Rattle.std.specs.Prelude.{ℕ, zero, suc, Bool, ◌==◌, if◌then◌else◌, List, [], length, map, filter, find, Option}
+use Rattle.std.specs.Prelude.{None, Some}
 use Rattle.std.specs.declared.cmp.Ordering.{Ordering}
 use Rattle.std.specs.List.{filter_map}
 use Rattle.std.specs.Option.{option_map_or}
@@ -32,7 +34,8 @@ pub record Contribution : Type 0 where
 -- contributions decide in the order of their results, and then of the keys of the bucket's own policies
 abbrev pub contribution_cmp : Contribution → Contribution → Ordering
 contribution_cmp =
-    then_cmp (on (λ contribution. contribution.outcome.result) result_cmp) (on (λ contribution. contribution.key) key_cmp)
+    then_cmp (on (λ contribution. contribution.outcome.result) result_cmp)
+    (on (λ contribution. contribution.key) key_cmp)
 
 -- ---- a bucket of a database
 
@@ -44,7 +47,8 @@ policies_of database name =
 abbrev pub fallback_of : Database → List ℕ → Outcome
 fallback_of database name = record {
   result = option_map_or (λ heading. heading.fallback)
-      (find (λ (heading : Heading). same_text heading.name name) database.buckets) (record { kind = deny; metadata = [] });
+      (find (λ (heading : Heading). same_text heading.name name) database.buckets)
+      (record { kind = deny; metadata = [] });
   cause = record { bucket = name; key = None };
 }
 
@@ -78,7 +82,8 @@ unfoldable pub answer_within : Database → Question → Bool → ℕ → List �
 answer_within database question deep zero name = fallback_of database name
 answer_within database question deep (suc most) name =
     let offered : List Contribution =
-    filter_map (contribution (answer_within database question deep most) deep name question) (policies_of database name) in
+    filter_map (contribution (answer_within database question deep most) deep name question)
+    (policies_of database name) in
     decided (fallback_of database name) (first_least contribution_cmp offered)
 
 -- what the bucket answers: no walk along policies that point to a bucket has as many of them as there are buckets

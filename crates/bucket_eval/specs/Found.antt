@@ -1,5 +1,5 @@
 -- Where an answer was found, by places in a database, and how it is described.
-use Rattle.std.specs.Prelude.{ℕ, List, Option, Some, None, slice_get}
+use Rattle.std.specs.Prelude.{ℕ, Option, Some, None, slice_get}
 use Rattle.std.specs.Option.{option_map}
 use Rattle.std.specs.Prelude.{option_and_then}
 use Rattle.cynara_keys.specs.Field.{field_text}
@@ -15,7 +15,10 @@ abbrev pub outcome_in : Database → Option ℕ → Heading → Option Outcome
 outcome_in database None heading =
     Some (record { result = heading.fallback; cause = record { bucket = heading.name; key = None } })
 outcome_in database (Some place) heading =
-    option_map (λ policy. record { result = policy.result; cause = record { bucket = heading.name; key = Some policy.key } })
+    option_map (λ policy. record {
+      result = policy.result;
+      cause = record { bucket = heading.name; key = Some policy.key };
+    })
     (slice_get (policies_of database heading.name) place)
 
 -- the outcome that was found, if the places are in the database

@@ -13,4 +13,5 @@ pub data Reordered {X : Type 0} : List X → List X → Type 0 where
 -- no two policies have the same key
 abbrev pub HaveOwnKeys : List Policy → Type 0
 HaveOwnKeys [] = Unit {0}
-HaveOwnKeys (policy ∷ policies) = AllByRecursion (λ other. same_key policy.key other.key ≡ false) policies × HaveOwnKeys policies
+HaveOwnKeys (policy ∷ policies) =
+    AllByRecursion (λ other. same_key policy.key other.key ≡ false) policies × HaveOwnKeys policies

@@ -1,7 +1,7 @@
 use cynara_keys::{Kind, Short};
 
-/// Where an answer was found in a database: the kind of the result, the place of the bucket that holds it, and there the
-/// place of the policy, or none for the bucket's fallback. Places count from 0.
+/// Where an answer was found in a database: the kind of the result, the place of the bucket that holds it, and there
+/// the place of the policy, or none for the bucket's fallback. Places count from 0.
 #[derive(Clone, Copy, Debug, PartialEq, Eq)]
 pub struct Found {
     pub kind: Kind,

@@ -1,7 +1,8 @@
-//! Which policy of a bucket decides a question.
+//! What a bucket answers to a question: which of its policies decides, and what the buckets below contribute that its
+//! policies point to.
 //!
-//! That the least result of the matching policies decides is Cynara's rule. That NONE is left out, and that equal
-//! results are ordered by their keys, is this project's profile.
+//! That the least result of the matching policies decides is Cynara's rule. That NONE is left out, that equal results
+//! are ordered by their keys, and how buckets are nested, is this project's profile.
 #![tactic(auto)]
 
 ghost use Rattle.std.specs.Prelude.{◌≡◌, ◌≢◌, ℕ, ◌<◌, ◌≤◌, length, None, slice_get};
@@ -22,8 +23,8 @@ pub use evaluations::{describe, plain};
 
 /// The place of the policy that decides the question, from 0: the least by result (kind, then metadata) and then by key
 /// of the policies that match the question and whose result isn't NONE, and the first of equal ones. `None` where there
-/// is none. No result may be BUCKET, since what it points to isn't here. Takes no memory, and one pass: three fields are
-/// compared for each policy, and results for each that has a say. That the least result decides is Cynara's.
+/// is none. No result may be BUCKET, since what it points to isn't here. Takes no memory, and one pass: three fields
+/// are compared for each policy, and results for each that has a say. That the least result decides is Cynara's.
 pub fn least(policies: &[Policy], question: &Question) -> Option<usize>
     requires { All (λ policy. policy.result.kind ≢ bucket) policies.now }
     ensures decides { MatchOption result (least_policy question.now policies.now ≡ None)

@@ -1,9 +1,11 @@
 // Nested evaluation as a plain recursion over the buckets.
 ghost use Rattle.std.specs.Prelude.{◌≡◌, ◌<◌, length, slice_get, IfSome, Some};
 ghost use Rattle.std.specs.List.{filter_map, position};
+ghost use Rattle.std.specs.List.Sorted.{IsStrictlySortedBy};
 ghost use Rattle.cynara_keys.specs.Minimum.{first_least};
 ghost use Rattle.cynara_keys.specs.Text.{same_text};
 ghost use Rattle.bucket_store.specs.Database.{database_of};
+ghost use Rattle.bucket_store.specs.Order.{bucket_cmp};
 ghost use Rattle.bucket_store.specs.Walk.{points};
 ghost use Rattle.bucket_store.specs.WellFormed.{IsKept};
 ghost use Rattle.bucket_eval.specs.Evaluation.{contribution_cmp, outcome_of, answer_within};
@@ -42,7 +44,8 @@ pub fn within<'a>(asked: Asked<'a>, at: usize, left: usize) -> Held<'a>
     requires kept { IsKept asked.buckets.now }
     requires there { at < length asked.buckets.now }
     ensures { IfSome (slice_get asked.entry.buckets.now at) (λ bucket. IsHeld asked.entry.buckets.now
-        (answer_within (database_of asked.entry.buckets.now) asked.entry.question.now asked.entry.deep left bucket.name) result) }
+        (answer_within (database_of asked.entry.buckets.now) asked.entry.question.now asked.entry.deep left bucket.name)
+        result) }
 {
     let bucket = &asked.buckets[at];
     if left == 0 {
@@ -68,7 +71,8 @@ fn least_offer<'a>(
     requires kept { IsKept asked.buckets.now }
     requires there { slice_get asked.buckets.now at ≡ Some bucket.now }
     ensures { Offers asked.entry.buckets.now (first_least contribution_cmp (filter_map
-        (offered asked.entry.buckets.now asked.entry.question.now asked.entry.deep most bucket.now.name) bucket.now.policies)) result }
+        (offered asked.entry.buckets.now asked.entry.question.now asked.entry.deep most bucket.now.name)
+        bucket.now.policies)) result }
 {
     let policies = bucket.policies();
     let mut best: Option<Offer<'a>> = None;
@@ -95,7 +99,8 @@ fn offer_of<'a>(
     requires bucket { slice_get asked.buckets.now at ≡ Some bucket.now }
     requires policy { slice_get bucket.now.policies place ≡ Some policy.now }
     ensures { Offers asked.entry.buckets.now
-        (offered asked.entry.buckets.now asked.entry.question.now asked.entry.deep most bucket.now.name policy.now) result }
+        (offered asked.entry.buckets.now asked.entry.question.now asked.entry.deep most bucket.now.name policy.now)
+        result }
 {
     if !policy.key.matches(asked.question) {
         return None;
@@ -181,13 +186,14 @@ fn fallback<'a>(at: usize, bucket: &'a Bucket) -> Held<'a>
     }
 }
 
-// The place of the bucket of this name.
+// The place of the bucket of this name, found by halving.
 fn place_of_bucket(buckets: &[Bucket], name: &[u8]) -> Option<usize>
+    requires { IsStrictlySortedBy bucket_cmp buckets.now }
     ensures { result ≡ position (λ bucket. same_text bucket.name name.now) buckets.now }
 {
     buckets
-        .iter()
-        .position(|bucket| bucket.name().as_slice() == name)
+        .binary_search_by(|bucket| bucket.name().as_slice().cmp(name))
+        .ok()
 }
 
 // The lesser of the two offers, if there are two, and the first where they tie.

@@ -1,3 +1,5 @@
+mod nested;
+
 use super::*;
 use cynara_keys::{Field, Metadata, Name, PolicyResult};
 use std::alloc::Global;
@@ -38,13 +40,17 @@ fn policies(alloc: Global, rows: &[Row<'_>]) -> Result<Vec<Policy>, Fail> {
     Ok(policies)
 }
 
+fn question(alloc: Global, [client, user, privilege]: [&str; 3]) -> Result<Question, Fail> {
+    Ok(Question {
+        client: Name::read(alloc, client.as_bytes())?,
+        user: Name::read(alloc, user.as_bytes())?,
+        privilege: Name::read(alloc, privilege.as_bytes())?,
+    })
+}
+
 // The place that decides whether `c` may use `p` for `u`.
 fn place(alloc: Global, rows: &[Row<'_>]) -> Result<Option<usize>, Fail> {
-    let question = Question {
-        client: Name::read(alloc, b"c")?,
-        user: Name::read(alloc, b"u")?,
-        privilege: Name::read(alloc, b"p")?,
-    };
+    let question = question(alloc, OWN)?;
     let policies = policies(alloc, rows)?;
     if policies
         .iter()

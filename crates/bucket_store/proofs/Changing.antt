@@ -1,5 +1,6 @@
 -- What changes make of one bucket, and of all.
-use Rattle.std.proofs.Common.{◌≡◌, ℕ, Bool, true, false, not, cond, ◌&&◌, List, [], ◌∷◌, ◌++◌, map, refl, sym, ap, ◌∙◌, subst, append_assoc, append-nil}
+use Rattle.std.proofs.Common.{◌≡◌, ℕ, Bool, true, false, not, cond, ◌&&◌, List, [], ◌∷◌, ◌++◌, map, refl, sym, ap, ◌∙◌}
+use Rattle.std.proofs.Common.{subst, append_assoc, append-nil}
 use Rattle.std.specs.declared.cmp.Ordering.{Ordering}
 use Rattle.std.specs.declared.cmp.Ordering.TheVariants.{Less, Equal, Greater}
 use Rattle.std.specs.Ordering.{is_lt, is_gt, is_eq, ordering_then, ordering_reverse}
@@ -37,22 +38,30 @@ use Rattle.bucket_store.proofs.Sound.{policy_total, All-flat, others-apart, othe
 
 pub edited-rises : (policies : List Policy) (change : Change) → IsStrictlySortedBy policy_cmp policies
     → IsStrictlySortedBy policy_cmp (edited policies change)
-edited-rises policies (Set name key result) rise = put-rises policy_total (record { key = key; result = result }) policies rise
+edited-rises policies (Set name key result) rise =
+    put-rises policy_total (record { key = key; result = result }) policies rise
 edited-rises policies (Delete name key) rise =
     let below = filter (λ (policy : Policy). is_lt (key_cmp policy.key key)) policies in
     let above = filter (λ (policy : Policy). is_gt (key_cmp policy.key key)) policies in
-    strictly-append policy_total below above (IsStrictlySortedBy-filter policy_cmp (λ (policy : Policy). is_lt (key_cmp policy.key key)) policies rise)
+    strictly-append policy_total below above
+    (IsStrictlySortedBy-filter policy_cmp (λ (policy : Policy). is_lt (key_cmp policy.key key)) policies rise)
     (IsStrictlySortedBy-filter policy_cmp (λ (policy : Policy). is_gt (key_cmp policy.key key)) policies rise)
-    (All-weaker (λ (policy : Policy). key_cmp policy.key key ≡ Less) (λ policy. AllByRecursion (λ (other : Policy). policy_cmp policy other ≡ Less) above)
-    (λ policy before. All-weaker (λ (other : Policy). key_cmp other.key key ≡ Greater) (λ other. policy_cmp policy other ≡ Less)
-    (λ other behind. key_total.trans policy.key key other.key before (key_total.antisymm key other.key ∙ ap ordering_reverse behind)) above
-    (All-passing (λ (other : Policy). key_cmp other.key key ≡ Greater) (λ other. is_gt (key_cmp other.key key)) (λ other h. gt-Greater (key_cmp other.key key) h) policies))
+    (All-weaker (λ (policy : Policy). key_cmp policy.key key ≡ Less)
+    (λ policy. AllByRecursion (λ (other : Policy). policy_cmp policy other ≡ Less) above)
+    (λ policy before. All-weaker (λ (other : Policy). key_cmp other.key key ≡ Greater)
+    (λ other. policy_cmp policy other ≡ Less)
+    (λ other behind. key_total.trans policy.key key other.key before
+    (key_total.antisymm key other.key ∙ ap ordering_reverse behind)) above
+    (All-passing (λ (other : Policy). key_cmp other.key key ≡ Greater) (λ other. is_gt (key_cmp other.key key))
+    (λ other h. gt-Greater (key_cmp other.key key) h) policies))
     below
-    (All-passing (λ (policy : Policy). key_cmp policy.key key ≡ Less) (λ policy. is_lt (key_cmp policy.key key)) (λ policy h. lt-Less (key_cmp policy.key key) h) policies))
+    (All-passing (λ (policy : Policy). key_cmp policy.key key ≡ Less) (λ policy. is_lt (key_cmp policy.key key))
+    (λ policy h. lt-Less (key_cmp policy.key key) h) policies))
 
 -- ---- all changes of one bucket
 
-pub fold-end : {A B : Type 0} (f : B → A → B) (b : B) (xs : List A) (x : A) → fold f b (xs ++ x ∷ []) ≡ f (fold f b xs) x
+pub fold-end : {A B : Type 0} (f : B → A → B) (b : B) (xs : List A) (x : A)
+    → fold f b (xs ++ x ∷ []) ≡ f (fold f b xs) x
 fold-end f b [] x = refl
 fold-end f b (y ∷ xs) x = fold-end f (f b y) xs x
 
@@ -62,7 +71,8 @@ own-none name (change ∷ changes) none =
     let parts = or_parts (is_own name change) (list_any (is_own name) changes) none in
     ap (λ b. cond b (change ∷ own name changes) (own name changes)) parts.0 ∙ own-none name changes parts.1
 
-pub untouched : (bucket : Bucket) (changes : List Change) → list_any (is_own bucket.name) changes ≡ false → changed changes bucket ≡ bucket
+pub untouched : (bucket : Bucket) (changes : List Change) → list_any (is_own bucket.name) changes ≡ false
+    → changed changes bucket ≡ bucket
 untouched bucket changes none = λ i. record {
   name = bucket.name;
   fallback = bucket.fallback;
@@ -80,7 +90,8 @@ changed_once change bucket = record {
 
 step-cases : (change : Change) (others : List Change) (bucket : Bucket) (b : Bool)
     → bucket_of bucket.name bucket.fallback (fold edited bucket.policies (cond b (change ∷ others) others))
-    ≡ bucket_of bucket.name bucket.fallback (fold edited (cond b (edited bucket.policies change) bucket.policies) others)
+    ≡ bucket_of bucket.name bucket.fallback
+    (fold edited (cond b (edited bucket.policies change) bucket.policies) others)
 step-cases change others bucket true = refl
 step-cases change others bucket false = refl
 
@@ -91,7 +102,8 @@ changed-step change changes bucket = step-cases change (own bucket.name changes)
 map-step : (change : Change) (changes : List Change) (buckets : List Bucket)
     → map (changed (change ∷ changes)) buckets ≡ map (changed changes) (map (changed_once change) buckets)
 map-step change changes [] = refl
-map-step change changes (bucket ∷ buckets) = λ i. changed-step change changes bucket i ∷ map-step change changes buckets i
+map-step change changes (bucket ∷ buckets) =
+    λ i. changed-step change changes bucket i ∷ map-step change changes buckets i
 
 abbrev AllRise : List Bucket → Type 0
 AllRise buckets = AllByRecursion (λ (bucket : Bucket). IsStrictlySortedBy policy_cmp bucket.policies) buckets
@@ -99,12 +111,14 @@ AllRise buckets = AllByRecursion (λ (bucket : Bucket). IsStrictlySortedBy polic
 once-rise : (change : Change) (buckets : List Bucket) → AllRise buckets → AllRise (map (changed_once change) buckets)
 once-rise change [] all = tt
 once-rise change (bucket ∷ buckets) all = (
-  elim (is_own bucket.name change) as (λ b. IsStrictlySortedBy policy_cmp (cond b (edited bucket.policies change) bucket.policies))
+  elim (is_own bucket.name change) as
+      (λ b. IsStrictlySortedBy policy_cmp (cond b (edited bucket.policies change) bucket.policies))
       [ true ↦ edited-rises bucket.policies change all.0 | false ↦ all.0 ],
   once-rise change buckets all.1,
 )
 
-headings-once : (change : Change) (buckets : List Bucket) → map heading_of (map (changed_once change) buckets) ≡ map heading_of buckets
+headings-once : (change : Change) (buckets : List Bucket)
+    → map heading_of (map (changed_once change) buckets) ≡ map heading_of buckets
 headings-once change [] = refl
 headings-once change (bucket ∷ buckets) = ap (λ rest. heading_of bucket ∷ rest) (headings-once change buckets)
 
@@ -125,26 +139,18 @@ module _ (key : Key) where
   abbrev apart : List Policy → List Policy
   apart policies = filter (λ policy. not (same_key policy.key key)) policies
 
-  behind-all : (policies : List Policy) → AllByRecursion (λ (other : Policy). key_cmp other.key key ≡ Greater) policies
+  head-key : (policy : Policy) (policies : List Policy)
+      → AllByRecursion (λ (later : Policy). policy_cmp policy later ≡ Less) policies
       → filter (λ (policy : Policy). not (same_key policy.key key)) policies
-      ≡ filter (λ (policy : Policy). is_lt (key_cmp policy.key key)) policies ++ filter (λ (policy : Policy). is_gt (key_cmp policy.key key)) policies
-  behind-all policies all =
-      let same = λ (policy : Policy). not (same_key policy.key key) in
-      filter-all same policies
-      (All-weaker (λ (other : Policy). key_cmp other.key key ≡ Greater) (λ other. same other ≡ true)
-      (λ other h. ap not (sym (key_cmp-equal other.key key) ∙ ap is_eq h)) policies all)
-      ∙ (λ i. sym (filter-none (λ (policy : Policy). is_lt (key_cmp policy.key key)) policies
-      (All-weaker (λ (other : Policy). key_cmp other.key key ≡ Greater) (λ other. is_lt (key_cmp other.key key) ≡ false) (λ other h. ap is_lt h) policies all)) i
-      ++ sym (filter-all (λ (policy : Policy). is_gt (key_cmp policy.key key)) policies
-      (All-weaker (λ (other : Policy). key_cmp other.key key ≡ Greater) (λ other. is_gt (key_cmp other.key key) ≡ true) (λ other h. ap is_gt h) policies all)) i)
-
-  head-key : (policy : Policy) (policies : List Policy) → AllByRecursion (λ (later : Policy). policy_cmp policy later ≡ Less) policies
-      → filter (λ (policy : Policy). not (same_key policy.key key)) policies
-      ≡ filter (λ (policy : Policy). is_lt (key_cmp policy.key key)) policies ++ filter (λ (policy : Policy). is_gt (key_cmp policy.key key)) policies
+      ≡ filter (λ (policy : Policy). is_lt (key_cmp policy.key key)) policies
+      ++ filter (λ (policy : Policy). is_gt (key_cmp policy.key key)) policies
       → (o : Ordering) → key_cmp policy.key key ≡ o
-      → cond (not (is_eq o)) (policy ∷ filter (λ (policy : Policy). not (same_key policy.key key)) policies) (filter (λ (policy : Policy). not (same_key policy.key key)) policies)
-      ≡ cond (is_lt o) (policy ∷ filter (λ (policy : Policy). is_lt (key_cmp policy.key key)) policies) (filter (λ (policy : Policy). is_lt (key_cmp policy.key key)) policies)
-      ++ cond (is_gt o) (policy ∷ filter (λ (policy : Policy). is_gt (key_cmp policy.key key)) policies) (filter (λ (policy : Policy). is_gt (key_cmp policy.key key)) policies)
+      → cond (not (is_eq o)) (policy ∷ filter (λ (policy : Policy). not (same_key policy.key key)) policies)
+      (filter (λ (policy : Policy). not (same_key policy.key key)) policies)
+      ≡ cond (is_lt o) (policy ∷ filter (λ (policy : Policy). is_lt (key_cmp policy.key key)) policies)
+      (filter (λ (policy : Policy). is_lt (key_cmp policy.key key)) policies)
+      ++ cond (is_gt o) (policy ∷ filter (λ (policy : Policy). is_gt (key_cmp policy.key key)) policies)
+      (filter (λ (policy : Policy). is_gt (key_cmp policy.key key)) policies)
   head-key policy policies later rest Less is = ap (λ list. policy ∷ list) rest
   head-key policy policies later rest Equal is = rest
   head-key policy policies later rest Greater is =
@@ -152,18 +158,24 @@ module _ (key : Key) where
       filter-none (λ (other : Policy). is_lt (key_cmp other.key key)) policies
       (All-weaker (λ (other : Policy). policy_cmp policy other ≡ Less) (λ other. is_lt (key_cmp other.key key) ≡ false)
       (λ other after. ap is_lt (key_total.antisymm other.key key
-      ∙ ap ordering_reverse (key_total.trans key policy.key other.key (key_total.antisymm key policy.key ∙ ap ordering_reverse is) after)))
+      ∙ ap ordering_reverse
+      (key_total.trans key policy.key other.key (key_total.antisymm key policy.key ∙ ap ordering_reverse is) after)))
       policies later) in
-      ap (λ list. policy ∷ list) (rest ∙ ap (λ front. front ++ filter (λ (other : Policy). is_gt (key_cmp other.key key)) policies) none_before)
-      ∙ ap (λ front. front ++ policy ∷ filter (λ (other : Policy). is_gt (key_cmp other.key key)) policies) (sym none_before)
+      ap (λ list. policy ∷ list)
+      (rest ∙ ap (λ front. front ++ filter (λ (other : Policy). is_gt (key_cmp other.key key)) policies)
+      none_before)
+      ∙ ap (λ front. front ++ policy ∷ filter (λ (other : Policy). is_gt (key_cmp other.key key)) policies)
+      (sym none_before)
 
   without-key : (policies : List Policy) → IsStrictlySortedBy policy_cmp policies
       → filter (λ (policy : Policy). not (same_key policy.key key)) policies
-      ≡ filter (λ (policy : Policy). is_lt (key_cmp policy.key key)) policies ++ filter (λ (policy : Policy). is_gt (key_cmp policy.key key)) policies
+      ≡ filter (λ (policy : Policy). is_lt (key_cmp policy.key key)) policies
+      ++ filter (λ (policy : Policy). is_gt (key_cmp policy.key key)) policies
   unfolding IsStrictlySortedBy
   without-key [] rise = refl
   without-key (policy ∷ policies) rise =
-      ap (λ b. cond (not b) (policy ∷ filter (λ (policy : Policy). not (same_key policy.key key)) policies) (filter (λ (policy : Policy). not (same_key policy.key key)) policies))
+      ap (λ b. cond (not b) (policy ∷ filter (λ (policy : Policy). not (same_key policy.key key)) policies)
+      (filter (λ (policy : Policy). not (same_key policy.key key)) policies))
       (sym (key_cmp-equal policy.key key))
       ∙ head-key policy policies rise.0 (without-key policies rise.1) (key_cmp policy.key key) refl
 
@@ -178,7 +190,11 @@ deleted-is name key bucket rise = parts (same_text bucket.name name) refl
     all (policy ∷ policies) = ap (λ rest. policy ∷ rest) (all policies)
 
     sides : Bool → Bucket
-    sides b = record { name = bucket.name; fallback = bucket.fallback; policies = cond b (edited bucket.policies (Delete name key)) bucket.policies }
+    sides b = record {
+      name = bucket.name;
+      fallback = bucket.fallback;
+      policies = cond b (edited bucket.policies (Delete name key)) bucket.policies;
+    }
 
     parts : (b : Bool) → same_text bucket.name name ≡ b
         → changed_once (Delete name key) bucket ≡ keep (λ placed. not (is_at name key placed)) bucket
@@ -202,7 +218,8 @@ deleted-is name key bucket rise = parts (same_text bucket.name name) refl
         }
 
 flat-deleted : (name : List ℕ) (key : Key) (buckets : List Bucket) → AllRise buckets
-    → flat_map placed_of (map (changed_once (Delete name key)) buckets) ≡ after_change (flat_map placed_of buckets) (Delete name key)
+    → flat_map placed_of (map (changed_once (Delete name key)) buckets) ≡ after_change (flat_map placed_of buckets)
+    (Delete name key)
 flat-deleted name key buckets all =
     ap (flat_map placed_of) (same buckets all) ∙ flat-keep (λ placed. not (is_at name key placed)) buckets
   where
@@ -216,7 +233,8 @@ flat-deleted name key buckets all =
 place : List ℕ → Policy → Placed
 place name policy = record { bucket = name; policy = policy }
 
-once-apart : (change : Change) (bucket : Bucket) → is_own bucket.name change ≡ false → changed_once change bucket ≡ bucket
+once-apart : (change : Change) (bucket : Bucket) → is_own bucket.name change ≡ false
+    → changed_once change bucket ≡ bucket
 once-apart change bucket apart =
     ap (λ b. bucket_of bucket.name bucket.fallback (cond b (edited bucket.policies change) bucket.policies)) apart
 
@@ -226,7 +244,8 @@ once-same change bucket mine =
     ap (λ b. bucket_of bucket.name bucket.fallback (cond b (edited bucket.policies change) bucket.policies)) mine
 
 map-apart : (change : Change) (buckets : List Bucket)
-    → AllByRecursion (λ (bucket : Bucket). is_own bucket.name change ≡ false) buckets → map (changed_once change) buckets ≡ buckets
+    → AllByRecursion (λ (bucket : Bucket). is_own bucket.name change ≡ false) buckets
+    → map (changed_once change) buckets ≡ buckets
 map-apart change [] all = refl
 map-apart change (bucket ∷ buckets) all = λ i. once-apart change bucket all.0 i ∷ map-apart change buckets all.1 i
 
@@ -238,69 +257,103 @@ module _ (name : List ℕ) (key : Key) (result : Ruling) where
   abbrev at_name : Bucket → Ordering
   at_name bucket = text_cmp bucket.name name
 
-  all-compare : (test : Ordering → Bool) (o : Ordering) (b : Bool) → ((key_order : Ordering) → test (ordering_then o key_order) ≡ b)
+  all-compare : (test : Ordering → Bool) (o : Ordering) (b : Bool)
+      → ((key_order : Ordering) → test (ordering_then o key_order) ≡ b)
       → (buckets : List Bucket) → AllByRecursion (λ (bucket : Bucket). text_cmp bucket.name name ≡ o) buckets
-      → AllByRecursion (λ (placed : Placed). test (placed_cmp placed (record { bucket = name; policy = record { key = key; result = result } })) ≡ b) (flat_map placed_of buckets)
+      → AllByRecursion (λ (placed : Placed). test
+      (placed_cmp placed (record { bucket = name; policy = record { key = key; result = result } })) ≡ b)
+      (flat_map placed_of buckets)
   all-compare test o b gives buckets all =
-      All-flat (λ (placed : Placed). test (placed_cmp placed (record { bucket = name; policy = record { key = key; result = result } })) ≡ b)
+      All-flat (λ (placed : Placed). test
+      (placed_cmp placed (record { bucket = name; policy = record { key = key; result = result } })) ≡ b)
       (λ bucket. text_cmp bucket.name name ≡ o)
-      (λ bucket is policy. ap (λ order. test (ordering_then order (key_cmp policy.key key))) is ∙ gives (key_cmp policy.key key)) buckets all
+      (λ bucket is policy. ap (λ order. test (ordering_then order (key_cmp policy.key key))) is
+      ∙ gives (key_cmp policy.key key)) buckets all
 
   own-compare : (test : Ordering → Bool) (bucket : Bucket) → text_cmp bucket.name name ≡ Equal
-      → filter (λ (placed : Placed). test (placed_cmp placed (record { bucket = name; policy = record { key = key; result = result } }))) (placed_of bucket)
+      → filter (λ (placed : Placed). test
+      (placed_cmp placed (record { bucket = name; policy = record { key = key; result = result } })))
+      (placed_of bucket)
       ≡ map (λ policy. let placed : Placed = record { bucket = bucket.name; policy = policy } in placed)
       (filter (λ policy. test (key_cmp policy.key key)) bucket.policies)
   own-compare test bucket ties =
-      filter-map (λ (placed : Placed). test (placed_cmp placed (record { bucket = name; policy = record { key = key; result = result } })))
+      filter-map (λ (placed : Placed). test
+      (placed_cmp placed (record { bucket = name; policy = record { key = key; result = result } })))
       (λ policy. let placed : Placed = record { bucket = bucket.name; policy = policy } in placed) bucket.policies
       ∙ ap (λ order. map (λ policy. let placed : Placed = record { bucket = bucket.name; policy = policy } in placed)
       (filter (λ (policy : Policy). test (ordering_then order (key_cmp policy.key key))) bucket.policies)) ties
 
   module _ (front : List Bucket) (bucket : Bucket) (back : List Bucket)
-      (before : AllByRecursion (λ (other : Bucket). text_cmp other.name name ≡ Less) front) (ties : text_cmp bucket.name name ≡ Equal)
+      (before : AllByRecursion (λ (other : Bucket). text_cmp other.name name ≡ Less) front)
+      (ties : text_cmp bucket.name name ≡ Equal)
       (behind : AllByRecursion (λ (other : Bucket). text_cmp other.name name ≡ Greater) back) where
     abbrev test_of : (Ordering → Bool) → Placed → Bool
-    test_of test placed = test (placed_cmp placed (record { bucket = name; policy = record { key = key; result = result } }))
+    test_of test placed =
+        test (placed_cmp placed (record { bucket = name; policy = record { key = key; result = result } }))
 
     parted : (test : Ordering → Bool)
-        → filter (λ (placed : Placed). test (placed_cmp placed (record { bucket = name; policy = record { key = key; result = result } }))) (flat_map placed_of (front ++ bucket ∷ back))
-        ≡ filter (λ (placed : Placed). test (placed_cmp placed (record { bucket = name; policy = record { key = key; result = result } }))) (flat_map placed_of front)
-        ++ (map (λ policy. let placed : Placed = record { bucket = bucket.name; policy = policy } in placed) (filter (λ policy. test (key_cmp policy.key key)) bucket.policies)
-        ++ filter (λ (placed : Placed). test (placed_cmp placed (record { bucket = name; policy = record { key = key; result = result } }))) (flat_map placed_of back))
+        → filter (λ (placed : Placed). test
+        (placed_cmp placed (record { bucket = name; policy = record { key = key; result = result } })))
+        (flat_map placed_of (front ++ bucket ∷ back))
+        ≡ filter (λ (placed : Placed). test
+        (placed_cmp placed (record { bucket = name; policy = record { key = key; result = result } })))
+        (flat_map placed_of front)
+        ++ (map (λ policy. let placed : Placed = record { bucket = bucket.name; policy = policy } in placed)
+        (filter (λ policy. test (key_cmp policy.key key)) bucket.policies)
+        ++ filter (λ (placed : Placed). test
+        (placed_cmp placed (record { bucket = name; policy = record { key = key; result = result } })))
+        (flat_map placed_of back))
     parted test =
-        let tests : Placed → Bool = λ placed. test (placed_cmp placed (record { bucket = name; policy = record { key = key; result = result } })) in
+        let tests : Placed → Bool =
+        λ placed. test (placed_cmp placed (record { bucket = name; policy = record { key = key; result = result } })) in
         ap (filter tests) (flat_map-append placed_of front (bucket ∷ back))
         ∙ filter-append tests (flat_map placed_of front) (placed_of bucket ++ flat_map placed_of back)
         ∙ ap (λ rest. filter tests (flat_map placed_of front) ++ rest)
         (filter-append tests (placed_of bucket) (flat_map placed_of back)
         ∙ ap (λ list. list ++ filter tests (flat_map placed_of back)) (own-compare test bucket ties))
 
-    below-flat : filter (λ (placed : Placed). is_lt (placed_cmp placed (record { bucket = name; policy = record { key = key; result = result } }))) (flat_map placed_of (front ++ bucket ∷ back))
+    below-flat : filter (λ (placed : Placed). is_lt
+        (placed_cmp placed (record { bucket = name; policy = record { key = key; result = result } })))
+        (flat_map placed_of (front ++ bucket ∷ back))
         ≡ flat_map placed_of front
-        ++ map (λ policy. let placed : Placed = record { bucket = bucket.name; policy = policy } in placed) (filter (λ policy. is_lt (key_cmp policy.key key)) bucket.policies)
+        ++ map (λ policy. let placed : Placed = record { bucket = bucket.name; policy = policy } in placed)
+        (filter (λ policy. is_lt (key_cmp policy.key key)) bucket.policies)
     below-flat =
-        let tests : Placed → Bool = λ placed. is_lt (placed_cmp placed (record { bucket = name; policy = record { key = key; result = result } })) in
-        let middle = map (λ policy. let placed : Placed = record { bucket = bucket.name; policy = policy } in placed) (filter (λ policy. is_lt (key_cmp policy.key key)) bucket.policies) in
+        let tests : Placed → Bool =
+        λ placed. is_lt (placed_cmp placed
+        (record { bucket = name; policy = record { key = key; result = result } })) in
+        let middle = map (λ policy. let placed : Placed = record { bucket = bucket.name; policy = policy } in placed)
+        (filter (λ policy. is_lt (key_cmp policy.key key)) bucket.policies) in
         parted is_lt
         ∙ (λ i. filter-all tests (flat_map placed_of front) (all-compare is_lt Less true (λ o. refl) front before) i
-        ++ (middle ++ filter-none tests (flat_map placed_of back) (all-compare is_lt Greater false (λ o. refl) back behind) i))
+        ++ (middle ++ filter-none tests (flat_map placed_of back)
+        (all-compare is_lt Greater false (λ o. refl) back behind) i))
         ∙ ap (λ rest. flat_map placed_of front ++ rest) (append-nil middle)
 
-    above-flat : filter (λ (placed : Placed). is_gt (placed_cmp placed (record { bucket = name; policy = record { key = key; result = result } }))) (flat_map placed_of (front ++ bucket ∷ back))
-        ≡ map (λ policy. let placed : Placed = record { bucket = bucket.name; policy = policy } in placed) (filter (λ policy. is_gt (key_cmp policy.key key)) bucket.policies)
+    above-flat : filter (λ (placed : Placed). is_gt
+        (placed_cmp placed (record { bucket = name; policy = record { key = key; result = result } })))
+        (flat_map placed_of (front ++ bucket ∷ back))
+        ≡ map (λ policy. let placed : Placed = record { bucket = bucket.name; policy = policy } in placed)
+        (filter (λ policy. is_gt (key_cmp policy.key key)) bucket.policies)
         ++ flat_map placed_of back
     above-flat =
-        let tests : Placed → Bool = λ placed. is_gt (placed_cmp placed (record { bucket = name; policy = record { key = key; result = result } })) in
-        let middle = map (λ policy. let placed : Placed = record { bucket = bucket.name; policy = policy } in placed) (filter (λ policy. is_gt (key_cmp policy.key key)) bucket.policies) in
+        let tests : Placed → Bool =
+        λ placed. is_gt (placed_cmp placed
+        (record { bucket = name; policy = record { key = key; result = result } })) in
+        let middle = map (λ policy. let placed : Placed = record { bucket = bucket.name; policy = policy } in placed)
+        (filter (λ policy. is_gt (key_cmp policy.key key)) bucket.policies) in
         parted is_gt
         ∙ (λ i. filter-none tests (flat_map placed_of front) (all-compare is_gt Less false (λ o. refl) front before) i
-        ++ (middle ++ filter-all tests (flat_map placed_of back) (all-compare is_gt Greater true (λ o. refl) back behind) i))
+        ++ (middle ++ filter-all tests (flat_map placed_of back)
+        (all-compare is_gt Greater true (λ o. refl) back behind) i))
 
     once-flat : flat_map placed_of (map (changed_once (Set name key result)) (front ++ bucket ∷ back))
         ≡ (flat_map placed_of front
-        ++ map (λ policy. let placed : Placed = record { bucket = bucket.name; policy = policy } in placed) (filter (λ policy. is_lt (key_cmp policy.key key)) bucket.policies))
+        ++ map (λ policy. let placed : Placed = record { bucket = bucket.name; policy = policy } in placed)
+        (filter (λ policy. is_lt (key_cmp policy.key key)) bucket.policies))
         ++ (record { bucket = name; policy = record { key = key; result = result } })
-        ∷ (map (λ policy. let placed : Placed = record { bucket = bucket.name; policy = policy } in placed) (filter (λ policy. is_gt (key_cmp policy.key key)) bucket.policies)
+        ∷ (map (λ policy. let placed : Placed = record { bucket = bucket.name; policy = policy } in placed)
+        (filter (λ policy. is_gt (key_cmp policy.key key)) bucket.policies)
         ++ flat_map placed_of back)
     once-flat =
         let change : Change = Set name key result in
@@ -311,10 +364,14 @@ module _ (name : List ℕ) (key : Key) (result : Ruling) where
         let same : same_text bucket.name name ≡ true = tied-same name bucket ties in
         let mine : is_own bucket.name change ≡ true = text_same bucket.name name same in
         let fronts : map (changed_once change) front ≡ front =
-        map-apart change front (All-weaker (λ (other : Bucket). same_text other.name name ≡ false) (λ other. is_own other.name change ≡ false)
+        map-apart change front
+        (All-weaker (λ (other : Bucket). same_text other.name name ≡ false)
+        (λ other. is_own other.name change ≡ false)
         (λ other apart. text_apart other.name name apart) front (others-apart name front before)) in
         let backs : map (changed_once change) back ≡ back =
-        map-apart change back (All-weaker (λ (other : Bucket). same_text other.name name ≡ false) (λ other. is_own other.name change ≡ false)
+        map-apart change back
+        (All-weaker (λ (other : Bucket). same_text other.name name ≡ false)
+        (λ other. is_own other.name change ≡ false)
         (λ other apart. text_apart other.name name apart) back (others-apart' name back behind)) in
         let named : put_in policy ≡ (record { bucket = name; policy = policy }) =
         (λ i. record { bucket = same_text-≡ bucket.name name same i; policy = policy }) in
@@ -323,19 +380,26 @@ module _ (name : List ℕ) (key : Key) (result : Ruling) where
         ∙ flat_map-append placed_of front (bucket_of bucket.name bucket.fallback (edited bucket.policies change) ∷ back)
         ∙ ap (λ own. flat_map placed_of front ++ (own ++ flat_map placed_of back))
         (map-append put_in below (policy ∷ above) ∙ ap (λ one. map put_in below ++ one ∷ map put_in above) named)
-        ∙ ap (λ rest. flat_map placed_of front ++ rest) (append_assoc (map put_in below) ((record { bucket = name; policy = policy }) ∷ map put_in above) (flat_map placed_of back))
-        ∙ sym (append_assoc (flat_map placed_of front) (map put_in below) ((record { bucket = name; policy = policy }) ∷ (map put_in above ++ flat_map placed_of back)))
+        ∙ ap (λ rest. flat_map placed_of front ++ rest)
+        (append_assoc (map put_in below) ((record { bucket = name; policy = policy }) ∷ map put_in above)
+        (flat_map placed_of back))
+        ∙ sym (append_assoc (flat_map placed_of front) (map put_in below)
+        ((record { bucket = name; policy = policy }) ∷ (map put_in above ++ flat_map placed_of back)))
 
     flat-put-parts : flat_map placed_of (map (changed_once (Set name key result)) (front ++ bucket ∷ back))
         ≡ after_change (flat_map placed_of (front ++ bucket ∷ back)) (Set name key result)
     flat-put-parts =
-        once-flat ∙ (λ i. sym below-flat i ++ (record { bucket = name; policy = record { key = key; result = result } }) ∷ sym above-flat i)
+        once-flat ∙ (λ i. sym below-flat i
+        ++ (record { bucket = name; policy = record { key = key; result = result } }) ∷ sym above-flat i)
 
   flat-put : (buckets : List Bucket) (at : ℕ) → StandsAt (λ (bucket : Bucket). text_cmp bucket.name name) buckets at
-      → flat_map placed_of (map (changed_once (Set name key result)) buckets) ≡ after_change (flat_map placed_of buckets) (Set name key result)
+      → flat_map placed_of (map (changed_once (Set name key result)) buckets) ≡ after_change
+      (flat_map placed_of buckets) (Set name key result)
   flat-put buckets at stands =
-      subst (λ list. flat_map placed_of (map (changed_once (Set name key result)) list) ≡ after_change (flat_map placed_of list) (Set name key result))
-      (sym stands.parts) (flat-put-parts stands.front stands.element stands.back stands.before stands.ties stands.behind)
+      subst (λ list. flat_map placed_of (map (changed_once (Set name key result)) list) ≡ after_change
+      (flat_map placed_of list) (Set name key result))
+      (sym stands.parts) (flat-put-parts stands.front stands.element stands.back stands.before stands.ties
+      stands.behind)
 
 -- ---- all changes of all buckets
 
@@ -375,7 +439,8 @@ there-still : (change : Change) (buckets : List Bucket) (changes : List Change) 
 there-still change buckets changes all =
     All-weaker (λ (other : Change). has_bucket (name_of other) (database_of buckets) ≡ true)
     (λ other. has_bucket (name_of other) (database_of (map (changed_once change) buckets)) ≡ true)
-    (λ other has. ap (list_any (λ (heading : Heading). same_text heading.name (name_of other))) (headings-once change buckets) ∙ has) changes all
+    (λ other has. ap (list_any (λ (heading : Heading). same_text heading.name (name_of other)))
+    (headings-once change buckets) ∙ has) changes all
 
 pub flat-changed : (changes : List Change) (buckets : List Bucket) → IsStrictlySortedBy bucket_cmp buckets
     → AllByRecursion (λ (bucket : Bucket). IsStrictlySortedBy policy_cmp bucket.policies) buckets
@@ -388,22 +453,26 @@ flat-changed [] buckets rise keys there = ap (flat_map placed_of) (map-same buck
     map-same (bucket ∷ buckets) = ap (λ rest. bucket ∷ rest) (map-same buckets)
 flat-changed (change ∷ changes) buckets rise keys there =
     ap (flat_map placed_of) (map-step change changes buckets)
-    ∙ flat-changed changes (map (changed_once change) buckets) (names-rise-same (changed_once change) (λ bucket. refl) buckets rise)
+    ∙ flat-changed changes (map (changed_once change) buckets)
+    (names-rise-same (changed_once change) (λ bucket. refl) buckets rise)
     (once-rise change buckets keys) (there-still change buckets changes there.1)
     ∙ ap (λ list. fold after_change list changes) (flat-once change buckets rise keys there.0)
 
-pub headings-changed : (changes : List Change) (buckets : List Bucket) → map heading_of (map (changed changes) buckets) ≡ map heading_of buckets
+pub headings-changed : (changes : List Change) (buckets : List Bucket)
+    → map heading_of (map (changed changes) buckets) ≡ map heading_of buckets
 headings-changed changes [] = refl
 headings-changed changes (bucket ∷ buckets) = ap (λ rest. heading_of bucket ∷ rest) (headings-changed changes buckets)
 
 fold-rises : (policies : List Policy) (changes : List Change) → IsStrictlySortedBy policy_cmp policies
     → IsStrictlySortedBy policy_cmp (fold edited policies changes)
 fold-rises policies [] rise = rise
-fold-rises policies (change ∷ changes) rise = fold-rises (edited policies change) changes (edited-rises policies change rise)
+fold-rises policies (change ∷ changes) rise =
+    fold-rises (edited policies change) changes (edited-rises policies change rise)
 
 pub keys-changed : (changes : List Change) (buckets : List Bucket)
     → AllByRecursion (λ (bucket : Bucket). IsStrictlySortedBy policy_cmp bucket.policies) buckets
-    → AllByRecursion (λ (bucket : Bucket). IsStrictlySortedBy policy_cmp bucket.policies) (map (changed changes) buckets)
+    → AllByRecursion (λ (bucket : Bucket). IsStrictlySortedBy policy_cmp bucket.policies)
+    (map (changed changes) buckets)
 keys-changed changes [] keys = tt
 keys-changed changes (bucket ∷ buckets) keys =
     (fold-rises bucket.policies (own bucket.name changes) keys.0, keys-changed changes buckets keys.1)

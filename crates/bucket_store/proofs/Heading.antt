@@ -1,5 +1,7 @@
 -- A bucket made, or its fallback changed.
-use Rattle.std.proofs.Common.{◌≡◌, ℕ, ◌+◌, ◌<◌, ◌≤◌, Bool, true, false, cond, ◌||◌, nat_lt, List, [], ◌∷◌, ◌++◌, length, map, get_or, set, Some, None, Result, Ok, Err, IfOk, IfErr, is_ok, refl, sym, ap, ◌∙◌, subst, arith}
+use Rattle.std.proofs.Common.{◌≡◌, ℕ, ◌+◌, ◌<◌, ◌≤◌, Bool, true, false, cond, ◌||◌, nat_lt, List, [], ◌∷◌, ◌++◌, length}
+use Rattle.std.proofs.Common.{map, get_or, set, Some, None, Result, Ok, Err, IfOk, IfErr, is_ok, refl, sym, ap, ◌∙◌}
+use Rattle.std.proofs.Common.{subst, arith}
 use Rattle.std.specs.Option.{option_map}
 use Rattle.std.specs.declared.cmp.Ordering.{Ordering}
 use Rattle.std.specs.declared.cmp.Ordering.TheVariants.{Less, Equal, Greater}
@@ -31,7 +33,8 @@ use Rattle.bucket_store.specs.parts.Edit.{headed, bucket_of}
 use Rattle.bucket_store.specs.parts.Search.{StandsAt, BelongsAt}
 use Rattle.bucket_store.specs.declared.refusals.StoreRefusal.TheVariants.{BadKind, Limit}
 use Rattle.bucket_store.proofs.Lists.{All-weaker, All-append, All-filter, All-back, filter-map}
-use Rattle.bucket_store.proofs.Searching.{put-StandsAt, put-BelongsAt, put-rises, below-tied, above-tied, below-front, above-back}
+use Rattle.bucket_store.proofs.Searching.{put-StandsAt, put-BelongsAt, put-rises, below-tied, above-tied, below-front}
+use Rattle.bucket_store.proofs.Searching.{above-back}
 use Rattle.bucket_store.proofs.Sound.{limit-sound, cycle-sound}
 use Rattle.bucket_store.proofs.Walks.{NoCycle-tested, tested-NoCycle}
 
@@ -65,14 +68,21 @@ module _ {X : Type 0} (test : X → Bool) (cmp : X → X → Ordering) (new : X)
       → (list_any test (filter (λ other. is_lt (cmp other new)) xs)
       || (test new || list_any test (filter (λ other. is_gt (cmp other new)) xs))) ≡ true)
       → (test x || list_any test xs) ≡ true
-      → (list_any test (cond (is_lt o) (x ∷ filter (λ other. is_lt (cmp other new)) xs) (filter (λ other. is_lt (cmp other new)) xs))
-      || (test new || list_any test (cond (is_gt o) (x ∷ filter (λ other. is_gt (cmp other new)) xs) (filter (λ other. is_gt (cmp other new)) xs)))) ≡ true
+      → (list_any test (cond (is_lt o) (x ∷ filter (λ other. is_lt (cmp other new)) xs)
+      (filter (λ other. is_lt (cmp other new)) xs))
+      || (test new || list_any test
+      (cond (is_gt o) (x ∷ filter (λ other. is_gt (cmp other new)) xs) (filter (λ other. is_gt (cmp other new)) xs))))
+      ≡ true
   one_more x xs Less is rest any =
-      ⊎_elim (λ here. or_left _ _ (or_left _ _ here)) (λ later. or_add (test x) (list_any test (filter (λ other. is_lt (cmp other new)) xs)) (list_any test (filter (λ other. is_gt (cmp other new)) xs)) (test new) (rest later)) (or_cases _ _ any)
+      ⊎_elim (λ here. or_left _ _ (or_left _ _ here))
+      (λ later. or_add (test x) (list_any test (filter (λ other. is_lt (cmp other new)) xs))
+      (list_any test (filter (λ other. is_gt (cmp other new)) xs)) (test new) (rest later)) (or_cases _ _ any)
   one_more x xs Equal is rest any =
       ⊎_elim (λ here. or_new _ _ _ (instead x is here)) (λ later. rest later) (or_cases _ _ any)
   one_more x xs Greater is rest any =
-      ⊎_elim (λ here. or_third _ _ _ _ here) (λ later. or_mid (test x) (list_any test (filter (λ other. is_lt (cmp other new)) xs)) (list_any test (filter (λ other. is_gt (cmp other new)) xs)) (test new) (rest later)) (or_cases _ _ any)
+      ⊎_elim (λ here. or_third _ _ _ _ here)
+      (λ later. or_mid (test x) (list_any test (filter (λ other. is_lt (cmp other new)) xs))
+      (list_any test (filter (λ other. is_gt (cmp other new)) xs)) (test new) (rest later)) (or_cases _ _ any)
 
   any_stays : (xs : List X) → list_any test xs ≡ true
       → (list_any test (filter (λ other. is_lt (cmp other new)) xs)
@@ -83,7 +93,8 @@ module _ {X : Type 0} (test : X → Bool) (cmp : X → X → Ordering) (new : X)
   -- what passes a test passes it still, where what takes its place does
   pub any-put : (xs : List X) → list_any test xs ≡ true → list_any test (put cmp new xs) ≡ true
   any-put xs any =
-      list_any-append test (filter (λ other. is_lt (cmp other new)) xs) (new ∷ filter (λ other. is_gt (cmp other new)) xs)
+      list_any-append test (filter (λ other. is_lt (cmp other new)) xs)
+      (new ∷ filter (λ other. is_gt (cmp other new)) xs)
       ∙ any_stays xs any
 
 -- ---- the database that a heading leads to
@@ -92,17 +103,24 @@ has-with : (heading : Heading) (other : List ℕ) (database : Database) → has_
     → has_bucket other (with_bucket heading database) ≡ true
 has-with heading other database has =
     any-put (λ (here : Heading). same_text here.name other) heading_cmp heading
-    (λ here tied same. ap (λ name. same_text name other) (sym (cmp-tied here.name heading.name tied)) ∙ same) database.buckets has
+    (λ here tied same. ap (λ name. same_text name other) (sym (cmp-tied here.name heading.name tied)) ∙ same)
+    database.buckets has
 
 pub Sound-with : (heading : Heading) (database : Database) → is_bad heading ≡ false
-    → length (with_bucket heading database).buckets ≤ most_buckets → IsSound database → IsSound (with_bucket heading database)
+    → length (with_bucket heading database).buckets ≤ most_buckets → IsSound database
+    → IsSound (with_bucket heading database)
 Sound-with heading database good short sound = record {
   root = has-with heading root database sound.root;
   fallbacks =
-      All-append (λ (other : Heading). is_bad other ≡ false) (filter (λ other. is_lt (heading_cmp other heading)) database.buckets)
+      All-append (λ (other : Heading). is_bad other ≡ false)
+      (filter (λ other. is_lt (heading_cmp other heading)) database.buckets)
       (heading ∷ filter (λ other. is_gt (heading_cmp other heading)) database.buckets)
-      (All-filter (λ (other : Heading). is_bad other ≡ false) (λ other. is_lt (heading_cmp other heading)) database.buckets sound.fallbacks)
-      (good, All-filter (λ (other : Heading). is_bad other ≡ false) (λ other. is_gt (heading_cmp other heading)) database.buckets sound.fallbacks);
+      (All-filter (λ (other : Heading). is_bad other ≡ false) (λ other. is_lt (heading_cmp other heading))
+      database.buckets sound.fallbacks) (
+        good,
+        All-filter (λ (other : Heading). is_bad other ≡ false) (λ other. is_gt (heading_cmp other heading))
+            database.buckets sound.fallbacks,
+      );
   rooted =
       All-weaker (IsRooted database) (IsRooted (with_bucket heading database))
       (λ placed is. record {
@@ -128,7 +146,8 @@ pub record IsPlace (name : List ℕ) (buckets : List Bucket) (place : Result ℕ
 record Own (name : List ℕ) (fallback : Ruling) (buckets : List Bucket) (place : Result ℕ ℕ) : Type 0 where
   policies : List Policy
   is : headed place name fallback buckets ≡ put bucket_cmp (bucket_of name fallback policies) buckets
-  rise : AllByRecursion (λ (bucket : Bucket). IsStrictlySortedBy policy_cmp bucket.policies) buckets → IsStrictlySortedBy policy_cmp policies
+  rise : AllByRecursion (λ (bucket : Bucket). IsStrictlySortedBy policy_cmp bucket.policies) buckets
+      → IsStrictlySortedBy policy_cmp policies
   flat : flat_map placed_of (put bucket_cmp (bucket_of name fallback policies) buckets) ≡ flat_map placed_of buckets
 
 placed-named : (name : List ℕ) (fallback : Ruling) (bucket : Bucket) → bucket.name ≡ name
@@ -144,32 +163,41 @@ own_of name fallback buckets (Ok at) is =
     let answer : Bucket → Ordering = λ bucket. text_cmp bucket.name name in
     let none : Bucket = bucket_of name fallback [] in
     let there : get_or buckets at none ≡ element =
-    ap (λ xs. get_or xs at none) stands.parts ∙ get_or_at stands.front element stands.back none at stands.length_front in
+    ap (λ xs. get_or xs at none) stands.parts
+    ∙ get_or_at stands.front element stands.back none at stands.length_front in
     let new = bucket_of name fallback element.policies in
     let below : filter (λ bucket. is_lt (answer bucket)) buckets ≡ stands.front =
-    ap (filter (λ bucket. is_lt (answer bucket))) stands.parts ∙ below-tied answer stands.front element stands.back stands.before stands.ties stands.behind in
+    ap (filter (λ bucket. is_lt (answer bucket))) stands.parts
+    ∙ below-tied answer stands.front element stands.back stands.before stands.ties stands.behind in
     let above : filter (λ bucket. is_gt (answer bucket)) buckets ≡ stands.back =
-    ap (filter (λ bucket. is_gt (answer bucket))) stands.parts ∙ above-tied answer stands.front element stands.back stands.before stands.ties stands.behind in
+    ap (filter (λ bucket. is_gt (answer bucket))) stands.parts
+    ∙ above-tied answer stands.front element stands.back stands.before stands.ties stands.behind in
     record {
       policies = element.policies;
-      is = ap (λ (own : Bucket). set buckets at (bucket_of name fallback own.policies)) there ∙ put-StandsAt answer stands new;
-      rise = λ all. (All-back (λ (bucket : Bucket). IsStrictlySortedBy policy_cmp bucket.policies) stands.front (element ∷ stands.back)
-          (subst (AllByRecursion (λ (bucket : Bucket). IsStrictlySortedBy policy_cmp bucket.policies)) stands.parts all)).0;
+      is = ap (λ (own : Bucket). set buckets at (bucket_of name fallback own.policies)) there
+          ∙ put-StandsAt answer stands new;
+      rise = λ all. (All-back (λ (bucket : Bucket). IsStrictlySortedBy policy_cmp bucket.policies) stands.front
+          (element ∷ stands.back)
+          (subst (AllByRecursion (λ (bucket : Bucket). IsStrictlySortedBy policy_cmp bucket.policies))
+          stands.parts all)).0;
       flat =
           (λ i. flat_map placed_of (below i ++ new ∷ above i))
           ∙ flat_map-append placed_of stands.front (new ∷ stands.back)
           ∙ ap (λ own. flat_map placed_of stands.front ++ (own ++ flat_map placed_of stands.back))
           (placed-named name fallback element (cmp-tied element.name name stands.ties))
-          ∙ sym (flat_map-append placed_of stands.front (element ∷ stands.back)) ∙ ap (flat_map placed_of) (sym stands.parts);
+          ∙ sym (flat_map-append placed_of stands.front (element ∷ stands.back))
+          ∙ ap (flat_map placed_of) (sym stands.parts);
     }
 own_of name fallback buckets (Err at) is =
     let belongs = is.absent in
     let answer : Bucket → Ordering = λ bucket. text_cmp bucket.name name in
     let new : Bucket = bucket_of name fallback [] in
     let below : filter (λ bucket. is_lt (answer bucket)) buckets ≡ belongs.front =
-    ap (filter (λ bucket. is_lt (answer bucket))) belongs.parts ∙ below-front answer belongs.front belongs.back belongs.before belongs.behind in
+    ap (filter (λ bucket. is_lt (answer bucket))) belongs.parts
+    ∙ below-front answer belongs.front belongs.back belongs.before belongs.behind in
     let above : filter (λ bucket. is_gt (answer bucket)) buckets ≡ belongs.back =
-    ap (filter (λ bucket. is_gt (answer bucket))) belongs.parts ∙ above-back answer belongs.front belongs.back belongs.before belongs.behind in
+    ap (filter (λ bucket. is_gt (answer bucket))) belongs.parts
+    ∙ above-back answer belongs.front belongs.back belongs.before belongs.behind in
     record {
       policies = [];
       is = put-BelongsAt answer belongs new;
@@ -183,15 +211,19 @@ own_of name fallback buckets (Err at) is =
 headings-put : (new : Bucket) (buckets : List Bucket)
     → map heading_of (put bucket_cmp new buckets) ≡ put heading_cmp (heading_of new) (map heading_of buckets)
 headings-put new buckets =
-    map-append heading_of (filter (λ other. is_lt (bucket_cmp other new)) buckets) (new ∷ filter (λ other. is_gt (bucket_cmp other new)) buckets)
+    map-append heading_of (filter (λ other. is_lt (bucket_cmp other new)) buckets)
+    (new ∷ filter (λ other. is_gt (bucket_cmp other new)) buckets)
     ∙ (λ i. sym (filter-map (λ (other : Heading). is_lt (heading_cmp other (heading_of new))) heading_of buckets) i
-    ++ heading_of new ∷ sym (filter-map (λ (other : Heading). is_gt (heading_cmp other (heading_of new))) heading_of buckets) i)
+    ++ heading_of new ∷ sym
+    (filter-map (λ (other : Heading). is_gt (heading_cmp other (heading_of new))) heading_of buckets) i)
 
-module _ (name : List ℕ) (fallback : Ruling) (buckets : List Bucket) (place : Result ℕ ℕ) (is : IsPlace name buckets place) where
+module _ (name : List ℕ) (fallback : Ruling) (buckets : List Bucket) (place : Result ℕ ℕ)
+    (is : IsPlace name buckets place) where
   abbrev heading : Heading
   heading = record { name = name; fallback = fallback }
 
-  pub headed-view : (list : List Bucket) → list ≡ headed place name fallback buckets → database_of list ≡ with_bucket heading (database_of buckets)
+  pub headed-view : (list : List Bucket) → list ≡ headed place name fallback buckets
+      → database_of list ≡ with_bucket heading (database_of buckets)
   headed-view list made =
       let own = own_of name fallback buckets place is in
       ap database_of (made ∙ own.is)
@@ -206,10 +238,12 @@ module _ (name : List ℕ) (fallback : Ruling) (buckets : List Bucket) (place : 
       subst IsKept (sym (made ∙ own.is)) (record {
         names_rise = put-rises bucket_total new buckets kept.names_rise;
         keys_rise =
-            All-append rises (filter (λ other. is_lt (bucket_cmp other new)) buckets) (new ∷ filter (λ other. is_gt (bucket_cmp other new)) buckets)
+            All-append rises (filter (λ other. is_lt (bucket_cmp other new)) buckets)
+            (new ∷ filter (λ other. is_gt (bucket_cmp other new)) buckets)
             (All-filter rises (λ other. is_lt (bucket_cmp other new)) buckets kept.keys_rise)
             (own.rise kept.keys_rise, All-filter rises (λ other. is_gt (bucket_cmp other new)) buckets kept.keys_rise);
-        sound = subst IsSound (sym (ap database_of (sym own.is) ∙ headed-view (headed place name fallback buckets) refl))
+        sound = subst IsSound
+            (sym (ap database_of (sym own.is) ∙ headed-view (headed place name fallback buckets) refl))
             (Sound-with heading (database_of buckets) good short kept.sound);
       })
 
@@ -218,7 +252,8 @@ length-heads [] = refl
 length-heads (bucket ∷ buckets) = omega (arith, length-heads buckets)
 
 -- how many buckets there are then
-pub length-headed : (name : List ℕ) (fallback : Ruling) (buckets : List Bucket) (place : Result ℕ ℕ) → IsPlace name buckets place
+pub length-headed : (name : List ℕ) (fallback : Ruling) (buckets : List Bucket) (place : Result ℕ ℕ)
+    → IsPlace name buckets place
     → length (with_bucket (record { name = name; fallback = fallback }) (database_of buckets)).buckets
     ≡ (cond (is_ok place) (length buckets) (length buckets + 1))
 length-headed name fallback buckets (Ok at) is =
@@ -236,7 +271,8 @@ length-headed name fallback buckets (Err at) is =
     ∙ length-heads (headed (Err at) name fallback buckets)
     ∙ length-insert buckets at (bucket_of name fallback []) fits
 
-pub has-room : (name : List ℕ) (fallback : Ruling) (buckets : List Bucket) (place : Result ℕ ℕ) → IsPlace name buckets place
+pub has-room : (name : List ℕ) (fallback : Ruling) (buckets : List Bucket) (place : Result ℕ ℕ)
+    → IsPlace name buckets place
     → IsKept buckets → (is_ok place || nat_lt (length buckets) most_buckets) ≡ true
     → length (with_bucket (record { name = name; fallback = fallback }) (database_of buckets)).buckets ≤ most_buckets
 has-room name fallback buckets (Ok at) is kept room =
@@ -255,23 +291,28 @@ no-room name fallback buckets (Err at) is room =
 
 pub heading-accepted : (name : List ℕ) (fallback : Ruling) (database : Database)
     → is_bad (record { name = name; fallback = fallback }) ≡ false
-    → length (with_bucket (record { name = name; fallback = fallback }) database).buckets ≤ most_buckets → IsSound database
+    → length (with_bucket (record { name = name; fallback = fallback }) database).buckets ≤ most_buckets
+    → IsSound database
     → fault database (set_bucket name fallback database) ≡ None
 heading-accepted name fallback database good short sound =
     let heading : Heading = record { name = name; fallback = fallback } in
     let next = with_bucket heading database in
     let still = Sound-with heading database good short sound in
-    ap (λ b. first_of (option_map (λ (bad : Heading). BadKind (record { 0 = bad.fallback.kind })) (cond b (Some heading) None) ∷ limit next ∷ cycle next ∷ [])) good
+    ap (λ b. first_of (option_map (λ (bad : Heading). BadKind (record { 0 = bad.fallback.kind }))
+    (cond b (Some heading) None) ∷ limit next ∷ cycle next ∷ [])) good
     ∙ ap (λ rule. first_of (rule ∷ cycle next ∷ [])) (limit-sound next still)
     ∙ ap (λ rule. first_of (rule ∷ [])) (cycle-sound next still)
 
-pub heading-limited : (name : List ℕ) (fallback : Ruling) (buckets : List Bucket) (place : Result ℕ ℕ) → IsPlace name buckets place
+pub heading-limited : (name : List ℕ) (fallback : Ruling) (buckets : List Bucket) (place : Result ℕ ℕ)
+    → IsPlace name buckets place
     → (is_ok place || nat_lt (length buckets) most_buckets) ≡ false
     → is_bad (record { name = name; fallback = fallback }) ≡ false
     → fault (database_of buckets) (set_bucket name fallback (database_of buckets)) ≡ Some (Limit Buckets most_buckets)
 heading-limited name fallback buckets place is room good =
     let heading : Heading = record { name = name; fallback = fallback } in
     let next = with_bucket heading (database_of buckets) in
-    ap (λ b. first_of (option_map (λ (bad : Heading). BadKind (record { 0 = bad.fallback.kind })) (cond b (Some heading) None) ∷ limit next ∷ cycle next ∷ [])) good
-    ∙ ap (λ b. first_of (cond b (Some (Limit Buckets most_buckets)) (cond (nat_lt most_policies (length next.policies)) (Some (Limit Policies most_policies)) None) ∷ cycle next ∷ []))
+    ap (λ b. first_of (option_map (λ (bad : Heading). BadKind (record { 0 = bad.fallback.kind }))
+    (cond b (Some heading) None) ∷ limit next ∷ cycle next ∷ [])) good
+    ∙ ap (λ b. first_of (cond b (Some (Limit Buckets most_buckets))
+    (cond (nat_lt most_policies (length next.policies)) (Some (Limit Policies most_policies)) None) ∷ cycle next ∷ []))
     (lt-ltb most_buckets (length next.buckets) (no-room name fallback buckets place is room))

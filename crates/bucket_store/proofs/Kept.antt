@@ -3,7 +3,8 @@ use Rattle.std.proofs.Common.{◌≡◌, Bool, List, [], ◌∷◌, ◌++◌, ma
 use Rattle.std.specs.declared.cmp.Ordering.TheVariants.{Less}
 use Rattle.std.specs.List.{filter, flat_map, Contains}
 use Rattle.std.specs.List.Sorted.{IsStrictlySortedBy}
-use Rattle.std.proofs.lemmas.List.Elements.{filter-append, All-from_recursion, recursion_from_All, All-contains, All-contains_itself}
+use Rattle.std.proofs.lemmas.List.Elements.{filter-append, All-from_recursion, recursion_from_All, All-contains}
+use Rattle.std.proofs.lemmas.List.Elements.{All-contains_itself}
 use Rattle.std.proofs.lemmas.List.Kept.{IsStrictlySortedBy-filter}
 use Rattle.cynara_keys.specs.Text.{text_cmp}
 use Rattle.cynara_keys.specs.PolicyResult.{deny}
@@ -16,9 +17,6 @@ use Rattle.bucket_store.proofs.Lists.{All-weaker, All-filter, All-map, filter-ma
 use Rattle.bucket_store.proofs.Walks.{NoCycle-tested, tested-NoCycle, NoCycle-fewer}
 
 -- ---- the root bucket alone
-
-fresh_bucket : Bucket
-fresh_bucket = record { name = []; fallback = record { kind = deny; metadata = [] }; policies = [] }
 
 pub fresh_kept : IsKept (record { name = []; fallback = record { kind = deny; metadata = [] }; policies = [] } ∷ [])
 unfolding reaches IsStrictlySortedBy
@@ -45,9 +43,11 @@ keep passes bucket = record {
   policies = filter (λ policy. passes (record { bucket = bucket.name; policy = policy })) bucket.policies;
 }
 
-pub placed-keep : (passes : Placed → Bool) (bucket : Bucket) → placed_of (keep passes bucket) ≡ filter passes (placed_of bucket)
+pub placed-keep : (passes : Placed → Bool) (bucket : Bucket)
+    → placed_of (keep passes bucket) ≡ filter passes (placed_of bucket)
 placed-keep passes bucket =
-    sym (filter-map passes (λ policy. let placed : Placed = record { bucket = bucket.name; policy = policy } in placed) bucket.policies)
+    sym (filter-map passes (λ policy. let placed : Placed = record { bucket = bucket.name; policy = policy } in placed)
+    bucket.policies)
 
 pub flat-keep : (passes : Placed → Bool) (buckets : List Bucket)
     → flat_map placed_of (map (keep passes) buckets) ≡ filter passes (flat_map placed_of buckets)
@@ -57,7 +57,8 @@ flat-keep passes (bucket ∷ buckets) =
     ∙ ap (λ rest. filter passes (placed_of bucket) ++ rest) (flat-keep passes buckets)
     ∙ sym (filter-append passes (placed_of bucket) (flat_map placed_of buckets))
 
-pub headings-keep : (passes : Placed → Bool) (buckets : List Bucket) → map heading_of (map (keep passes) buckets) ≡ map heading_of buckets
+pub headings-keep : (passes : Placed → Bool) (buckets : List Bucket)
+    → map heading_of (map (keep passes) buckets) ≡ map heading_of buckets
 headings-keep passes [] = refl
 headings-keep passes (bucket ∷ buckets) = ap (λ rest. heading_of bucket ∷ rest) (headings-keep passes buckets)
 
@@ -71,19 +72,23 @@ database-keep passes buckets i =
     record { buckets = headings-keep passes buckets i; policies = flat-keep passes buckets i }
 
 -- an order by name alone doesn't see the policies
-names-rise-map : (change : Bucket → Bucket) → ((bucket : Bucket) → (change bucket).name ≡ bucket.name) → (buckets : List Bucket)
+names-rise-map : (change : Bucket → Bucket) → ((bucket : Bucket) → (change bucket).name ≡ bucket.name)
+    → (buckets : List Bucket)
     → IsStrictlySortedBy bucket_cmp buckets → IsStrictlySortedBy bucket_cmp (map change buckets)
 unfolding IsStrictlySortedBy
 names-rise-map change same [] rising = tt
 names-rise-map change same (bucket ∷ buckets) rising = (
   All-map (λ (other : Bucket). bucket_cmp (change bucket) other ≡ Less) change buckets
-      (All-weaker (λ (other : Bucket). bucket_cmp bucket other ≡ Less) (λ other. bucket_cmp (change bucket) (change other) ≡ Less)
-      (λ other before. ap (λ name. text_cmp name (change other).name) (same bucket) ∙ ap (text_cmp bucket.name) (same other) ∙ before)
+      (All-weaker (λ (other : Bucket). bucket_cmp bucket other ≡ Less)
+      (λ other. bucket_cmp (change bucket) (change other) ≡ Less)
+      (λ other before. ap (λ name. text_cmp name (change other).name) (same bucket)
+      ∙ ap (text_cmp bucket.name) (same other) ∙ before)
       buckets rising.0),
   names-rise-map change same buckets rising.1,
 )
 
-pub names-rise-same : (change : Bucket → Bucket) → ((bucket : Bucket) → (change bucket).name ≡ bucket.name) → (buckets : List Bucket)
+pub names-rise-same : (change : Bucket → Bucket) → ((bucket : Bucket) → (change bucket).name ≡ bucket.name)
+    → (buckets : List Bucket)
     → IsStrictlySortedBy bucket_cmp buckets → IsStrictlySortedBy bucket_cmp (map change buckets)
 names-rise-same = names-rise-map
 
@@ -117,7 +122,8 @@ Kept-keep passes buckets kept = record {
       All-map (λ (bucket : Bucket). IsStrictlySortedBy policy_cmp bucket.policies) (keep passes) buckets
       (All-weaker (λ (bucket : Bucket). IsStrictlySortedBy policy_cmp bucket.policies)
       (λ bucket. IsStrictlySortedBy policy_cmp (keep passes bucket).policies)
-      (λ bucket. IsStrictlySortedBy-filter policy_cmp (λ policy. passes (record { bucket = bucket.name; policy = policy })) bucket.policies)
+      (λ bucket. IsStrictlySortedBy-filter policy_cmp
+      (λ policy. passes (record { bucket = bucket.name; policy = policy })) bucket.policies)
       buckets kept.keys_rise);
   sound = subst IsSound (sym (database-keep passes buckets)) (Sound-kept passes (database_of buckets) kept.sound);
 }

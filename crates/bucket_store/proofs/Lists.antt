@@ -1,5 +1,6 @@
 -- Facts about tests, filters and all elements of a list.
-use Rattle.std.proofs.Common.{◌≡◌, ◌<◌, ◌≤◌, Bool, true, false, not, cond, ◌||◌, List, [], ◌∷◌, ◌++◌, length, map, refl, sym, ap, ◌∙◌, subst, arith}
+use Rattle.std.proofs.Common.{◌≡◌, ◌<◌, ◌≤◌, Bool, true, false, not, cond, ◌||◌, List, [], ◌∷◌, ◌++◌, length, map, refl}
+use Rattle.std.proofs.Common.{sym, ap, ◌∙◌, subst, arith}
 use Rattle.std.proofs.lemmas.Bool.{true≢false}
 use Rattle.std.specs.List.{AllByRecursion, filter, list_any}
 
@@ -56,12 +57,14 @@ All-unmap P f (x ∷ xs) all = (all.0, All-unmap P f xs all.1)
 
 -- ---- what a filter keeps
 
-pub filter-all : {X : Type 0} (test : X → Bool) (xs : List X) → AllByRecursion (λ x. test x ≡ true) xs → filter test xs ≡ xs
+pub filter-all : {X : Type 0} (test : X → Bool) (xs : List X) → AllByRecursion (λ x. test x ≡ true) xs
+    → filter test xs ≡ xs
 filter-all test [] all = refl
 filter-all test (x ∷ xs) all =
     ap (λ b. cond b (x ∷ filter test xs) (filter test xs)) all.0 ∙ ap (λ rest. x ∷ rest) (filter-all test xs all.1)
 
-pub filter-none : {X : Type 0} (test : X → Bool) (xs : List X) → AllByRecursion (λ x. test x ≡ false) xs → filter test xs ≡ []
+pub filter-none : {X : Type 0} (test : X → Bool) (xs : List X) → AllByRecursion (λ x. test x ≡ false) xs
+    → filter test xs ≡ []
 filter-none test [] all = refl
 filter-none test (x ∷ xs) all =
     ap (λ b. cond b (x ∷ filter test xs) (filter test xs)) all.0 ∙ filter-none test xs all.1
@@ -78,7 +81,8 @@ pub filter-map : {X Y : Type 0} (test : Y → Bool) (f : X → Y) (xs : List X)
 filter-map test f [] = refl
 filter-map test f (x ∷ xs) =
     ap (λ rest. cond (test (f x)) (f x ∷ rest) rest) (filter-map test f xs)
-    ∙ (elim (test (f x)) as (λ b. cond b (f x ∷ map f (filter (λ x. test (f x)) xs)) (map f (filter (λ x. test (f x)) xs))
+    ∙ (elim (test (f x)) as
+    (λ b. cond b (f x ∷ map f (filter (λ x. test (f x)) xs)) (map f (filter (λ x. test (f x)) xs))
     ≡ map f (cond b (x ∷ filter (λ x. test (f x)) xs) (filter (λ x. test (f x)) xs)))
     [ true ↦ refl | false ↦ refl ])
 
@@ -92,7 +96,8 @@ any-filter test kept both (x ∷ xs) any = here (any-filter test kept both xs) (
   where
     later : (keeps : Bool) → list_any test (filter kept xs) ≡ true
         → list_any test (cond keeps (x ∷ filter kept xs) (filter kept xs)) ≡ true
-    later true found = elim (test x) as (λ b. (b || list_any test (filter kept xs)) ≡ true) [ true ↦ refl | false ↦ found ]
+    later true found = elim (test x) as
+        (λ b. (b || list_any test (filter kept xs)) ≡ true) [ true ↦ refl | false ↦ found ]
     later false found = found
 
     here : (list_any test xs ≡ true → list_any test (filter kept xs) ≡ true) → (passes : Bool) → test x ≡ passes
@@ -118,6 +123,7 @@ length-filter-< test (x ∷ xs) any = here (length-filter-< test xs) (test x) an
   where
     here : (list_any test xs ≡ true → length (filter (λ x. not (test x)) xs) < length xs) → (passes : Bool)
         → (passes || list_any test xs) ≡ true
-        → length (cond (not passes) (x ∷ filter (λ x. not (test x)) xs) (filter (λ x. not (test x)) xs)) < length (x ∷ xs)
+        → length (cond (not passes) (x ∷ filter (λ x. not (test x)) xs) (filter (λ x. not (test x)) xs)) < length
+        (x ∷ xs)
     here rest true found = omega (arith, length-filter-≤ (λ x. not (test x)) xs)
     here rest false found = omega (arith, rest found)

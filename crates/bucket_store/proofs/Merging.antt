@@ -1,5 +1,6 @@
 -- The merge of a bucket's policies with changes in the order of their keys.
-use Rattle.std.proofs.Common.{◌≡◌, ℕ, ◌+◌, ◌<◌, ◌≤◌, suc, Bool, true, false, List, [], ◌∷◌, ◌++◌, length, take, drop, get_or, refl, sym, ap, ◌∙◌, subst, arith, append_assoc, add-one}
+use Rattle.std.proofs.Common.{◌≡◌, ℕ, ◌+◌, ◌<◌, ◌≤◌, suc, Bool, true, false, List, [], ◌∷◌, ◌++◌, length, take, drop}
+use Rattle.std.proofs.Common.{get_or, refl, sym, ap, ◌∙◌, subst, arith, append_assoc, add-one}
 use Rattle.std.specs.declared.cmp.Ordering.{Ordering}
 use Rattle.std.specs.declared.cmp.Ordering.TheVariants.{Less, Equal, Greater}
 use Rattle.std.specs.Ordering.{is_lt, is_gt}
@@ -23,7 +24,7 @@ use Rattle.bucket_store.proofs.Lists.{All-weaker, All-append, All-front, All-pas
 use Rattle.std.specs.List.Sorted.{IsSortedBy}
 use Rattle.std.specs.Ordering.{ordering_reverse}
 use Rattle.std.proofs.lemmas.Bool.{true≢false}
-use Rattle.std.proofs.lemmas.List.{length-drop, take_all, drop-drop}
+use Rattle.std.proofs.lemmas.List.{length-drop, drop-drop}
 use Rattle.std.proofs.lemmas.List.Elements.{recursion_from_All}
 use Rattle.std.proofs.lemmas.List.Sorted.{sorted_far, ranks_by}
 use Rattle.bucket_store.proofs.Searching.{below-tied, above-tied, below-front, above-back}
@@ -37,51 +38,62 @@ above key policies = filter (λ policy. is_gt (key_cmp policy.key key)) policies
 
 -- ---- where a search cuts
 
-take-found : (key : Key) (policies : List Policy) (at : ℕ) → StandsAt (λ (policy : Policy). key_cmp policy.key key) policies at
+take-found : (key : Key) (policies : List Policy) (at : ℕ)
+    → StandsAt (λ (policy : Policy). key_cmp policy.key key) policies at
     → take at policies ≡ filter (λ (policy : Policy). is_lt (key_cmp policy.key key)) policies
 take-found key policies at stands =
     ap (take at) stands.parts ∙ take_at stands.front (stands.element ∷ stands.back) at stands.length_front
     ∙ sym (ap (filter (λ (policy : Policy). is_lt (key_cmp policy.key key))) stands.parts
-    ∙ below-tied (λ (policy : Policy). key_cmp policy.key key) stands.front stands.element stands.back stands.before stands.ties stands.behind)
+    ∙ below-tied (λ (policy : Policy). key_cmp policy.key key)
+    stands.front stands.element stands.back stands.before stands.ties stands.behind)
 
-take-absent : (key : Key) (policies : List Policy) (at : ℕ) → BelongsAt (λ (policy : Policy). key_cmp policy.key key) policies at
+take-absent : (key : Key) (policies : List Policy) (at : ℕ)
+    → BelongsAt (λ (policy : Policy). key_cmp policy.key key) policies at
     → take at policies ≡ filter (λ (policy : Policy). is_lt (key_cmp policy.key key)) policies
 take-absent key policies at belongs =
     ap (take at) belongs.parts ∙ take_at belongs.front belongs.back at belongs.length_front
     ∙ sym (ap (filter (λ (policy : Policy). is_lt (key_cmp policy.key key))) belongs.parts
-    ∙ below-front (λ (policy : Policy). key_cmp policy.key key) belongs.front belongs.back belongs.before belongs.behind)
+    ∙ below-front (λ (policy : Policy). key_cmp policy.key key)
+    belongs.front belongs.back belongs.before belongs.behind)
 
 drop-past : {X : Type 0} (front : List X) (x : X) (back : List X) → drop (length front + 1) (front ++ x ∷ back) ≡ back
 drop-past [] x back = refl
 drop-past (y ∷ front) x back = rw add-one (rw add-one at (drop-past front x back))
 
-drop-found : (key : Key) (policies : List Policy) (at : ℕ) → StandsAt (λ (policy : Policy). key_cmp policy.key key) policies at
+drop-found : (key : Key) (policies : List Policy) (at : ℕ)
+    → StandsAt (λ (policy : Policy). key_cmp policy.key key) policies at
     → drop (at + 1) policies ≡ filter (λ (policy : Policy). is_gt (key_cmp policy.key key)) policies
 drop-found key policies at stands =
     (λ i. drop (sym stands.length_front i + 1) (stands.parts i)) ∙ drop-past stands.front stands.element stands.back
     ∙ sym (ap (filter (λ (policy : Policy). is_gt (key_cmp policy.key key))) stands.parts
-    ∙ above-tied (λ (policy : Policy). key_cmp policy.key key) stands.front stands.element stands.back stands.before stands.ties stands.behind)
+    ∙ above-tied (λ (policy : Policy). key_cmp policy.key key)
+    stands.front stands.element stands.back stands.before stands.ties stands.behind)
 
-drop-absent : (key : Key) (policies : List Policy) (at : ℕ) → BelongsAt (λ (policy : Policy). key_cmp policy.key key) policies at
+drop-absent : (key : Key) (policies : List Policy) (at : ℕ)
+    → BelongsAt (λ (policy : Policy). key_cmp policy.key key) policies at
     → drop at policies ≡ filter (λ (policy : Policy). is_gt (key_cmp policy.key key)) policies
 drop-absent key policies at belongs =
     ap (drop at) belongs.parts ∙ drop_at belongs.front belongs.back at belongs.length_front
     ∙ sym (ap (filter (λ (policy : Policy). is_gt (key_cmp policy.key key))) belongs.parts
     ∙ above-back (λ (policy : Policy). key_cmp policy.key key) belongs.front belongs.back belongs.before belongs.behind)
 
-pub cut-found : (key : Key) (policies : List Policy) (at : ℕ) → StandsAt (λ (policy : Policy). key_cmp policy.key key) policies at
+pub cut-found : (key : Key) (policies : List Policy) (at : ℕ)
+    → StandsAt (λ (policy : Policy). key_cmp policy.key key) policies at
     → take at policies ≡ filter (λ (policy : Policy). is_lt (key_cmp policy.key key)) policies
 cut-found = take-found
 
-pub cut-absent : (key : Key) (policies : List Policy) (at : ℕ) → BelongsAt (λ (policy : Policy). key_cmp policy.key key) policies at
+pub cut-absent : (key : Key) (policies : List Policy) (at : ℕ)
+    → BelongsAt (λ (policy : Policy). key_cmp policy.key key) policies at
     → take at policies ≡ filter (λ (policy : Policy). is_lt (key_cmp policy.key key)) policies
 cut-absent = take-absent
 
-pub rest-found : (key : Key) (policies : List Policy) (at : ℕ) → StandsAt (λ (policy : Policy). key_cmp policy.key key) policies at
+pub rest-found : (key : Key) (policies : List Policy) (at : ℕ)
+    → StandsAt (λ (policy : Policy). key_cmp policy.key key) policies at
     → drop (at + 1) policies ≡ filter (λ (policy : Policy). is_gt (key_cmp policy.key key)) policies
 rest-found = drop-found
 
-pub rest-absent : (key : Key) (policies : List Policy) (at : ℕ) → BelongsAt (λ (policy : Policy). key_cmp policy.key key) policies at
+pub rest-absent : (key : Key) (policies : List Policy) (at : ℕ)
+    → BelongsAt (λ (policy : Policy). key_cmp policy.key key) policies at
     → drop at policies ≡ filter (λ (policy : Policy). is_gt (key_cmp policy.key key)) policies
 rest-absent = drop-absent
 
@@ -89,7 +101,8 @@ rest-absent = drop-absent
 
 -- none of the policies comes behind the change
 abbrev pub NoneBehind : List Policy → Change → Type 0
-NoneBehind policies change = AllByRecursion (λ (policy : Policy). is_gt (key_cmp policy.key (key_of change)) ≡ false) policies
+NoneBehind policies change =
+    AllByRecursion (λ (policy : Policy). is_gt (key_cmp policy.key (key_of change)) ≡ false) policies
 
 -- what is done and what is left, before and after a change
 pub turn-is : (done rest done' rest' : List Policy) (change : Change) → NoneBehind done change
@@ -105,7 +118,8 @@ turn-is done rest done' rest' change none made left =
     ∙ ap (λ list. filter lt done ++ list) (append_assoc (filter lt rest) (effect change) (filter gt rest))
     ∙ sym (append_assoc (filter lt done) (filter lt rest) (effect change ++ filter gt rest))
     ∙ (λ i. sym (filter-append lt done rest) i
-    ++ (effect change ++ sym (filter-append gt done rest ∙ ap (λ list. list ++ filter gt rest) (filter-none gt done none)) i))
+    ++ (effect change ++ sym
+    (filter-append gt done rest ∙ ap (λ list. list ++ filter gt rest) (filter-none gt done none)) i))
 
 lt-not-gt : (o : Ordering) → is_lt o ≡ true → is_gt o ≡ false
 lt-not-gt Less h = refl
@@ -113,7 +127,8 @@ lt-not-gt Equal h = refl
 lt-not-gt Greater h = cc
 
 -- nothing done comes behind a later change
-pub still-before : (done rest done' : List Policy) (change later : Change) → is_gt (key_cmp (key_of change) (key_of later)) ≡ false
+pub still-before : (done rest done' : List Policy) (change later : Change)
+    → is_gt (key_cmp (key_of change) (key_of later)) ≡ false
     → done' ≡ filter (λ (policy : Policy). is_lt (key_cmp policy.key (key_of change))) done
     ++ (filter (λ (policy : Policy). is_lt (key_cmp policy.key (key_of change))) rest ++ effect change)
     → NoneBehind done' later
@@ -121,10 +136,12 @@ still-before done rest done' change later order made =
     let behind = λ (policy : Policy). is_gt (key_cmp policy.key (key_of later)) ≡ false in
     let lt : Policy → Bool = λ policy. is_lt (key_cmp policy.key (key_of change)) in
     let passing : (policy : Policy) → lt policy ≡ true → is_gt (key_cmp policy.key (key_of later)) ≡ false =
-    λ policy h. upto key_total policy.key (key_of change) (key_of later) (lt-not-gt (key_cmp policy.key (key_of change)) h) order in
+    λ policy h. upto key_total policy.key (key_of change) (key_of later)
+    (lt-not-gt (key_cmp policy.key (key_of change)) h) order in
     subst (AllByRecursion behind) (sym made)
     (All-append behind (filter lt done) (filter lt rest ++ effect change) (All-passing behind lt passing done)
-    (All-append behind (filter lt rest) (effect change) (All-passing behind lt passing rest) (own-before change later order)))
+    (All-append behind (filter lt rest) (effect change) (All-passing behind lt passing rest)
+    (own-before change later order)))
   where
     own-before : (change later : Change) → is_gt (key_cmp (key_of change) (key_of later)) ≡ false
         → AllByRecursion (λ (policy : Policy). is_gt (key_cmp policy.key (key_of later)) ≡ false) (effect change)
@@ -151,40 +168,30 @@ pub record IsMerging (policies : List Policy) (changes : List Change) (done : Li
 strictly-front : (xs ys : List Policy) → IsStrictlySortedBy policy_cmp (xs ++ ys) → IsStrictlySortedBy policy_cmp xs
 unfolding IsStrictlySortedBy
 strictly-front [] ys rise = tt
-strictly-front (x ∷ xs) ys rise = (All-front (λ (other : Policy). policy_cmp x other ≡ Less) xs ys rise.0, strictly-front xs ys rise.1)
+strictly-front (x ∷ xs) ys rise =
+    (All-front (λ (other : Policy). policy_cmp x other ≡ Less) xs ys rise.0, strictly-front xs ys rise.1)
 
 strictly-back : (xs ys : List Policy) → IsStrictlySortedBy policy_cmp (xs ++ ys) → IsStrictlySortedBy policy_cmp ys
 unfolding IsStrictlySortedBy
 strictly-back [] ys rise = rise
 strictly-back (x ∷ xs) ys rise = strictly-back xs ys rise.1
 
-module _ {policies : List Policy} {changes : List Change} {done : List Policy} {from at : ℕ} (state : IsMerging policies changes done from at) where
+module _ {policies : List Policy} {changes : List Change} {done : List Policy} {from at : ℕ}
+    (state : IsMerging policies changes done from at) where
   pub done-rises : IsStrictlySortedBy policy_cmp done
   done-rises = strictly-front done (drop from policies) state.rise
 
   pub rest-rises : IsStrictlySortedBy policy_cmp (drop from policies)
   rest-rises = strictly-back done (drop from policies) state.rise
 
-pub merging-start : (policies : List Policy) (changes : List Change) → IsStrictlySortedBy policy_cmp policies → AreInOrder changes
-    → IsMerging policies changes [] 0 0
-merging-start policies changes rise order = record {
-  within = omega arith;
-  made = refl;
-  before = all changes;
-  order = order;
-  rise = rise;
-}
-  where
-    all : (changes : List Change) → AllByRecursion (NoneBehind []) changes
-    all [] = tt
-    all (change ∷ changes) = (tt, all changes)
-
-pub merging-turn : (policies : List Policy) (changes : List Change) (done : List Policy) (from at : ℕ) → IsMerging policies changes done from at
+pub merging-turn : (policies : List Policy) (changes : List Change) (done : List Policy) (from at : ℕ)
+    → IsMerging policies changes done from at
     → at < length changes → (change : Change) → change ≡ get_or changes at change → (done' : List Policy) (taken : ℕ)
     → taken ≤ length (drop from policies)
     → done' ≡ filter (λ (policy : Policy). is_lt (key_cmp policy.key (key_of change))) done
     ++ (filter (λ (policy : Policy). is_lt (key_cmp policy.key (key_of change))) (drop from policies) ++ effect change)
-    → drop taken (drop from policies) ≡ filter (λ (policy : Policy). is_gt (key_cmp policy.key (key_of change))) (drop from policies)
+    → drop taken (drop from policies) ≡ filter (λ (policy : Policy). is_gt (key_cmp policy.key (key_of change)))
+    (drop from policies)
     → IsMerging policies changes done' (from + taken) (at + 1)
 merging-turn policies changes done from at state lt change is done' taken short made left =
     let rest = drop from policies in
@@ -199,20 +206,18 @@ merging-turn policies changes done from at state lt change is done' taken short 
     record {
       within = omega (arith, short, long, state.within);
       made = now ∙ ap (λ list. edited list change) state.made
-          ∙ sym (ap (fold edited policies) (take_more changes at change lt ∙ ap (λ one. take at changes ++ one ∷ []) (sym is))
+          ∙ sym (ap (fold edited policies)
+          (take_more changes at change lt ∙ ap (λ one. take at changes ++ one ∷ []) (sym is))
           ∙ fold-end edited policies (take at changes) change);
       before = all-before done rest done' change (drop (at + 1) changes) order.0 made;
       order = order.1;
       rise = subst (IsStrictlySortedBy policy_cmp) (sym now) (edited-rises (done ++ rest) change state.rise);
     }
 
-pub merging-end : (policies : List Policy) (changes : List Change) (done : List Policy) (from at : ℕ) → IsMerging policies changes done from at
-    → length changes ≤ at → done ++ drop from policies ≡ fold edited policies changes
-merging-end policies changes done from at state le = state.made ∙ ap (fold edited policies) (take_all at changes le)
-
 -- ---- changes sorted by key
 
-not-behind : (first later : Change) → comes_first later first ≡ false → is_gt (key_cmp (key_of first) (key_of later)) ≡ false
+not-behind : (first later : Change) → comes_first later first ≡ false
+    → is_gt (key_cmp (key_of first) (key_of later)) ≡ false
 not-behind first later h =
     ap is_gt (key_total.antisymm (key_of first) (key_of later)) ∙ turned (key_cmp (key_of later) (key_of first)) h
   where
@@ -226,6 +231,7 @@ in-order [] sorted = tt
 in-order (change ∷ changes) sorted = (
   recursion_from_All (λ (later : Change). is_gt (key_cmp (key_of change) (key_of later)) ≡ false) changes (λ k d lt.
       not-behind change (get_or changes k d)
-      (sorted_far comes_first (ranks_by key_total key_of) (change ∷ changes) sorted 0 (suc k) d (omega arith) (omega arith))),
+      (sorted_far comes_first (ranks_by key_total key_of) (change ∷ changes) sorted 0 (suc k) d (omega arith)
+      (omega arith))),
   in-order changes (λ k d low high. rw add-one (rw add-one at (sorted (suc k) d (omega arith) (omega arith)))),
 )

@@ -1,14 +1,18 @@
 -- What a binary search finds in a list that rises, and what an element put there makes of the list.
-use Rattle.std.proofs.Common.{◌≡◌, ℕ, ◌+◌, ◌<◌, ◌≤◌, true, false, not, cond, List, [], ◌∷◌, ◌++◌, zero, suc, length, take, drop, set, Result, Ok, Err, IfOk, IfErr, Some, None, refl, sym, ap, ◌∙◌, subst, arith, add-one, nat_lt}
+use Rattle.std.proofs.Common.{◌≡◌, ℕ, ◌+◌, ◌<◌, ◌≤◌, true, false, not, cond, List, [], ◌∷◌, ◌++◌, zero, suc, length}
+use Rattle.std.proofs.Common.{take, drop, set, Result, Ok, Err, IfOk, IfErr, Some, None, refl, sym, ap, ◌∙◌, subst}
+use Rattle.std.proofs.Common.{arith, add-one, nat_lt}
 use Rattle.std.specs.declared.cmp.Ordering.{Ordering}
 use Rattle.std.specs.declared.cmp.Ordering.TheVariants.{Less, Equal, Greater}
 use Rattle.std.specs.List.{AllByRecursion, HoldsAt, filter, insert, position, prefix_len}
-use Rattle.std.specs.List.Sorted.{IsSortedBy, IsSearchInRange, IsBinarySearchResult, IsPartitionPoint, IsStrictlySortedBy}
+use Rattle.std.specs.List.Sorted.{IsSortedBy, IsSearchInRange, IsBinarySearchResult, IsPartitionPoint}
+use Rattle.std.specs.List.Sorted.{IsStrictlySortedBy}
 use Rattle.std.specs.Ordering.{is_lt, is_eq, is_gt, ordering_reverse, on}
 use Rattle.std.specs.Cmp.{IsTotalOrder}
 use Rattle.std.proofs.lemmas.Cmp.{alike_right}
 use Rattle.std.proofs.lemmas.Bool.{lt-ltb, le-ltb}
-use Rattle.std.proofs.lemmas.List.{get_or-take, get_or-drop, length-drop, length-take-le, take-append-drop, set_at, take_at, drop_at}
+use Rattle.std.proofs.lemmas.List.{get_or-take, get_or-drop, length-drop, length-take-le, take-append-drop, set_at}
+use Rattle.std.proofs.lemmas.List.{take_at, drop_at}
 use Rattle.std.proofs.lemmas.List.Elements.{recursion_from_All}
 use Rattle.std.proofs.lemmas.List.Kept.{IsStrictlySortedBy-filter}
 use Rattle.std.proofs.lemmas.List.Sorted.{searchable_from_sorted}
@@ -29,17 +33,21 @@ module _ {X : Type 0} (answer : X → Ordering) where
   pub below-front : (front back : List X) → AllLess front → AllGreater back
       → filter (λ x. is_lt (answer x)) (front ++ back) ≡ front
   below-front [] back before behind =
-      filter-none (λ x. is_lt (answer x)) back (All-weaker (λ x. answer x ≡ Greater) (λ x. is_lt (answer x) ≡ false) (λ x h. ap is_lt h) back behind)
+      filter-none (λ x. is_lt (answer x)) back
+      (All-weaker (λ x. answer x ≡ Greater) (λ x. is_lt (answer x) ≡ false) (λ x h. ap is_lt h) back behind)
   below-front (x ∷ front) back before behind =
-      ap (λ b. cond b (x ∷ filter (λ x. is_lt (answer x)) (front ++ back)) (filter (λ x. is_lt (answer x)) (front ++ back))) (ap is_lt before.0)
+      ap (λ b. cond b (x ∷ filter (λ x. is_lt (answer x)) (front ++ back))
+      (filter (λ x. is_lt (answer x)) (front ++ back))) (ap is_lt before.0)
       ∙ ap (λ rest. x ∷ rest) (below-front front back before.1 behind)
 
   pub above-back : (front back : List X) → AllLess front → AllGreater back
       → filter (λ x. is_gt (answer x)) (front ++ back) ≡ back
   above-back [] back before behind =
-      filter-all (λ x. is_gt (answer x)) back (All-weaker (λ x. answer x ≡ Greater) (λ x. is_gt (answer x) ≡ true) (λ x h. ap is_gt h) back behind)
+      filter-all (λ x. is_gt (answer x)) back
+      (All-weaker (λ x. answer x ≡ Greater) (λ x. is_gt (answer x) ≡ true) (λ x h. ap is_gt h) back behind)
   above-back (x ∷ front) back before behind =
-      ap (λ b. cond b (x ∷ filter (λ x. is_gt (answer x)) (front ++ back)) (filter (λ x. is_gt (answer x)) (front ++ back))) (ap is_gt before.0)
+      ap (λ b. cond b (x ∷ filter (λ x. is_gt (answer x)) (front ++ back))
+      (filter (λ x. is_gt (answer x)) (front ++ back))) (ap is_gt before.0)
       ∙ above-back front back before.1 behind
 
   -- the same around an element that ties
@@ -47,18 +55,22 @@ module _ {X : Type 0} (answer : X → Ordering) where
       → filter (λ x. is_lt (answer x)) (front ++ x ∷ back) ≡ front
   below-tied [] x back before ties behind =
       ap (λ b. cond b (x ∷ filter (λ x. is_lt (answer x)) back) (filter (λ x. is_lt (answer x)) back)) (ap is_lt ties)
-      ∙ filter-none (λ x. is_lt (answer x)) back (All-weaker (λ x. answer x ≡ Greater) (λ x. is_lt (answer x) ≡ false) (λ x h. ap is_lt h) back behind)
+      ∙ filter-none (λ x. is_lt (answer x)) back
+      (All-weaker (λ x. answer x ≡ Greater) (λ x. is_lt (answer x) ≡ false) (λ x h. ap is_lt h) back behind)
   below-tied (y ∷ front) x back before ties behind =
-      ap (λ b. cond b (y ∷ filter (λ x. is_lt (answer x)) (front ++ x ∷ back)) (filter (λ x. is_lt (answer x)) (front ++ x ∷ back))) (ap is_lt before.0)
+      ap (λ b. cond b (y ∷ filter (λ x. is_lt (answer x)) (front ++ x ∷ back))
+      (filter (λ x. is_lt (answer x)) (front ++ x ∷ back))) (ap is_lt before.0)
       ∙ ap (λ rest. y ∷ rest) (below-tied front x back before.1 ties behind)
 
   pub above-tied : (front : List X) (x : X) (back : List X) → AllLess front → answer x ≡ Equal → AllGreater back
       → filter (λ x. is_gt (answer x)) (front ++ x ∷ back) ≡ back
   above-tied [] x back before ties behind =
       ap (λ b. cond b (x ∷ filter (λ x. is_gt (answer x)) back) (filter (λ x. is_gt (answer x)) back)) (ap is_gt ties)
-      ∙ filter-all (λ x. is_gt (answer x)) back (All-weaker (λ x. answer x ≡ Greater) (λ x. is_gt (answer x) ≡ true) (λ x h. ap is_gt h) back behind)
+      ∙ filter-all (λ x. is_gt (answer x)) back
+      (All-weaker (λ x. answer x ≡ Greater) (λ x. is_gt (answer x) ≡ true) (λ x h. ap is_gt h) back behind)
   above-tied (y ∷ front) x back before ties behind =
-      ap (λ b. cond b (y ∷ filter (λ x. is_gt (answer x)) (front ++ x ∷ back)) (filter (λ x. is_gt (answer x)) (front ++ x ∷ back))) (ap is_gt before.0)
+      ap (λ b. cond b (y ∷ filter (λ x. is_gt (answer x)) (front ++ x ∷ back))
+      (filter (λ x. is_gt (answer x)) (front ++ x ∷ back))) (ap is_gt before.0)
       ∙ above-tied front x back before.1 ties behind
 
   -- an element put over one that ties with it
@@ -86,7 +98,8 @@ module _ {X : Type 0} (answer : X → Ordering) where
       (ap (filter (λ x. is_gt (answer x))) parts ∙ above-back at.front at.back at.before at.behind))
 
   prefix-front : (front back : List X) → AllLess front
-      → prefix_len (λ x. not (is_eq (answer x))) (front ++ back) ≡ length front + prefix_len (λ x. not (is_eq (answer x))) back
+      → prefix_len (λ x. not (is_eq (answer x))) (front ++ back) ≡ length front + prefix_len
+      (λ x. not (is_eq (answer x))) back
   prefix-front [] back before = omega arith
   prefix-front (x ∷ front) back before =
       ap (λ b. cond (not b) (1 + prefix_len (λ x. not (is_eq (answer x))) (front ++ back)) 0) (ap is_eq before.0)
@@ -98,21 +111,24 @@ module _ {X : Type 0} (answer : X → Ordering) where
       ap (λ b. cond (not b) (1 + prefix_len (λ x. not (is_eq (answer x))) back) 0) (ap is_eq behind.0)
       ∙ omega (arith, prefix-back back behind.1)
 
-  pub position-StandsAt : {list : List X} {place : ℕ} → StandsAt answer list place → position (λ x. is_eq (answer x)) list ≡ Some place
+  pub position-StandsAt : {list : List X} {place : ℕ} → StandsAt answer list place
+      → position (λ x. is_eq (answer x)) list ≡ Some place
   position-StandsAt {list} {place} at =
       let front = at.front in
       let rest = at.element ∷ at.back in
       let stops : prefix_len (λ x. not (is_eq (answer x))) rest ≡ 0 =
       ap (λ b. cond (not b) (1 + prefix_len (λ x. not (is_eq (answer x))) at.back) 0) (ap is_eq at.ties) in
       let counted = prefix-front front rest at.before in
-      let is : prefix_len (λ x. not (is_eq (answer x))) (front ++ rest) ≡ place = omega (arith, counted, stops, at.length_front) in
+      let is : prefix_len (λ x. not (is_eq (answer x))) (front ++ rest) ≡ place =
+      omega (arith, counted, stops, at.length_front) in
       let total = length-append front rest in
       let short : place < length (front ++ rest) = omega (arith, total, at.length_front) in
       ap (position (λ x. is_eq (answer x))) at.parts
       ∙ ap (λ n. cond (nat_lt n (length (front ++ rest))) (Some n) None) is
       ∙ ap (λ b. cond b (Some place) None) (lt-ltb place (length (front ++ rest)) short)
 
-  pub position-BelongsAt : {list : List X} {place : ℕ} → BelongsAt answer list place → position (λ x. is_eq (answer x)) list ≡ None
+  pub position-BelongsAt : {list : List X} {place : ℕ} → BelongsAt answer list place
+      → position (λ x. is_eq (answer x)) list ≡ None
   position-BelongsAt {list} {place} at =
       let all = at.front ++ at.back in
       let total = length-append at.front at.back in
@@ -137,11 +153,13 @@ gt-Greater Greater h = refl
 module _ {K : Type 0} {cmp : K → K → Ordering} (order : IsTotalOrder cmp) where
   module _ {X : Type 0} (key : X → K) where
     -- what a binary search asks of the list
-    pub IsSortedBy-strictly : (xs : List X) → IsStrictlySortedBy (on key cmp) xs → IsSortedBy (λ a b. is_lt (cmp (key a) (key b))) xs
+    pub IsSortedBy-strictly : (xs : List X) → IsStrictlySortedBy (on key cmp) xs
+        → IsSortedBy (λ a b. is_lt (cmp (key a) (key b))) xs
     unfolding IsStrictlySortedBy
     IsSortedBy-strictly [] rising k d ge lt = absurd (omega arith)
     IsSortedBy-strictly (x ∷ []) rising k d ge lt = absurd (omega arith)
-    IsSortedBy-strictly (x ∷ y ∷ xs) rising zero d ge lt = ap is_lt (order.antisymm (key y) (key x) ∙ ap ordering_reverse rising.0.0)
+    IsSortedBy-strictly (x ∷ y ∷ xs) rising zero d ge lt =
+        ap is_lt (order.antisymm (key y) (key x) ∙ ap ordering_reverse rising.0.0)
     IsSortedBy-strictly (x ∷ y ∷ xs) rising (suc k) d ge lt =
         rw add-one (rw add-one at (IsSortedBy-strictly (y ∷ xs) rising.1 k d (omega arith) (omega arith)))
 
@@ -166,7 +184,8 @@ module _ {K : Type 0} {cmp : K → K → Ordering} (order : IsTotalOrder cmp) wh
     found sought (x ∷ xs) (suc place) rising lt equal =
         let rest = found sought xs place rising.1 (omega arith) equal in
         let parted = subst (AllByRecursion (λ y. cmp (key x) (key y) ≡ Less)) rest.parts rising.0 in
-        let here : cmp (key x) (key rest.element) ≡ Less = (All-back (λ y. cmp (key x) (key y) ≡ Less) rest.front (rest.element ∷ rest.back) parted).0 in
+        let here : cmp (key x) (key rest.element) ≡ Less =
+        (All-back (λ y. cmp (key x) (key y) ≡ Less) rest.front (rest.element ∷ rest.back) parted).0 in
         record {
           front = x ∷ rest.front;
           element = rest.element;
@@ -189,19 +208,25 @@ module _ {K : Type 0} {cmp : K → K → Ordering} (order : IsTotalOrder cmp) wh
       before = recursion_from_All (λ x. cmp (key x) sought ≡ Less) (take place xs) (λ k d lt.
           let short = length-take-le place xs le in
           let here : k < place = omega arith in
-          subst (λ x. cmp (key x) sought ≡ Less) (sym (get_or-take place xs k d here)) (parted.0 k d (omega arith) here));
+          subst (λ x. cmp (key x) sought ≡ Less) (sym (get_or-take place xs k d here))
+          (parted.0 k d (omega arith) here));
       behind = recursion_from_All (λ x. cmp (key x) sought ≡ Greater) (drop place xs) (λ k d lt.
           let fits = length-drop place xs in
           let there : place + k < length xs = omega arith in
-          subst (λ x. cmp (key x) sought ≡ Greater) (sym (get_or-drop place xs k d)) (parted.1 (place + k) d (omega arith) there));
+          subst (λ x. cmp (key x) sought ≡ Greater) (sym (get_or-drop place xs k d))
+          (parted.1 (place + k) d (omega arith) there));
     }
 
-    pub searched : (sought : K) (xs : List X) → IsStrictlySortedBy (on key cmp) xs → (r : Result ℕ ℕ) → IsSearchInRange r (length xs)
+    pub searched : (sought : K) (xs : List X) → IsStrictlySortedBy (on key cmp) xs → (r : Result ℕ ℕ)
+        → IsSearchInRange r (length xs)
         → IsBinarySearchResult (λ x. cmp (key x) sought) xs r → IfOk r (StandsAt (λ x. cmp (key x) sought) xs)
         × IfErr r (BelongsAt (λ x. cmp (key x) sought) xs)
     searched sought xs rising (Ok place) range equal = (found sought xs place rising range equal, tt)
-    searched sought xs rising (Err place) range parted =
-        (tt, absent sought xs place range (parted (searchable_from_sorted order key xs sought (IsSortedBy-strictly xs rising))))
+    searched sought xs rising (Err place) range parted = (
+      tt,
+      absent sought xs place range
+          (parted (searchable_from_sorted order key xs sought (IsSortedBy-strictly xs rising))),
+    )
 
   -- ---- a put keeps the list rising
 
@@ -225,5 +250,9 @@ module _ {K : Type 0} {cmp : K → K → Ordering} (order : IsTotalOrder cmp) wh
       strictly-append front (x ∷ back) (IsStrictlySortedBy-filter cmp (λ y. is_lt (cmp y x)) xs rising)
       (behind, IsStrictlySortedBy-filter cmp (λ y. is_gt (cmp y x)) xs rising)
       (All-weaker (λ y. cmp y x ≡ Less) (λ y. AllByRecursion (λ z. cmp y z ≡ Less) (x ∷ back))
-      (λ y here. (here, All-weaker (λ z. cmp x z ≡ Less) (λ z. cmp y z ≡ Less) (λ z there. order.trans y x z here there) back behind))
+      (λ y here. (
+        here,
+        All-weaker (λ z. cmp x z ≡ Less) (λ z. cmp y z ≡ Less) (λ z there. order.trans y x z here there)
+            back behind,
+      ))
       front before)

@@ -1,20 +1,22 @@
--- In a database without cycles a walk has fewer policies than there are buckets, and a test of so many policies finds each
--- cycle.
-use Rattle.std.proofs.Common.{◌≡◌, ℕ, ◌<◌, ◌≤◌, zero, suc, Bool, true, false, not, ◌||◌, ◌&&◌, List, [], ◌∷◌, ◌++◌, length, map, refl, sym, ap, ◌∙◌, subst, arith}
+-- In a database without cycles a walk has fewer policies than there are buckets, and a test of so many policies finds
+-- each cycle.
+use Rattle.std.proofs.Common.{◌≡◌, ℕ, ◌<◌, ◌≤◌, zero, suc, Bool, true, false, not, ◌||◌, ◌&&◌, List, [], ◌∷◌, ◌++◌}
+use Rattle.std.proofs.Common.{length, map, refl, sym, ap, ◌∙◌, subst, arith}
 use mathlib.Core.Logic.{⊎_elim}
-use Rattle.std.proofs.lemmas.Bool.{cases_Bool, true≢false, and_parts, and_from, or_cases, or_left, or_right, false_from_ne_true}
+use Rattle.std.proofs.lemmas.Bool.{cases_Bool, true≢false, and_parts, and_from, or_cases, or_left, or_right}
+use Rattle.std.proofs.lemmas.Bool.{false_from_ne_true}
 use Rattle.std.proofs.lemmas.List.Folds.{Any-from_list_any, list_any-from_Any}
 use Rattle.std.proofs.lemmas.List.Elements.{All-from_recursion, All-contains}
 use Rattle.std.specs.List.{AllByRecursion, filter, list_any, Contains}
 use Rattle.cynara_keys.specs.Text.{same_text}
 use Rattle.cynara_keys.proofs.Order.{same_text-≡, ≡-same_text}
 use Rattle.bucket_store.specs.Database.{Heading, Placed, Database, has_bucket}
-use Rattle.bucket_store.specs.Walk.{points, target, IsStep, IsWalk, end_of, Leads, reaches, is_on_cycle}
+use Rattle.bucket_store.specs.Walk.{points, target, IsStep, IsWalk, end_of, Leads, IsOnCycle, reaches, is_on_cycle}
 use Rattle.bucket_store.specs.WellFormed.{IsRooted}
 use Rattle.bucket_store.proofs.Lists.{any-filter, length-filter-<}
 
 abbrev pub NoCycle : List Placed → Type 0
-NoCycle policies = (name : List ℕ) → Leads policies name name → ⊥
+NoCycle policies = (name : List ℕ) → IsOnCycle policies name → ⊥
 
 -- ---- walks after one another
 
@@ -24,7 +26,8 @@ IsWalk-append policies from [] others walks more = more
 IsWalk-append policies from (step ∷ steps) others walks more =
     (walks.0, IsWalk-append policies (target step.policy) steps others walks.1 more)
 
-pub end_of-append : (from : List ℕ) (steps others : List Placed) → end_of from (steps ++ others) ≡ end_of (end_of from steps) others
+pub end_of-append : (from : List ℕ) (steps others : List Placed)
+    → end_of from (steps ++ others) ≡ end_of (end_of from steps) others
 end_of-append from [] others = refl
 end_of-append from (step ∷ steps) others = end_of-append (target step.policy) steps others
 
@@ -86,7 +89,8 @@ Has-without : (name other : List ℕ) (headings : List Heading) → same_text ot
     → Has (without name headings) other
 Has-without name other headings apart has =
     any-filter (λ (heading : Heading). same_text heading.name other) (λ heading. not (same_text heading.name name))
-    (λ heading same. ap (λ text. not (same_text text name)) (same_text-≡ heading.name other same) ∙ ap not apart) headings has
+    (λ heading same. ap (λ text. not (same_text text name)) (same_text-≡ heading.name other same) ∙ ap not apart)
+    headings has
 
 at : List ℕ → Placed → Bool
 at name step = same_text step.bucket name
@@ -108,7 +112,8 @@ none_left name headings [] within none = tt
 none_left name headings (step ∷ steps) within none =
     parts (none_left name headings steps within.1) (same_text step.bucket name) refl none
   where
-    parts : (list_any (at name) steps ≡ false → AllByRecursion (λ (other : Placed). Has (without name headings) other.bucket) steps)
+    parts : (list_any (at name) steps ≡ false
+        → AllByRecursion (λ (other : Placed). Has (without name headings) other.bucket) steps)
         → (here : Bool) → same_text step.bucket name ≡ here → (here || list_any (at name) steps) ≡ false
         → AllByRecursion (λ (other : Placed). Has (without name headings) other.bucket) (step ∷ steps)
     parts rest true is none = absurd (true≢false none)
@@ -143,7 +148,8 @@ pub reaches-walk : (policies : List Placed) (most : ℕ) (headings : List Headin
     → reaches policies most from to ≡ true
 unfolding reaches at
 reaches-walk policies zero [] from to step steps short walks ends within = absurd (true≢false (sym within.0))
-reaches-walk policies zero (heading ∷ headings) from to step steps short walks ends within = absurd (omega (arith, short))
+reaches-walk policies zero (heading ∷ headings) from to step steps short walks ends within =
+    absurd (omega (arith, short))
 reaches-walk policies (suc most) headings from to step steps short walks ends within =
     let begins : list_any (at from) (step ∷ steps) ≡ true =
     or_left _ _ (≡-same_text step.bucket from walks.0.own) in
@@ -157,8 +163,13 @@ reaches-walk policies (suc most) headings from to step steps short walks ends wi
     after (λ next others walks ends within.
     reaches-walk policies most (without from headings) (target first.policy) to next others fits walks ends within)
     last.others last.walks last.ends last.rest in
-    list_any-from_Any (Tests policies most from to) policies
-    (is.there.0, first, is.there.1, is.there.2, and_from _ _ (≡-same_text first.bucket from is.own) (and_from _ _ is.points found))
+    list_any-from_Any (Tests policies most from to) policies (
+      is.there.0,
+      first,
+      is.there.1,
+      is.there.2,
+      and_from _ _ (≡-same_text first.bucket from is.own) (and_from _ _ is.points found),
+    )
   where
     after : {first : Placed}
         → ((next : Placed) (others : List Placed) → IsWalk policies (target first.policy) (next ∷ others)
@@ -174,16 +185,22 @@ reaches-walk policies (suc most) headings from to step steps short walks ends wi
 -- ---- without cycles a walk is short
 
 -- a walk from where a walk from the bucket leads never comes to the bucket
-never_back : (policies : List Placed) → NoCycle policies → (name from : List ℕ) (steps : List Placed) → Leads policies name from
-    → IsWalk policies from steps → AllByRecursion (λ stop. same_text stop name ≡ false) (from ∷ map (λ (step : Placed). target step.policy) steps)
+never_back : (policies : List Placed) → NoCycle policies → (name from : List ℕ) (steps : List Placed)
+    → Leads policies name from
+    → IsWalk policies from steps
+    → AllByRecursion (λ stop. same_text stop name ≡ false)
+    (from ∷ map (λ (step : Placed). target step.policy) steps)
 never_back policies none name from [] lead walks = (apart policies none name from lead, tt)
   where
-    apart : (policies : List Placed) → NoCycle policies → (name from : List ℕ) → Leads policies name from → same_text from name ≡ false
+    apart : (policies : List Placed) → NoCycle policies → (name from : List ℕ) → Leads policies name from
+        → same_text from name ≡ false
     apart policies none name from lead =
-        false_from_ne_true (same_text from name) (λ same. none name (subst (Leads policies name) (same_text-≡ from name same) lead))
+        false_from_ne_true (same_text from name)
+        (λ same. none name (subst (Leads policies name) (same_text-≡ from name same) lead))
 never_back policies none name from (step ∷ steps) lead walks =
     let next = Leads-append policies name from (target step.policy) lead (Leads-step policies from step walks.0) in (
-      false_from_ne_true (same_text from name) (λ same. none name (subst (Leads policies name) (same_text-≡ from name same) lead)),
+      false_from_ne_true (same_text from name)
+          (λ same. none name (subst (Leads policies name) (same_text-≡ from name same) lead)),
       never_back policies none name (target step.policy) steps next walks.1,
     )
 
@@ -194,41 +211,51 @@ stops_without name headings (stop ∷ stops) has apart =
     (Has-without name stop headings apart.0 has.0, stops_without name headings stops has.1 apart.1)
 
 -- each bucket on a walk is there, and none is met twice
-pub walk_is_short : (policies : List Placed) → NoCycle policies → (headings : List Heading) (from : List ℕ) (steps : List Placed)
-    → IsWalk policies from steps → AllByRecursion (Has headings) (from ∷ map (λ (step : Placed). target step.policy) steps)
+pub walk_is_short : (policies : List Placed) → NoCycle policies
+    → (headings : List Heading) (from : List ℕ) (steps : List Placed)
+    → IsWalk policies from steps
+    → AllByRecursion (Has headings) (from ∷ map (λ (step : Placed). target step.policy) steps)
     → length steps < length headings
 walk_is_short policies none [] from steps walks has = absurd (true≢false (sym has.0))
 walk_is_short policies none (heading ∷ headings) from [] walks has = omega arith
 walk_is_short policies none (heading ∷ headings) from (step ∷ steps) walks has =
     let less = length-filter-< (λ (heading : Heading). same_text heading.name from) (heading ∷ headings) has.0 in
-    let back = never_back policies none from (target step.policy) steps (Leads-step policies from step walks.0) walks.1 in
+    let back = never_back policies none from (target step.policy) steps (Leads-step policies from step walks.0)
+    walks.1 in
     let rest =
     walk_is_short policies none (without from (heading ∷ headings)) (target step.policy) steps walks.1
-    (stops_without from (heading ∷ headings) (target step.policy ∷ map (λ (other : Placed). target other.policy) steps) has.1 back) in
+    (stops_without from (heading ∷ headings) (target step.policy ∷ map (λ (other : Placed). target other.policy) steps)
+    has.1 back) in
     omega (arith, less, rest)
 
 -- ---- in a database
 
-pub Within-walk : (database : Database) → AllByRecursion (IsRooted database) database.policies → (from : List ℕ) (steps : List Placed)
-    → IsWalk database.policies from steps → AllByRecursion (λ (step : Placed). has_bucket step.bucket database ≡ true) steps
+pub Within-walk : (database : Database) → AllByRecursion (IsRooted database) database.policies
+    → (from : List ℕ) (steps : List Placed)
+    → IsWalk database.policies from steps
+    → AllByRecursion (λ (step : Placed). has_bucket step.bucket database ≡ true) steps
 Within-walk database rooted from [] walks = tt
 Within-walk database rooted from (step ∷ steps) walks =
-    let is = All-contains (IsRooted database) database.policies step (All-from_recursion (IsRooted database) database.policies rooted) walks.0.there in
+    let is = All-contains (IsRooted database) database.policies step
+    (All-from_recursion (IsRooted database) database.policies rooted) walks.0.there in
     (is.own, Within-walk database rooted (target step.policy) steps walks.1)
 
-Targets-walk : (database : Database) → AllByRecursion (IsRooted database) database.policies → (from : List ℕ) (steps : List Placed)
+Targets-walk : (database : Database) → AllByRecursion (IsRooted database) database.policies
+    → (from : List ℕ) (steps : List Placed)
     → IsWalk database.policies from steps
     → AllByRecursion (λ stop. has_bucket stop database ≡ true) (map (λ (step : Placed). target step.policy) steps)
 Targets-walk database rooted from [] walks = tt
 Targets-walk database rooted from (step ∷ steps) walks =
-    let is = All-contains (IsRooted database) database.policies step (All-from_recursion (IsRooted database) database.policies rooted) walks.0.there in
+    let is = All-contains (IsRooted database) database.policies step
+    (All-from_recursion (IsRooted database) database.policies rooted) walks.0.there in
     (is.target walks.0.points, Targets-walk database rooted (target step.policy) steps walks.1)
 
 -- the test answers true exactly for the buckets on a cycle
 pub is_on_cycle-Leads : (database : Database) → AllByRecursion (IsRooted database) database.policies → (name : List ℕ)
-    → Leads database.policies name name → is_on_cycle database name ≡ true
+    → IsOnCycle database.policies name → is_on_cycle database name ≡ true
 is_on_cycle-Leads database rooted name lead =
-    reaches-walk database.policies (length database.buckets) database.buckets name name lead.first lead.others (omega arith)
+    reaches-walk database.policies (length database.buckets) database.buckets name name lead.first lead.others
+    (omega arith)
     lead.walks lead.ends (Within-walk database rooted name (lead.first ∷ lead.others) lead.walks)
 
 pub NoCycle-tested : (database : Database) → AllByRecursion (IsRooted database) database.policies
@@ -236,7 +263,8 @@ pub NoCycle-tested : (database : Database) → AllByRecursion (IsRooted database
 NoCycle-tested database rooted none name lead =
     true≢false (sym (is_on_cycle-Leads database rooted name lead) ∙ none name)
 
-pub tested-NoCycle : (database : Database) → NoCycle database.policies → (name : List ℕ) → is_on_cycle database name ≡ false
+pub tested-NoCycle : (database : Database) → NoCycle database.policies → (name : List ℕ)
+    → is_on_cycle database name ≡ false
 tested-NoCycle database none name =
     false_from_ne_true (is_on_cycle database name)
     (λ found. none name (Leads-reaches database.policies (length database.buckets) name name found))

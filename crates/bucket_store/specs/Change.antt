@@ -14,7 +14,8 @@ use Rattle.bucket_store.specs.declared.policy_changes.Change.TheVariants.{Set, D
 
 -- a bucket made, or its fallback changed
 abbrev pub with_bucket : Heading → Database → Database
-with_bucket heading database = record { buckets = put heading_cmp heading database.buckets; policies = database.policies }
+with_bucket heading database =
+    record { buckets = put heading_cmp heading database.buckets; policies = database.policies }
 
 -- whether the policy is in the bucket or points to it
 abbrev pub concerns : List ℕ → Placed → Bool

@@ -27,7 +27,10 @@ root = []
 
 -- the root bucket alone, which denies, without a policy
 abbrev pub fresh : Database
-fresh = record { buckets = record { name = root; fallback = record { kind = deny; metadata = [] } } ∷ []; policies = [] }
+fresh = record {
+  buckets = record { name = root; fallback = record { kind = deny; metadata = [] } } ∷ [];
+  policies = [];
+}
 
 abbrev pub has_bucket : List ℕ → Database → Bool
 has_bucket name database = list_any (λ heading. same_text heading.name name) database.buckets

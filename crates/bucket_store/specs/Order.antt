@@ -24,4 +24,6 @@ placed_cmp = then_cmp (on (λ placed. placed.bucket) text_cmp) (on (λ placed. p
 
 -- the elements that come before this one, then this one, then those that come behind it
 abbrev pub put : {X : Type 0} → (X → X → Ordering) → X → List X → List X
-put cmp element list = filter (λ other. is_lt (cmp other element)) list ++ element ∷ filter (λ other. is_gt (cmp other element)) list
+put cmp element list =
+    filter (λ other. is_lt (cmp other element)) list
+    ++ element ∷ filter (λ other. is_gt (cmp other element)) list

@@ -1,5 +1,6 @@
 -- Why a change is refused: the first rule that it breaks, each tested over the whole request before the next.
-use Rattle.std.specs.Prelude.{◌≡◌, ℕ, Bool, ◌&&◌, ◌||◌, not, nat_lt, ◌==◌, if◌then◌else◌, List, [], ◌∷◌, length, map, Option, Some, None, find}
+use Rattle.std.specs.Prelude.{◌≡◌, ℕ, Bool, ◌&&◌, ◌||◌, not, nat_lt, ◌==◌, if◌then◌else◌, List, [], ◌∷◌, length, map}
+use Rattle.std.specs.Prelude.{Option, Some, None, find}
 use Rattle.std.specs.Option.{option_map}
 use Rattle.std.specs.List.{list_any, flat_map}
 use Rattle.cynara_keys.specs.Text.{same_text}
@@ -12,7 +13,8 @@ use Rattle.bucket_store.specs.Change.{with_bucket, without_bucket, with_changes,
 use Rattle.bucket_store.specs.declared.policy_changes.Change.{Change}
 use Rattle.bucket_store.specs.declared.policy_changes.Change.TheVariants.{Set, Delete}
 use Rattle.bucket_store.specs.declared.refusals.StoreRefusal.{StoreRefusal}
-use Rattle.bucket_store.specs.declared.refusals.StoreRefusal.TheVariants.{NoBucket, RootBucket, BadKind, Limit, Cycle, Memory}
+use Rattle.bucket_store.specs.declared.refusals.StoreRefusal.TheVariants.{NoBucket, RootBucket, BadKind, Limit, Cycle}
+use Rattle.bucket_store.specs.declared.refusals.StoreRefusal.TheVariants.{Memory}
 
 abbrev pub most_buckets : ℕ
 most_buckets = 256
@@ -54,7 +56,8 @@ limit database =
 -- the least bucket that is on a cycle
 abbrev pub cycle : Database → Option StoreRefusal
 cycle database =
-    option_map (λ name. Cycle name) (find (is_on_cycle database) (map (λ (heading : Heading). heading.name) database.buckets))
+    option_map (λ name. Cycle name)
+    (find (is_on_cycle database) (map (λ (heading : Heading). heading.name) database.buckets))
 
 abbrev pub first_of : List (Option StoreRefusal) → Option StoreRefusal
 first_of [] = None

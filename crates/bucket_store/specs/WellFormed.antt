@@ -27,7 +27,8 @@ pub record IsWellFormed (database : Database) : Type 0 where
   -- so each bucket and key has at most one policy
   pub keys_rise : IsStrictlySortedBy placed_cmp database.policies
   -- no walk has as many policies as there are buckets
-  pub walks_end : (from : List ℕ) (steps : List Placed) → has_bucket from database ≡ true → IsWalk database.policies from steps
+  pub walks_end : (from : List ℕ) (steps : List Placed) → has_bucket from database ≡ true
+      → IsWalk database.policies from steps
       → length steps < length database.buckets
 
 -- what the buckets of a database keep

@@ -5,7 +5,8 @@ use std::alloc::{AllocError, Global};
 use std::marker::Model;
 use std::sync::Arc;
 
-/// A bucket: its name, the result of a question that no policy of it decides, and its policies. Its owners share one copy.
+/// A bucket: its name, the result of a question that no policy of it decides, and its policies. Its owners share one
+/// copy.
 #[derive(Drop)]
 pub struct Bucket {
     body: Arc<Body>,
@@ -39,7 +40,8 @@ impl Bucket {
         fallback: PolicyResult,
         policies: Vec<Policy>,
     ) -> Result<Bucket, AllocError>
-        ensures { IfOk result (λ bucket. bucket ≡ record { name = name; fallback = fallback; policies = policies.items }) }
+        ensures { IfOk result
+            (λ bucket. bucket ≡ record { name = name; fallback = fallback; policies = policies.items }) }
     {
         let body = Arc::new(
             alloc,

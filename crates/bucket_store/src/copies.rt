@@ -4,7 +4,7 @@ ghost use Rattle.std.specs.List as list;
 ghost use Rattle.cynara_keys.specs.Key.{filter_admits};
 ghost use Rattle.bucket_store.specs.Walk as walk;
 
-use crate::Bucket;
+use crate::{Bucket, Change};
 use cynara_keys::{BucketName, Filter, Kind, Policy};
 use std::alloc::{AllocError, Global};
 
@@ -14,7 +14,8 @@ pub fn admitted(
     policies: &[Policy],
     filter: &Filter,
 ) -> Result<Vec<Policy>, AllocError>
-    ensures { IfOk result (λ copy. copy.items ≡ list.filter (λ policy. filter_admits filter.now policy.key) policies.now) }
+    ensures { IfOk result
+        (λ copy. copy.items ≡ list.filter (λ policy. filter_admits filter.now policy.key) policies.now) }
 {
     let mut copy = Vec::new(alloc);
     for policy in policies {
@@ -56,7 +57,8 @@ pub fn not_pointing(
     policies: &[Policy],
     name: &BucketName,
 ) -> Result<Vec<Policy>, AllocError>
-    ensures { IfOk result (λ copy. copy.items ≡ list.filter (λ policy. not (walk.points_to name.now policy)) policies.now) }
+    ensures { IfOk result
+        (λ copy. copy.items ≡ list.filter (λ policy. not (walk.points_to name.now policy)) policies.now) }
 {
     let mut copy = Vec::new(alloc);
     for policy in policies {
@@ -74,6 +76,17 @@ pub fn all_policies(alloc: Global, policies: &[Policy]) -> Result<Vec<Policy>, A
     let mut copy = Vec::with_capacity(alloc, policies.len())?;
     for policy in policies {
         copy.push(policy.copy()?)?;
+    }
+    Ok(copy)
+}
+
+/// All changes.
+pub fn all_changes(alloc: Global, changes: &[Change]) -> Result<Vec<Change>, AllocError>
+    ensures { IfOk result (λ copy. copy.items ≡ changes.now) }
+{
+    let mut copy = Vec::with_capacity(alloc, changes.len())?;
+    for change in changes {
+        copy.push(change.copy()?)?;
     }
     Ok(copy)
 }

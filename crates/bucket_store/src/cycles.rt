@@ -14,7 +14,8 @@ use std::alloc::{AllocError, Global};
 /// The least bucket that is on a cycle, by its place from 0.
 pub fn least_on_cycle(alloc: Global, buckets: &[Bucket]) -> Result<Option<usize>, AllocError>
     requires { IsStrictlySortedBy bucket_cmp buckets.now }
-    ensures { IfOk result (IsFirstLoop (closure.closed (length buckets.now) (closure.link_rows buckets.now)) (length buckets.now)) }
+    ensures { IfOk result
+        (IsFirstLoop (closure.closed (length buckets.now) (closure.link_rows buckets.now)) (length buckets.now)) }
 {
     let rows = closed(alloc, link_rows(alloc, buckets)?, buckets.len())?;
     Ok(first_loop(&rows, buckets.len()))

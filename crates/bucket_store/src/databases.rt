@@ -42,7 +42,9 @@ impl Model for Database {
 /// What an erasing gives: the database without the policies, and how many they were.
 #[derive(Drop)]
 pub struct Erased {
+    /// The database without them.
     pub database: Database,
+    /// How many were erased.
     pub count: u32,
 }
 
@@ -103,8 +105,8 @@ impl Database {
         }
     }
 
-    /// Makes a bucket with this fallback and no policies, or changes the fallback of the one that is there. Refuses, in this
-    /// order, `BadKind` and `Limit`.
+    /// Makes a bucket with this fallback and no policies, or changes the fallback of the one that is there. Refuses, in
+    /// this order, `BadKind` and `Limit`.
     pub fn set_bucket(
         &self,
         name: &BucketName,
@@ -180,8 +182,8 @@ impl Database {
     }
 
     /// Makes the changes in their order, so that the last for a key wins; a `Delete` of an absent key changes nothing.
-    /// Refuses, in this order and each over all changes, `NoBucket` (a change's own bucket before the one that its result
-    /// points to), `Limit` and `Cycle`.
+    /// Refuses, in this order and each over all changes, `NoBucket` (a change's own bucket before the one that its
+    /// result points to), `Limit` and `Cycle`.
     pub fn set_policies(&self, changes: &[Change]) -> Result<Database, StoreRefusal>
         ensures next { IfOk result (λ next. next ≡ (request.set_policies changes.now self.now).next) }
         ensures accepted { OnOk result (fault self.now (request.set_policies changes.now self.now) ≡ None) }

@@ -20,7 +20,8 @@ pub fn is_bad(name: &BucketName, fallback: &PolicyResult) -> bool
     kind == Kind::BUCKET || (name.as_slice().is_empty() && kind == Kind::NONE)
 }
 
-/// Whether a bucket may be put at the place that a search gave: it is there, or there are fewer buckets than there may be.
+/// Whether a bucket may be put at the place that a search gave: it is there, or there are fewer buckets than there may
+/// be.
 pub fn has_room(buckets: &[Bucket], place: &Result<usize, usize>) -> bool
     ensures { result ≡ (is_ok place.now || nat_lt (length buckets.now) rule.most_buckets) }
 {
@@ -59,7 +60,8 @@ pub fn without_bucket(
     name: &BucketName,
 ) -> Result<Vec<Bucket>, AllocError>
     ensures { IfOk result
-        (λ copy. copy.items ≡ map (without_links name.now) (list.filter (λ bucket. not (same_text bucket.name name.now)) buckets.now)) }
+        (λ copy. copy.items ≡ map (without_links name.now)
+        (list.filter (λ bucket. not (same_text bucket.name name.now)) buckets.now)) }
 {
     let mut copy = Vec::new(alloc);
     for bucket in buckets {

@@ -1,7 +1,7 @@
 //! The policy database: buckets that point to one another, and the changes that are made to them, whole or not at all.
 //!
-//! Buckets, their fallbacks and policies that point to another bucket are those of the Cynara wiki. The limits, the order
-//! of the refusals and that no bucket may reach itself are this project's profile.
+//! Buckets, their fallbacks and policies that point to another bucket are those of the Cynara wiki. The limits, the
+//! order of the refusals and that no bucket may reach itself are this project's profile.
 #![tactic(auto)]
 
 mod batches;
@@ -22,3 +22,6 @@ pub use databases::{Database, Erased};
 pub use limits::{MOST_BUCKETS, MOST_POLICIES};
 pub use policy_changes::{Change, Changes};
 pub use refusals::StoreRefusal;
+
+#[cfg(test)]
+mod tests;

@@ -39,7 +39,8 @@ fn merge_one(copy: &mut Vec<Policy>, rest: &[Policy], change: &Change) -> Result
     ensures taken { IfOk result (λ taken. taken ≤ length rest.now) }
     ensures copy { IfOk result (λ _. copy.new.items
         ≡ list.filter (λ policy. is_lt (key_cmp policy.key (batch.key_of change.now))) copy.old.items
-        ++ (list.filter (λ policy. is_lt (key_cmp policy.key (batch.key_of change.now))) rest.now ++ batch.effect change.now)) }
+        ++ (list.filter (λ policy. is_lt (key_cmp policy.key (batch.key_of change.now))) rest.now
+        ++ batch.effect change.now)) }
     ensures left { IfOk result (λ taken. drop taken rest.now
         ≡ list.filter (λ policy. is_gt (key_cmp policy.key (batch.key_of change.now))) rest.now) }
 {

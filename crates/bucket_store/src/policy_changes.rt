@@ -1,3 +1,4 @@
+use crate::copies::all_changes;
 use cynara_keys::{BucketName, Key, PolicyResult};
 use std::alloc::AllocError;
 use std::marker::Model;
@@ -48,6 +49,15 @@ impl Changes {
         ensures { result.now ≡ self.now }
     {
         &self.list
+    }
+
+    /// Equal changes, which share the names' bytes.
+    pub fn copy(&self) -> Result<Changes, AllocError>
+        ensures { IfOk result (λ copy. copy ≡ self.now) }
+    {
+        Ok(Changes {
+            list: all_changes(*self.list.allocator(), &self.list)?,
+        })
     }
 }
 

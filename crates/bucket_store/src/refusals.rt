@@ -9,6 +9,7 @@ pub enum StoreRefusal {
     /// The first bucket that the request names and that is not there.
     #[error("a bucket that the request names is not there")]
     NoBucket(BucketName),
+    /// The request removes the root bucket.
     #[error("the root bucket is not removed")]
     RootBucket,
     /// The fallback's kind: BUCKET, or NONE for the root bucket.
@@ -20,6 +21,7 @@ pub enum StoreRefusal {
     /// The least name of a bucket that would reach itself.
     #[error("a bucket would reach itself along policies that point to a bucket")]
     Cycle(BucketName),
+    /// Want of memory. No request that removes the root bucket or has a bad kind is answered so.
     #[error("out of memory")]
     Memory(AllocError),
 }

@@ -34,7 +34,8 @@ pub fn place_of_key(policies: &[Policy], key: &Key) -> Result<usize, usize>
     requires { IsStrictlySortedBy policy_cmp policies.now }
     ensures found { IfOk result (StandsAt (λ policy. key_cmp policy.key key.now) policies.now) }
     ensures absent { IfErr result (BelongsAt (λ policy. key_cmp policy.key key.now) policies.now) }
-    ensures in_range { MatchResult result (λ place. place < length policies.now) (λ place. place ≤ length policies.now) }
+    ensures in_range { MatchResult result
+        (λ place. place < length policies.now) (λ place. place ≤ length policies.now) }
 {
     policies.binary_search_by(|policy| policy.key.cmp(key))
 }

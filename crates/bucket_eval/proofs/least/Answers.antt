@@ -7,7 +7,8 @@ use Rattle.bucket_eval.proofs.least.Goals as goal
 -- the policy comes after the best of those behind it
 pub loop-place-preserved-in-Some : goal.loop-place-preserved-in-Some
 loop-place-preserved-in-Some c =
-    IsBest-after (counts c.args.question.now) decision_total _ _ _ c.index-policies-place.result c.index-policies-other.result
+    IsBest-after (counts c.args.question.now)
+    decision_total _ _ _ c.index-policies-place.result c.index-policies-other.result
     (omega arith) c.index-policies-place.is (sym c.counts.ensures ∙ c.if-counts.true)
     c.index-policies-other.is (sym c.is_after.ensures ∙ c.if-is_after.true)
     (IsBest-down c.loop-place-test.true c.in-Some.is c.loop-place.invariant)
@@ -15,7 +16,8 @@ loop-place-preserved-in-Some c =
 -- it doesn't
 pub loop-place-preserved-in_default : goal.loop-place-preserved-in_default
 loop-place-preserved-in_default c =
-    IsBest-instead (counts c.args.question.now) decision_total _ _ _ c.index-policies-place.result c.index-policies-other.result
+    IsBest-instead (counts c.args.question.now)
+    decision_total _ _ _ c.index-policies-place.result c.index-policies-other.result
     (omega arith) c.index-policies-place.is (sym c.counts.ensures ∙ c.if-counts.true)
     c.index-policies-other.is (sym c.is_after.ensures ∙ c.if-is_after.false)
     (IsBest-down c.loop-place-test.true c.in-Some.is c.loop-place.invariant)

@@ -17,7 +17,10 @@ use Rattle.bucket_eval.specs.declared.nested.Offer.{Offer}
 abbrev pub outcome_in : Option ℕ → Bucket → Option Outcome
 outcome_in None bucket = Some (record { result = bucket.fallback; cause = record { bucket = bucket.name; key = None } })
 outcome_in (Some place) bucket =
-    option_map (λ policy. record { result = policy.result; cause = record { bucket = bucket.name; key = Some policy.key } })
+    option_map (λ policy. record {
+      result = policy.result;
+      cause = record { bucket = bucket.name; key = Some policy.key };
+    })
     (slice_get bucket.policies place)
 
 abbrev pub outcome_at : List Bucket → Found → Option Outcome

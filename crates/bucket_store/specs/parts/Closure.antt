@@ -1,5 +1,6 @@
 -- Which buckets lead to which, as rows of flags: in the row of a bucket, whether it leads to each bucket in turn.
-use Rattle.std.specs.Prelude.{◌≡◌, ◌<◌, ℕ, zero, suc, Bool, true, false, ◌||◌, if◌then◌else◌, List, [], ◌∷◌, ◌++◌, length, map, slice_index_or, Option, Some, None}
+use Rattle.std.specs.Prelude.{◌≡◌, ◌<◌, ℕ, zero, suc, Bool, true, false, ◌||◌, if◌then◌else◌, List, [], ◌∷◌, ◌++◌}
+use Rattle.std.specs.Prelude.{length, map, slice_index_or, Option, Some, None}
 use Rattle.std.specs.List.{AllByRecursion, list_any, zip}
 use Rattle.cynara_keys.specs.declared.keys.Policy.{Policy}
 use Rattle.bucket_store.specs.Bucket.{Bucket}
@@ -48,4 +49,5 @@ IsOnlyLink policy buckets (Some at) = OnlyAt (λ (bucket : Bucket). points_to bu
 abbrev pub IsFirstLoop : List (List Bool) → ℕ → Option ℕ → Type 0
 IsFirstLoop rows count None = (k : ℕ) → k < count → flag (slice_index_or rows k []) k ≡ false
 IsFirstLoop rows count (Some at) =
-    (at < count) × (flag (slice_index_or rows at []) at ≡ true) × ((k : ℕ) → k < at → flag (slice_index_or rows k []) k ≡ false)
+    (at < count) × (flag (slice_index_or rows at []) at ≡ true)
+    × ((k : ℕ) → k < at → flag (slice_index_or rows k []) k ≡ false)

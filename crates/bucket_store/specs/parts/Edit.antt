@@ -17,7 +17,8 @@ headed (Ok at) name fallback buckets =
 headed (Err at) name fallback buckets = insert buckets at (bucket_of name fallback [])
 
 abbrev pub without_links : List ℕ → Bucket → Bucket
-without_links name bucket = bucket_of bucket.name bucket.fallback (filter (λ policy. not (points_to name policy)) bucket.policies)
+without_links name bucket =
+    bucket_of bucket.name bucket.fallback (filter (λ policy. not (points_to name policy)) bucket.policies)
 
 -- the bucket at the place has these policies
 abbrev pub filled : ℕ → List Policy → List Bucket → List Bucket

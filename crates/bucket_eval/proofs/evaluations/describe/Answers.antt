@@ -1,4 +1,4 @@
-use Rattle.std.proofs.Common.{◌≡◌, ℕ, ◌<◌, length, slice_get, Option, None, Some, IfSome, refl, sym, ap, ◌∙◌, subst}
+use Rattle.std.proofs.Common.{◌≡◌, None, Some, IfSome, refl, sym, ap, ◌∙◌, subst}
 use Rattle.std.specs.Option.{option_map}
 use Rattle.std.proofs.lemmas.Option.{slice_get_read}
 use Rattle.cynara_keys.specs.declared.keys.Policy.{Policy}
@@ -10,21 +10,27 @@ use Rattle.bucket_eval.proofs.evaluations.describe.Goals as goal
 -- the policy at the place is there
 pub policy_at-policy-requires : goal.policy_at-policy-requires
 policy_at-policy-requires c =
-    let within = bucket-there c.args.database.now c.buckets.result.now c.args.found c.buckets.ensures.buckets c.requires in
-    let there = slice_get_read c.buckets.result.now _ c.args.found.bucket c.index-buckets-found.result refl within c.index-buckets-found.is in
+    let within = bucket-there c.args.database.now c.buckets.result.now c.args.found c.buckets.ensures.buckets
+    c.requires in
+    let there = slice_get_read c.buckets.result.now _ c.args.found.bucket c.index-buckets-found.result refl within
+    c.index-buckets-found.is in
     policy-there c.args.database.now c.buckets.result.now c.args.found c.index-buckets-found.result c.in-Some.place
     c.buckets.ensures.buckets c.buckets.ensures.in_order.names_rise there c.in-Some.is c.requires
 
 -- the policy is described
 pub returns-in-Some : goal.returns-in-Some
 returns-in-Some c =
-    let within = bucket-there c.args.database.now c.buckets.result.now c.args.found c.buckets.ensures.buckets c.requires in
+    let within = bucket-there c.args.database.now c.buckets.result.now c.args.found c.buckets.ensures.buckets
+    c.requires in
     let bucket = c.index-buckets-found.result in
     let policy = c.policy_at-policy.result.now in
     let there = slice_get_read c.buckets.result.now _ c.args.found.bucket bucket refl within c.index-buckets-found.is in
     let found = outcome_at-bucket c.args.database.now c.buckets.result.now c.args.found bucket (Some c.in-Some.place)
     c.buckets.ensures.buckets c.buckets.ensures.in_order.names_rise there c.in-Some.is
-    ∙ ap (option_map (λ (p : Policy). let outcome : Outcome = record { result = p.result; cause = record { bucket = bucket.name; key = Some p.key } } in outcome))
+    ∙ ap (option_map (λ (p : Policy). let outcome : Outcome = record {
+      result = p.result;
+      cause = record { bucket = bucket.name; key = Some p.key };
+    } in outcome))
     c.policy_at-policy.ensures in
     subst (λ o. IfSome o (λ outcome. c.described.result ≡ answer_of outcome)) (sym found)
     (c.described.ensures
@@ -37,7 +43,8 @@ returns-in-Some c =
 -- the fallback is described
 pub returns-in-None : goal.returns-in-None
 returns-in-None c =
-    let within = bucket-there c.args.database.now c.buckets.result.now c.args.found c.buckets.ensures.buckets c.requires in
+    let within = bucket-there c.args.database.now c.buckets.result.now c.args.found c.buckets.ensures.buckets
+    c.requires in
     let bucket = c.index-buckets-found.result in
     let there = slice_get_read c.buckets.result.now _ c.args.found.bucket bucket refl within c.index-buckets-found.is in
     let found = outcome_at-bucket c.args.database.now c.buckets.result.now c.args.found bucket None

@@ -14,4 +14,5 @@ shared (Err error) bucket changes is none = tt
 pub returns-then-not-is_touched : goal.returns-then-not-is_touched
 returns-then-not-is_touched c =
     shared c.share.result c.args.bucket.now c.args.changes.now c.share.ensures
-    (ap (λ name. list_any (is_own name) c.args.changes.now) (sym c.name.ensures) ∙ sym c.is_touched.ensures ∙ c.if-not-is_touched.true)
+    (ap (λ name. list_any (is_own name) c.args.changes.now) (sym c.name.ensures) ∙ sym c.is_touched.ensures
+    ∙ c.if-not-is_touched.true)

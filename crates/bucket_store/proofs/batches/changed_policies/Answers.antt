@@ -10,5 +10,6 @@ returns c =
     let policies = c.args.policies.now in
     let changes = own c.args.name.now c.args.changes.now in
     let same : fold edited policies c.deref.result.now ≡ fold edited policies changes =
-    ap (fold edited policies) c.deref.ensures.value ∙ sorted-same policies changes c.in_ok-own.own.items c.requires c.in_ok-own.ensures.stable in
+    ap (fold edited policies) c.deref.ensures.value
+    ∙ sorted-same policies changes c.in_ok-own.own.items c.requires c.in_ok-own.ensures.stable in
     subst (λ (list : List Policy). IfOk c.merged.result (λ copy. copy.items ≡ list)) same c.merged.ensures

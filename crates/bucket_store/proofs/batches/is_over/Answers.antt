@@ -16,7 +16,8 @@ returns-then-count-room c =
     let i = c.loop-bucket.bucket-index in
     let upto = length-flat_map-take placed_of buckets i bucket c.loop-bucket-test.true in
     let own = ap (λ (one : Bucket). length (placed_of one)) c.bucket-item.is in
-    let count = length-map bucket.policies (λ (policy : Policy). let placed : Placed = record { bucket = bucket.name; policy = policy } in placed) in
+    let count = length-map bucket.policies
+    (λ (policy : Policy). let placed : Placed = record { bucket = bucket.name; policy = policy } in placed) in
     let read = ap length c.policies-count.ensures in
     sym (lt-ltb most_policies (length (flat_map placed_of buckets))
     (omega (arith, upto, own, count, read, c.loop-bucket.invariant, c.if-count-room.true)))

@@ -6,4 +6,5 @@ use Rattle.bucket_store.proofs.copies.not_admitted.Given as goal
 
 abbrev pub invariant-loop-policy : goal.invariant-loop-policy
 invariant-loop-policy l =
-    l.copy.items ≡ filter (λ (policy : Policy). not (filter_admits l.filter policy.key)) (take l.policy-index l.policies)
+    l.copy.items ≡ filter (λ (policy : Policy). not (filter_admits l.filter policy.key))
+    (take l.policy-index l.policies)

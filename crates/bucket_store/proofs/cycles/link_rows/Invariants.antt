@@ -5,4 +5,5 @@ use Rattle.bucket_store.proofs.cycles.link_rows.Given as goal
 
 abbrev pub invariant-loop-bucket : goal.invariant-loop-bucket
 invariant-loop-bucket l =
-    map (λ row. row.items) l.rows.items ≡ map (λ (bucket : Bucket). linked l.buckets bucket.policies) (take l.bucket-index l.buckets)
+    map (λ row. row.items) l.rows.items ≡ map (λ (bucket : Bucket). linked l.buckets bucket.policies)
+    (take l.bucket-index l.buckets)

@@ -19,7 +19,8 @@ loop-policy-preserved c =
       | in-Some w ↦
           let link = rw w.in-Some.is at c.target_place.ensures.link in
           ap (λ row. row.items) w.row-is ∙ ap (λ row. set row w.in-Some.at true) c.loop-policy.invariant
-          ∙ linked-some c.args.buckets.now (take i policies) policy w.in-Some.at link ∙ ap (linked c.args.buckets.now) (sym next)
+          ∙ linked-some c.args.buckets.now (take i policies) policy w.in-Some.at link
+          ∙ ap (linked c.args.buckets.now) (sym next)
       | in_default w ↦
           let link = rw w.in_default.is at c.target_place.ensures.link in
           ap (λ row. row.items) w.row-is ∙ c.loop-policy.invariant

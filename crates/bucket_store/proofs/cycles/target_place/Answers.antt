@@ -3,7 +3,8 @@ use Rattle.bucket_store.proofs.Closing.{only-found, only-absent, only-none}
 use Rattle.bucket_store.proofs.cycles.target_place.Goals as goal
 
 pub returns-then-not-points-clause-link : goal.returns-then-not-points-clause-link
-returns-then-not-points-clause-link c = only-none c.args.policy.now (sym c.points.ensures ∙ c.if-not-points.true) c.args.buckets.now
+returns-then-not-points-clause-link c =
+    only-none c.args.policy.now (sym c.points.ensures ∙ c.if-not-points.true) c.args.buckets.now
 
 pub returns-in-Ok-clause-link : goal.returns-in-Ok-clause-link
 returns-in-Ok-clause-link c =

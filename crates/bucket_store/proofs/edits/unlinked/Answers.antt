@@ -12,7 +12,8 @@ nothing_left_out : (test : Policy → Bool) (policies : List Policy) → list_an
 nothing_left_out test [] none = refl
 nothing_left_out test (policy ∷ policies) none =
     let parts = or_parts (test policy) (list_any test policies) none in
-    ap (λ b. cond (not b) (policy ∷ filter (λ policy. not (test policy)) policies) (filter (λ policy. not (test policy)) policies)) parts.0
+    ap (λ b. cond (not b) (policy ∷ filter (λ policy. not (test policy)) policies)
+    (filter (λ policy. not (test policy)) policies)) parts.0
     ∙ ap (λ rest. policy ∷ rest) (nothing_left_out test policies parts.1)
 
 shared : {E : Type 0} (r : Result Bucket E) (name : List ℕ) (bucket : Bucket) → IfOk r (λ copy. copy ≡ bucket)
@@ -24,4 +25,5 @@ shared (Err error) name bucket is none = tt
 pub returns-then-not-links : goal.returns-then-not-links
 returns-then-not-links c =
     let none = sym c.links.ensures ∙ c.if-not-links.true in
-    shared c.share.result c.args.name.now c.args.bucket.now c.share.ensures (ap (list_any (points_to c.args.name.now)) (sym c.policies.ensures) ∙ none)
+    shared c.share.result c.args.name.now c.args.bucket.now c.share.ensures
+    (ap (list_any (points_to c.args.name.now)) (sym c.policies.ensures) ∙ none)

@@ -7,4 +7,5 @@ use Rattle.bucket_store.proofs.edits.without_bucket.Given as goal
 
 abbrev pub invariant-loop-bucket : goal.invariant-loop-bucket
 invariant-loop-bucket l =
-    l.copy.items ≡ map (without_links l.name) (filter (λ (bucket : Bucket). not (same_text bucket.name l.name)) (take l.bucket-index l.buckets))
+    l.copy.items ≡ map (without_links l.name)
+    (filter (λ (bucket : Bucket). not (same_text bucket.name l.name)) (take l.bucket-index l.buckets))

@@ -9,12 +9,14 @@ pub returns-in-Ok : goal.returns-in-Ok
 returns-in-Ok c =
     c.truncate.ensures.items
     ∙ cut-found c.args.key.now c.args.copy.now.items c.in-Ok.at
-    (subst (λ (list : List Policy). StandsAt (λ (policy : Policy). key_cmp policy.key c.args.key.now) list c.in-Ok.at) c.deref.ensures.value
+    (subst (λ (list : List Policy). StandsAt (λ (policy : Policy). key_cmp policy.key c.args.key.now) list c.in-Ok.at)
+    c.deref.ensures.value
     c.in-Ok.ensures.found)
 
 pub returns-in-Err : goal.returns-in-Err
 returns-in-Err c =
     c.truncate-in-Err.ensures.items
     ∙ cut-absent c.args.key.now c.args.copy.now.items c.in-Err.at
-    (subst (λ (list : List Policy). BelongsAt (λ (policy : Policy). key_cmp policy.key c.args.key.now) list c.in-Err.at) c.deref.ensures.value
+    (subst (λ (list : List Policy). BelongsAt (λ (policy : Policy). key_cmp policy.key c.args.key.now) list c.in-Err.at)
+    c.deref.ensures.value
     c.in-Err.ensures.absent)

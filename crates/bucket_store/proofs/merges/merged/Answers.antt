@@ -35,10 +35,13 @@ loop-change-preserved c =
     let taken = c.in_ok-from.field-0 in
     let done = c.loop-change.copy.items in
     let next = c.merge_one.new.copy.items in
-    merging-turn policies changes done from c.loop-change.change-index c.loop-change.invariant c.loop-change-test.true change
+    merging-turn policies changes done from c.loop-change.change-index c.loop-change.invariant c.loop-change-test.true
+    change
     c.change-item.is next taken
     (subst (λ (list : List Policy). taken ≤ length list) whole facts.taken)
     (subst (λ (list : List Policy). next
     ≡ filter (λ (policy : Policy). is_lt (key_cmp policy.key (key_of change))) done
-    ++ (filter (λ (policy : Policy). is_lt (key_cmp policy.key (key_of change))) list ++ effect change)) whole facts.copy)
-    (subst (λ (list : List Policy). drop taken list ≡ filter (λ (policy : Policy). is_gt (key_cmp policy.key (key_of change))) list) whole facts.left)
+    ++ (filter (λ (policy : Policy). is_lt (key_cmp policy.key (key_of change))) list ++ effect change))
+    whole facts.copy)
+    (subst (λ (list : List Policy). drop taken list ≡ filter
+    (λ (policy : Policy). is_gt (key_cmp policy.key (key_of change))) list) whole facts.left)

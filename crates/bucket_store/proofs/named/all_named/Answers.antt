@@ -14,7 +14,8 @@ returns-in-Err c =
     let database = database_of c.args.buckets.now in
     subst (λ (names : List (List ℕ)). NamesFirst names database c.in-Err.refusal)
     (sym (names-around changes i change c.loop-change-test.true c.change-item.is))
-    (first-named database (flat_map named_by (take i changes)) (named_by change) (flat_map named_by (drop (suc i) changes)) c.in-Err.refusal
+    (first-named database (flat_map named_by (take i changes)) (named_by change)
+    (flat_map named_by (drop (suc i) changes)) c.in-Err.refusal
     c.loop-change.invariant c.in-Err.ensures)
 
 pub loop-change-preserved : goal.loop-change-preserved

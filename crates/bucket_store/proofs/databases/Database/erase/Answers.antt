@@ -14,6 +14,7 @@ use Rattle.bucket_store.proofs.Kept.{Sound-kept}
 use Rattle.bucket_store.proofs.Sound.{refuses-absent, has-found, has-absent, fault-found}
 use Rattle.bucket_store.proofs.Removing.{erased-view, Kept-erased, count-erased}
 use Rattle.bucket_store.proofs.databases.Database.erase.Goals as goal
+use Rattle.bucket_store.proofs.databases.Database.erase.Goals.{In-Ok, In-Ok-not_admitted, In-Ok-with_policies}
 
 pub returns-in_default-clause-refused : goal.returns-in_default-clause-refused
 returns-in_default-clause-refused c =
@@ -30,47 +31,55 @@ returns-in_default-clause-refused c =
 pub overflow_sub-count : goal.overflow_sub-count
 overflow_sub-count c =
     let left = ap length c.in-Ok-not_admitted.ensures in
-    let short = length-filter-≤ (λ (policy : Policy). not (filter_admits c.args.filter.now policy.key)) c.policies.result.now in
+    let short = length-filter-≤ (λ (policy : Policy). not (filter_admits c.args.filter.now policy.key))
+    c.policies.result.now in
     let same = ap length (c.policies.ensures ∙ sym c.policies-2.ensures) in
     omega (arith, left, short, same, c.len.ensures)
 
+-- ---- what is known where the bucket is
+
+stands : (c : In-Ok)
+    → StandsAt (λ (bucket : Bucket). text_cmp bucket.name c.args.name.now) c.self.inside.buckets.items c.in-Ok.place
+stands c =
+    subst (λ (list : List Bucket). StandsAt (λ (bucket : Bucket). text_cmp bucket.name c.args.name.now)
+    list c.in-Ok.place)
+    c.deref.ensures.value c.in-Ok.ensures.found
+
+-- the policies that are left
+left : (c : In-Ok-not_admitted) → c.in-Ok-not_admitted.left.items
+    ≡ filter (λ (policy : Policy). not (filter_admits c.args.filter.now policy.key)) c.index-bucket.result.now.policies
+left c =
+    c.in-Ok-not_admitted.ensures
+    ∙ ap (filter (λ (policy : Policy). not (filter_admits c.args.filter.now policy.key))) c.policies.ensures
+
+made : (c : In-Ok-with_policies) → (left : List Policy) → c.in-Ok-not_admitted.left.items ≡ left
+    → c.in-Ok-with_policies.buckets.items ≡ filled c.in-Ok.place left c.self.inside.buckets.items
+made c left is =
+    c.in-Ok-with_policies.ensures ∙ (λ i. filled c.in-Ok.place (is i) (c.deref-2.ensures.value i))
+
 pub invariant_of-result : goal.invariant_of-result
 invariant_of-result c =
-    let buckets = c.self.inside.buckets.items in
-    let stands =
-    subst (λ (list : List Bucket). StandsAt (λ (bucket : Bucket). text_cmp bucket.name c.args.name.now) list c.in-Ok.place)
-    c.deref.ensures.value c.in-Ok.ensures.found in
-    let left = c.in-Ok-not_admitted.ensures ∙ ap (filter (λ (policy : Policy). not (filter_admits c.args.filter.now policy.key))) c.policies.ensures in
-    let made : c.in-Ok-with_policies.buckets.items ≡ filled c.in-Ok.place (filter (λ (policy : Policy). not (filter_admits c.args.filter.now policy.key)) c.index-bucket.result.now.policies) buckets =
-    c.in-Ok-with_policies.ensures ∙ (λ i. filled c.in-Ok.place (left i) (c.deref-2.ensures.value i)) in
-    Kept-erased c.args.name.now c.args.filter.now buckets c.in-Ok.place stands c.index-bucket.result.now c.index-bucket.ensures
-    c.in-Ok-with_policies.buckets.items made c.self.invariant
+    let way = goal.at.invariant_of-result c in
+    Kept-erased c.args.name.now c.args.filter.now c.self.inside.buckets.items c.in-Ok.place (stands way.In-Ok)
+    c.index-bucket.result.now c.index-bucket.ensures c.in-Ok-with_policies.buckets.items
+    (made way.In-Ok-with_policies _ (left way.In-Ok-not_admitted)) c.self.invariant
 
 pub returns-in-Ok-with_policies-clause-next : goal.returns-in-Ok-with_policies-clause-next
 returns-in-Ok-with_policies-clause-next c =
-    let buckets = c.self.inside.buckets.items in
-    let stands =
-    subst (λ (list : List Bucket). StandsAt (λ (bucket : Bucket). text_cmp bucket.name c.args.name.now) list c.in-Ok.place)
-    c.deref.ensures.value c.in-Ok.ensures.found in
-    let left = c.in-Ok-not_admitted.ensures ∙ ap (filter (λ (policy : Policy). not (filter_admits c.args.filter.now policy.key))) c.policies.ensures in
-    let made : c.in-Ok-with_policies.buckets.items ≡ filled c.in-Ok.place (filter (λ (policy : Policy). not (filter_admits c.args.filter.now policy.key)) c.index-bucket.result.now.policies) buckets =
-    c.in-Ok-with_policies.ensures ∙ (λ i. filled c.in-Ok.place (left i) (c.deref-2.ensures.value i)) in
-    erased-view c.args.name.now c.args.filter.now buckets c.in-Ok.place stands c.index-bucket.result.now c.index-bucket.ensures
-    c.in-Ok-with_policies.buckets.items made
+    let way = goal.at.returns-in-Ok-with_policies-clause-next c in
+    erased-view c.args.name.now c.args.filter.now c.self.inside.buckets.items c.in-Ok.place (stands way.In-Ok)
+    c.index-bucket.result.now c.index-bucket.ensures c.in-Ok-with_policies.buckets.items
+    (made way.In-Ok-with_policies _ (left way.In-Ok-not_admitted))
     ∙ ap (erased c.args.name.now c.args.filter.now) c.self.view_is
 
 pub returns-in-Ok-with_policies-clause-count : goal.returns-in-Ok-with_policies-clause-count
 returns-in-Ok-with_policies-clause-count c =
-    let buckets = c.self.inside.buckets.items in
-    let stands =
-    subst (λ (list : List Bucket). StandsAt (λ (bucket : Bucket). text_cmp bucket.name c.args.name.now) list c.in-Ok.place)
-    c.deref.ensures.value c.in-Ok.ensures.found in
-    let left = c.in-Ok-not_admitted.ensures ∙ ap (filter (λ (policy : Policy). not (filter_admits c.args.filter.now policy.key))) c.policies.ensures in
+    let way = goal.at.returns-in-Ok-with_policies-clause-count c in
     let counted =
-    count-erased c.args.name.now c.args.filter.now buckets c.in-Ok.place stands c.index-bucket.result.now c.index-bucket.ensures
-    c.args.self.now c.self.view_is in
+    count-erased c.args.name.now c.args.filter.now c.self.inside.buckets.items c.in-Ok.place (stands way.In-Ok)
+    c.index-bucket.result.now c.index-bucket.ensures c.args.self.now c.self.view_is in
     let long = ap length c.policies-2.ensures in
-    let short = ap length left in
+    let short = ap length (left way.In-Ok-not_admitted) in
     omega (arith, counted, long, short, c.len.ensures)
 
 pub returns-in-Ok-with_policies-clause-accepted : goal.returns-in-Ok-with_policies-clause-accepted

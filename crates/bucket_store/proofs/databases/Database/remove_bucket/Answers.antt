@@ -22,18 +22,22 @@ returns-in_default-clause-refused c =
     (subst (λ (list : List Bucket). has_bucket name (database_of list) ≡ false) c.deref.ensures.value
     (has-absent name c.deref.result.now c.in_default.field-0 absent)) in
     refuses-absent name (name ∷ []) c.args.self.now (without_bucket name c.args.self.now)
-    (absent-apart name c.args.self.now (subst IsSound c.self.view_is c.self.invariant.sound) gone) gone c.no_bucket.result
+    (absent-apart name c.args.self.now (subst IsSound c.self.view_is c.self.invariant.sound) gone)
+    gone c.no_bucket.result
     c.no_bucket.ensures
 
 pub invariant_of-result : goal.invariant_of-result
 invariant_of-result c =
-    let apart = not_root c.args.name.now (ap (λ text. eqb (length text) 0) (sym c.as_slice.ensures.bytes) ∙ sym c.is_empty.ensures ∙ c.if-is_empty.false) in
-    Kept-removed c.args.name.now c.deref-2.result.now c.in-Ok-without_bucket.buckets.items c.in-Ok-without_bucket.ensures apart
+    let apart = not_root c.args.name.now
+    (ap (λ text. eqb (length text) 0) (sym c.as_slice.ensures.bytes) ∙ sym c.is_empty.ensures ∙ c.if-is_empty.false) in
+    Kept-removed c.args.name.now c.deref-2.result.now c.in-Ok-without_bucket.buckets.items
+    c.in-Ok-without_bucket.ensures apart
     (subst IsKept (sym c.deref-2.ensures.value) c.self.invariant)
 
 pub returns-in-Ok-without_bucket-clause-next : goal.returns-in-Ok-without_bucket-clause-next
 returns-in-Ok-without_bucket-clause-next c =
-    removed-view c.args.name.now c.deref-2.result.now c.in-Ok-without_bucket.buckets.items c.in-Ok-without_bucket.ensures
+    removed-view c.args.name.now c.deref-2.result.now c.in-Ok-without_bucket.buckets.items
+    c.in-Ok-without_bucket.ensures
     ∙ ap (λ list. without_bucket c.args.name.now (database_of list)) c.deref-2.ensures.value
     ∙ ap (without_bucket c.args.name.now) c.self.view_is
 
@@ -41,7 +45,8 @@ pub returns-in-Ok-without_bucket-clause-accepted : goal.returns-in-Ok-without_bu
 returns-in-Ok-without_bucket-clause-accepted c =
     let name = c.args.name.now in
     let found = rw c.in-Ok.is at c.place_of_bucket.ensures.found in
-    let apart = not_root name (ap (λ text. eqb (length text) 0) (sym c.as_slice.ensures.bytes) ∙ sym c.is_empty.ensures ∙ c.if-is_empty.false) in
+    let apart = not_root name
+    (ap (λ text. eqb (length text) 0) (sym c.as_slice.ensures.bytes) ∙ sym c.is_empty.ensures ∙ c.if-is_empty.false) in
     let has : has_bucket name c.args.self.now ≡ true =
     subst (λ (database : Database). has_bucket name database ≡ true) c.self.view_is
     (subst (λ (list : List Bucket). has_bucket name (database_of list) ≡ true) c.deref.ensures.value
