@@ -2,7 +2,7 @@ mod Best
 pub mod Buckets
 mod Offers
 mod Held
-mod Places
+pub mod Places
 mod Targets
 pub mod Decisions
 pub mod Reordered
