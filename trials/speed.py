@@ -38,15 +38,26 @@ def forever(line):
         number += 1
 
 
+def batch(changes):
+    return [b"batch", *changes, b"end"]
+
+
+def lines(of):
+    return b"\n".join(of) + b"\n"
+
+
 def inputs():
     draw = random.Random(1)
     rising = [b"set . c%05d u p allow" % number for number in range(MOST_POLICIES)]
     mixed = draw.sample(rising, len(rising))
+    gone = [b"un" + line.rsplit(b" ", 1)[0] for line in draw.sample(rising, len(rising))]
     access = ["smack-access", "A", "X", "r"]
     yield "16 MiB of checks, no policy", ["local"], filled(forever(lambda _: b"check c u p"))
-    yield "65,536 new keys, rising", ["local"], b"\n".join(rising) + b"\n"
-    yield "65,536 new keys, in any order", ["local"], b"\n".join(mixed) + b"\n"
-    yield "the same rising, and 1,000 checks", ["local"], b"\n".join(rising + 1000 * [b"check c00001 u p"]) + b"\n"
+    yield "a batch of 65,536 new keys, rising", ["local"], lines(batch(rising))
+    yield "the same in any order", ["local"], lines(batch(mixed))
+    yield "the same, and a batch deletes them", ["local"], lines(batch(mixed) + batch(gone))
+    yield "a batch of 65,536, and 1,000 checks", ["local"], lines(batch(rising) + 1000 * [b"check c00001 u p"])
+    yield "4,096 new keys, a command each", ["local"], lines(mixed[:4096])
     yield "16 MiB of rules for one pair", access, filled(forever(lambda _: b"A X rwx"))
     yield "16 MiB of rules, new objects", access, filled(forever(lambda number: b"s%d o%d rx" % (number % 1000, number)))
     yield "16 MiB of rules, new subjects", access, filled(forever(lambda number: b"s%d X rx" % number))
