@@ -28,7 +28,7 @@ use Rattle.app_registry.specs.declared.users.User.{User}
 use Rattle.app_registry.specs.declared.users.UserType.{UserType}
 use Rattle.desk_state.specs.declared.commands.Command.TheVariants.{Layout, UserSet, UserRemove, Install as InstallCommand, Uninstall}
 use Rattle.desk_state.specs.Layout.{has_layout, settled, laid_out}
-use Rattle.desk_state.specs.parts.Linking.{link_changes}
+use Rattle.desk_state.specs.parts.Linking.{link_changes, IsMemory}
 use Rattle.bucket_store.specs.WellFormed.{IsSound}
 use Rattle.bucket_store.proofs.Sound.{limit-sound, cycle-sound}
 use Rattle.desk_state.specs.Next.{request, leads_to, next, next_registry, erased_by}
@@ -571,3 +571,13 @@ module _ (desk : DeskState) (allowed : IsAllowed desk Layout) where
         record { next = step.next ∙ follows_to; erased = step.erased; accepted = layout_none is ∙ step.room }
     layout_stepped is after follows_to (Err (Memory error)) step = memory desk Layout allowed
     layout_stepped is after follows_to (Err refusal) step = layout_none is ∙ step
+
+-- want of memory names no rule
+pub memory_refused : (desk : DeskState) (command : Command) → IsAllowed desk command → (refusal : StoreRefusal) → IsMemory refusal
+    → Refuses desk command (stored_refusal desk.commit refusal)
+memory_refused desk command allowed (stored.Memory error) is = memory desk command allowed
+memory_refused desk command allowed (stored.NoBucket name) is = absurd is
+memory_refused desk command allowed stored.RootBucket is = absurd is
+memory_refused desk command allowed (stored.BadKind kind) is = absurd is
+memory_refused desk command allowed (stored.Limit counted most) is = absurd is
+memory_refused desk command allowed (stored.Cycle name) is = absurd is

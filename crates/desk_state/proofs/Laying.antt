@@ -19,11 +19,12 @@ use Rattle.bucket_store.specs.Database.{Database, Heading, Placed, root, has_buc
 use Rattle.bucket_store.specs.Order.{heading_cmp, placed_cmp, put}
 use Rattle.bucket_store.specs.Change.{with_bucket, after_change, with_changes}
 use Rattle.bucket_store.specs.Refusal as store
-use Rattle.bucket_store.specs.Refusal.{named_by, no_bucket, most_buckets}
+use Rattle.bucket_store.specs.Refusal.{Request, named_by, no_bucket, most_buckets}
 use Rattle.bucket_store.specs.WellFormed.{IsWellFormed, IsSound, IsRooted}
 use Rattle.bucket_store.specs.parts.Batch.{name_of}
 use Rattle.bucket_store.specs.declared.policy_changes.Change.{Change}
 use Rattle.bucket_store.specs.declared.refusals.StoreRefusal.TheVariants as stored
+use Rattle.bucket_store.specs.declared.refusals.StoreRefusal.{StoreRefusal}
 use Rattle.cynara_keys.specs.declared.fields.Field.TheVariants.{Any}
 use Rattle.bucket_store.proofs.Heading.{any-put, Sound-with}
 use Rattle.bucket_store.proofs.Lists.{filter-none}
@@ -34,7 +35,7 @@ use Rattle.desk_state.specs.DeskState.{DeskState}
 use Rattle.desk_state.specs.IsDesk.{IsBare, IsLaidOut, IsDesk}
 use Rattle.desk_state.specs.Layout.{main, manifests, admin, type_bucket, built_in, is_managed, has_layout, heading, headings, laid_out}
 use Rattle.desk_state.specs.Rules.{layout_there}
-use Rattle.desk_state.specs.parts.Linking.{with_headings, link_changes, set_link}
+use Rattle.desk_state.specs.parts.Linking.{with_headings, link_changes, set_link, IsMemory}
 use Rattle.desk_state.specs.parts.Stepping.{IsArranged, moved}
 use Rattle.desk_state.specs.declared.commands.Command.TheVariants.{Layout}
 use Rattle.desk_state.proofs.Filters.{filter-turn}
@@ -297,3 +298,16 @@ with-room heading database sound good room =
     let after = Sound-with heading database good more sound in
     λ i. store.first_of (None ∷ None ∷ option_map (λ (bad : Heading). stored.BadKind (record { 0 = bad.fallback.kind })) (cond (good i) (Some heading) None)
     ∷ limit-sound (with_bucket heading database) after i ∷ cycle-sound (with_bucket heading database) after i ∷ [])
+
+clash : {fault : Option StoreRefusal} {refusal : StoreRefusal} → fault ≡ None → fault ≡ Some refusal → ⊥
+clash none some = cc
+
+-- a request without a fault is refused for want of memory alone
+pub only-memory : (database : Database) (request : Request) → store.fault database request ≡ None → (refusal : StoreRefusal)
+    → store.Refuses database request refusal → IsMemory refusal
+only-memory database request none (stored.Memory error) is = tt
+only-memory database request none (stored.NoBucket name) is = clash none is
+only-memory database request none stored.RootBucket is = clash none is
+only-memory database request none (stored.BadKind kind) is = clash none is
+only-memory database request none (stored.Limit counted most) is = clash none is
+only-memory database request none (stored.Cycle name) is = clash none is

@@ -11,3 +11,4 @@ pub mod Linking
 pub mod Touching
 pub mod Commanding
 pub mod Laying
+pub mod Expanding

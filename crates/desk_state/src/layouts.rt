@@ -1,6 +1,6 @@
 //! The layout: seven buckets, and the policies that link them.
 
-ghost use Rattle.std.specs.Prelude.{◌≡◌, ◌+◌, ◌<◌, ◌≤◌, [], ◌∷◌, None, true, false, length, IfOk};
+ghost use Rattle.std.specs.Prelude.{◌≡◌, ◌+◌, ◌<◌, ◌≤◌, [], ◌∷◌, None, true, false, length, IfOk, IfErr};
 ghost use Rattle.cynara_keys.specs.BucketName.{bucket_name_fault, is_bucket_name};
 ghost use Rattle.cynara_keys.specs.Metadata.{metadata_fault};
 ghost use Rattle.cynara_keys.specs.PolicyResult as ruling;
@@ -8,7 +8,7 @@ ghost use Rattle.bucket_store.specs.Change.{with_bucket};
 ghost use Rattle.bucket_store.specs.Refusal.{is_bad, most_buckets};
 ghost use Rattle.desk_state.specs.Layout as layout;
 ghost use Rattle.desk_state.specs.declared.commands.Command.TheVariants as command;
-ghost use Rattle.desk_state.specs.parts.Linking.{with_headings, link_changes, set_link, all_key};
+ghost use Rattle.desk_state.specs.parts.Linking.{with_headings, link_changes, set_link, all_key, IsMemory};
 ghost use Rattle.desk_state.specs.parts.Stepping.{Answers, IsAllowed};
 
 use crate::following::{bucket_name, link_to};
@@ -34,7 +34,7 @@ impl Desk {
         let alloc = self.template().allocator();
         let housed = match with_buckets(alloc, self.database()) {
             Ok(database) => database,
-            Err(error) => return Err(Refusal::Memory(error)),
+            Err(refusal) => return Err(self.refused_by_store(refusal)),
         };
         let changes = match link_changes(alloc) {
             Ok(changes) => changes,
@@ -49,10 +49,11 @@ impl Desk {
     }
 }
 
-// The database with the seven buckets.
-fn with_buckets(alloc: Global, database: &Database) -> Result<Database, AllocError>
+// The database with the seven buckets. Want of memory alone stands against it.
+fn with_buckets(alloc: Global, database: &Database) -> Result<Database, StoreRefusal>
     requires { length database.now.buckets + 7 ≤ most_buckets }
-    ensures { IfOk result (λ next. next ≡ with_headings database.now) }
+    ensures next { IfOk result (λ next. next ≡ with_headings database.now) }
+    ensures refused { IfErr result IsMemory }
 {
     let next = with_bucket(alloc, database, MAIN, Kind::DENY)?;
     let next = with_bucket(alloc, &next, MANIFESTS, Kind::DENY)?;
@@ -70,20 +71,23 @@ fn with_bucket(
     database: &Database,
     name: &[u8],
     kind: Kind,
-) -> Result<Database, AllocError>
+) -> Result<Database, StoreRefusal>
     requires room { length database.now.buckets < most_buckets }
     requires name { bucket_name_fault name.now ≡ None }
     requires kind { is_bad (layout.heading name.now kind.0) ≡ false }
     ensures next { IfOk result (λ next. next ≡ with_bucket (layout.heading name.now kind.0) database.now) }
     ensures more { IfOk result (λ next. length next.buckets ≤ length database.now.buckets + 1) }
+    ensures refused { IfErr result IsMemory }
 {
     let _ = database.buckets();
-    let name = bucket_name(alloc, name)?;
+    let name = match bucket_name(alloc, name) {
+        Ok(name) => name,
+        Err(error) => return Err(StoreRefusal::Memory(error)),
+    };
     let fallback = PolicyResult::without_metadata(alloc, kind);
     match database.set_bucket(&name, &fallback) {
         Ok(next) => Ok(next),
-        Err(StoreRefusal::Memory(error)) => Err(error),
-        Err(_) => unreachable!(),
+        Err(refusal) => Err(refusal),
     }
 }
 

@@ -13,6 +13,7 @@ mod following;
 mod layout_rules;
 mod layouts;
 mod names;
+mod package_rules;
 mod refusals;
 mod registry_commands;
 mod steps;

@@ -8,6 +8,8 @@ use Rattle.bucket_store.specs.Database.{Database, root}
 use Rattle.bucket_store.specs.Order.{heading_cmp, put}
 use Rattle.bucket_store.specs.declared.policy_changes.Change.{Change}
 use Rattle.bucket_store.specs.declared.policy_changes.Change.TheVariants.{Set}
+use Rattle.bucket_store.specs.declared.refusals.StoreRefusal.{StoreRefusal}
+use Rattle.bucket_store.specs.declared.refusals.StoreRefusal.TheVariants.{NoBucket, RootBucket, BadKind, Limit, Cycle, Memory}
 use Rattle.app_registry.specs.declared.users.UserType.TheVariants.{System, Admin, Normal, Guest}
 use Rattle.desk_state.specs.Layout.{headings, main, manifests, admin, type_bucket}
 
@@ -28,3 +30,8 @@ abbrev pub link_changes : List Change
 link_changes =
     set_link root main ∷ set_link main manifests ∷ set_link (type_bucket System) admin ∷ set_link (type_bucket Admin) admin
     ∷ set_link (type_bucket Normal) admin ∷ set_link (type_bucket Guest) admin ∷ []
+
+-- nothing but want of memory
+abbrev pub IsMemory : StoreRefusal → Type 0
+IsMemory (Memory error) = Unit {0}
+IsMemory refusal = ⊥
