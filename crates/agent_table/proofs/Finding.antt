@@ -1,5 +1,5 @@
 -- What the places that a search gives have to do with the list.
-use Rattle.std.proofs.Common.{◌≡◌, ℕ, ◌<◌, ◌==◌, Bool, true, false, not, cond, ◌&&◌, List, [], ◌∷◌, length, get_or}
+use Rattle.std.proofs.Common.{◌≡◌, ℕ, ◌<◌, ◌==◌, Bool, true, false, ◌&&◌, List, [], ◌∷◌, length, get_or}
 use Rattle.std.proofs.Common.{Option, Some, None, IfSome, refl, sym, ap, ◌∙◌, subst}
 use Rattle.std.specs.List.{AllByRecursion, slice_get}
 use Rattle.std.specs.Option.{option_map}
@@ -112,17 +112,6 @@ pub numbered-next : (n : ℕ) (questions : List OpenQuestion)
     → numbered n questions ≡ None
 numbered-next n [] below = refl
 numbered-next n (first ∷ questions) below = rw (eqb-below first.number n below.0) (numbered-next n questions below.1)
-
--- without the number of no question, all stay
-pub without-none : (n : ℕ) (questions : List OpenQuestion) → numbered n questions ≡ None
-    → without n questions ≡ questions
-without-none n [] none = refl
-without-none n (first ∷ questions) none =
-    let P : Bool → Type 0 = λ b. cond b (Some first) (numbered n questions) ≡ None
-    → cond (not b) (first ∷ without n questions) (without n questions) ≡ first ∷ questions in
-    let cases : (b : Bool) → P b =
-    λ b. elim b as P [ true ↦ λ is. cc | false ↦ λ is. ap (λ l. first ∷ l) (without-none n questions is) ] in
-    cases (first.number == n) none
 
 owed-state : (state : State) → is_given state ≡ true → is_waiting state ≡ false
 owed-state Waiting owed = absurd (true≢false (sym owed))

@@ -140,7 +140,7 @@ module _ (puts : ℕ → Option Question) (given : ℕ → Option Bool) (table :
       → AllByRecursion (Stands puts given (after_take reply number table).next)
       (after_take reply number table).questions
   stand-take number (Ok taken) = stand-without number
-  stand-take number (Err (UnknownNumber other)) = stand-without number
+  stand-take number (Err (UnknownNumber other)) = all
   stand-take number (Err (AgentGone other)) = stand-without number
   stand-take number (Err Stopped) = stand-without number
   stand-take number (Err NotYet) = all

@@ -66,7 +66,9 @@ take_from number (Some question) stopped = take_at question question.state stopp
 abbrev pub take_reply : ℕ → Table → Result Taken TakeRefusal
 take_reply number table = take_from number (numbered number table.questions) table.stopped
 
--- a question is taken away with its answer, and by every refusal but that there is no answer yet
+-- a question is taken away with its answer, where its agent left, and where the table is stopped; the other refusals
+-- leave the table as it was
 abbrev pub after_take : Result Taken TakeRefusal → ℕ → Table → Table
+after_take (Err (UnknownNumber other)) number table = table
 after_take (Err NotYet) number table = table
 after_take reply number table = taken_away number table

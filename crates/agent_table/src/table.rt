@@ -222,7 +222,8 @@ impl Questions {
     }
 
     /// Takes the question with the number away with its answer. Refuses, in this order, `UnknownNumber`, `AgentGone`,
-    /// `Stopped` and `NotYet`; the question is taken away by each of them but `NotYet`. Takes no memory.
+    /// `Stopped` and `NotYet`. `AgentGone` and `Stopped` take the question away too; the others change nothing. Takes
+    /// no memory.
     pub fn take(&mut self, number: u32) -> Result<Taken, TakeRefusal>
         ensures reply { result ≡ take_reply number self.old }
         ensures table { self.new ≡ after_take result number self.old }
