@@ -209,14 +209,14 @@ line_at verb.Access words = access_at words
 line_at verb.Status words = status_at words
 
 -- the change that a line is
-unfoldable pub change_of : List ℕ → Option Change
-change_of line = do
+unfoldable pub lone_change : List ℕ → Option Change
+lone_change line = do
   first ← word verb_at (words_of line)
   change_at first.0 first.1
 
 -- the step of a line that stands alone
-unfoldable pub line_of : List ℕ → Option Step
-line_of line = do
+unfoldable pub lone_step : List ℕ → Option Step
+lone_step line = do
   first ← word verb_at (words_of line)
   line_at first.0 first.1
 
@@ -233,14 +233,14 @@ outside_at line =
     if is_skipped line then Some (outside, step.Nothing)
     else (if same_text line (codes "batch") then Some (batch [], step.Nothing)
     else (if same_text line (codes "template") then Some (template [], step.Nothing)
-    else option_map (λ read. (outside, read)) (line_of line)))
+    else option_map (λ read. (outside, read)) (lone_step line)))
 
 -- a line of a batch behind these changes
 unfoldable pub batch_at : List Change → List ℕ → Option (Block × Step)
 batch_at changes line =
     if is_skipped line then Some (batch changes, step.Nothing)
     else (if same_text line (codes "end") then Some (outside, step.Command (command.SetPolicies changes))
-    else option_map (λ change. (batch (changes ++ change ∷ []), step.Nothing)) (change_of line))
+    else option_map (λ change. (batch (changes ++ change ∷ []), step.Nothing)) (lone_change line))
 
 -- a line of a template behind these lines
 unfoldable pub template_at : List TemplateLine → List ℕ → Option (Block × Step)

@@ -1,4 +1,4 @@
-ghost use Rattle.line_script.specs.Grammar.{change_at, line_at, change_of, line_of};
+ghost use Rattle.line_script.specs.Grammar.{change_at, line_at, lone_change, lone_step};
 ghost use Rattle.line_script.specs.Words.{word};
 ghost use Rattle.line_script.specs.Verbs.{verb_at};
 ghost use Rattle.line_script.specs.parts.Reading.{Gives, GivesWord};
@@ -16,9 +16,9 @@ use bucket_store::Change;
 use std::alloc::Global;
 
 /// The step of a line that stands outside a block and is neither blank nor a comment.
-#[tactic(auto, unfolding(crate::specs::Grammar::line_of))]
-pub(crate) fn lone_line(alloc: Global, line: &[u8]) -> Result<Step, LineRefusal>
-    ensures { Gives result (line_of line.now) }
+#[tactic(auto, unfolding(crate::specs::Grammar::lone_step))]
+pub(crate) fn lone_step(alloc: Global, line: &[u8]) -> Result<Step, LineRefusal>
+    ensures { Gives result (lone_step line.now) }
 {
     let mut words = Words::of(line);
     let verb = verb_word(&mut words)?;
@@ -26,9 +26,9 @@ pub(crate) fn lone_line(alloc: Global, line: &[u8]) -> Result<Step, LineRefusal>
 }
 
 /// The change that a line of a batch is.
-#[tactic(auto, unfolding(crate::specs::Grammar::change_of))]
+#[tactic(auto, unfolding(crate::specs::Grammar::lone_change))]
 pub(crate) fn lone_change(alloc: Global, line: &[u8]) -> Result<Change, LineRefusal>
-    ensures { Gives result (change_of line.now) }
+    ensures { Gives result (lone_change line.now) }
 {
     let mut words = Words::of(line);
     let verb = verb_word(&mut words)?;
