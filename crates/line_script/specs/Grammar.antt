@@ -12,7 +12,6 @@ use Rattle.bucket_store.specs.declared.policy_changes.Change.TheVariants.{Set as
 use Rattle.app_registry.specs.Rising.{rising}
 use Rattle.rule_templates.specs.Template.{with_one_more}
 use Rattle.rule_templates.specs.declared.lines.TemplateLine.{TemplateLine}
-use Rattle.desk_state.specs.declared.commands.Command.{Command}
 use Rattle.desk_state.specs.declared.commands.Command.TheVariants as command
 use Rattle.line_script.specs.Words.{words_of, word, end_of, ◌>>=◌}
 use Rattle.line_script.specs.WordForms.{bucket_at, name_at, field_at, filter_field_at, depth_at, result_at, uid_at, user_type_at, scope_at, ident_at, author_at, label_at, request_at}
@@ -73,72 +72,72 @@ unset_at words = do
   Some (Delete bucket.0 key.0)
 
 -- `bucket BUCKET RESULT`
-unfoldable pub set_bucket_at : List (List ℕ) → Option Command
+unfoldable pub set_bucket_at : List (List ℕ) → Option Step
 set_bucket_at words = do
   bucket ← word bucket_at words
   fallback ← word result_at bucket.1
   ended ← end_of fallback.1
-  Some (command.SetBucket bucket.0 fallback.0)
+  Some (step.Command (command.SetBucket bucket.0 fallback.0))
 
 -- `drop BUCKET`
-unfoldable pub drop_at : List (List ℕ) → Option Command
+unfoldable pub drop_at : List (List ℕ) → Option Step
 drop_at words = do
   bucket ← word bucket_at words
   ended ← end_of bucket.1
-  Some (command.RemoveBucket bucket.0)
+  Some (step.Command (command.RemoveBucket bucket.0))
 
 -- `erase BUCKET FILTER FILTER FILTER`
-unfoldable pub erase_at : List (List ℕ) → Option Command
+unfoldable pub erase_at : List (List ℕ) → Option Step
 erase_at words = do
   bucket ← word bucket_at words
   filter ← filter_at bucket.1
   ended ← end_of filter.1
-  Some (command.Erase bucket.0 filter.0)
+  Some (step.Command (command.Erase bucket.0 filter.0))
 
 -- `layout`
-unfoldable pub layout_at : List (List ℕ) → Option Command
+unfoldable pub layout_at : List (List ℕ) → Option Step
 layout_at words = do
   ended ← end_of words
-  Some command.Layout
+  Some (step.Command command.Layout)
 
 -- `user UID TYPE`
-unfoldable pub user_at : List (List ℕ) → Option Command
+unfoldable pub user_at : List (List ℕ) → Option Step
 user_at words = do
   uid ← word uid_at words
   kind ← word user_type_at uid.1
   ended ← end_of kind.1
-  Some (command.UserSet uid.0 kind.0)
+  Some (step.Command (command.UserSet uid.0 kind.0))
 
 -- `nouser UID`
-unfoldable pub nouser_at : List (List ℕ) → Option Command
+unfoldable pub nouser_at : List (List ℕ) → Option Step
 nouser_at words = do
   uid ← word uid_at words
   ended ← end_of uid.1
-  Some (command.UserRemove uid.0)
+  Some (step.Command (command.UserRemove uid.0))
 
 -- `install PACKAGE AUTHOR APP SCOPE` and any number of privileges, whose order and repeats say nothing
-unfoldable pub install_at : List (List ℕ) → Option Command
+unfoldable pub install_at : List (List ℕ) → Option Step
 install_at words = do
   name ← word ident_at words
   author ← word author_at name.1
   app ← word ident_at author.1
   scope ← word scope_at app.1
   privileges ← names_at scope.1
-  Some (command.Install (record {
+  Some (step.Command (command.Install (record {
     «package» = name.0;
     author = author.0;
     app = app.0;
     scope = scope.0;
     privileges = rising text_cmp privileges;
-  }))
+  })))
 
 -- `remove APP SCOPE`
-unfoldable pub remove_at : List (List ℕ) → Option Command
+unfoldable pub remove_at : List (List ℕ) → Option Step
 remove_at words = do
   app ← word ident_at words
   scope ← word scope_at app.1
   ended ← end_of scope.1
-  Some (command.Uninstall app.0 scope.0)
+  Some (step.Command (command.Uninstall app.0 scope.0))
 
 -- `list BUCKET FILTER FILTER FILTER`
 unfoldable pub list_at : List (List ℕ) → Option Step
@@ -194,14 +193,14 @@ change_step change = step.Command (command.SetPolicies (change ∷ []))
 unfoldable pub line_at : Verb → List (List ℕ) → Option Step
 line_at verb.Set words = option_map change_step (set_at words)
 line_at verb.Unset words = option_map change_step (unset_at words)
-line_at verb.Bucket words = option_map step.Command (set_bucket_at words)
-line_at verb.Drop words = option_map step.Command (drop_at words)
-line_at verb.Erase words = option_map step.Command (erase_at words)
-line_at verb.Layout words = option_map step.Command (layout_at words)
-line_at verb.User words = option_map step.Command (user_at words)
-line_at verb.NoUser words = option_map step.Command (nouser_at words)
-line_at verb.Install words = option_map step.Command (install_at words)
-line_at verb.Remove words = option_map step.Command (remove_at words)
+line_at verb.Bucket words = set_bucket_at words
+line_at verb.Drop words = drop_at words
+line_at verb.Erase words = erase_at words
+line_at verb.Layout words = layout_at words
+line_at verb.User words = user_at words
+line_at verb.NoUser words = nouser_at words
+line_at verb.Install words = install_at words
+line_at verb.Remove words = remove_at words
 line_at verb.List words = list_at words
 line_at verb.Check words = check_at words
 line_at verb.From words = from_at words

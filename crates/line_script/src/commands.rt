@@ -6,14 +6,15 @@ ghost use Rattle.line_script.specs.parts.Reading.{Gives};
 use crate::line_words::Words;
 use crate::phrases::filter_words;
 use crate::results::result_word;
-use crate::steps::LineRefusal;
+use crate::steps::{LineRefusal, Step};
 use crate::word_forms::{bucket_word, end_word, ident_word, scope_word, uid_word, user_type_word};
 use desk_state::Command;
 use std::alloc::Global;
 
 /// `bucket BUCKET RESULT`.
 #[tactic(auto, unfolding(crate::specs::Grammar::set_bucket_at))]
-pub(crate) fn bucket_line(alloc: Global, words: &mut Words) -> Result<Command, LineRefusal>
+#[inline(never)]
+pub(crate) fn bucket_line(alloc: Global, words: &mut Words) -> Result<Step, LineRefusal>
     ensures { Gives result (set_bucket_at words.old) }
 {
     let bucket = bucket_word(alloc, words)?;
@@ -21,24 +22,26 @@ pub(crate) fn bucket_line(alloc: Global, words: &mut Words) -> Result<Command, L
     let Some(()) = end_word(words) else {
         return Err(LineRefusal::Syntax);
     };
-    Ok(Command::SetBucket { bucket, fallback })
+    Ok(Step::Command(Command::SetBucket { bucket, fallback }))
 }
 
 /// `drop BUCKET`.
 #[tactic(auto, unfolding(crate::specs::Grammar::drop_at))]
-pub(crate) fn drop_line(alloc: Global, words: &mut Words) -> Result<Command, LineRefusal>
+#[inline(never)]
+pub(crate) fn drop_line(alloc: Global, words: &mut Words) -> Result<Step, LineRefusal>
     ensures { Gives result (drop_at words.old) }
 {
     let bucket = bucket_word(alloc, words)?;
     let Some(()) = end_word(words) else {
         return Err(LineRefusal::Syntax);
     };
-    Ok(Command::RemoveBucket { bucket })
+    Ok(Step::Command(Command::RemoveBucket { bucket }))
 }
 
 /// `erase BUCKET FILTER FILTER FILTER`.
 #[tactic(auto, unfolding(crate::specs::Grammar::erase_at))]
-pub(crate) fn erase_line(alloc: Global, words: &mut Words) -> Result<Command, LineRefusal>
+#[inline(never)]
+pub(crate) fn erase_line(alloc: Global, words: &mut Words) -> Result<Step, LineRefusal>
     ensures { Gives result (erase_at words.old) }
 {
     let bucket = bucket_word(alloc, words)?;
@@ -46,23 +49,25 @@ pub(crate) fn erase_line(alloc: Global, words: &mut Words) -> Result<Command, Li
     let Some(()) = end_word(words) else {
         return Err(LineRefusal::Syntax);
     };
-    Ok(Command::Erase { bucket, filter })
+    Ok(Step::Command(Command::Erase { bucket, filter }))
 }
 
 /// `layout`.
 #[tactic(auto, unfolding(crate::specs::Grammar::layout_at))]
-pub(crate) fn layout_line(words: &mut Words) -> Result<Command, LineRefusal>
+#[inline(never)]
+pub(crate) fn layout_line(words: &mut Words) -> Result<Step, LineRefusal>
     ensures { Gives result (layout_at words.old) }
 {
     let Some(()) = end_word(words) else {
         return Err(LineRefusal::Syntax);
     };
-    Ok(Command::Layout)
+    Ok(Step::Command(Command::Layout))
 }
 
 /// `user UID TYPE`.
 #[tactic(auto, unfolding(crate::specs::Grammar::user_at))]
-pub(crate) fn user_line(words: &mut Words) -> Result<Command, LineRefusal>
+#[inline(never)]
+pub(crate) fn user_line(words: &mut Words) -> Result<Step, LineRefusal>
     ensures { Gives result (user_at words.old) }
 {
     let uid = uid_word(words)?;
@@ -70,24 +75,26 @@ pub(crate) fn user_line(words: &mut Words) -> Result<Command, LineRefusal>
     let Some(()) = end_word(words) else {
         return Err(LineRefusal::Syntax);
     };
-    Ok(Command::UserSet { uid, kind })
+    Ok(Step::Command(Command::UserSet { uid, kind }))
 }
 
 /// `nouser UID`.
 #[tactic(auto, unfolding(crate::specs::Grammar::nouser_at))]
-pub(crate) fn nouser_line(words: &mut Words) -> Result<Command, LineRefusal>
+#[inline(never)]
+pub(crate) fn nouser_line(words: &mut Words) -> Result<Step, LineRefusal>
     ensures { Gives result (nouser_at words.old) }
 {
     let uid = uid_word(words)?;
     let Some(()) = end_word(words) else {
         return Err(LineRefusal::Syntax);
     };
-    Ok(Command::UserRemove { uid })
+    Ok(Step::Command(Command::UserRemove { uid }))
 }
 
 /// `remove APP SCOPE`.
 #[tactic(auto, unfolding(crate::specs::Grammar::remove_at))]
-pub(crate) fn remove_line(alloc: Global, words: &mut Words) -> Result<Command, LineRefusal>
+#[inline(never)]
+pub(crate) fn remove_line(alloc: Global, words: &mut Words) -> Result<Step, LineRefusal>
     ensures { Gives result (remove_at words.old) }
 {
     let app = ident_word(alloc, words)?;
@@ -95,5 +102,5 @@ pub(crate) fn remove_line(alloc: Global, words: &mut Words) -> Result<Command, L
     let Some(()) = end_word(words) else {
         return Err(LineRefusal::Syntax);
     };
-    Ok(Command::Uninstall { app, scope })
+    Ok(Step::Command(Command::Uninstall { app, scope }))
 }

@@ -3,7 +3,7 @@ ghost use Rattle.line_script.specs.Words.{word};
 ghost use Rattle.line_script.specs.Verbs.{verb_at};
 ghost use Rattle.line_script.specs.parts.Reading.{Gives, GivesWord};
 
-use crate::changes::{one_change, set_line, unset_line};
+use crate::changes::{set_line, set_step, unset_line, unset_step};
 use crate::commands::{
     bucket_line, drop_line, erase_line, layout_line, nouser_line, remove_line, user_line,
 };
@@ -53,21 +53,22 @@ fn change_behind(alloc: Global, verb: Verb, words: &mut Words) -> Result<Change,
     }
 }
 
+/// Each line has a function of its own that is not inlined: a function pays at its entry for all that it may hold.
 #[tactic(auto, unfolding(crate::specs::Grammar::line_at))]
 fn line_behind(alloc: Global, verb: Verb, words: &mut Words) -> Result<Step, LineRefusal>
     ensures { Gives result (line_at verb words.old) }
 {
     match verb {
-        Verb::Set => one_change(alloc, set_line(alloc, words)?),
-        Verb::Unset => one_change(alloc, unset_line(alloc, words)?),
-        Verb::Bucket => Ok(Step::Command(bucket_line(alloc, words)?)),
-        Verb::Drop => Ok(Step::Command(drop_line(alloc, words)?)),
-        Verb::Erase => Ok(Step::Command(erase_line(alloc, words)?)),
-        Verb::Layout => Ok(Step::Command(layout_line(words)?)),
-        Verb::User => Ok(Step::Command(user_line(words)?)),
-        Verb::NoUser => Ok(Step::Command(nouser_line(words)?)),
-        Verb::Install => Ok(Step::Command(install_line(alloc, words)?)),
-        Verb::Remove => Ok(Step::Command(remove_line(alloc, words)?)),
+        Verb::Set => set_step(alloc, words),
+        Verb::Unset => unset_step(alloc, words),
+        Verb::Bucket => bucket_line(alloc, words),
+        Verb::Drop => drop_line(alloc, words),
+        Verb::Erase => erase_line(alloc, words),
+        Verb::Layout => layout_line(words),
+        Verb::User => user_line(words),
+        Verb::NoUser => nouser_line(words),
+        Verb::Install => install_line(alloc, words),
+        Verb::Remove => remove_line(alloc, words),
         Verb::List => list_line(alloc, words),
         Verb::Check => check_line(alloc, words),
         Verb::From => from_line(alloc, words),

@@ -11,6 +11,7 @@ use std::alloc::Global;
 
 /// `list BUCKET FILTER FILTER FILTER`.
 #[tactic(auto, unfolding(crate::specs::Grammar::list_at))]
+#[inline(never)]
 pub(crate) fn list_line(alloc: Global, words: &mut Words) -> Result<Step, LineRefusal>
     ensures { Gives result (list_at words.old) }
 {
@@ -24,6 +25,7 @@ pub(crate) fn list_line(alloc: Global, words: &mut Words) -> Result<Step, LineRe
 
 /// `check CLIENT USER PRIVILEGE`.
 #[tactic(auto, unfolding(crate::specs::Grammar::check_at))]
+#[inline(never)]
 pub(crate) fn check_line(alloc: Global, words: &mut Words) -> Result<Step, LineRefusal>
     ensures { Gives result (check_at words.old) }
 {
@@ -36,6 +38,7 @@ pub(crate) fn check_line(alloc: Global, words: &mut Words) -> Result<Step, LineR
 
 /// `from BUCKET MODE CLIENT USER PRIVILEGE`.
 #[tactic(auto, unfolding(crate::specs::Grammar::from_at))]
+#[inline(never)]
 pub(crate) fn from_line(alloc: Global, words: &mut Words) -> Result<Step, LineRefusal>
     ensures { Gives result (from_at words.old) }
 {
@@ -54,6 +57,7 @@ pub(crate) fn from_line(alloc: Global, words: &mut Words) -> Result<Step, LineRe
 
 /// `access SUBJECT OBJECT MODES`.
 #[tactic(auto, unfolding(crate::specs::Grammar::access_at))]
+#[inline(never)]
 pub(crate) fn access_line(alloc: Global, words: &mut Words) -> Result<Step, LineRefusal>
     ensures { Gives result (access_at words.old) }
 {
@@ -72,6 +76,7 @@ pub(crate) fn access_line(alloc: Global, words: &mut Words) -> Result<Step, Line
 
 /// `status`.
 #[tactic(auto, unfolding(crate::specs::Grammar::status_at))]
+#[inline(never)]
 pub(crate) fn status_line(words: &mut Words) -> Result<Step, LineRefusal>
     ensures { Gives result (status_at words.old) }
 {
