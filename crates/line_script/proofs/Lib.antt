@@ -1,5 +1,3 @@
 pub mod Appends
-pub mod NameWords
-pub mod Numerals
 pub mod Parts
-pub mod Refusing
+pub mod Reading

@@ -17,9 +17,9 @@ word reading [] = None
 word reading (first ∷ rest) = option_map (λ value. (value, rest)) (reading first)
 
 -- no word is left
-unfoldable pub end_of : List (List ℕ) → Option (Unit {0})
-end_of [] = Some tt
-end_of (first ∷ rest) = None
+abbrev pub end_of : {A : Type 0} → A → List (List ℕ) → Option A
+end_of value [] = Some value
+end_of value (first ∷ rest) = None
 
 -- the words of what is left of a line, if anything is
 abbrev pub words_left : Option (Bor (List ℕ)) → List (List ℕ)

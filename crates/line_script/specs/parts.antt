@@ -1,3 +1,4 @@
 pub mod Reading
+pub mod WordsLeft
 pub mod Places
 pub mod Appending

@@ -1,8 +1,8 @@
 //! Lines that change one policy, behind their first word.
 
-ghost use Rattle.std.specs.Prelude.{Some, IfOk};
-ghost use Rattle.line_script.specs.Turn.{AsksRequest};
+ghost use Rattle.std.specs.Prelude.{Some, option_map, IfOk};
 ghost use Rattle.line_script.specs.Grammar.{set_at, unset_at, change_step};
+ghost use Rattle.line_script.specs.Turn.{AsksRequest};
 ghost use Rattle.line_script.specs.parts.Reading.{Gives};
 
 use crate::line_words::Words;
@@ -45,8 +45,27 @@ pub(crate) fn unset_line(alloc: Global, words: &mut Words) -> Result<Change, Lin
     Ok(Change::Delete { bucket, key })
 }
 
+/// The same two lines outside a batch.
+#[inline(never)]
+pub(crate) fn set_step(alloc: Global, words: &mut Words) -> Result<Step, LineRefusal>
+    ensures step { Gives result (option_map change_step (set_at words.old)) }
+    ensures asked { IfOk result AsksRequest }
+{
+    let change = set_line(alloc, words)?;
+    one_change(alloc, change)
+}
+
+#[inline(never)]
+pub(crate) fn unset_step(alloc: Global, words: &mut Words) -> Result<Step, LineRefusal>
+    ensures step { Gives result (option_map change_step (unset_at words.old)) }
+    ensures asked { IfOk result AsksRequest }
+{
+    let change = unset_line(alloc, words)?;
+    one_change(alloc, change)
+}
+
 /// One change, as a command of its own.
-pub(crate) fn one_change(alloc: Global, change: Change) -> Result<Step, LineRefusal>
+fn one_change(alloc: Global, change: Change) -> Result<Step, LineRefusal>
     ensures step { Gives result (Some (change_step change)) }
     ensures asked { IfOk result AsksRequest }
 {

@@ -1,99 +1,115 @@
 //! Lines that are one command, behind their first word.
 
+ghost use Rattle.std.specs.Prelude.{IfOk};
 ghost use Rattle.line_script.specs.Grammar.{set_bucket_at, drop_at, erase_at, layout_at, user_at, nouser_at, remove_at};
+ghost use Rattle.line_script.specs.Turn.{AsksRequest};
 ghost use Rattle.line_script.specs.parts.Reading.{Gives};
 
 use crate::line_words::Words;
 use crate::phrases::filter_words;
 use crate::results::result_word;
-use crate::steps::LineRefusal;
+use crate::steps::{LineRefusal, Step};
 use crate::word_forms::{bucket_word, end_word, ident_word, scope_word, uid_word, user_type_word};
 use desk_state::Command;
 use std::alloc::Global;
 
 /// `bucket BUCKET RESULT`.
 #[tactic(auto, unfolding(crate::specs::Grammar::set_bucket_at))]
-pub(crate) fn bucket_line(alloc: Global, words: &mut Words) -> Result<Command, LineRefusal>
-    ensures { Gives result (set_bucket_at words.old) }
+#[inline(never)]
+pub(crate) fn bucket_line(alloc: Global, words: &mut Words) -> Result<Step, LineRefusal>
+    ensures step { Gives result (set_bucket_at words.old) }
+    ensures asked { IfOk result AsksRequest }
 {
     let bucket = bucket_word(alloc, words)?;
     let fallback = result_word(alloc, words)?;
     let Some(()) = end_word(words) else {
         return Err(LineRefusal::Syntax);
     };
-    Ok(Command::SetBucket { bucket, fallback })
+    Ok(Step::Command(Command::SetBucket { bucket, fallback }))
 }
 
 /// `drop BUCKET`.
 #[tactic(auto, unfolding(crate::specs::Grammar::drop_at))]
-pub(crate) fn drop_line(alloc: Global, words: &mut Words) -> Result<Command, LineRefusal>
-    ensures { Gives result (drop_at words.old) }
+#[inline(never)]
+pub(crate) fn drop_line(alloc: Global, words: &mut Words) -> Result<Step, LineRefusal>
+    ensures step { Gives result (drop_at words.old) }
+    ensures asked { IfOk result AsksRequest }
 {
     let bucket = bucket_word(alloc, words)?;
     let Some(()) = end_word(words) else {
         return Err(LineRefusal::Syntax);
     };
-    Ok(Command::RemoveBucket { bucket })
+    Ok(Step::Command(Command::RemoveBucket { bucket }))
 }
 
 /// `erase BUCKET FILTER FILTER FILTER`.
 #[tactic(auto, unfolding(crate::specs::Grammar::erase_at))]
-pub(crate) fn erase_line(alloc: Global, words: &mut Words) -> Result<Command, LineRefusal>
-    ensures { Gives result (erase_at words.old) }
+#[inline(never)]
+pub(crate) fn erase_line(alloc: Global, words: &mut Words) -> Result<Step, LineRefusal>
+    ensures step { Gives result (erase_at words.old) }
+    ensures asked { IfOk result AsksRequest }
 {
     let bucket = bucket_word(alloc, words)?;
     let filter = filter_words(alloc, words)?;
     let Some(()) = end_word(words) else {
         return Err(LineRefusal::Syntax);
     };
-    Ok(Command::Erase { bucket, filter })
+    Ok(Step::Command(Command::Erase { bucket, filter }))
 }
 
 /// `layout`.
 #[tactic(auto, unfolding(crate::specs::Grammar::layout_at))]
-pub(crate) fn layout_line(words: &mut Words) -> Result<Command, LineRefusal>
-    ensures { Gives result (layout_at words.old) }
+#[inline(never)]
+pub(crate) fn layout_line(words: &mut Words) -> Result<Step, LineRefusal>
+    ensures step { Gives result (layout_at words.old) }
+    ensures asked { IfOk result AsksRequest }
 {
     let Some(()) = end_word(words) else {
         return Err(LineRefusal::Syntax);
     };
-    Ok(Command::Layout)
+    Ok(Step::Command(Command::Layout))
 }
 
 /// `user UID TYPE`.
 #[tactic(auto, unfolding(crate::specs::Grammar::user_at))]
-pub(crate) fn user_line(words: &mut Words) -> Result<Command, LineRefusal>
-    ensures { Gives result (user_at words.old) }
+#[inline(never)]
+pub(crate) fn user_line(words: &mut Words) -> Result<Step, LineRefusal>
+    ensures step { Gives result (user_at words.old) }
+    ensures asked { IfOk result AsksRequest }
 {
     let uid = uid_word(words)?;
     let kind = user_type_word(words)?;
     let Some(()) = end_word(words) else {
         return Err(LineRefusal::Syntax);
     };
-    Ok(Command::UserSet { uid, kind })
+    Ok(Step::Command(Command::UserSet { uid, kind }))
 }
 
 /// `nouser UID`.
 #[tactic(auto, unfolding(crate::specs::Grammar::nouser_at))]
-pub(crate) fn nouser_line(words: &mut Words) -> Result<Command, LineRefusal>
-    ensures { Gives result (nouser_at words.old) }
+#[inline(never)]
+pub(crate) fn nouser_line(words: &mut Words) -> Result<Step, LineRefusal>
+    ensures step { Gives result (nouser_at words.old) }
+    ensures asked { IfOk result AsksRequest }
 {
     let uid = uid_word(words)?;
     let Some(()) = end_word(words) else {
         return Err(LineRefusal::Syntax);
     };
-    Ok(Command::UserRemove { uid })
+    Ok(Step::Command(Command::UserRemove { uid }))
 }
 
 /// `remove APP SCOPE`.
 #[tactic(auto, unfolding(crate::specs::Grammar::remove_at))]
-pub(crate) fn remove_line(alloc: Global, words: &mut Words) -> Result<Command, LineRefusal>
-    ensures { Gives result (remove_at words.old) }
+#[inline(never)]
+pub(crate) fn remove_line(alloc: Global, words: &mut Words) -> Result<Step, LineRefusal>
+    ensures step { Gives result (remove_at words.old) }
+    ensures asked { IfOk result AsksRequest }
 {
     let app = ident_word(alloc, words)?;
     let scope = scope_word(words)?;
     let Some(()) = end_word(words) else {
         return Err(LineRefusal::Syntax);
     };
-    Ok(Command::Uninstall { app, scope })
+    Ok(Step::Command(Command::Uninstall { app, scope }))
 }

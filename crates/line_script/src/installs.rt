@@ -1,12 +1,13 @@
 //! The line that installs, behind its first word.
 
-ghost use Rattle.std.specs.Prelude.{◌≡◌, Some, MatchResult};
+ghost use Rattle.std.specs.Prelude.{◌≡◌, Some, MatchResult, IfOk};
 ghost use Rattle.line_script.specs.Grammar.{install_at, names_at};
 ghost use Rattle.line_script.specs.WordForms.{name_at};
+ghost use Rattle.line_script.specs.Turn.{AsksRequest};
 ghost use Rattle.line_script.specs.parts.Reading.{Gives, Refuses};
 
 use crate::line_words::Words;
-use crate::steps::LineRefusal;
+use crate::steps::{LineRefusal, Step};
 use crate::word_forms::{author_word, ident_word, scope_word};
 use app_registry::{Install, NameSet};
 use cynara_keys::{Name, NameRefusal};
@@ -15,8 +16,10 @@ use std::alloc::{AllocError, Global};
 
 /// `install PACKAGE AUTHOR APP SCOPE` and any number of privileges.
 #[tactic(auto, unfolding(crate::specs::Grammar::install_at))]
-pub(crate) fn install_line(alloc: Global, words: &mut Words) -> Result<Command, LineRefusal>
-    ensures { Gives result (install_at words.old) }
+#[inline(never)]
+pub(crate) fn install_line(alloc: Global, words: &mut Words) -> Result<Step, LineRefusal>
+    ensures step { Gives result (install_at words.old) }
+    ensures asked { IfOk result AsksRequest }
 {
     let package = ident_word(alloc, words)?;
     let author = author_word(alloc, words)?;
@@ -24,15 +27,14 @@ pub(crate) fn install_line(alloc: Global, words: &mut Words) -> Result<Command, 
     let scope = scope_word(words)?;
     let privileges = name_words(alloc, words)?;
     let privileges = NameSet::of(privileges).map_err(LineRefusal::Memory)?;
-    Ok(Command::Install {
-        install: Install {
-            package,
-            author,
-            app,
-            scope,
-            privileges,
-        },
-    })
+    let install = Install {
+        package,
+        author,
+        app,
+        scope,
+        privileges,
+    };
+    Ok(Step::Command(Command::Install { install }))
 }
 
 /// The names that are left on the line.

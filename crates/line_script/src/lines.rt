@@ -1,11 +1,11 @@
 ghost use Rattle.std.specs.Prelude.{IfOk};
-ghost use Rattle.line_script.specs.Grammar.{change_at, line_at, change_of, line_of};
+ghost use Rattle.line_script.specs.Grammar.{change_at, line_at, lone_change, lone_step};
 ghost use Rattle.line_script.specs.Words.{word};
 ghost use Rattle.line_script.specs.Verbs.{verb_at};
-ghost use Rattle.line_script.specs.parts.Reading.{Gives, GivesWord};
 ghost use Rattle.line_script.specs.Turn.{AsksRequest};
+ghost use Rattle.line_script.specs.parts.Reading.{Gives, GivesWord};
 
-use crate::changes::{one_change, set_line, unset_line};
+use crate::changes::{set_line, set_step, unset_line, unset_step};
 use crate::commands::{
     bucket_line, drop_line, erase_line, layout_line, nouser_line, remove_line, user_line,
 };
@@ -18,9 +18,9 @@ use bucket_store::Change;
 use std::alloc::Global;
 
 /// The step of a line that stands outside a block and is neither blank nor a comment.
-#[tactic(auto, unfolding(crate::specs::Grammar::line_of))]
-pub(crate) fn lone_line(alloc: Global, line: &[u8]) -> Result<Step, LineRefusal>
-    ensures step { Gives result (line_of line.now) }
+#[tactic(auto, unfolding(crate::specs::Grammar::lone_step))]
+pub(crate) fn lone_step(alloc: Global, line: &[u8]) -> Result<Step, LineRefusal>
+    ensures step { Gives result (lone_step line.now) }
     ensures asked { IfOk result AsksRequest }
 {
     let mut words = Words::of(line);
@@ -29,9 +29,9 @@ pub(crate) fn lone_line(alloc: Global, line: &[u8]) -> Result<Step, LineRefusal>
 }
 
 /// The change that a line of a batch is.
-#[tactic(auto, unfolding(crate::specs::Grammar::change_of))]
+#[tactic(auto, unfolding(crate::specs::Grammar::lone_change))]
 pub(crate) fn lone_change(alloc: Global, line: &[u8]) -> Result<Change, LineRefusal>
-    ensures { Gives result (change_of line.now) }
+    ensures { Gives result (lone_change line.now) }
 {
     let mut words = Words::of(line);
     let verb = verb_word(&mut words)?;
@@ -56,22 +56,23 @@ fn change_behind(alloc: Global, verb: Verb, words: &mut Words) -> Result<Change,
     }
 }
 
+/// Each line has a function of its own that is not inlined: a function pays at its entry for all that it may hold.
 #[tactic(auto, unfolding(crate::specs::Grammar::line_at))]
 fn line_behind(alloc: Global, verb: Verb, words: &mut Words) -> Result<Step, LineRefusal>
     ensures step { Gives result (line_at verb words.old) }
     ensures asked { IfOk result AsksRequest }
 {
     match verb {
-        Verb::Set => one_change(alloc, set_line(alloc, words)?),
-        Verb::Unset => one_change(alloc, unset_line(alloc, words)?),
-        Verb::Bucket => Ok(Step::Command(bucket_line(alloc, words)?)),
-        Verb::Drop => Ok(Step::Command(drop_line(alloc, words)?)),
-        Verb::Erase => Ok(Step::Command(erase_line(alloc, words)?)),
-        Verb::Layout => Ok(Step::Command(layout_line(words)?)),
-        Verb::User => Ok(Step::Command(user_line(words)?)),
-        Verb::NoUser => Ok(Step::Command(nouser_line(words)?)),
-        Verb::Install => Ok(Step::Command(install_line(alloc, words)?)),
-        Verb::Remove => Ok(Step::Command(remove_line(alloc, words)?)),
+        Verb::Set => set_step(alloc, words),
+        Verb::Unset => unset_step(alloc, words),
+        Verb::Bucket => bucket_line(alloc, words),
+        Verb::Drop => drop_line(alloc, words),
+        Verb::Erase => erase_line(alloc, words),
+        Verb::Layout => layout_line(words),
+        Verb::User => user_line(words),
+        Verb::NoUser => nouser_line(words),
+        Verb::Install => install_line(alloc, words),
+        Verb::Remove => remove_line(alloc, words),
         Verb::List => list_line(alloc, words),
         Verb::Check => check_line(alloc, words),
         Verb::From => from_line(alloc, words),

@@ -13,6 +13,7 @@ use std::alloc::Global;
 
 /// `list BUCKET FILTER FILTER FILTER`.
 #[tactic(auto, unfolding(crate::specs::Grammar::list_at))]
+#[inline(never)]
 pub(crate) fn list_line(alloc: Global, words: &mut Words) -> Result<Step, LineRefusal>
     ensures step { Gives result (list_at words.old) }
     ensures asked { IfOk result AsksRequest }
@@ -27,6 +28,7 @@ pub(crate) fn list_line(alloc: Global, words: &mut Words) -> Result<Step, LineRe
 
 /// `check CLIENT USER PRIVILEGE`.
 #[tactic(auto, unfolding(crate::specs::Grammar::check_at))]
+#[inline(never)]
 pub(crate) fn check_line(alloc: Global, words: &mut Words) -> Result<Step, LineRefusal>
     ensures step { Gives result (check_at words.old) }
     ensures asked { IfOk result AsksRequest }
@@ -40,6 +42,7 @@ pub(crate) fn check_line(alloc: Global, words: &mut Words) -> Result<Step, LineR
 
 /// `from BUCKET MODE CLIENT USER PRIVILEGE`.
 #[tactic(auto, unfolding(crate::specs::Grammar::from_at))]
+#[inline(never)]
 pub(crate) fn from_line(alloc: Global, words: &mut Words) -> Result<Step, LineRefusal>
     ensures step { Gives result (from_at words.old) }
     ensures asked { IfOk result AsksRequest }
@@ -59,6 +62,7 @@ pub(crate) fn from_line(alloc: Global, words: &mut Words) -> Result<Step, LineRe
 
 /// `access SUBJECT OBJECT MODES`.
 #[tactic(auto, unfolding(crate::specs::Grammar::access_at))]
+#[inline(never)]
 pub(crate) fn access_line(alloc: Global, words: &mut Words) -> Result<Step, LineRefusal>
     ensures step { Gives result (access_at words.old) }
     ensures asked { IfOk result AsksRequest }
@@ -78,6 +82,7 @@ pub(crate) fn access_line(alloc: Global, words: &mut Words) -> Result<Step, Line
 
 /// `status`.
 #[tactic(auto, unfolding(crate::specs::Grammar::status_at))]
+#[inline(never)]
 pub(crate) fn status_line(words: &mut Words) -> Result<Step, LineRefusal>
     ensures step { Gives result (status_at words.old) }
     ensures asked { IfOk result AsksRequest }

@@ -1,9 +1,9 @@
-ghost use Rattle.std.specs.Prelude.{◌≡◌, IfOk, [], IsTrue};
+ghost use Rattle.std.specs.Prelude.{◌≡◌, IfOk, IfOk, [], IsTrue};
 ghost use Rattle.line_script.specs.Block.{outside, batch, template, failed};
 ghost use Rattle.line_script.specs.Grammar.{is_skipped, outside_at, batch_at, template_at, step_at};
 ghost use Rattle.line_script.specs.Turn.{Turns, is_in_block, AsksRequest};
 
-use crate::lines::{lone_change, lone_line};
+use crate::lines::{lone_change, lone_step};
 use crate::steps::{LineRefusal, Step};
 use bucket_store::{Change, Changes};
 use desk_state::Command;
@@ -88,7 +88,7 @@ impl Reader {
             self.place = Place::Template(Template::empty(self.alloc));
             return Ok(Step::Nothing);
         }
-        let step = lone_line(self.alloc, line)?;
+        let step = lone_step(self.alloc, line)?;
         self.place = Place::Outside;
         Ok(step)
     }

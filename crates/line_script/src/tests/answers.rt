@@ -256,22 +256,47 @@ fn prints_each_refusal_without_a_name(rt: HostRuntime) -> Result<(), Fail> {
     Ok(())
 }
 
+/// The same for a refusal that is made for this.
+fn answers_made(rt: &impl Abort, alloc: Global, refusal: Refusal, text: &[u8]) -> Result<(), Fail> {
+    answers(rt, alloc, &refusal, text)
+}
+
 #[test]
 fn prints_each_refusal_of_a_bucket(rt: HostRuntime) -> Result<(), Fail> {
     let alloc = rt.alloc();
-    let reserved = Refusal::Reserved(BucketName::read(alloc, b"MAIN")?);
-    answers(&rt, alloc, &reserved, b"refused 1 reserved MAIN\n")?;
-    let absent = Refusal::NoBucket(BucketName::read(alloc, b"X")?);
-    answers(&rt, alloc, &absent, b"refused 4 no-bucket X\n")?;
-    let cycle = Refusal::Cycle(BucketName::root(alloc));
-    answers(&rt, alloc, &cycle, b"refused 12 cycle .\n")
+    let main = BucketName::read(alloc, b"MAIN")?;
+    answers_made(
+        &rt,
+        alloc,
+        Refusal::Reserved(main),
+        b"refused 1 reserved MAIN\n",
+    )?;
+    let absent = BucketName::read(alloc, b"X")?;
+    answers_made(
+        &rt,
+        alloc,
+        Refusal::NoBucket(absent),
+        b"refused 4 no-bucket X\n",
+    )?;
+    let root = BucketName::root(alloc);
+    answers_made(&rt, alloc, Refusal::Cycle(root), b"refused 12 cycle .\n")
 }
 
 #[test]
 fn prints_each_refusal_of_a_package(rt: HostRuntime) -> Result<(), Fail> {
     let alloc = rt.alloc();
-    let package = Refusal::OtherPackage(Ident::read(alloc, b"x")?);
-    answers(&rt, alloc, &package, b"refused 8 other-package x\n")?;
-    let author = Refusal::OtherAuthor(Some(Ident::read(alloc, b"au")?));
-    answers(&rt, alloc, &author, b"refused 9 other-author au\n")
+    let name = Ident::read(alloc, b"x")?;
+    answers_made(
+        &rt,
+        alloc,
+        Refusal::OtherPackage(name),
+        b"refused 8 other-package x\n",
+    )?;
+    let author = Ident::read(alloc, b"au")?;
+    answers_made(
+        &rt,
+        alloc,
+        Refusal::OtherAuthor(Some(author)),
+        b"refused 9 other-author au\n",
+    )
 }

@@ -1,6 +1,6 @@
 //! Blocks, line by line.
 
-use super::showing::show;
+use super::showing::{read_and_show, refusal_of};
 use crate::{LineRefusal, Reader};
 use desk_ports::Bytes;
 use std::alloc::Global;
@@ -60,8 +60,7 @@ const BROKEN: [&[&[u8]]; 16] = [
 fn last_step(reader: &mut Reader, lines: &[&[u8]], out: &mut Bytes) -> Result<(), Fail> {
     for line in lines {
         out.clear();
-        let step = reader.line(line)?;
-        show(&step, out)?;
+        read_and_show(reader, line, out)?;
     }
     Ok(())
 }
@@ -71,7 +70,7 @@ fn last_refusal(alloc: Global, lines: &[&[u8]]) -> Option<LineRefusal> {
     let mut reader = Reader::new(alloc);
     let mut refusal = None;
     for line in lines {
-        refusal = reader.line(line).err();
+        refusal = refusal_of(&mut reader, line);
     }
     refusal
 }
@@ -100,14 +99,16 @@ fn refuses_lines_where_they_stand(rt: HostRuntime) {
 }
 
 #[test]
-fn a_template_has_room_for_64_lines(rt: HostRuntime) -> Result<(), Fail> {
+fn a_template_has_room_for_64_lines(rt: HostRuntime) {
     let mut reader = Reader::new(rt.alloc());
-    reader.line(b"template")?;
+    assert_eq!(rt; refusal_of(&mut reader, b"template"), None);
     for _ in 0..64 {
-        reader.line(b"A B r")?;
+        assert_eq!(rt; refusal_of(&mut reader, b"A B r"), None);
     }
     assert!(rt; reader.in_block());
-    assert_eq!(rt; reader.line(b"A B r").err(), Some(LineRefusal::Syntax));
+    assert_eq!(rt;
+        refusal_of(&mut reader, b"A B r"),
+        Some(LineRefusal::Syntax)
+    );
     assert!(rt; !reader.in_block());
-    Ok(())
 }

@@ -1,6 +1,6 @@
 //! Lines in and outside the grammar.
 
-use super::showing::show;
+use super::showing::{read_and_show, refusal_of};
 use crate::{LineRefusal, Reader};
 use desk_ports::Bytes;
 use std::alloc::Global;
@@ -142,9 +142,8 @@ const OUTSIDE: [&[u8]; 60] = [
 /// That each line, read first in a script, is this step.
 fn reads(rt: &impl Abort, alloc: Global, rows: &[Row]) -> Result<(), Fail> {
     for (line, wanted) in rows {
-        let step = Reader::new(alloc).line(line)?;
         let mut shown = Bytes::new(alloc);
-        show(&step, &mut shown)?;
+        read_and_show(&mut Reader::new(alloc), line, &mut shown)?;
         assert_eq!(rt; shown.as_slice(), *wanted, "{line:?}");
     }
     Ok(())
@@ -159,7 +158,7 @@ fn reads_each_line(rt: HostRuntime) -> Result<(), Fail> {
 #[test]
 fn other_lines_are_outside_the_grammar(rt: HostRuntime) {
     for line in OUTSIDE {
-        let refusal = Reader::new(rt.alloc()).line(line).err();
+        let refusal = refusal_of(&mut Reader::new(rt.alloc()), line);
         assert_eq!(rt; refusal, Some(LineRefusal::Syntax), "{line:?}");
     }
 }

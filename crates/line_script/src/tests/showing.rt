@@ -1,6 +1,6 @@
 //! Steps in words, for the tables of tests.
 
-use crate::Step;
+use crate::{LineRefusal, Reader, Step};
 use app_registry::{Install, Scope, UserType};
 use bucket_store::Change;
 use cynara_keys::{Filter, Key, PolicyResult, Question};
@@ -8,9 +8,27 @@ use desk_ports::Bytes;
 use desk_state::Command;
 use itoa::Buffer;
 use std::alloc::AllocError;
+use std::test::Fail;
+
+/// Reads a line and appends its step in words.
+pub fn read_and_show(reader: &mut Reader, line: &[u8], out: &mut Bytes) -> Result<(), Fail> {
+    let step = reader.line(line)?;
+    show_and_drop(step, out)?;
+    Ok(())
+}
+
+/// The refusal of a line, `None` where it is read.
+pub fn refusal_of(reader: &mut Reader, line: &[u8]) -> Option<LineRefusal> {
+    reader.line(line).err()
+}
+
+/// The one place where a step is dropped, which is much to prove.
+fn show_and_drop(step: Step, out: &mut Bytes) -> Result<(), AllocError> {
+    show(&step, out)
+}
 
 /// Appends a step in words, with `[ ]` round texts that may be empty.
-pub fn show(step: &Step, out: &mut Bytes) -> Result<(), AllocError> {
+fn show(step: &Step, out: &mut Bytes) -> Result<(), AllocError> {
     match step {
         Step::Nothing => out.append(b"nothing"),
         Step::Command(command) => show_command(command, out),

@@ -1,0 +1,18 @@
+use Rattle.std.proofs.lemmas.Result.{err_from_is_err_and}
+use Rattle.line_script.specs.Words.{end_of}
+use Rattle.line_script.specs.Grammar.{check_at}
+use Rattle.line_script.proofs.Reading.{refused_with, word_left, no_word_left}
+use Rattle.line_script.proofs.steps.check_line.Goals as goal
+
+pub returns-in_err-end_word-clause-step : goal.returns-in_err-end_word-clause-step
+unfolding check_at
+returns-in_err-end_word-clause-step c =
+    let exit = err_from_is_err_and c.from_residual-in_err-end_word.result c.from_residual-in_err-end_word.ensures.1 in
+    rw (exit.1, exit.2) (refused_with _ (end_of tt c.name_word-3.new.words)
+    (check_at c.args.words.now) c.in_err-end_word.ensures
+    (λ outside. rw (c.in_ok-client.ensures, c.in_ok-user.ensures, c.in_ok-privilege.ensures) (word_left tt _ _ outside)))
+
+pub returns-clause-step : goal.returns-clause-step
+unfolding check_at
+returns-clause-step c =
+    rw (c.in_ok-client.ensures, c.in_ok-user.ensures, c.in_ok-privilege.ensures) (no_word_left tt _ _ c.in_ok-end_word.ensures)
