@@ -1,11 +1,10 @@
 -- The two buckets after each command on users and installs.
-use Rattle.std.proofs.Common.{◌≡◌, ◌⊎◌, inl, inr, ℕ, ◌+◌, ◌<◌, ◌^◌, ◌==◌, Bool, true, false, not, cond, ◌&&◌, ◌||◌, List, [], ◌∷◌, ◌++◌, map, find, Option, Some, None, refl, sym, ap, ◌∙◌, subst}
+use Rattle.std.proofs.Common.{◌≡◌, ◌⊎◌, inl, inr, ℕ, ◌<◌, ◌^◌, Bool, true, false, not, cond, List, [], ◌∷◌, ◌++◌, map, find, Option, Some, None, refl, sym, ap, ◌∙◌, subst}
 use Rattle.std.specs.Option.{option_map}
 use Rattle.std.specs.List.{AllByRecursion, filter, fold, list_any, flat_map}
 use Rattle.std.specs.List.Sorted.{IsStrictlySortedBy}
 use Rattle.std.proofs.lemmas.Bool.{true≢false}
 use Rattle.std.proofs.lemmas.Grind.{flat_map-append}
-use Rattle.cynara_keys.specs.Text.{same_text}
 use Rattle.cynara_keys.specs.declared.keys.Key.{Key}
 use Rattle.bucket_store.specs.Database.{Database, Placed, has_bucket}
 use Rattle.bucket_store.specs.Order.{placed_cmp}
@@ -13,14 +12,11 @@ use Rattle.bucket_store.specs.Change.{after_change, with_changes}
 use Rattle.bucket_store.specs.Refusal.{named_by, no_bucket}
 use Rattle.bucket_store.specs.WellFormed.{IsWellFormed}
 use Rattle.bucket_store.specs.declared.policy_changes.Change.{Change}
-use Rattle.bucket_store.specs.declared.refusals.StoreRefusal.{StoreRefusal}
 use Rattle.bucket_store.specs.declared.refusals.StoreRefusal.TheVariants.{NoBucket}
 use Rattle.bucket_store.proofs.Lists.{All-append}
 use Rattle.app_registry.specs.Install.{is_of_package, is_of_app, is_install_of, is_for_user}
 use Rattle.app_registry.specs.Manifest.{grants}
-use Rattle.app_registry.specs.Refusal.{unknown_scope, other_package}
-use Rattle.app_registry.specs.Registry.{RegistryLists, user_cmp, with_user, without_user, with_install, without_install}
-use Rattle.app_registry.specs.Rules.{IsRegistry}
+use Rattle.app_registry.specs.Registry.{RegistryLists, with_user, without_user, with_install, without_install}
 use Rattle.app_registry.specs.declared.installs.Install.{Install}
 use Rattle.app_registry.specs.declared.installs.Scope.{Scope}
 use Rattle.app_registry.specs.declared.users.User.{User}
@@ -29,7 +25,7 @@ use Rattle.app_registry.specs.declared.users.UserType.TheVariants.{System, Admin
 use Rattle.rule_templates.specs.declared.lines.TemplateLine.{TemplateLine}
 use Rattle.desk_state.specs.DeskState.{DeskState}
 use Rattle.desk_state.specs.IsDesk.{IsBare, IsLaidOut, IsDesk}
-use Rattle.desk_state.specs.Layout.{main, manifests, type_bucket, built_in, has_layout, settled, main_policies, manifest_policies}
+use Rattle.desk_state.specs.Layout.{main, manifests, type_bucket, built_in, has_layout, settled, main_policies}
 use Rattle.desk_state.specs.parts.Following.{grant_change, grant_changes, set_user, delete_user, package_changes, removal_changes, app_changes}
 use Rattle.desk_state.specs.parts.Stepping.{IsArranged, moved}
 use Rattle.desk_state.proofs.Filters.{filter-within, filter-outside}

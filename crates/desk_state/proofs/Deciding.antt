@@ -33,12 +33,12 @@ use Rattle.bucket_store.specs.WellFormed.{IsSound}
 use Rattle.bucket_store.proofs.Sound.{limit-sound, cycle-sound}
 use Rattle.desk_state.specs.Next.{request, leads_to, next, next_registry, erased_by}
 use Rattle.desk_state.specs.Rules.{first_of, reserved, layout_there, no_layout, fault, Refuses, of_store, of_registry, registry_rule, registry_limit, commit_limit}
-use Rattle.desk_state.specs.parts.Stepping.{IsAllowed, IsStep, Steps, IsApplied, Answers, stored_refusal, registered_refusal, or_last, moved, settled_fault, Settles}
+use Rattle.desk_state.specs.parts.Stepping.{IsAllowed, Steps, Answers, stored_refusal, registered_refusal, or_last, moved, settled_fault, Settles}
 use Rattle.desk_state.specs.declared.commands.Command.{Command}
 use Rattle.desk_state.specs.declared.desks.Applied.{Applied}
 use Rattle.desk_state.specs.declared.desks.TheConstants.{LAST_COMMIT}
 use Rattle.desk_state.specs.declared.refusals.Refusal.{Refusal}
-use Rattle.desk_state.specs.declared.refusals.Refusal.TheVariants.{Reserved, LayoutThere, NoLayout, NoBucket, RootBucket, BadKind, UnknownUser, OtherPackage, OtherAuthor, NotInstalled, Limit, Cycle, Memory}
+use Rattle.desk_state.specs.declared.refusals.Refusal.TheVariants.{NoLayout, NoBucket, RootBucket, BadKind, Limit, Cycle, Memory}
 
 -- ---- the rules as answers of tests
 

@@ -1,6 +1,6 @@
 -- The rules of all packages, gathered along the installs.
 use Rattle.std.proofs.Common.{◌≡◌, ℕ, ◌+◌, ◌<◌, Bool, true, false, cond, List, [], ◌∷◌, ◌++◌, append_assoc, drop, get_or, length, map, refl, sym, ap, ◌∙◌}
-use Rattle.std.specs.List.{dedup, dedup_from, flat_map}
+use Rattle.std.specs.List.{dedup_from, flat_map}
 use Rattle.std.proofs.lemmas.List.{drop_more}
 use Rattle.cynara_keys.specs.Text.{same_text}
 use Rattle.smack_rules.specs.declared.rule.Rule.{Rule}

@@ -1,9 +1,9 @@
 -- What installs grant after a change of the registry: `MANIFESTS` follows by taking away and allowing what the changed
 -- part of them grants.
-use Rattle.std.proofs.Common.{◌≡◌, ◌⊎◌, inl, inr, ℕ, Bool, true, false, not, cond, ◌&&◌, ◌||◌, List, [], ◌∷◌, ◌++◌, map, refl, sym, ap, ◌∙◌, subst}
+use Rattle.std.proofs.Common.{◌≡◌, ◌⊎◌, inl, inr, Bool, true, false, not, cond, ◌&&◌, ◌||◌, List, [], ◌∷◌, ◌++◌, map, refl, sym, ap, ◌∙◌}
 use Rattle.std.specs.declared.cmp.Ordering.{Ordering}
 use Rattle.std.specs.declared.cmp.Ordering.TheVariants.{Less, Equal, Greater}
-use Rattle.std.specs.List.{AllByRecursion, filter, fold, list_any, flat_map}
+use Rattle.std.specs.List.{AllByRecursion, filter, fold, list_any}
 use Rattle.std.specs.List.Sorted.{IsStrictlySortedBy}
 use Rattle.std.specs.Ordering.{is_lt, is_gt, is_eq}
 use Rattle.std.proofs.lemmas.Bool.{true≢false}
@@ -14,23 +14,21 @@ use Rattle.cynara_keys.specs.Key.{key_cmp}
 use Rattle.cynara_keys.specs.declared.keys.Key.{Key}
 use Rattle.cynara_keys.specs.declared.keys.Policy.{Policy}
 use Rattle.cynara_keys.specs.PolicyResult.{allow}
-use Rattle.cynara_keys.proofs.Order.{≡-same_text, same_text-≡, text_cmp-equal, key_total}
+use Rattle.cynara_keys.proofs.Order.{≡-same_text, key_total}
 use Rattle.bucket_store.specs.Database.{Database, Placed}
 use Rattle.bucket_store.specs.Order.{placed_cmp, policy_cmp}
-use Rattle.bucket_store.specs.Change.{after_change, with_changes}
+use Rattle.bucket_store.specs.Change.{after_change}
 use Rattle.bucket_store.specs.parts.Batch.{name_of}
 use Rattle.bucket_store.specs.declared.policy_changes.Change.{Change}
-use Rattle.bucket_store.specs.declared.policy_changes.Change.TheVariants.{Set, Delete}
 use Rattle.app_registry.specs.Manifest.{install_grants, grants, manifest_rows}
 use Rattle.app_registry.specs.Registry.{RegistryLists}
-use Rattle.app_registry.specs.Rising.{rising}
 use Rattle.app_registry.specs.declared.installs.Install.{Install}
-use Rattle.app_registry.proofs.Grants.{IsGrant, grants_are}
+use Rattle.app_registry.proofs.Grants.{grants_are}
 use Rattle.app_registry.proofs.Rising.{rising_rises}
 use Rattle.desk_state.specs.Layout.{main, manifests, with_own, main_policies, manifest_policies, settled}
-use Rattle.desk_state.specs.parts.Following.{grant_change, grant_changes}
-use Rattle.desk_state.proofs.Filters.{filter-within, filter-outside, filter-turn}
-use Rattle.desk_state.proofs.Owning.{own, in_bucket, aside, own-apart}
+use Rattle.desk_state.specs.parts.Following.{grant_changes}
+use Rattle.desk_state.proofs.Filters.{filter-within}
+use Rattle.desk_state.proofs.Owning.{own, in_bucket, aside}
 use Rattle.desk_state.proofs.Settling.{at_key, settle, fold-at, fold-append, own-known, hits, grant_at, allowed_at, deletes-at, sets-at, rows-at, tied-bucket}
 
 -- ---- the two parts of the installs
@@ -100,7 +98,6 @@ module _ (before after : RegistryLists) (test : Install → Bool) (policies : Li
     (rest : filter (λ (install : Install). not (test install)) after.installs ≡ filter (λ (install : Install). not (test install)) before.installs)
     (apart : (key : Key) → list_any (hits key) (grants (filter test before.installs)) ≡ true
     → list_any (hits key) (grants (filter (λ (install : Install). not (test install)) before.installs)) ≡ false) where
-
   abbrev changes : List Change
   changes = grant_changes false test before.installs ++ grant_changes true test after.installs
 

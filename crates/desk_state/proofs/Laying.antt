@@ -1,39 +1,33 @@
 -- What a layout makes of a database that has none.
-use Rattle.std.proofs.Common.{◌≡◌, ◌⊎◌, inl, inr, ℕ, ◌+◌, ◌<◌, ◌≤◌, ◌==◌, nat_lt, Bool, true, false, not, cond, ◌&&◌, ◌||◌, List, [], ◌∷◌, ◌++◌, length, map, find, Option, Some, None, Result, Ok, Err, refl, sym, ap, ◌∙◌, subst, arith}
+use Rattle.std.proofs.Common.{◌≡◌, ◌⊎◌, inl, inr, ℕ, ◌+◌, ◌<◌, ◌≤◌, Bool, true, false, not, cond, ◌||◌, List, [], ◌∷◌, ◌++◌, length, Option, Some, None, refl, sym, ap, ◌∙◌, subst, arith}
 use Rattle.std.specs.declared.cmp.Ordering.{Ordering}
 use Rattle.std.specs.declared.cmp.Ordering.TheVariants.{Less, Equal, Greater}
 use Rattle.std.specs.Option.{option_map}
 use Rattle.std.specs.List.{AllByRecursion, filter, fold, list_any, flat_map}
-use Rattle.std.specs.List.Sorted.{IsStrictlySortedBy}
 use Rattle.std.specs.Ordering.{is_lt, is_gt, is_eq}
 use Rattle.std.proofs.lemmas.Bool.{true≢false}
-use Rattle.std.proofs.lemmas.Bool.Decides.{nat_tests}
 use Rattle.std.proofs.lemmas.List.Folds.{list_any-append}
 use Rattle.std.proofs.lemmas.List.Elements.{filter-append}
 use Rattle.std.proofs.Math.ListN.{length-append}
-use Rattle.cynara_keys.specs.Text.{same_text, text_cmp}
-use Rattle.cynara_keys.specs.declared.limits.Counted.TheVariants.{Buckets}
-use Rattle.cynara_keys.specs.declared.keys.Policy.{Policy}
+use Rattle.cynara_keys.specs.Text.{same_text}
 use Rattle.cynara_keys.proofs.Order.{same_text-≡, ≡-same_text, text_cmp-equal}
 use Rattle.bucket_store.specs.Database.{Database, Heading, Placed, root, has_bucket}
 use Rattle.bucket_store.specs.Order.{heading_cmp, placed_cmp, put}
-use Rattle.bucket_store.specs.Change.{with_bucket, after_change, with_changes}
+use Rattle.bucket_store.specs.Change.{with_bucket, after_change}
 use Rattle.bucket_store.specs.Refusal as store
 use Rattle.bucket_store.specs.Refusal.{Request, named_by, no_bucket, most_buckets}
 use Rattle.bucket_store.specs.WellFormed.{IsWellFormed, IsSound, IsRooted}
-use Rattle.bucket_store.specs.parts.Batch.{name_of}
-use Rattle.bucket_store.specs.declared.policy_changes.Change.{Change}
 use Rattle.bucket_store.specs.declared.refusals.StoreRefusal.TheVariants as stored
 use Rattle.bucket_store.specs.declared.refusals.StoreRefusal.{StoreRefusal}
 use Rattle.cynara_keys.specs.declared.fields.Field.TheVariants.{Any}
-use Rattle.bucket_store.proofs.Heading.{any-put, Sound-with}
+use Rattle.bucket_store.proofs.Heading.{Sound-with}
 use Rattle.bucket_store.proofs.Lists.{filter-none}
 use Rattle.bucket_store.proofs.Sound.{limit-sound, cycle-sound}
 use Rattle.app_registry.specs.Registry.{RegistryLists, no_entries}
 use Rattle.app_registry.specs.declared.users.UserType.TheVariants.{System, Admin, Normal, Guest}
 use Rattle.desk_state.specs.DeskState.{DeskState}
 use Rattle.desk_state.specs.IsDesk.{IsBare, IsLaidOut, IsDesk}
-use Rattle.desk_state.specs.Layout.{main, manifests, admin, type_bucket, built_in, is_managed, has_layout, heading, headings, laid_out}
+use Rattle.desk_state.specs.Layout.{main, manifests, admin, type_bucket, has_layout, heading, headings, laid_out}
 use Rattle.desk_state.specs.Rules.{layout_there}
 use Rattle.desk_state.specs.parts.Linking.{with_headings, link_changes, set_link, IsMemory}
 use Rattle.desk_state.specs.parts.Stepping.{IsArranged, moved}
@@ -123,11 +117,19 @@ AreApart (heading ∷ headings) = AllByRecursion (λ (other : Heading). same_tex
 headings-apart : AreApart headings
 headings-apart = (
   (refl, (refl, (refl, (refl, (refl, (refl, tt)))))),
-  ((refl, (refl, (refl, (refl, (refl, tt))))),
-  ((refl, (refl, (refl, (refl, tt)))),
-  ((refl, (refl, (refl, tt))),
-  ((refl, (refl, tt)),
-  ((refl, tt), (tt, tt)))))),
+  (
+    (refl, (refl, (refl, (refl, (refl, tt))))),
+    (
+      (refl, (refl, (refl, (refl, tt)))),
+      (
+        (refl, (refl, (refl, tt))),
+        (
+          (refl, (refl, tt)),
+          ((refl, tt), (tt, tt)),
+        ),
+      ),
+    ),
+  ),
 )
 
 abbrev put_all : List Heading → List Heading → List Heading
@@ -199,9 +201,10 @@ module _ (desk : DeskState) (is : IsDesk desk) (none : IsBare desk) where
   unmanaged : (buckets : List Heading) → list_any (λ (other : Heading). same_text other.name main) buckets ≡ false
       → list_any (λ (other : Heading). same_text other.name manifests) buckets ≡ false → AllByRecursion Denies buckets
   unmanaged [] mains manifest = tt
-  unmanaged (heading ∷ buckets) mains manifest =
-      ((λ managed. absurd (neither (same_text heading.name main) (same_text heading.name manifests) (first (same_text heading.name main) _ mains) (first (same_text heading.name manifests) _ manifest) managed)),
-      unmanaged buckets (later (same_text heading.name main) _ mains) (later (same_text heading.name manifests) _ manifest))
+  unmanaged (heading ∷ buckets) mains manifest = (
+    (λ managed. absurd (neither (same_text heading.name main) (same_text heading.name manifests) (first (same_text heading.name main) _ mains) (first (same_text heading.name manifests) _ manifest) managed)),
+    unmanaged buckets (later (same_text heading.name main) _ mains) (later (same_text heading.name manifests) _ manifest),
+  )
     where
       first : (a b : Bool) → (a || b) ≡ false → a ≡ false
       first true b h = absurd (true≢false h)

@@ -1,31 +1,28 @@
 -- What `MAIN` has after a user is set or removed.
-use Rattle.std.proofs.Common.{◌≡◌, ℕ, ◌+◌, ◌<◌, ◌^◌, ◌==◌, Bool, true, false, not, cond, ◌&&◌, ◌||◌, List, [], ◌∷◌, ◌++◌, map, decimal, refl, sym, ap, ◌∙◌, subst, arith}
+use Rattle.std.proofs.Common.{◌≡◌, ℕ, ◌<◌, ◌^◌, ◌==◌, Bool, true, false, not, cond, ◌&&◌, List, [], ◌∷◌, ◌++◌, map, decimal, refl, sym, ap, ◌∙◌, arith}
 use Rattle.std.specs.declared.cmp.Ordering.{Ordering}
 use Rattle.std.specs.declared.cmp.Ordering.TheVariants.{Less, Equal, Greater}
-use Rattle.std.specs.List.{AllByRecursion, filter, fold}
+use Rattle.std.specs.List.{AllByRecursion, filter}
 use Rattle.std.specs.List.Sorted.{IsStrictlySortedBy}
 use Rattle.std.specs.Ordering.{is_lt, is_gt, is_eq, nat_cmp, ordering_reverse}
 use Rattle.std.proofs.lemmas.Bool.{true≢false}
 use Rattle.std.proofs.lemmas.Bool.Decides.{nat_tests}
 use Rattle.std.proofs.lemmas.Fmt.{decimal_injective}
-use Rattle.cynara_keys.specs.Text.{same_text, text_cmp}
+use Rattle.cynara_keys.specs.Text.{same_text}
 use Rattle.cynara_keys.specs.Field.{field_text, same_field, wildcard}
 use Rattle.cynara_keys.specs.Key.{key_cmp, same_key}
-use Rattle.cynara_keys.specs.declared.fields.Field.{Field}
-use Rattle.cynara_keys.specs.declared.fields.Field.TheVariants.{Any, Exact}
+use Rattle.cynara_keys.specs.declared.fields.Field.TheVariants.{Any}
 use Rattle.cynara_keys.specs.declared.keys.Key.{Key}
 use Rattle.cynara_keys.specs.declared.keys.Policy.{Policy}
 use Rattle.cynara_keys.proofs.Order.{same_text-≡, ≡-same_text, key_cmp-equal}
 use Rattle.bucket_store.specs.Database.{Placed}
 use Rattle.bucket_store.specs.Order.{placed_cmp, policy_cmp}
 use Rattle.bucket_store.specs.Change.{after_change}
-use Rattle.bucket_store.specs.declared.policy_changes.Change.{Change}
 use Rattle.bucket_store.proofs.Lists.{filter-map}
 use Rattle.bucket_store.proofs.Sound.{policy_total}
 use Rattle.app_registry.specs.Registry.{RegistryLists, user_cmp}
-use Rattle.app_registry.specs.Rising.{placed, rising}
+use Rattle.app_registry.specs.Rising.{placed}
 use Rattle.app_registry.specs.declared.users.User.{User}
-use Rattle.app_registry.specs.declared.users.UserType.{UserType}
 use Rattle.app_registry.proofs.Orders.{user_total}
 use Rattle.app_registry.proofs.Rising.{rising_rises}
 use Rattle.app_registry.proofs.Texts.{decimal-no_wildcard}
@@ -34,7 +31,7 @@ use Rattle.desk_state.specs.parts.Following.{user_key, set_user, delete_user}
 use Rattle.desk_state.proofs.Filters.{filter-within, three-parts, rises-up}
 use Rattle.desk_state.proofs.Known.{rising-at, first_at}
 use Rattle.desk_state.proofs.Owning.{own, in_bucket}
-use Rattle.desk_state.proofs.Settling.{at_key, settle, fold-at, own-known, tied-bucket}
+use Rattle.desk_state.proofs.Settling.{at_key, fold-at, own-known, tied-bucket}
 
 -- the key ties with that of the user of this number
 abbrev pub names : Key → ℕ → Bool

@@ -1,34 +1,32 @@
 -- What changes leave at one place, and what the grants of installs and the links of users come to there.
-use Rattle.std.proofs.Common.{◌≡◌, ℕ, Bool, true, false, not, cond, ◌&&◌, ◌||◌, List, [], ◌∷◌, ◌++◌, map, decimal, refl, sym, ap, ◌∙◌, subst}
+use Rattle.std.proofs.Common.{◌≡◌, ℕ, Bool, true, false, not, cond, ◌&&◌, ◌||◌, List, [], ◌∷◌, ◌++◌, map, refl, sym, ap, ◌∙◌}
 use Rattle.std.specs.declared.cmp.Ordering.{Ordering}
 use Rattle.std.specs.declared.cmp.Ordering.TheVariants.{Less, Equal, Greater}
-use Rattle.std.specs.List.{AllByRecursion, filter, fold, list_any, flat_map}
+use Rattle.std.specs.List.{AllByRecursion, filter, fold, list_any}
 use Rattle.std.specs.List.Sorted.{IsStrictlySortedBy}
-use Rattle.std.specs.Ordering.{is_lt, is_gt, is_eq, ordering_reverse, ordering_then}
+use Rattle.std.specs.Ordering.{is_eq, ordering_then}
 use Rattle.std.proofs.lemmas.Bool.{true≢false}
-use Rattle.std.proofs.lemmas.List.Elements.{filter-append}
 use Rattle.std.proofs.lemmas.List.Kept.{IsStrictlySortedBy-filter}
 use Rattle.cynara_keys.specs.Text.{same_text, text_cmp}
 use Rattle.cynara_keys.specs.Field.{field_text, field_of, same_field}
 use Rattle.cynara_keys.specs.Key.{key_cmp, same_key}
-use Rattle.cynara_keys.specs.PolicyResult.{Ruling, allow}
-use Rattle.cynara_keys.specs.declared.fields.Field.{Field}
-use Rattle.cynara_keys.specs.declared.fields.Field.TheVariants.{Any, Exact}
+use Rattle.cynara_keys.specs.PolicyResult.{allow}
+use Rattle.cynara_keys.specs.declared.fields.Field.TheVariants.{Exact}
 use Rattle.cynara_keys.specs.declared.keys.Key.{Key}
 use Rattle.cynara_keys.specs.declared.keys.Policy.{Policy}
-use Rattle.cynara_keys.proofs.Order.{same_text-≡, ≡-same_text, text_total, text_cmp-equal, key_total, key_cmp-equal}
-use Rattle.bucket_store.specs.Database.{Database, Placed}
-use Rattle.bucket_store.specs.Order.{placed_cmp, policy_cmp, put}
+use Rattle.cynara_keys.proofs.Order.{same_text-≡, ≡-same_text, text_cmp-equal, key_total, key_cmp-equal}
+use Rattle.bucket_store.specs.Database.{Placed}
+use Rattle.bucket_store.specs.Order.{placed_cmp, policy_cmp}
 use Rattle.bucket_store.specs.Change.{after_change, is_at}
 use Rattle.bucket_store.specs.parts.Batch.{name_of, key_of}
 use Rattle.bucket_store.specs.declared.policy_changes.Change.{Change}
 use Rattle.bucket_store.specs.declared.policy_changes.Change.TheVariants.{Set, Delete}
-use Rattle.bucket_store.proofs.Lists.{filter-map, filter-none}
+use Rattle.bucket_store.proofs.Lists.{filter-map}
 use Rattle.bucket_store.proofs.Searching.{put-rises}
-use Rattle.bucket_store.proofs.Sound.{policy_total, placed_total}
+use Rattle.bucket_store.proofs.Sound.{placed_total}
 use Rattle.app_registry.specs.Rising.{rising}
 use Rattle.app_registry.proofs.Grants.{IsGrant}
-use Rattle.desk_state.specs.Layout.{main, manifests}
+use Rattle.desk_state.specs.Layout.{manifests}
 use Rattle.desk_state.specs.parts.Following.{grant_change}
 use Rattle.desk_state.proofs.Filters.{filter-within, filter-outside}
 use Rattle.desk_state.proofs.Known.{known, put-at, rising-at, first_at, eq-tied}

@@ -1,8 +1,7 @@
 -- Which installs a change of the registry touches, and that what they grant is granted by no other.
-use Rattle.std.proofs.Common.{◌≡◌, ℕ, ◌+◌, ◌<◌, ◌^◌, ◌==◌, Bool, true, false, not, cond, ◌&&◌, ◌||◌, List, [], ◌∷◌, ◌++◌, map, find, decimal, codes, Option, Some, None, refl, sym, ap, ◌∙◌, subst, arith}
+use Rattle.std.proofs.Common.{◌≡◌, ℕ, ◌<◌, ◌^◌, ◌==◌, Bool, true, false, not, cond, ◌&&◌, ◌||◌, List, [], ◌∷◌, ◌++◌, map, find, decimal, Some, None, refl, sym, ap, ◌∙◌, subst, arith}
 use Rattle.std.specs.declared.cmp.Ordering.{Ordering}
 use Rattle.std.specs.declared.cmp.Ordering.TheVariants.{Less, Equal, Greater}
-use Rattle.std.specs.Option.{option_map}
 use Rattle.std.specs.List.{AllByRecursion, filter, list_any}
 use Rattle.std.specs.List.Sorted.{IsStrictlySortedBy}
 use Rattle.std.specs.Ordering.{is_lt, is_gt, is_eq, ordering_reverse, ordering_then}
@@ -14,14 +13,13 @@ use Rattle.std.proofs.lemmas.Fmt.{decimal_injective}
 use Rattle.cynara_keys.specs.Text.{same_text, text_cmp}
 use Rattle.cynara_keys.specs.Field.{field_text, same_field, wildcard}
 use Rattle.cynara_keys.specs.Key.{key_cmp, same_key}
-use Rattle.cynara_keys.specs.declared.fields.Field.{Field}
-use Rattle.cynara_keys.specs.declared.fields.Field.TheVariants.{Any, Exact}
+use Rattle.cynara_keys.specs.declared.fields.Field.TheVariants.{Exact}
 use Rattle.cynara_keys.specs.declared.keys.Key.{Key}
 use Rattle.cynara_keys.proofs.Order.{same_text-≡, ≡-same_text, text_cmp-equal, key_cmp-equal}
 use Rattle.app_registry.specs.Install.{install_cmp, is_of_package, is_of_app, is_install_of, is_for_user}
 use Rattle.app_registry.specs.Label.{package_label, install_label}
 use Rattle.app_registry.specs.Manifest.{grant, install_grants, grants, scope_field}
-use Rattle.app_registry.specs.Refusal.{unknown_scope, unknown_user, other_package, is_elsewhere}
+use Rattle.app_registry.specs.Refusal.{unknown_scope, other_package, is_elsewhere}
 use Rattle.app_registry.specs.Registry.{has_user}
 use Rattle.app_registry.specs.Rising.{placed}
 use Rattle.app_registry.specs.Scope.{same_scope}
@@ -32,7 +30,7 @@ use Rattle.app_registry.specs.declared.users.User.{User}
 use Rattle.app_registry.proofs.Filters.{option_map-none}
 use Rattle.app_registry.proofs.Orders.{install_total}
 use Rattle.app_registry.proofs.Texts.{decimal-no_wildcard}
-use Rattle.desk_state.proofs.Filters.{filter-within, filter-outside, three-parts, rises-up}
+use Rattle.desk_state.proofs.Filters.{filter-outside, three-parts, rises-up}
 use Rattle.desk_state.proofs.Settling.{hits}
 use Rattle.desk_state.proofs.Linking.{same-user}
 

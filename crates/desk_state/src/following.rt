@@ -189,9 +189,7 @@ fn change_each(
         ≡ changes.old.items ++ map (following.grant_change allowed) (map (grant client.now user.now) privileges.now)) }
 {
     for privilege in privileges {
-        changes.push(grant_change(
-            alloc, allowed, client, user, privilege,
-        )?)?;
+        changes.push(grant_change(alloc, allowed, client, user, privilege)?)?;
     }
     Ok(())
 }

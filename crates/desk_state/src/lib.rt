@@ -22,3 +22,6 @@ mod store_commands;
 pub use commands::Command;
 pub use desks::{Applied, Desk, LAST_COMMIT};
 pub use refusals::Refusal;
+
+#[cfg(test)]
+mod tests;

@@ -15,8 +15,11 @@ pub const MANIFESTS: &[u8] = b"MANIFESTS";
 pub const ADMIN: &[u8] = b"ADMIN";
 
 pub(crate) const SYSTEM: &[u8] = b"USER_TYPE_SYSTEM";
+
 pub(crate) const ADMINS: &[u8] = b"USER_TYPE_ADMIN";
+
 pub(crate) const NORMAL: &[u8] = b"USER_TYPE_NORMAL";
+
 pub(crate) const GUEST: &[u8] = b"USER_TYPE_GUEST";
 
 /// What the administrator decides for a type.

@@ -9,7 +9,7 @@ use Rattle.bucket_store.specs.Order.{heading_cmp, put}
 use Rattle.bucket_store.specs.declared.policy_changes.Change.{Change}
 use Rattle.bucket_store.specs.declared.policy_changes.Change.TheVariants.{Set}
 use Rattle.bucket_store.specs.declared.refusals.StoreRefusal.{StoreRefusal}
-use Rattle.bucket_store.specs.declared.refusals.StoreRefusal.TheVariants.{NoBucket, RootBucket, BadKind, Limit, Cycle, Memory}
+use Rattle.bucket_store.specs.declared.refusals.StoreRefusal.TheVariants.{Memory}
 use Rattle.app_registry.specs.declared.users.UserType.TheVariants.{System, Admin, Normal, Guest}
 use Rattle.desk_state.specs.Layout.{headings, main, manifests, admin, type_bucket}
 

@@ -13,13 +13,13 @@ use Rattle.rule_templates.specs.declared.lines.TemplateLine.{TemplateLine}
 use Rattle.desk_state.specs.DeskState.{DeskState}
 use Rattle.desk_state.specs.IsDesk.{IsBare, IsLaidOut}
 use Rattle.desk_state.specs.Next.{next, erased_by}
-use Rattle.desk_state.specs.Rules.{first_of, fault, Refuses, of_store, of_registry, commit_limit, reserved, layout_there, no_layout}
+use Rattle.desk_state.specs.Rules.{first_of, fault, Refuses, of_store, commit_limit, reserved, layout_there, no_layout}
 use Rattle.desk_state.specs.Layout.{has_layout, settled}
 use Rattle.desk_state.specs.declared.commands.Command.{Command}
 use Rattle.desk_state.specs.declared.desks.Applied.{Applied}
 use Rattle.desk_state.specs.declared.desks.TheConstants.{LAST_COMMIT}
 use Rattle.desk_state.specs.declared.refusals.Refusal.{Refusal}
-use Rattle.desk_state.specs.declared.refusals.Refusal.TheVariants.{Reserved, LayoutThere, NoLayout, NoBucket, RootBucket, BadKind, UnknownUser, OtherPackage, OtherAuthor, NotInstalled, Limit, Cycle, Memory}
+use Rattle.desk_state.specs.declared.refusals.Refusal.TheVariants.{NoBucket, RootBucket, BadKind, UnknownUser, OtherPackage, OtherAuthor, NotInstalled, Limit, Cycle, Memory}
 
 -- the desk after the next command, with these parts
 abbrev pub moved : DeskState → Database → RegistryLists → List TemplateLine → DeskState

@@ -1,4 +1,4 @@
-use Rattle.std.proofs.Common.{◌≡◌, rules}
+use Rattle.std.proofs.Common.{rules}
 use Rattle.app_registry.specs.Install.{is_of_package}
 use Rattle.desk_state.proofs.Appending.{changes-more}
 use Rattle.desk_state.proofs.following.change_package.Goals as goal

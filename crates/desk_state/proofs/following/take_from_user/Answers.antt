@@ -1,4 +1,4 @@
-use Rattle.std.proofs.Common.{◌≡◌, false, rules}
+use Rattle.std.proofs.Common.{false, rules}
 use Rattle.app_registry.specs.Install.{is_for_user}
 use Rattle.desk_state.proofs.Appending.{changes-more}
 use Rattle.desk_state.proofs.following.take_from_user.Goals as goal

@@ -1,6 +1,5 @@
-use Rattle.std.proofs.Common.{◌≡◌, ◌+◌, ◌≤◌, false, length, sym, ap, ◌∙◌, subst}
+use Rattle.std.proofs.Common.{◌≡◌, ◌+◌, ◌≤◌, false, length, sym, subst}
 use Rattle.bucket_store.specs.Database.{Database, Heading}
-use Rattle.bucket_store.specs.Change.{with_bucket}
 use Rattle.bucket_store.specs.Refusal as store
 use Rattle.desk_state.specs.Layout.{heading}
 use Rattle.desk_state.proofs.Laying.{put-most, with-room, only-memory}

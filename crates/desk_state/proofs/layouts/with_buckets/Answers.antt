@@ -1,8 +1,8 @@
-use Rattle.std.proofs.Common.{◌≡◌, ap, ◌∙◌}
+use Rattle.std.proofs.Common.{ap, ◌∙◌}
 use Rattle.cynara_keys.specs.PolicyResult.{deny, allow}
 use Rattle.bucket_store.specs.Change.{with_bucket}
 use Rattle.app_registry.specs.declared.users.UserType.TheVariants.{System, Admin, Normal, Guest}
-use Rattle.desk_state.specs.Layout.{main, manifests, admin, type_bucket, heading}
+use Rattle.desk_state.specs.Layout.{manifests, admin, type_bucket, heading}
 use Rattle.desk_state.proofs.layouts.with_buckets.Goals as goal
 
 pub returns : goal.returns

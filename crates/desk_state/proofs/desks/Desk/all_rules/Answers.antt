@@ -1,8 +1,7 @@
-use Rattle.std.proofs.Common.{◌≡◌, List, [], ◌∷◌, ◌++◌, sym, ap, ◌∙◌}
+use Rattle.std.proofs.Common.{◌≡◌, ◌∷◌, ◌++◌, sym, ap, ◌∙◌}
 use Rattle.std.specs.List.{flat_map}
 use Rattle.app_registry.specs.Registry.{RegistryLists, packages}
-use Rattle.app_registry.specs.declared.installs.Install.{Install}
-use Rattle.desk_state.specs.DeskState.{package_rules, smack_rules}
+use Rattle.desk_state.specs.DeskState.{package_rules}
 use Rattle.desk_state.specs.parts.Packages.{later_packages}
 use Rattle.desk_state.proofs.Expanding.{packages-from}
 use Rattle.desk_state.proofs.desks.Desk.all_rules.Goals as goal

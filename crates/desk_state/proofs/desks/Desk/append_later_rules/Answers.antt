@@ -22,7 +22,7 @@ loop-install-preserved c =
     let whole = c.args.rules.now.items ++ flat_map rules_of (later_packages c.args.before.now c.args.installs.now) in
     let at = c.loop-install.install-index in
     elim c.if-ne.branch [
-      then-ne+in_ok-append_rules w ↦
+      | then-ne+in_ok-append_rules w ↦
           (let apart : same_text c.install-item.result.package c.loop-install.last.now ≡ false =
           not-true (same_text c.install-item.result.package c.loop-install.last.now) (sym c.ne.ensures ∙ w.if-ne.true) in
           let rules : c.if-ne.rules.items ≡ c.loop-install.rules.items ++ rules_of c.install-item.result.package =

@@ -1,23 +1,18 @@
-use Rattle.std.proofs.Common.{◌≡◌, ℕ, ◌<◌, ◌^◌, List, [], ◌∷◌, Option, None, true, find, refl, sym, ap, ◌∙◌, subst, arith}
-use Rattle.std.specs.List.{AllByRecursion, flat_map, list_any}
-use Rattle.std.specs.Option.{option_or}
+use Rattle.std.proofs.Common.{◌≡◌, List, None, true, refl, sym, ap, ◌∙◌, subst}
+use Rattle.std.specs.List.{flat_map}
 use Rattle.bucket_store.specs.Change.{with_changes}
 use Rattle.bucket_store.specs.Refusal.{named_by, no_bucket}
 use Rattle.bucket_store.specs.declared.policy_changes.Change.{Change}
 use Rattle.app_registry.specs.Refusal as registry
-use Rattle.app_registry.specs.Install.{is_of_app, is_install_of}
-use Rattle.app_registry.specs.Registry.{RegistryLists, with_user, without_user, with_install, without_install}
-use Rattle.app_registry.specs.declared.installs.Install.{Install}
-use Rattle.app_registry.specs.declared.users.User.{User}
-use Rattle.app_registry.specs.declared.refusals.RegistryRefusal.{RegistryRefusal}
+use Rattle.app_registry.specs.Registry.{RegistryLists, with_install}
 use Rattle.desk_state.specs.Layout.{has_layout, settled}
 use Rattle.desk_state.specs.Rules.{Refuses}
 use Rattle.desk_state.specs.declared.commands.Command.{Command}
 use Rattle.desk_state.specs.declared.commands.Command.TheVariants.{Install as InstallCommand}
-use Rattle.desk_state.specs.parts.Following.{set_user, removal_changes, package_changes, app_changes}
+use Rattle.desk_state.specs.parts.Following.{package_changes}
 use Rattle.desk_state.specs.parts.Stepping.{Settles}
 use Rattle.desk_state.proofs.Commanding.{named-install, follows-install}
-use Rattle.desk_state.proofs.Deciding.{on_install, refused_by_registry, stepped_by_registry, laid_known, or_nothing, was_installed}
+use Rattle.desk_state.proofs.Deciding.{on_install, refused_by_registry, stepped_by_registry, laid_known}
 use Rattle.desk_state.proofs.desks.Desk.install.Goals as goal
 
 pub returns-in-Err : goal.returns-in-Err
@@ -41,7 +36,7 @@ settle-requires c =
     c.installs-before.ensures.installs ∙ ap (λ (lists : RegistryLists). lists.installs) c.registry-2.ensures.registry in
     let after : c.installs-after.result.now ≡ (with_install desk.registry c.args.install.now).installs =
     c.installs-after.ensures.installs ∙ ap (λ (lists : RegistryLists). lists.installs) registries in
-    let changes : c.deref.result.now ≡ package_changes c.args.install.now.package desk.registry.installs (with_install desk.registry c.args.install.now).installs = 
+    let changes : c.deref.result.now ≡ package_changes c.args.install.now.package desk.registry.installs (with_install desk.registry c.args.install.now).installs =
     c.deref.ensures.value ∙ c.in-Ok-package_changes.ensures ∙ (λ i. package_changes c.args.install.now.package (before i) (after i)) in
     record {
       laid = has;

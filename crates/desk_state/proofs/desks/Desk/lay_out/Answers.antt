@@ -1,21 +1,20 @@
-use Rattle.std.proofs.Common.{◌≡◌, ℕ, ◌+◌, ◌<◌, ◌==◌, suc, nat_lt, Bool, true, false, List, [], ◌∷◌, None, length, map, refl, sym, ap, ◌∙◌, subst, arith}
+use Rattle.std.proofs.Common.{◌≡◌, ℕ, ◌<◌, ◌==◌, suc, nat_lt, Bool, true, false, List, [], ◌∷◌, None, length, map, refl, sym, ap, ◌∙◌, subst, arith}
 use Rattle.std.specs.List.{flat_map}
 use Rattle.std.proofs.lemmas.Bool.Decides.{nat_tests}
 use Rattle.bucket_store.specs.Bucket.{Bucket}
 use Rattle.bucket_store.specs.Change.{with_changes}
-use Rattle.bucket_store.specs.Database.{Database, Heading, heading_of}
+use Rattle.bucket_store.specs.Database.{Database, heading_of}
 use Rattle.bucket_store.specs.Refusal as store
 use Rattle.bucket_store.specs.Refusal.{named_by, no_bucket, most_buckets}
 use Rattle.bucket_store.specs.WellFormed.{IsWellFormed}
 use Rattle.bucket_store.specs.declared.policy_changes.Change.{Change}
-use Rattle.desk_state.specs.DeskState.{DeskState}
 use Rattle.desk_state.specs.Layout.{laid_out}
 use Rattle.desk_state.specs.Rules.{Refuses}
 use Rattle.desk_state.specs.declared.commands.Command.TheVariants.{Layout}
 use Rattle.desk_state.specs.declared.desks.TheConstants.{LAST_COMMIT}
 use Rattle.desk_state.specs.parts.Linking.{with_headings, link_changes}
 use Rattle.desk_state.specs.parts.Stepping.{IsArranged, moved}
-use Rattle.desk_state.proofs.Deciding.{layout_full, layout_refused, layout_stepped, memory_refused}
+use Rattle.desk_state.proofs.Deciding.{layout_full, layout_refused, layout_stepped}
 use Rattle.desk_state.proofs.Laying.{bare, named, arranged, length-laid_out}
 use Rattle.desk_state.proofs.desks.Desk.lay_out.Goals as goal
 

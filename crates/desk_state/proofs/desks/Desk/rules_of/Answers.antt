@@ -1,4 +1,4 @@
-use Rattle.std.proofs.Common.{◌≡◌, ap, ◌∙◌}
+use Rattle.std.proofs.Common.{ap, ◌∙◌}
 use Rattle.app_registry.specs.Registry.{RegistryLists, author_of}
 use Rattle.rule_templates.specs.Expansion.{expansion}
 use Rattle.desk_state.proofs.desks.Desk.rules_of.Goals as goal

@@ -1,14 +1,13 @@
-use Rattle.std.proofs.Common.{◌≡◌, None, sym, ap, ◌∙◌, subst}
+use Rattle.std.proofs.Common.{◌≡◌, sym, ap, ◌∙◌, subst}
 use Rattle.bucket_store.specs.Change.{with_changes}
 use Rattle.bucket_store.specs.Database.{Database}
 use Rattle.bucket_store.specs.Refusal as store
-use Rattle.rule_templates.specs.declared.lines.TemplateLine.{TemplateLine}
 use Rattle.desk_state.specs.Layout.{settled}
 use Rattle.desk_state.specs.declared.refusals.Refusal.{Refusal}
-use Rattle.desk_state.specs.parts.Stepping.{IsArranged, Settles, moved}
-use Rattle.desk_state.proofs.Deciding.{unsettled, settles}
+use Rattle.desk_state.specs.parts.Stepping.{Settles}
+use Rattle.desk_state.proofs.Deciding.{unsettled}
 use Rattle.desk_state.proofs.Commanding.{arranged}
-use Rattle.std.proofs.Common.{Ok, Err}
+use Rattle.std.proofs.Common.{Err}
 use Rattle.desk_state.proofs.desks.Desk.settle.Goals as goal
 
 pub returns-in-Err : goal.returns-in-Err

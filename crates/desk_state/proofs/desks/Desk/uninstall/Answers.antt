@@ -1,20 +1,16 @@
-use Rattle.std.proofs.Common.{◌≡◌, ℕ, ◌<◌, ◌^◌, List, [], ◌∷◌, Option, None, true, find, refl, sym, ap, ◌∙◌, subst, arith}
-use Rattle.std.specs.List.{AllByRecursion, flat_map, list_any}
-use Rattle.std.specs.Option.{option_or}
+use Rattle.std.proofs.Common.{◌≡◌, List, None, true, find, refl, sym, ap, ◌∙◌, subst}
+use Rattle.std.specs.List.{flat_map, list_any}
 use Rattle.bucket_store.specs.Change.{with_changes}
 use Rattle.bucket_store.specs.Refusal.{named_by, no_bucket}
 use Rattle.bucket_store.specs.declared.policy_changes.Change.{Change}
 use Rattle.app_registry.specs.Refusal as registry
 use Rattle.app_registry.specs.Install.{is_of_app, is_install_of}
-use Rattle.app_registry.specs.Registry.{RegistryLists, with_user, without_user, with_install, without_install}
-use Rattle.app_registry.specs.declared.installs.Install.{Install}
-use Rattle.app_registry.specs.declared.users.User.{User}
-use Rattle.app_registry.specs.declared.refusals.RegistryRefusal.{RegistryRefusal}
+use Rattle.app_registry.specs.Registry.{RegistryLists, without_install}
 use Rattle.desk_state.specs.Layout.{has_layout, settled}
 use Rattle.desk_state.specs.Rules.{Refuses}
 use Rattle.desk_state.specs.declared.commands.Command.{Command}
 use Rattle.desk_state.specs.declared.commands.Command.TheVariants.{Uninstall}
-use Rattle.desk_state.specs.parts.Following.{set_user, removal_changes, package_changes, app_changes}
+use Rattle.desk_state.specs.parts.Following.{app_changes}
 use Rattle.desk_state.specs.parts.Stepping.{Settles}
 use Rattle.desk_state.proofs.Commanding.{named-uninstall, follows-uninstall}
 use Rattle.desk_state.proofs.Deciding.{on_uninstall, refused_by_registry, stepped_by_registry, laid_known, or_nothing, was_installed}
@@ -44,7 +40,7 @@ settle-requires c =
     let accepted : registry.uninstall_fault desk.registry c.args.app.now c.args.scope ≡ None =
     subst (λ (lists : RegistryLists). registry.uninstall_fault lists c.args.app.now c.args.scope ≡ None) c.registry.ensures.registry c.in-Ok.ensures.accepted in
     let installed = was_installed (list_any (is_install_of c.args.app.now c.args.scope) desk.registry.installs) accepted in
-    let changes : c.deref.result.now ≡ app_changes (find (is_of_app c.args.app.now) desk.registry.installs) desk.registry.installs (without_install desk.registry c.args.app.now c.args.scope).installs = 
+    let changes : c.deref.result.now ≡ app_changes (find (is_of_app c.args.app.now) desk.registry.installs) desk.registry.installs (without_install desk.registry c.args.app.now c.args.scope).installs =
     c.deref.ensures.value ∙ c.in-Ok-app_changes.ensures
     ∙ (λ i. app_changes (find (is_of_app c.args.app.now) (before i)) (before i) (after i)) in
     record {

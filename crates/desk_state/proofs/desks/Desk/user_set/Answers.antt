@@ -1,23 +1,18 @@
-use Rattle.std.proofs.Common.{◌≡◌, ℕ, ◌<◌, ◌^◌, List, [], ◌∷◌, Option, None, true, find, refl, sym, ap, ◌∙◌, subst, arith}
-use Rattle.std.specs.List.{AllByRecursion, flat_map, list_any}
-use Rattle.std.specs.Option.{option_or}
+use Rattle.std.proofs.Common.{◌≡◌, ◌<◌, ◌^◌, List, [], ◌∷◌, None, true, refl, sym, ap, ◌∙◌, subst, arith}
+use Rattle.std.specs.List.{flat_map}
 use Rattle.bucket_store.specs.Change.{with_changes}
 use Rattle.bucket_store.specs.Refusal.{named_by, no_bucket}
 use Rattle.bucket_store.specs.declared.policy_changes.Change.{Change}
 use Rattle.app_registry.specs.Refusal as registry
-use Rattle.app_registry.specs.Install.{is_of_app, is_install_of}
-use Rattle.app_registry.specs.Registry.{RegistryLists, with_user, without_user, with_install, without_install}
-use Rattle.app_registry.specs.declared.installs.Install.{Install}
-use Rattle.app_registry.specs.declared.users.User.{User}
-use Rattle.app_registry.specs.declared.refusals.RegistryRefusal.{RegistryRefusal}
+use Rattle.app_registry.specs.Registry.{RegistryLists, with_user}
 use Rattle.desk_state.specs.Layout.{has_layout, settled}
 use Rattle.desk_state.specs.Rules.{Refuses}
 use Rattle.desk_state.specs.declared.commands.Command.{Command}
 use Rattle.desk_state.specs.declared.commands.Command.TheVariants.{UserSet}
-use Rattle.desk_state.specs.parts.Following.{set_user, removal_changes, package_changes, app_changes}
+use Rattle.desk_state.specs.parts.Following.{set_user}
 use Rattle.desk_state.specs.parts.Stepping.{Settles}
 use Rattle.desk_state.proofs.Commanding.{named-user_set, follows-user_set}
-use Rattle.desk_state.proofs.Deciding.{on_user_set, refused_by_registry, stepped_by_registry, laid_known, or_nothing, was_installed}
+use Rattle.desk_state.proofs.Deciding.{on_user_set, refused_by_registry, stepped_by_registry, laid_known}
 use Rattle.desk_state.proofs.desks.Desk.user_set.Goals as goal
 
 pub returns-in-Err : goal.returns-in-Err
