@@ -1,3 +1,5 @@
 pub mod Appends
+pub mod NameWords
+pub mod Numerals
 pub mod Parts
-pub mod Reading
+pub mod Refusing

@@ -1,13 +1,14 @@
 -- The exact texts of the answers. Each is one line with its newline.
-use Rattle.std.specs.Prelude.{ℕ, Bool, if◌then◌else◌, ◌==◌, List, [], ◌∷◌, ◌++◌, decimal, codes}
-use Rattle.cynara_keys.specs.Field.{field_text}
+use Rattle.std.specs.Prelude.{ℕ, Bool, if◌then◌else◌, ◌==◌, List, [], ◌∷◌, ◌++◌, Option, Some, None, decimal, codes}
 use Rattle.cynara_keys.specs.PolicyResult.{Ruling, deny, none, bucket, allow}
-use Rattle.cynara_keys.specs.declared.keys.Key.{Key}
-use Rattle.cynara_keys.specs.declared.keys.Policy.{Policy}
 use Rattle.cynara_keys.specs.declared.limits.Counted.{Counted}
 use Rattle.cynara_keys.specs.declared.limits.Counted.TheVariants.{Commits, Users, Packages, Installs, Grants, Buckets, Policies}
+use Rattle.desk_state.specs.declared.refusals.Refusal.{Refusal}
+use Rattle.desk_state.specs.declared.refusals.Refusal.TheVariants as refusal
 use Rattle.line_script.specs.declared.answers.LineAnswer.{LineAnswer}
-use Rattle.line_script.specs.declared.answers.LineAnswer.TheVariants.{Accepted, ByPolicy, ByFallback, LimitReached, Access, CommandLineFault, LineFault}
+use Rattle.line_script.specs.declared.answers.LineAnswer.TheVariants.{Accepted, Erased, ByPolicy, ByFallback, Row, Rows, Access, Status, Refused, CommandLineFault, LineFault, Damaged}
+
+-- ---- parts of lines
 
 -- the root bucket's name is empty, and its text is `.`
 abbrev pub bucket_text : List ℕ → List ℕ
@@ -26,8 +27,9 @@ result_text result =
 abbrev pub verdict_text : ℕ → List ℕ → Ruling → List ℕ
 verdict_text commit name result = result_text result ++ (codes " " ++ (decimal commit ++ (codes " " ++ bucket_text name)))
 
-abbrev pub key_text : Key → List ℕ
-key_text key = field_text key.client ++ (codes " " ++ (field_text key.user ++ (codes " " ++ field_text key.privilege)))
+-- `CLIENT USER PRIVILEGE`
+abbrev pub key_text : List ℕ → List ℕ → List ℕ → List ℕ
+key_text client user privilege = client ++ (codes " " ++ (user ++ (codes " " ++ privilege)))
 
 abbrev pub counted_text : Counted → List ℕ
 counted_text Commits = codes "commits"
@@ -41,26 +43,82 @@ counted_text Policies = codes "policies"
 abbrev pub decision_text : Bool → List ℕ
 decision_text allowed = if allowed then codes "allow" else codes "deny"
 
+-- the author of a package, with `-` for none
+abbrev pub author_text : Option (List ℕ) → List ℕ
+author_text None = codes "-"
+author_text (Some author) = author
+
+-- ---- answers to commands
+
 -- a command was accepted
 unfoldable pub accepted_text : ℕ → List ℕ
 accepted_text commit = codes "ok " ++ (decimal commit ++ codes "\n")
 
+-- an erasing was accepted, which took away so many policies
+unfoldable pub erased_text : ℕ → ℕ → List ℕ
+erased_text commit count = codes "ok " ++ (decimal commit ++ (codes " erased " ++ (decimal count ++ codes "\n")))
+
+-- the number and the name of the rule that a refusal names; want of memory is no rule
+abbrev pub rule_text : Refusal → List ℕ
+rule_text (refusal.Reserved name) = codes "1 reserved"
+rule_text refusal.LayoutThere = codes "2 layout-there"
+rule_text refusal.NoLayout = codes "3 no-layout"
+rule_text (refusal.NoBucket name) = codes "4 no-bucket"
+rule_text refusal.RootBucket = codes "5 root-bucket"
+rule_text (refusal.BadKind kind) = codes "6 bad-kind"
+rule_text (refusal.UnknownUser uid) = codes "7 unknown-user"
+rule_text (refusal.OtherPackage name) = codes "8 other-package"
+rule_text (refusal.OtherAuthor author) = codes "9 other-author"
+rule_text refusal.NotInstalled = codes "10 not-installed"
+rule_text (refusal.Limit counted most) = codes "11 limit"
+rule_text (refusal.Cycle name) = codes "12 cycle"
+rule_text (refusal.Memory error) = []
+
+-- what the rule is about, with a space in front
+abbrev pub subject_text : Refusal → List ℕ
+subject_text (refusal.Reserved name) = codes " " ++ bucket_text name
+subject_text (refusal.NoBucket name) = codes " " ++ bucket_text name
+subject_text (refusal.BadKind kind) = codes " " ++ decimal kind.0
+subject_text (refusal.UnknownUser uid) = codes " " ++ decimal uid
+subject_text (refusal.OtherPackage name) = codes " " ++ name
+subject_text (refusal.OtherAuthor author) = codes " " ++ author_text author
+subject_text (refusal.Limit counted most) = codes " " ++ (counted_text counted ++ (codes " " ++ decimal most))
+subject_text (refusal.Cycle name) = codes " " ++ bucket_text name
+subject_text other = []
+
+-- a command was refused
+unfoldable pub refusal_text : Refusal → List ℕ
+refusal_text refusal = codes "refused " ++ (rule_text refusal ++ (subject_text refusal ++ codes "\n"))
+
+-- ---- answers to questions
+
 -- an evaluation that a policy of a bucket decided
-unfoldable pub by_policy_text : ℕ → List ℕ → Policy → List ℕ
-by_policy_text commit name policy = verdict_text commit name policy.result ++ (codes " " ++ (key_text policy.key ++ codes "\n"))
+unfoldable pub by_policy_text : ℕ → List ℕ → Ruling → List ℕ → List ℕ → List ℕ → List ℕ
+by_policy_text commit name result client user privilege =
+    verdict_text commit name result ++ (codes " " ++ (key_text client user privilege ++ codes "\n"))
 
 -- an evaluation that the fallback of a bucket decided
 unfoldable pub by_fallback_text : ℕ → List ℕ → Ruling → List ℕ
 by_fallback_text commit name fallback = verdict_text commit name fallback ++ codes " default\n"
 
--- a command would go past a limit
-unfoldable pub limit_text : Counted → ℕ → List ℕ
-limit_text counted most =
-    codes "refused 11 limit " ++ (counted_text counted ++ (codes " " ++ (decimal most ++ codes "\n")))
+-- one policy of a list
+unfoldable pub row_text : List ℕ → List ℕ → List ℕ → Ruling → List ℕ
+row_text client user privilege result =
+    codes "row " ++ (key_text client user privilege ++ (codes " " ++ (result_text result ++ codes "\n")))
+
+-- the end of a list of so many policies
+unfoldable pub rows_text : ℕ → List ℕ
+rows_text count = codes "rows " ++ (decimal count ++ codes "\n")
 
 -- a decision of Smack, with the number of the case that decided
 unfoldable pub access_text : Bool → ℕ → List ℕ
 access_text allowed rule = codes "access " ++ (decision_text allowed ++ (codes " " ++ (decimal rule ++ codes "\n")))
+
+-- the number of the last accepted command
+unfoldable pub status_text : ℕ → List ℕ
+status_text commit = codes "commit " ++ (decimal commit ++ codes "\n")
+
+-- ---- last lines
 
 unfoldable pub command_line_text : List ℕ
 command_line_text = codes "fault command line\n"
@@ -69,12 +127,27 @@ command_line_text = codes "fault command line\n"
 unfoldable pub line_fault_text : ℕ → List ℕ
 line_fault_text line = codes "syntax " ++ (decimal line ++ codes "\n")
 
--- the text of each answer
+-- a file of the folder is no text of a policy state
+unfoldable pub damaged_text : List ℕ → ℕ → List ℕ
+damaged_text file line = codes "damaged " ++ (file ++ (codes " " ++ (decimal line ++ codes "\n")))
+
+-- ---- the text of each answer
+
+abbrev pub ruling : ℕ → List ℕ → Ruling
+ruling kind metadata = record { kind = kind; metadata = metadata }
+
 abbrev pub answer_text : LineAnswer → List ℕ
 answer_text (Accepted commit) = accepted_text commit
-answer_text (ByPolicy commit name policy) = by_policy_text commit name.now policy.now
-answer_text (ByFallback commit name fallback) = by_fallback_text commit name.now fallback.now
-answer_text (LimitReached counted most) = limit_text counted most
+answer_text (Erased commit count) = erased_text commit count
+answer_text (ByPolicy commit name kind metadata client user privilege) =
+    by_policy_text commit name.now (ruling kind.0 metadata.now) client.now user.now privilege.now
+answer_text (ByFallback commit name kind metadata) = by_fallback_text commit name.now (ruling kind.0 metadata.now)
+answer_text (Row client user privilege kind metadata) =
+    row_text client.now user.now privilege.now (ruling kind.0 metadata.now)
+answer_text (Rows count) = rows_text count
 answer_text (Access allowed rule) = access_text allowed rule
+answer_text (Status commit) = status_text commit
+answer_text (Refused broken) = refusal_text broken.refusal.now
 answer_text CommandLineFault = command_line_text
 answer_text (LineFault line) = line_fault_text line
+answer_text (Damaged file line) = damaged_text file.now line

@@ -1,82 +1,255 @@
--- The lines of a script, as one function from the bytes of a line to its step.
-use Rattle.std.specs.Prelude.{◌≡◌, ◌≢◌, ℕ, if◌then◌else◌, List, [], Option, Some, None, Result, Ok, Err, is_none, codes}
-use Rattle.cynara_keys.specs.Text.{same_text}
+-- The lines of a script, as one function from the place in the script and the bytes of a line to its step.
+use Rattle.std.specs.Prelude.{ℕ, Bool, true, ◌==◌, if◌then◌else◌, List, [], ◌∷◌, ◌++◌, Option, Some, None, option_map, codes}
+use Rattle.std.specs.List.{list_all}
+use Rattle.std.specs.Result.{result_ok}
+use Rattle.cynara_keys.specs.Text.{same_text, text_cmp}
 use Rattle.cynara_keys.specs.Name.{is_name}
-use Rattle.cynara_keys.specs.Field.{field_of, field_fault}
-use Rattle.cynara_keys.specs.PolicyResult.{Ruling, deny, none, bucket, allow}
-use Rattle.cynara_keys.specs.declared.fields.Field.{Field}
+use Rattle.cynara_keys.specs.declared.keys.Key.{Key}
+use Rattle.cynara_keys.specs.declared.keys.Question.{Question}
+use Rattle.cynara_keys.specs.declared.keys.Filter.{Filter}
+use Rattle.bucket_store.specs.declared.policy_changes.Change.{Change}
+use Rattle.bucket_store.specs.declared.policy_changes.Change.TheVariants.{Set as SetPolicy, Delete}
+use Rattle.app_registry.specs.Rising.{rising}
+use Rattle.rule_templates.specs.Template.{with_one_more}
+use Rattle.rule_templates.specs.declared.lines.TemplateLine.{TemplateLine}
+use Rattle.desk_state.specs.declared.commands.Command.TheVariants as command
 use Rattle.line_script.specs.Words.{words_of, word, end_of, ◌>>=◌}
+use Rattle.line_script.specs.WordForms.{bucket_at, name_at, field_at, filter_field_at, depth_at, result_at, uid_at, user_type_at, scope_at, ident_at, author_at, label_at, request_at}
+use Rattle.line_script.specs.Verbs.{verb_at}
+use Rattle.line_script.specs.Block.{Block, outside, batch, template, failed}
+use Rattle.line_script.specs.declared.verbs.Verb.{Verb}
+use Rattle.line_script.specs.declared.verbs.Verb.TheVariants as verb
 use Rattle.line_script.specs.declared.steps.Step.{Step}
-use Rattle.line_script.specs.declared.steps.Step.TheVariants.{Set, Check}
-use Rattle.line_script.specs.declared.steps.LineRefusal.{LineRefusal}
-use Rattle.line_script.specs.declared.steps.LineRefusal.TheVariants.{Syntax, Memory}
+use Rattle.line_script.specs.declared.steps.Step.TheVariants as step
 
--- `.`, the root bucket
-abbrev pub root_at : List ℕ → Option (Unit {0})
-root_at text = if same_text text (codes ".") then Some tt else None
+-- ---- several words
 
--- a name
-abbrev pub name_at : List ℕ → Option (List ℕ)
-name_at text = if is_name text then Some text else None
-
--- `*` or a name
-abbrev pub field_at : List ℕ → Option Field
-field_at text = if is_none (field_fault text) then Some (field_of text) else None
-
--- `deny`, `none` or `allow`
-abbrev pub result_at : List ℕ → Option Ruling
-result_at text =
-    if same_text text (codes "deny") then Some (record { kind = deny; metadata = [] })
-    else (if same_text text (codes "none") then Some (record { kind = none; metadata = [] })
-    else (if same_text text (codes "allow") then Some (record { kind = allow; metadata = [] })
-    else None))
-
--- `set . CLIENT USER PRIVILEGE RESULT`, behind the first word
-unfoldable pub set_at : List (List ℕ) → Option Step
-set_at words = do
-  bucket ← word root_at words
-  client ← word field_at bucket.1
+-- `CLIENT USER PRIVILEGE` of a policy
+unfoldable pub key_at : List (List ℕ) → Option (Key × List (List ℕ))
+key_at words = do
+  client ← word field_at words
   user ← word field_at client.1
   privilege ← word field_at user.1
-  result ← word result_at privilege.1
-  end_of (Set (record { client = client.0; user = user.0; privilege = privilege.0 }) result.0) result.1
+  Some (record { client = client.0; user = user.0; privilege = privilege.0 }, privilege.1)
 
--- `check CLIENT USER PRIVILEGE`, behind the first word
-unfoldable pub check_at : List (List ℕ) → Option Step
-check_at words = do
+-- `CLIENT USER PRIVILEGE` of a question
+unfoldable pub question_at : List (List ℕ) → Option (Question × List (List ℕ))
+question_at words = do
   client ← word name_at words
   user ← word name_at client.1
   privilege ← word name_at user.1
-  end_of (Check (record { client = client.0; user = user.0; privilege = privilege.0 })) privilege.1
+  Some (record { client = client.0; user = user.0; privilege = privilege.0 }, privilege.1)
 
--- the lines that a first word opens
-abbrev pub line_at : List ℕ → List (List ℕ) → Option Step
-line_at verb words =
-    if same_text verb (codes "set") then set_at words
-    else (if same_text verb (codes "check") then check_at words
-    else None)
+-- `FILTER FILTER FILTER`
+unfoldable pub filter_at : List (List ℕ) → Option (Filter × List (List ℕ))
+filter_at words = do
+  client ← word filter_field_at words
+  user ← word filter_field_at client.1
+  privilege ← word filter_field_at user.1
+  Some (record { client = client.0; user = user.0; privilege = privilege.0 }, privilege.1)
 
--- the step of a line, or nothing where the line is outside the grammar
-unfoldable pub step_of : List ℕ → Option Step
-step_of line = do
-  verb ← word Some (words_of line)
-  line_at verb.0 verb.1
+-- any number of names, to the end of the line
+abbrev pub names_at : List (List ℕ) → Option (List (List ℕ))
+names_at words = if list_all is_name words then Some words else None
 
--- a change whose result points to no bucket
-abbrev pub PointsToNoBucket : Step → Type 0
-PointsToNoBucket (Set key result) = result.kind ≢ bucket
-PointsToNoBucket (Check question) = Unit {0}
+-- ---- lines, each behind its first word
 
--- a call gives what the definition reads, unless memory runs out
-abbrev pub Refuses : {A : Type 0} → LineRefusal → Option A → Type 0
-Refuses Syntax reading = reading ≡ None
-Refuses (Memory error) reading = Unit {0}
+-- `set BUCKET CLIENT USER PRIVILEGE RESULT`
+unfoldable pub set_at : List (List ℕ) → Option Change
+set_at words = do
+  bucket ← word bucket_at words
+  key ← key_at bucket.1
+  result ← word result_at key.1
+  ended ← end_of result.1
+  Some (SetPolicy bucket.0 key.0 result.0)
 
-abbrev pub Gives : {A : Type 0} → Result A LineRefusal → Option A → Type 0
-Gives (Ok value) reading = reading ≡ Some value
-Gives (Err refusal) reading = Refuses refusal reading
+-- `unset BUCKET CLIENT USER PRIVILEGE`
+unfoldable pub unset_at : List (List ℕ) → Option Change
+unset_at words = do
+  bucket ← word bucket_at words
+  key ← key_at bucket.1
+  ended ← end_of key.1
+  Some (Delete bucket.0 key.0)
 
--- the same, where words are left
-abbrev pub GivesWord : {A : Type 0} → Result A LineRefusal → List (List ℕ) → Option (A × List (List ℕ)) → Type 0
-GivesWord (Ok value) left reading = reading ≡ Some (value, left)
-GivesWord (Err refusal) left reading = Refuses refusal reading
+-- `bucket BUCKET RESULT`
+unfoldable pub set_bucket_at : List (List ℕ) → Option Step
+set_bucket_at words = do
+  bucket ← word bucket_at words
+  fallback ← word result_at bucket.1
+  ended ← end_of fallback.1
+  Some (step.Command (command.SetBucket bucket.0 fallback.0))
+
+-- `drop BUCKET`
+unfoldable pub drop_at : List (List ℕ) → Option Step
+drop_at words = do
+  bucket ← word bucket_at words
+  ended ← end_of bucket.1
+  Some (step.Command (command.RemoveBucket bucket.0))
+
+-- `erase BUCKET FILTER FILTER FILTER`
+unfoldable pub erase_at : List (List ℕ) → Option Step
+erase_at words = do
+  bucket ← word bucket_at words
+  filter ← filter_at bucket.1
+  ended ← end_of filter.1
+  Some (step.Command (command.Erase bucket.0 filter.0))
+
+-- `layout`
+unfoldable pub layout_at : List (List ℕ) → Option Step
+layout_at words = do
+  ended ← end_of words
+  Some (step.Command command.Layout)
+
+-- `user UID TYPE`
+unfoldable pub user_at : List (List ℕ) → Option Step
+user_at words = do
+  uid ← word uid_at words
+  kind ← word user_type_at uid.1
+  ended ← end_of kind.1
+  Some (step.Command (command.UserSet uid.0 kind.0))
+
+-- `nouser UID`
+unfoldable pub nouser_at : List (List ℕ) → Option Step
+nouser_at words = do
+  uid ← word uid_at words
+  ended ← end_of uid.1
+  Some (step.Command (command.UserRemove uid.0))
+
+-- `install PACKAGE AUTHOR APP SCOPE` and any number of privileges, whose order and repeats say nothing
+unfoldable pub install_at : List (List ℕ) → Option Step
+install_at words = do
+  name ← word ident_at words
+  author ← word author_at name.1
+  app ← word ident_at author.1
+  scope ← word scope_at app.1
+  privileges ← names_at scope.1
+  Some (step.Command (command.Install (record {
+    «package» = name.0;
+    author = author.0;
+    app = app.0;
+    scope = scope.0;
+    privileges = rising text_cmp privileges;
+  })))
+
+-- `remove APP SCOPE`
+unfoldable pub remove_at : List (List ℕ) → Option Step
+remove_at words = do
+  app ← word ident_at words
+  scope ← word scope_at app.1
+  ended ← end_of scope.1
+  Some (step.Command (command.Uninstall app.0 scope.0))
+
+-- `list BUCKET FILTER FILTER FILTER`
+unfoldable pub list_at : List (List ℕ) → Option Step
+list_at words = do
+  bucket ← word bucket_at words
+  filter ← filter_at bucket.1
+  ended ← end_of filter.1
+  Some (step.List bucket.0 filter.0)
+
+-- `check CLIENT USER PRIVILEGE`
+unfoldable pub check_at : List (List ℕ) → Option Step
+check_at words = do
+  question ← question_at words
+  ended ← end_of question.1
+  Some (step.Check question.0)
+
+-- `from BUCKET MODE CLIENT USER PRIVILEGE`
+unfoldable pub from_at : List (List ℕ) → Option Step
+from_at words = do
+  bucket ← word bucket_at words
+  deep ← word depth_at bucket.1
+  question ← question_at deep.1
+  ended ← end_of question.1
+  Some (step.From bucket.0 deep.0 question.0)
+
+-- `access SUBJECT OBJECT MODES`
+unfoldable pub access_at : List (List ℕ) → Option Step
+access_at words = do
+  subject ← word label_at words
+  object ← word label_at subject.1
+  asked ← word request_at object.1
+  ended ← end_of asked.1
+  Some (step.Access subject.0 object.0 asked.0)
+
+-- `status`
+unfoldable pub status_at : List (List ℕ) → Option Step
+status_at words = do
+  ended ← end_of words
+  Some step.Status
+
+-- ---- the lines that a first word opens
+
+-- lines that are one command outside a block, and one of several changes within a batch
+unfoldable pub change_at : Verb → List (List ℕ) → Option Change
+change_at verb.Set words = set_at words
+change_at verb.Unset words = unset_at words
+change_at verb words = None
+
+-- one change alone
+abbrev pub change_step : Change → Step
+change_step change = step.Command (command.SetPolicies (change ∷ []))
+
+unfoldable pub line_at : Verb → List (List ℕ) → Option Step
+line_at verb.Set words = option_map change_step (set_at words)
+line_at verb.Unset words = option_map change_step (unset_at words)
+line_at verb.Bucket words = set_bucket_at words
+line_at verb.Drop words = drop_at words
+line_at verb.Erase words = erase_at words
+line_at verb.Layout words = layout_at words
+line_at verb.User words = user_at words
+line_at verb.NoUser words = nouser_at words
+line_at verb.Install words = install_at words
+line_at verb.Remove words = remove_at words
+line_at verb.List words = list_at words
+line_at verb.Check words = check_at words
+line_at verb.From words = from_at words
+line_at verb.Access words = access_at words
+line_at verb.Status words = status_at words
+
+-- the change that a line is
+unfoldable pub lone_change : List ℕ → Option Change
+lone_change line = do
+  first ← word verb_at (words_of line)
+  change_at first.0 first.1
+
+-- the step of a line that stands alone
+unfoldable pub lone_step : List ℕ → Option Step
+lone_step line = do
+  first ← word verb_at (words_of line)
+  line_at first.0 first.1
+
+-- ---- a script, line by line
+
+-- a line without bytes, or with `#` at the front
+abbrev pub is_skipped : List ℕ → Bool
+is_skipped [] = true
+is_skipped (byte ∷ bytes) = byte == 35
+
+-- a line outside a block
+unfoldable pub outside_at : List ℕ → Option (Block × Step)
+outside_at line =
+    if is_skipped line then Some (outside, step.Nothing)
+    else (if same_text line (codes "batch") then Some (batch [], step.Nothing)
+    else (if same_text line (codes "template") then Some (template [], step.Nothing)
+    else option_map (λ read. (outside, read)) (lone_step line)))
+
+-- a line of a batch behind these changes
+unfoldable pub batch_at : List Change → List ℕ → Option (Block × Step)
+batch_at changes line =
+    if is_skipped line then Some (batch changes, step.Nothing)
+    else (if same_text line (codes "end") then Some (outside, step.Command (command.SetPolicies changes))
+    else option_map (λ change. (batch (changes ++ change ∷ []), step.Nothing)) (lone_change line))
+
+-- a line of a template behind these lines
+unfoldable pub template_at : List TemplateLine → List ℕ → Option (Block × Step)
+template_at lines line =
+    if same_text line (codes "end") then Some (outside, step.Command (command.SetTemplate lines))
+    else option_map (λ more. (template more, step.Nothing)) (result_ok (with_one_more lines line))
+
+-- The step of a line and where the script is behind it, or nothing where the line is outside the grammar.
+unfoldable pub step_at : Block → List ℕ → Option (Block × Step)
+step_at outside line = outside_at line
+step_at (batch changes) line = batch_at changes line
+step_at (template lines) line = template_at lines line
+step_at failed line = None

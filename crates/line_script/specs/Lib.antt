@@ -1,4 +1,10 @@
 pub mod Words
+pub mod Numbers
+pub mod WordForms
+pub mod Verbs
+pub mod Block
 pub mod Grammar
+pub mod Turn
+pub mod Refusals
 pub mod Answers
-pub mod Appending
+pub mod parts

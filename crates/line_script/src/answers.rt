@@ -1,45 +1,75 @@
 ghost use Rattle.std.specs.Prelude.{◌≡◌, ◌++◌, OnOk, OnErr};
 ghost use Rattle.line_script.specs.Answers.{answer_text, command_line_text};
 
-use crate::print_parts::append_answer;
-use cynara_keys::{BucketName, Counted, Policy, PolicyResult};
+use crate::print_answers::append_answer;
+use crate::rules_broken::RuleBroken;
+use cynara_keys::Kind;
 use desk_ports::Bytes;
 use std::alloc::AllocError;
 
-/// What a line is answered, or the last line of a run. COMMIT is the number of the last accepted command, and RESULT
-/// is `deny`, `none`, `allow`, `bucket:BUCKET` or `agent:KIND:METADATA`. The root bucket is written `.`.
+/// What a line is answered, or the last line of a run. COMMIT is the number of the last accepted command. RESULT is
+/// `deny`, `none`, `allow`, `bucket:BUCKET` or `agent:KIND:METADATA`, printed from a kind and metadata. The root bucket,
+/// whose name is empty, is written `.`. Texts are borrowed and printed as they are.
 #[derive(Clone, Copy)]
 pub enum LineAnswer<'a> {
     /// `ok COMMIT`: a command was accepted.
     Accepted {
         commit: u64,
     },
+    /// `ok COMMIT erased COUNT`: an erasing was accepted, and took away so many policies.
+    Erased {
+        commit: u64,
+        count: u32,
+    },
     /// `RESULT COMMIT BUCKET CLIENT USER PRIVILEGE`: an evaluation that a policy decided.
     ByPolicy {
         commit: u64,
-        bucket: &'a BucketName,
-        policy: &'a Policy,
+        bucket: &'a [u8],
+        kind: Kind,
+        metadata: &'a [u8],
+        client: &'a [u8],
+        user: &'a [u8],
+        privilege: &'a [u8],
     },
     /// `RESULT COMMIT BUCKET default`: an evaluation that a bucket's fallback decided.
     ByFallback {
         commit: u64,
-        bucket: &'a BucketName,
-        fallback: &'a PolicyResult,
+        bucket: &'a [u8],
+        kind: Kind,
+        metadata: &'a [u8],
     },
-    /// `refused 11 limit WHICH MOST`: the command would make this count go past the most that is allowed.
-    LimitReached {
-        counted: Counted,
-        most: u64,
+    /// `row CLIENT USER PRIVILEGE RESULT`: a policy of a list.
+    Row {
+        client: &'a [u8],
+        user: &'a [u8],
+        privilege: &'a [u8],
+        kind: Kind,
+        metadata: &'a [u8],
+    },
+    /// `rows COUNT`: the end of a list of so many policies.
+    Rows {
+        count: u32,
     },
     /// `access allow RULE` or `access deny RULE`: a decision of Smack, with the number of the case that decided.
     Access {
         allowed: bool,
         rule: u8,
     },
+    /// `commit COMMIT`: the number of the last accepted command.
+    Status {
+        commit: u64,
+    },
+    /// `refused NUMBER NAME` with what the rule is about: a command was refused.
+    Refused(RuleBroken<'a>),
     /// `fault command line`: the words of the command line are no command.
     CommandLineFault,
     /// `syntax LINE`: the line with this number, from 1, is outside its grammar.
     LineFault {
+        line: u32,
+    },
+    /// `damaged FILE LINE`: the file's line with this number, or with 0 the whole file, is no text of a policy state.
+    Damaged {
+        file: &'a [u8],
         line: u32,
     },
 }

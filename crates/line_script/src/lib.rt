@@ -4,13 +4,29 @@
 #![tactic(auto)]
 
 mod answers;
+mod changes;
+mod commands;
+mod installs;
 mod line_fault;
 mod line_words;
-mod print_parts;
+mod lines;
+mod numbers;
+mod phrases;
+mod pieces;
+mod print_answers;
+mod print_refusals;
+mod questions;
+mod reader;
+mod results;
+mod rules_broken;
 mod steps;
 #[cfg(test)]
 mod tests;
+mod verbs;
+mod word_forms;
 
 pub use answers::{LineAnswer, command_line_fault, print};
 pub use line_fault::write_line_fault;
-pub use steps::{LineRefusal, Reader, Step};
+pub use reader::Reader;
+pub use rules_broken::RuleBroken;
+pub use steps::{LineRefusal, Step};

@@ -12,7 +12,7 @@ pub struct Words<'a> {
 
 impl<'a> Model for Words<'a> {
     ghost use Rattle.std.specs.Prelude.{List, ℕ};
-    ghost use Rattle.line_script.specs.Words.{words_left};
+    ghost use Rattle.line_script.specs.parts.WordsLeft.{words_left};
 
     ghost Value = { List (List ℕ) };
 

@@ -1,4 +1,4 @@
-ghost use Rattle.std.specs.Prelude.{◌≡◌, IfOk, IfOk, [], IsTrue};
+ghost use Rattle.std.specs.Prelude.{◌≡◌, IfOk, [], IsTrue};
 ghost use Rattle.line_script.specs.Block.{outside, batch, template, failed};
 ghost use Rattle.line_script.specs.Grammar.{is_skipped, outside_at, batch_at, template_at, step_at};
 ghost use Rattle.line_script.specs.Turn.{Turns, is_in_block, AsksRequest};

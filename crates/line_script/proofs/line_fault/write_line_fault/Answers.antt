@@ -1,6 +1,6 @@
 use Rattle.std.proofs.Common.{OnErr, Result, Ok, Err, ◌++◌, codes}
 use Rattle.std.specs.Fmt.{decimal}
-use Rattle.desk_ports.proofs.Appends.{Appended-then, AppendedPart-front, AppendedPart-then}
+use Rattle.desk_ports.proofs.Appends.{AppendedPart-front, AppendedPart-then}
 use Rattle.line_script.specs.Answers.{line_fault_text}
 use Rattle.line_script.proofs.line_fault.write_line_fault.Goals as goal
 

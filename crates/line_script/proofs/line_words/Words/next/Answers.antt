@@ -1,6 +1,6 @@
 use Rattle.std.proofs.Common.{◌==◌, sym, ap, ◌∙◌}
 use Rattle.std.proofs.lemmas.List.{take_rest}
-use Rattle.line_script.specs.Words.{words_left}
+use Rattle.line_script.specs.parts.WordsLeft.{words_left}
 use Rattle.line_script.proofs.Parts.{slice_split-position, slice_split-no_position}
 use Rattle.line_script.proofs.line_words.Words.next.Goals as goal
 
