@@ -1,8 +1,7 @@
 -- A run of `smack-access`: what its parts read and wrote, put together.
-use Rattle.std.proofs.Common.{◌≡◌, ◌<◌, ◌≤◌, ◌+◌, ◌++◌, [], ℕ, Bool, true, false, nat_lt, List, length, take, Option, Some, None, Result, Ok, Err, MatchResult, inl, inr, refl, sym, ap, ◌∙◌, subst, arith, append-nil, length-append}
+use Rattle.std.proofs.Common.{◌≡◌, ◌++◌, [], ℕ, Bool, true, false, nat_lt, List, length, take, Option, Result, Ok, Err, MatchResult, inl, inr, refl, sym, ap, ◌∙◌, subst, arith, append-nil, length-append}
 use Rattle.std.proofs.lemmas.Bool.{ltb-true, ltb-false}
-use Rattle.desk_ports.specs.Faults.{next_count}
-use Rattle.desk_ports.specs.Content.{Took, ReadToEnd, Appended, AppendedPart}
+use Rattle.desk_ports.specs.Content.{ReadToEnd, Appended}
 use Rattle.desk_ports.proofs.Appends.{Appended-none}
 use Rattle.smack_rules.specs.declared.modes.Modes.{Modes}
 use Rattle.smack_rules.specs.declared.table.PairModes.{PairModes}

@@ -1,20 +1,17 @@
 -- How the answering of a script ends.
-use Rattle.std.proofs.Common.{◌≡◌, ◌<◌, ◌≤◌, ◌+◌, ◌-◌, ◌⊎◌, inl, inr, ℕ, Bool, true, false, cond, List, [], ◌∷◌, ◌++◌, length, take, Option, Some, None, Result, Ok, Err, refl, sym, ap, ◌∙◌, subst, arith, append_assoc, append-nil, length-append}
-use Rattle.desk_ports.specs.Content.{Took, ReadToEnd, Appended, AppendedPart}
+use Rattle.std.proofs.Common.{◌≡◌, ◌<◌, ◌+◌, ◌⊎◌, inl, inr, ℕ, Bool, true, false, cond, List, [], ◌∷◌, ◌++◌, length, take, Option, Some, None, Ok, Err, refl, sym, ap, ◌∙◌, subst, arith, append_assoc, append-nil}
+use Rattle.desk_ports.specs.Content.{Took, ReadToEnd}
 use Rattle.desk_ports.proofs.Appends.{Appended-none, Appended-then}
-use Rattle.desk_ports.proofs.Readings.{Took-then, Took-nothing, ReadToEnd-then}
-use Rattle.text_lines.specs.Lines.{HasNoNewline, AreWholeLines, pieces_of, lines_within, line_of}
-use Rattle.text_lines.specs.LineReader.{LineReading, Keeps, HandsOut, GoesPast}
-use Rattle.line_script.specs.Grammar.{step_at}
+use Rattle.desk_ports.proofs.Readings.{Took-then, Took-nothing}
+use Rattle.text_lines.specs.Lines.{HasNoNewline, pieces_of, lines_within, line_of}
+use Rattle.text_lines.specs.LineReader.{LineReading}
 use Rattle.line_script.specs.Turn.{is_in_block}
 use Rattle.desk_state.specs.DeskState.{fresh}
-use Rattle.privilege_cli.specs.Script.{read_script, read_lines, line_step, wrong_line, wrong_at, replies}
+use Rattle.privilege_cli.specs.Script.{read_script, read_lines, line_step, wrong_line, replies}
 use Rattle.privilege_cli.specs.Outside.{Had}
-use Rattle.privilege_cli.specs.Ending.{IsCut}
-use Rattle.privilege_cli.specs.LocalRun.{AnswersLines, AnswersAllRead}
+use Rattle.privilege_cli.specs.LocalRun.{AnswersLines}
 use Rattle.privilege_cli.specs.parts.Local.{Hands, Gives, EndsScript, WantsMemory, MeetsWrongLine, FailsToRead, FailsToWrite, Turns}
 use Rattle.privilege_cli.specs.parts.Progress.{Progress, Answers, IsOver, with_steps}
-use Rattle.privilege_cli.specs.declared.limits.TheConstants.{MOST_LINE_BYTES}
 use Rattle.privilege_cli.specs.declared.ending.Ending.{Ending}
 use Rattle.privilege_cli.specs.declared.ending.Ending.TheVariants.{Done, Memory, Words, Line, Source, Sink}
 use Rattle.privilege_cli.specs.declared.local_script.LocalScript.{LocalScript}

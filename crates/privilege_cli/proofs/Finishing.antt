@@ -1,10 +1,9 @@
 -- A script's run, with the answers that waited when it ended.
-use Rattle.std.proofs.Common.{◌≡◌, ◌∷◌, ◌++◌, ◌⊎◌, inl, inr, ℕ, List, take, Option, Result, Ok, Err, refl, sym, ap, ◌∙◌, subst, append_assoc}
+use Rattle.std.proofs.Common.{◌≡◌, ◌∷◌, ◌++◌, inl, inr, ℕ, List, take, Option, Result, Ok, Err, refl, sym, ap, ◌∙◌, subst, append_assoc}
 use Rattle.desk_ports.specs.Faults.{next_count}
-use Rattle.desk_ports.specs.Content.{Appended, AppendedPart}
+use Rattle.desk_ports.specs.Content.{Appended}
 use Rattle.desk_ports.proofs.Appends.{Appended-then}
 use Rattle.desk_state.specs.DeskState.{fresh}
-use Rattle.privilege_cli.specs.Outside.{Outside}
 use Rattle.privilege_cli.specs.Ending.{IsCut, IsTried, source_faults_after}
 use Rattle.privilege_cli.specs.LocalRun.{LocalAnswers}
 use Rattle.privilege_cli.specs.parts.Local.{Flushes, counts_source, counts_sink}

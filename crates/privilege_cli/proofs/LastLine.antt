@@ -2,10 +2,10 @@
 use Rattle.std.proofs.Common.{◌≡◌, ◌∷◌, ◌++◌, [], ◌⊎◌, inl, inr, ℕ, List, Option, Some, None, refl, sym, ap, ◌∙◌, subst, append-nil}
 use Rattle.desk_ports.specs.Faults.{next_count}
 use Rattle.desk_ports.specs.Content.{Appended}
-use Rattle.desk_ports.proofs.Appends.{Appended-none, Appended-then}
+use Rattle.desk_ports.proofs.Appends.{Appended-then}
 use Rattle.desk_state.specs.DeskState.{fresh}
 use Rattle.privilege_cli.specs.Outside.{Outside}
-use Rattle.privilege_cli.specs.Ending.{status_of, last_line, IsCut, IsTried, CountsFaults, Writes}
+use Rattle.privilege_cli.specs.Ending.{status_of, last_line, IsTried, CountsFaults}
 use Rattle.privilege_cli.specs.LocalRun.{LocalAnswers}
 use Rattle.privilege_cli.specs.AccessRun.{AccessAnswers}
 use Rattle.privilege_cli.specs.Program.{Reads, Does, Ends}

@@ -1,12 +1,12 @@
 -- What a list of a bucket that is there can be refused for, and how many rows it has.
-use Rattle.std.proofs.Common.{◌≡◌, ◌≤◌, ℕ, true, List, map, length, Some, None, sym, ◌∙◌, arith}
+use Rattle.std.proofs.Common.{◌≡◌, ◌≤◌, ℕ, true, List, length, sym, ◌∙◌, arith}
 use Rattle.std.specs.List.{filter}
 use Rattle.std.proofs.lemmas.List.{length-map}
 use Rattle.bucket_store.proofs.Lists.{length-filter-≤}
 use Rattle.cynara_keys.specs.declared.keys.Filter.{Filter}
 use Rattle.bucket_store.specs.Database.{Database, Placed, has_bucket}
 use Rattle.bucket_store.specs.Change.{listed, is_admitted}
-use Rattle.bucket_store.specs.Refusal.{fault, Refuses, list, most_policies}
+use Rattle.bucket_store.specs.Refusal.{Refuses, list, most_policies}
 use Rattle.bucket_store.specs.WellFormed.{IsSound}
 use Rattle.bucket_store.specs.declared.refusals.StoreRefusal.{StoreRefusal}
 use Rattle.bucket_store.specs.declared.refusals.StoreRefusal.TheVariants.{NoBucket, RootBucket, BadKind, Limit, Cycle, Memory}

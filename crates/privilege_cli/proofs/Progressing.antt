@@ -1,5 +1,5 @@
 -- A script goes on by one line.
-use Rattle.std.proofs.Common.{◌≡◌, ◌<◌, ◌≤◌, ◌+◌, ◌-◌, ◌⊎◌, inl, inr, ℕ, Bool, true, false, List, [], ◌∷◌, ◌++◌, length, Option, Some, None, refl, sym, ap, ◌∙◌, subst, arith, append_assoc, append-nil, length-append}
+use Rattle.std.proofs.Common.{◌≡◌, ◌+◌, ◌-◌, ◌⊎◌, inl, inr, ℕ, Bool, true, false, List, [], ◌∷◌, ◌++◌, length, Option, refl, sym, ap, ◌∙◌, subst, arith, append_assoc, append-nil, length-append}
 use Rattle.desk_ports.specs.Content.{Took, ReadToEnd}
 use Rattle.desk_ports.proofs.Appends.{Appended-none, Appended-then}
 use Rattle.desk_ports.proofs.Readings.{Took-then, Took-nothing, ReadToEnd-then}

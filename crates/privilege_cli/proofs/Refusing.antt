@@ -1,5 +1,5 @@
 -- Words that give no command to run.
-use Rattle.std.proofs.Common.{◌≡◌, [], Option, Some, Err, refl, sym, subst}
+use Rattle.std.proofs.Common.{[], Option, Some, Err, refl, sym, subst}
 use Rattle.desk_ports.proofs.Readings.{Took-nothing}
 use Rattle.privilege_cli.specs.Commands.{Reads}
 use Rattle.privilege_cli.specs.Outside.{Outside}
@@ -10,7 +10,7 @@ use Rattle.privilege_cli.specs.declared.command_words.Command.TheVariants.{Smack
 use Rattle.privilege_cli.specs.declared.command_words.CommandRefusal.{CommandRefusal}
 use Rattle.privilege_cli.specs.declared.command_words.CommandRefusal.TheVariants.{Unknown, Memory as NoMemory}
 use Rattle.privilege_cli.specs.declared.ending.Ending.{Ending}
-use Rattle.privilege_cli.specs.declared.ending.Ending.TheVariants.{Memory, Words}
+use Rattle.privilege_cli.specs.declared.ending.Ending.TheVariants.{Memory}
 use Rattle.privilege_cli.proofs.Accessing.{RunsBefore-unread}
 
 -- nothing was read, and nothing written

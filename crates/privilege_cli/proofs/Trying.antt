@@ -1,5 +1,5 @@
 -- Writing that is tried once: all bytes are taken, or a call of the sink fails.
-use Rattle.std.proofs.Common.{◌≡◌, ◌<◌, ◌++◌, ◌∷◌, [], ℕ, zero, suc, List, length, take, Option, Result, Ok, Err, OnOk, OnErr, inl, inr, refl, ap, subst, arith}
+use Rattle.std.proofs.Common.{◌≡◌, ◌<◌, ◌∷◌, [], ℕ, zero, suc, List, length, take, Option, Result, Ok, Err, OnOk, OnErr, inl, inr, refl, ap, subst, arith}
 use Rattle.desk_ports.specs.Faults.{CountsFailure}
 use Rattle.desk_ports.specs.Content.{Appended, AppendedPart}
 use Rattle.privilege_cli.specs.Ending.{IsCut, IsTried}

@@ -1,5 +1,5 @@
 -- One turn of answering a script, from its parts.
-use Rattle.std.proofs.Common.{◌≡◌, ◌++◌, ◌∷◌, [], ℕ, Bool, true, false, List, Option, Some, None, Result, Ok, Err, inl, inr, refl, sym, ap, ◌∙◌, subst, append-nil}
+use Rattle.std.proofs.Common.{◌≡◌, ◌++◌, ◌∷◌, [], ℕ, false, List, Option, Ok, Err, inl, refl, sym, ap, ◌∙◌, subst, append-nil}
 use Rattle.desk_ports.specs.Content.{Appended}
 use Rattle.text_lines.specs.Lines.{HasNoNewline}
 use Rattle.text_lines.specs.LineReader.{LineReading, HandsOutNext, Ends, EndsReading, has_line}

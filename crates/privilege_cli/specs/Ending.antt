@@ -1,6 +1,6 @@
 -- The ways in which a run ends: the status and the last line of each, which calls of the outside failed, and what was
 -- written.
-use Rattle.std.specs.Prelude.{◌≡◌, ◌⊎◌, ℕ, List, [], ◌∷◌, ◌++◌, Option}
+use Rattle.std.specs.Prelude.{◌≡◌, ◌⊎◌, ℕ, List, [], ◌∷◌, ◌++◌}
 use Rattle.desk_ports.specs.Faults.{next_count}
 use Rattle.desk_ports.specs.Content.{Appended}
 use Rattle.line_script.specs.Answers.{command_line_text, line_fault_text}

@@ -9,7 +9,7 @@ use Rattle.privilege_cli.specs.Outside.{Had}
 use Rattle.privilege_cli.specs.AccessRun.{rules_read, IsReadThrough}
 use Rattle.privilege_cli.specs.declared.limits.TheConstants.{MOST_RULES_BYTES}
 use Rattle.privilege_cli.specs.declared.ending.Ending.{Ending}
-use Rattle.privilege_cli.specs.declared.ending.Ending.TheVariants.{Done, Memory, Words, Line, Source, Sink}
+use Rattle.privilege_cli.specs.declared.ending.Ending.TheVariants.{Memory, Line, Source, Sink}
 
 -- The text is all that the source had, or goes past the limit.
 pub record IsRead (left left_after : Option (List ℕ)) (text : List ℕ) : Type 0 where

@@ -6,12 +6,12 @@ use Rattle.text_lines.specs.LineReader.{LineReading}
 use Rattle.line_script.specs.declared.steps.Step.{Step}
 use Rattle.desk_state.specs.DeskState.{fresh}
 use Rattle.privilege_cli.specs.Script.{Script, read_lines, read_script, replies}
-use Rattle.privilege_cli.specs.Outside.{Outside, Had}
+use Rattle.privilege_cli.specs.Outside.{Had}
 use Rattle.privilege_cli.specs.Ending.{IsCut}
 use Rattle.privilege_cli.specs.LocalRun.{LocalAnswers, AnswersLines}
 use Rattle.privilege_cli.specs.declared.limits.TheConstants.{MOST_LINE_BYTES, MOST_SCRIPT_BYTES}
 use Rattle.privilege_cli.specs.declared.ending.Ending.{Ending}
-use Rattle.privilege_cli.specs.declared.ending.Ending.TheVariants.{Done, Memory, Words, Line, Source, Sink}
+use Rattle.privilege_cli.specs.declared.ending.Ending.TheVariants.{Done, Line, Source, Sink}
 use Rattle.privilege_cli.specs.declared.local_script.LocalScript.{LocalScript}
 
 -- a script with these steps before its other ones

@@ -5,7 +5,7 @@ use Rattle.desk_ports.specs.Content.{Appended, AppendedPart}
 use Rattle.privilege_cli.specs.Outside.{Outside, Had}
 use Rattle.privilege_cli.specs.Ending.{source_faults_after, IsCut, IsTried}
 use Rattle.privilege_cli.specs.declared.ending.Ending.{Ending}
-use Rattle.privilege_cli.specs.declared.ending.Ending.TheVariants.{Done, Memory, Words, Line, Source, Sink}
+use Rattle.privilege_cli.specs.declared.ending.Ending.TheVariants.{Memory, Line, Sink}
 
 -- what was written of these answers, and the count of the sink's faults
 abbrev pub IsWrittenBefore : Ending → ℕ → ℕ → List ℕ → List ℕ → Type 0

@@ -1,6 +1,6 @@
-use Rattle.std.proofs.Common.{subst, sym, refl, ap, ◌∙◌, ◌+◌, Ok, Err, ◌≡◌, true, false}
+use Rattle.std.proofs.Common.{subst, sym, refl, ap, ◌∙◌, ◌+◌, Ok}
 use Rattle.std.proofs.lemmas.Result.{err_from_is_err_and}
-use Rattle.privilege_cli.specs.parts.Local.{Turns, counts_source, counts_sink}
+use Rattle.privilege_cli.specs.parts.Local.{Turns}
 use Rattle.privilege_cli.specs.parts.Progress.{Progress}
 use Rattle.privilege_cli.proofs.Progressing.{Progress-start, Progress-next}
 use Rattle.privilege_cli.proofs.Answering.{Answers-nothing, Answers-done, Answers-unended, Answers-stopped}

@@ -1,6 +1,5 @@
 use Rattle.std.proofs.Common.{subst, sym, refl}
 use Rattle.privilege_cli.specs.parts.Runs.{Finishes}
-use Rattle.privilege_cli.specs.declared.ending.Ending.TheVariants.{Memory}
 use Rattle.privilege_cli.proofs.Finishing.{Finishes-memory}
 use Rattle.privilege_cli.proofs.local_run.finish.Goals as goal
 

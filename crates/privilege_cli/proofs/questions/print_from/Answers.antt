@@ -1,4 +1,4 @@
-use Rattle.std.proofs.Common.{◌≡◌, ◌++◌, ◌∙◌, ℕ, List, subst, sym, Some, IfSome, OnOk}
+use Rattle.std.proofs.Common.{◌≡◌, ◌++◌, ◌∙◌, ℕ, List, subst, sym, IfSome, OnOk}
 use Rattle.bucket_store.specs.Database.{Database}
 use Rattle.bucket_eval.specs.Evaluation.{answer}
 use Rattle.desk_state.specs.declared.refusals.Refusal.TheVariants.{NoBucket}

@@ -1,4 +1,4 @@
-use Rattle.std.proofs.Common.{subst, Ok, Err, false}
+use Rattle.std.proofs.Common.{subst, Ok, Err}
 use Rattle.std.proofs.lemmas.Result.{err_from_is_err_and}
 use Rattle.text_lines.specs.LineReader.{HandsOutNext, Ends, EndsReading}
 use Rattle.privilege_cli.proofs.Turning.{Turns-refused, Turns-ended}
