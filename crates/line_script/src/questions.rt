@@ -25,7 +25,7 @@ pub(crate) fn list_line(alloc: Global, words: &mut Words) -> Result<Step, LineRe
 
 /// `check CLIENT USER PRIVILEGE`.
 #[tactic(auto, unfolding(crate::specs::Grammar::check_at))]
-#[inline(never)]
+#[inline(always)]
 pub(crate) fn check_line(alloc: Global, words: &mut Words) -> Result<Step, LineRefusal>
     ensures { Gives result (check_at words.old) }
 {
