@@ -56,7 +56,8 @@ fn change_behind(alloc: Global, verb: Verb, words: &mut Words) -> Result<Change,
     }
 }
 
-/// Each line has a function of its own that is not inlined: a function pays at its entry for all that it may hold.
+/// Each line but the most frequent one, `check`, has a function of its own that is not inlined: a function pays at its
+/// entry for all that it may hold.
 #[tactic(auto, unfolding(crate::specs::Grammar::line_at))]
 fn line_behind(alloc: Global, verb: Verb, words: &mut Words) -> Result<Step, LineRefusal>
     ensures step { Gives result (line_at verb words.old) }

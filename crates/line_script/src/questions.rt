@@ -28,7 +28,7 @@ pub(crate) fn list_line(alloc: Global, words: &mut Words) -> Result<Step, LineRe
 
 /// `check CLIENT USER PRIVILEGE`.
 #[tactic(auto, unfolding(crate::specs::Grammar::check_at))]
-#[inline(never)]
+#[inline(always)]
 pub(crate) fn check_line(alloc: Global, words: &mut Words) -> Result<Step, LineRefusal>
     ensures step { Gives result (check_at words.old) }
     ensures asked { IfOk result AsksRequest }

@@ -1,4 +1,4 @@
-ghost use Rattle.std.specs.Prelude.{◌≡◌, IfOk, [], IsTrue};
+ghost use Rattle.std.specs.Prelude.{◌≡◌, ◌≢◌, [], IfOk, MatchBool};
 ghost use Rattle.line_script.specs.Block.{outside, batch, template, failed};
 ghost use Rattle.line_script.specs.Grammar.{is_skipped, outside_at, batch_at, template_at, step_at};
 ghost use Rattle.line_script.specs.Turn.{Turns, is_in_block, AsksRequest};
@@ -62,22 +62,29 @@ impl Reader {
         ensures turn { Turns (step_at self.old line.now) result self.new }
         ensures asked { IfOk result AsksRequest }
     {
+        if self.is_outside() {
+            return self.line_outside(line);
+        }
         match replace(&mut self.place, Place::Failed) {
-            Place::Outside => self.line_outside(line),
             Place::Batch(changes) => self.line_of_batch(changes, line),
             Place::Template(template) => self.line_of_template(template, line),
-            Place::Failed => Err(LineRefusal::Syntax),
+            Place::Outside | Place::Failed => Err(LineRefusal::Syntax),
         }
+    }
+
+    fn is_outside(&self) -> bool
+        ensures { MatchBool result (self.now ≡ outside) (self.now ≢ outside) }
+    {
+        matches!(self.place, Place::Outside)
     }
 
     #[tactic(auto, unfolding(crate::specs::Grammar::outside_at))]
     fn line_outside(&mut self, line: &[u8]) -> Result<Step, LineRefusal>
-        requires { self.old ≡ failed }
+        requires { self.old ≡ outside }
         ensures turn { Turns (outside_at line.now) result self.new }
         ensures asked { IfOk result AsksRequest }
     {
         if is_skipped(line) {
-            self.place = Place::Outside;
             return Ok(Step::Nothing);
         }
         if line == b"batch".as_slice() {
@@ -88,9 +95,13 @@ impl Reader {
             self.place = Place::Template(Template::empty(self.alloc));
             return Ok(Step::Nothing);
         }
-        let step = lone_step(self.alloc, line)?;
-        self.place = Place::Outside;
-        Ok(step)
+        match lone_step(self.alloc, line) {
+            Ok(step) => Ok(step),
+            Err(refusal) => {
+                self.place = Place::Failed;
+                Err(refusal)
+            }
+        }
     }
 
     #[tactic(auto, unfolding(crate::specs::Grammar::batch_at))]
