@@ -47,7 +47,8 @@ def full_scripts():
     most = MOST["policies"]
     more = b"set . c u p deny\nset . c1 u p deny\nunset . c2 u p\nset . c u p deny\ncheck c u p\n"
     more += b"bucket B deny\nset B c u p deny\nlayout\n"
-    yield sets(most) + more
+    # As commands of their own so many sets would take minutes, since each copies the list that it changes.
+    yield b"batch\n" + sets(most) + b"end\n" + more
     yield b"batch\n" + sets(most + 1) + b"end\nstatus\n"
     yield b"batch\n" + sets(most + 1) + b"unset . c3 u p\nend\nstatus\n" + more
     # Grants: five applications of one package have the same privileges, so that there are fewer policies than grants.
