@@ -1,0 +1,93 @@
+//! The files of the buckets.
+
+use crate::file_names::{BUCKETS, Sort, bucket_file};
+use crate::headings::{BucketHeading, read_headings};
+use crate::policies::read_policies;
+use crate::refusals::TextRefusal;
+use crate::sets::{bytes_of, in_file, test_names};
+use bucket_store::Bucket;
+use desk_ports::{FileName, SetFile};
+use std::alloc::{AllocError, Global};
+
+/// Reads `buckets`.
+pub fn headings_in(alloc: Global, files: &[SetFile]) -> Result<Vec<BucketHeading>, TextRefusal> {
+    match read_headings(alloc, bytes_of(files, BUCKETS)) {
+        Ok(headings) => Ok(headings),
+        Err(fault) => Err(in_file(alloc, BUCKETS, fault)),
+    }
+}
+
+/// The files of buckets are those of these.
+pub fn test_bucket_files(
+    alloc: Global,
+    files: &[SetFile],
+    headings: &[BucketHeading],
+) -> Result<(), TextRefusal> {
+    match bucket_file_names(alloc, headings) {
+        Ok(names) => test_names(alloc, files, Sort::Bucket, &names),
+        Err(error) => Err(TextRefusal::Memory(error)),
+    }
+}
+
+fn bucket_file_names(
+    alloc: Global,
+    headings: &[BucketHeading],
+) -> Result<Vec<FileName>, AllocError> {
+    let mut names = Vec::new(alloc);
+    for heading in headings {
+        names.push(bucket_file(alloc, &heading.name)?)?;
+    }
+    Ok(names)
+}
+
+/// Reads the file of each bucket.
+pub fn buckets_in(
+    alloc: Global,
+    files: &[SetFile],
+    headings: &[BucketHeading],
+) -> Result<Vec<Bucket>, TextRefusal> {
+    let mut buckets = Vec::new(alloc);
+    let mut earlier = 0;
+    for heading in headings {
+        let bucket = match bucket_in(alloc, files, headings, earlier, heading) {
+            Ok(bucket) => bucket,
+            Err(refusal) => return Err(refusal),
+        };
+        earlier += bucket.policies().len();
+        if let Err(error) = buckets.push(bucket) {
+            return Err(TextRefusal::Memory(error.into()));
+        }
+    }
+    Ok(buckets)
+}
+
+// Reads the file of one bucket, with so many policies in the files before it.
+fn bucket_in(
+    alloc: Global,
+    files: &[SetFile],
+    headings: &[BucketHeading],
+    earlier: usize,
+    heading: &BucketHeading,
+) -> Result<Bucket, TextRefusal> {
+    let name = match bucket_file(alloc, &heading.name) {
+        Ok(name) => name,
+        Err(error) => return Err(TextRefusal::Memory(error)),
+    };
+    let text = bytes_of(files, name.as_slice());
+    let policies = match read_policies(alloc, headings, earlier, text) {
+        Ok(policies) => policies,
+        Err(fault) => return Err(in_file(alloc, name.as_slice(), fault)),
+    };
+    let name = match heading.name.copy() {
+        Ok(name) => name,
+        Err(error) => return Err(TextRefusal::Memory(error)),
+    };
+    let fallback = match heading.fallback.copy() {
+        Ok(fallback) => fallback,
+        Err(error) => return Err(TextRefusal::Memory(error)),
+    };
+    match Bucket::new(alloc, name, fallback, policies) {
+        Ok(bucket) => Ok(bucket),
+        Err(error) => Err(TextRefusal::Memory(error)),
+    }
+}

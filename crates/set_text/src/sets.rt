@@ -1,0 +1,82 @@
+//! Files of a set by their names, and the faults of whole files.
+
+use crate::file_names::{Sort, known_name, sort_of};
+use crate::lines::FileFault;
+use crate::refusals::TextRefusal;
+use desk_ports::{FileName, SetFile};
+use std::alloc::Global;
+use std::cmp::Ordering;
+
+/// The bytes of the file of a name, none where it is absent. Finds it by halving.
+pub fn bytes_of<'a>(files: &'a [SetFile], name: &[u8]) -> &'a [u8] {
+    match files.binary_search_by(|file| file.name.as_slice().cmp(name)) {
+        Ok(at) => files[at].bytes.as_slice(),
+        Err(_) => &[],
+    }
+}
+
+/// The files of a sort have these names, which rise. Else the least name is damaged that is absent or has no use.
+pub fn test_names(
+    alloc: Global,
+    files: &[SetFile],
+    sort: Sort,
+    wanted: &[FileName],
+) -> Result<(), TextRefusal> {
+    match odd_name(alloc, files, sort, wanted) {
+        Some(name) => Err(damaged(alloc, name.as_slice(), 0)),
+        None => Ok(()),
+    }
+}
+
+// The least name that is only wanted, or only there.
+fn odd_name<'a>(
+    alloc: Global,
+    files: &'a [SetFile],
+    sort: Sort,
+    wanted: &'a [FileName],
+) -> Option<&'a FileName> {
+    let mut rest = wanted;
+    for file in files {
+        if sort_of(alloc, &file.name) != sort {
+            continue;
+        }
+        let Some((first, later)) = rest.split_first() else {
+            return Some(&file.name);
+        };
+        match first.cmp(&file.name) {
+            Ordering::Less => return Some(first),
+            Ordering::Greater => return Some(&file.name),
+            Ordering::Equal => rest = later,
+        }
+    }
+    rest.first()
+}
+
+/// The refusal that names a line of a file, or the file as a whole by line 0.
+pub fn damaged(alloc: Global, name: &[u8], line: u32) -> TextRefusal {
+    match known_name(alloc, name) {
+        Ok(file) => TextRefusal::Damaged { file, line },
+        Err(error) => TextRefusal::Memory(error),
+    }
+}
+
+/// The refusal of a file with this fault.
+pub fn in_file(alloc: Global, name: &[u8], fault: FileFault) -> TextRefusal {
+    match fault {
+        FileFault::Line(line) => damaged(alloc, name, line),
+        FileFault::Memory(error) => TextRefusal::Memory(error),
+    }
+}
+
+/// The file has this text. Else it is damaged as a whole.
+pub fn test_text(
+    alloc: Global,
+    files: &[SetFile],
+    name: &[u8],
+    text: &[u8],
+) -> Result<(), TextRefusal> {
+    if bytes_of(files, name) == text {
+        return Ok(());
+    }
+    Err(damaged(alloc, name, 0))
+}
