@@ -1,5 +1,5 @@
 -- The file `buckets`, which has a line for each bucket, and the file of each bucket, which has a line for each policy.
-use Rattle.std.specs.Prelude.{ℕ, ◌+◌, Bool, true, not, ◌&&◌, ◌||◌, nat_lt, if◌then◌else◌, List, [], ◌∷◌, length, Option, Some, None, is_none, Result}
+use Rattle.std.specs.Prelude.{ℕ, ◌+◌, Bool, not, ◌&&◌, ◌||◌, ◌==◌, nat_lt, if◌then◌else◌, List, [], ◌∷◌, length, Option, Some, None, is_none, Result}
 use Rattle.std.specs.Option.{option_map}
 use Rattle.std.specs.List.{list_any}
 use Rattle.cynara_keys.specs.Text.{same_text}
@@ -9,7 +9,7 @@ use Rattle.cynara_keys.specs.Field.{field_text, field_of, field_fault}
 use Rattle.cynara_keys.specs.PolicyResult.{Ruling, may_carry}
 use Rattle.cynara_keys.specs.declared.keys.Key.{Key}
 use Rattle.cynara_keys.specs.declared.keys.Policy.{Policy}
-use Rattle.bucket_store.specs.Database.{Heading, root}
+use Rattle.bucket_store.specs.Database.{Heading}
 use Rattle.bucket_store.specs.Order.{heading_cmp, policy_cmp}
 use Rattle.bucket_store.specs.Walk.{points, target}
 use Rattle.bucket_store.specs.Refusal.{is_bad, most_buckets, most_policies}
@@ -65,11 +65,18 @@ abbrev pub key_of : List ℕ → List ℕ → List ℕ → Key
 key_of client user privilege =
     record { client = field_of client; user = field_of user; privilege = field_of privilege }
 
+abbrev pub key_in : List ℕ → List ℕ → List ℕ → Option Key
+key_in client user privilege =
+    if is_field client && (is_field user && is_field privilege) then Some (key_of client user privilege) else None
+
+abbrev pub policy_with : Option Key → Option Ruling → Option Policy
+policy_with (Some key) (Some ruling) = Some (record { key = key; result = ruling })
+policy_with (Some key) None = None
+policy_with None ruling = None
+
 abbrev pub policy_of_fields : List (List ℕ) → Option Policy
 policy_of_fields (client ∷ user ∷ privilege ∷ kind ∷ metadata ∷ []) =
-    if is_field client && (is_field user && is_field privilege)
-    then option_map (λ result. record { key = key_of client user privilege; result = result }) (ruling_of kind metadata)
-    else None
+    policy_with (key_in client user privilege) (ruling_of kind metadata)
 policy_of_fields _ = None
 
 abbrev pub policy_of : List ℕ → Option Policy
@@ -79,8 +86,7 @@ policy_of line = policy_of_fields (fields_of line)
 
 -- the root bucket's line is the first
 abbrev pub is_root_or_later : List Heading → Heading → Bool
-is_root_or_later [] heading = same_text heading.name root
-is_root_or_later (first ∷ before) heading = true
+is_root_or_later before heading = not (length before == 0) || length heading.name == 0
 
 -- The names rise from the root's; a fallback is not BUCKET, nor NONE for the root; there are no more buckets than there may be.
 abbrev pub heading_fits : List Heading → Heading → Bool

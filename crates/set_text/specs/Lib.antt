@@ -9,3 +9,4 @@ pub mod Files
 pub mod Fault
 pub mod Reading
 pub mod IsSpelt
+pub mod parts

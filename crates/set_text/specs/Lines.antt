@@ -1,5 +1,5 @@
 -- The text of a file: a line for each of its values, in their order, each with a newline behind it.
-use Rattle.std.specs.Prelude.{ℕ, Bool, true, ◌+◌, ◌==◌, if◌then◌else◌, List, [], ◌∷◌, ◌++◌, length, map, Option, Some, None, Result, Ok, Err}
+use Rattle.std.specs.Prelude.{ℕ, Bool, true, ◌+◌, ◌-◌, ◌==◌, if◌then◌else◌, List, [], ◌∷◌, ◌++◌, length, map, slice_get, Option, Some, None, Result, Ok, Err}
 use Rattle.std.specs.declared.cmp.Ordering.{Ordering}
 use Rattle.std.specs.Ordering.{is_lt}
 use Rattle.std.specs.Option.{option_map, option_and_then}
@@ -59,8 +59,14 @@ abbrev pub kept : {X : Type 0} → (X → Bool) → Option X → Option X
 kept rules None = None
 kept rules (Some value) = if rules value then Some value else None
 
+-- the last value of those before, where there is one
+abbrev pub last_of : {X : Type 0} → List X → Option X
+last_of before = slice_get before (length before - 1)
+
+abbrev pub is_above : {X : Type 0} → (X → X → Ordering) → Option X → X → Bool
+is_above cmp None value = true
+is_above cmp (Some last) value = is_lt (cmp last value)
+
 -- the value comes behind the last one before it
 abbrev pub rises_above : {X : Type 0} → (X → X → Ordering) → List X → X → Bool
-rises_above cmp [] value = true
-rises_above cmp (last ∷ []) value = is_lt (cmp last value)
-rises_above cmp (first ∷ next ∷ before) value = rises_above cmp (next ∷ before) value
+rises_above cmp before value = is_above cmp (last_of before) value

@@ -1,8 +1,10 @@
 //! The names of the files.
 
-ghost use Rattle.std.specs.Prelude.{◌≡◌, IfOk, refl};
+ghost use Rattle.std.specs.Prelude.{◌≡◌, IfOk};
 ghost use Rattle.desk_ports.specs.FileName.{IsFileName};
+ghost use Rattle.cynara_keys.specs.BucketName.{is_bucket_name};
 ghost use Rattle.set_text.specs.FileNames as word;
+ghost use Rattle.set_text.specs.Registry.{is_ident};
 
 use app_registry::{Ident, IdentRefusal};
 use cynara_keys::{BucketName, BucketNameRefusal};
@@ -47,18 +49,24 @@ pub fn sort_of(alloc: Global, name: &FileName) -> Sort {
     }
 }
 
-fn is_bucket_name(alloc: Global, bytes: &[u8]) -> bool {
-    matches!(
-        BucketName::read(alloc, bytes),
-        Ok(_) | Err(BucketNameRefusal::Memory(_))
-    )
+fn is_bucket_name(alloc: Global, bytes: &[u8]) -> bool
+    ensures { result ≡ is_bucket_name bytes.now }
+{
+    match BucketName::read(alloc, bytes) {
+        Ok(_) => true,
+        Err(BucketNameRefusal::Memory(_)) => true,
+        Err(_) => false,
+    }
 }
 
-fn is_ident(alloc: Global, bytes: &[u8]) -> bool {
-    matches!(
-        Ident::read(alloc, bytes),
-        Ok(_) | Err(IdentRefusal::Memory(_))
-    )
+fn is_ident(alloc: Global, bytes: &[u8]) -> bool
+    ensures { result ≡ is_ident bytes.now }
+{
+    match Ident::read(alloc, bytes) {
+        Ok(_) => true,
+        Err(IdentRefusal::Memory(_)) => true,
+        Err(_) => false,
+    }
 }
 
 /// The name with these bytes.

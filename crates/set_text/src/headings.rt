@@ -1,9 +1,16 @@
 //! The file `buckets`: a line for each bucket, with its name and its fallback.
 
-ghost use Rattle.std.specs.Prelude.{◌≡◌, ◌++◌, ◌∷◌, [], not, length, map, IfOk, OnOk};
+ghost use Rattle.std.specs.Prelude.{◌≡◌, ◌++◌, ◌∷◌, [], ◌<◌, length, Ok, IsTrue, map, IfOk, OnOk, MatchResult};
+ghost use Rattle.std.specs.List.{list_any};
+ghost use Rattle.std.specs.List.Sorted.{IsStrictlySortedBy};
+ghost use Rattle.cynara_keys.specs.Text.{same_text};
+ghost use Rattle.bucket_store.specs.Database.{heading_of};
 ghost use Rattle.bucket_store.specs.Refusal as rule;
+ghost use Rattle.bucket_store.specs.Refusal.{most_buckets};
+ghost use Rattle.bucket_store.specs.Order.{heading_cmp};
 ghost use Rattle.set_text.specs.Buckets as word;
-ghost use Rattle.set_text.specs.parts.Reads.{ReadsLine, ReadsFile};
+ghost use Rattle.set_text.specs.Lines.{rises_above, values_of};
+ghost use Rattle.set_text.specs.parts.Reads.{ReadsLine, RefusesFile};
 
 use crate::lines::{FileFault, LineFault, cut_field};
 use crate::results::{append_ruling, ruling_of};
@@ -49,11 +56,25 @@ fn append_heading(bucket: &Bucket, text: &mut Vec<u8>) -> Result<(), AllocError>
 
 /// Reads `buckets`. Its first wrong line is named.
 pub fn read_headings(alloc: Global, text: &[u8]) -> Result<Vec<BucketHeading>, FileFault>
-    ensures { ReadsFile result (word.headings_of text.now) }
+    ensures { MatchResult result (λ headings. word.headings_of text.now ≡ Ok headings.items) (λ fault. RefusesFile fault (word.headings_of text.now)) }
 {
-    if text.is_empty() {
-        return Err(FileFault::Line(1));
+    match heading_lines(alloc, text) {
+        Ok(headings) => {
+            if headings.is_empty() {
+                Err(FileFault::Line(1))
+            } else {
+                Ok(headings)
+            }
+        }
+        Err(fault) => Err(fault),
     }
+}
+
+// Reads the lines of `buckets`, if there are any.
+fn heading_lines(alloc: Global, text: &[u8]) -> Result<Vec<BucketHeading>, FileFault>
+    ensures { MatchResult result (λ headings. values_of word.read_heading text.now ≡ Ok headings.items)
+        (λ fault. RefusesFile fault (values_of word.read_heading text.now)) }
+{
     let mut headings = Vec::new(alloc);
     let mut rest = text;
     let mut number = 1u32;
@@ -80,7 +101,8 @@ fn read_heading(
     before: &[BucketHeading],
     line: &[u8],
 ) -> Result<BucketHeading, LineFault>
-    ensures { ReadsLine result (word.read_heading before.now line.now) }
+    ensures read { ReadsLine result (word.read_heading before.now line.now) }
+    ensures room { OnOk result (length before.now < most_buckets) }
 {
     match heading_of(alloc, line) {
         Ok(heading) => {
@@ -104,9 +126,9 @@ fn heading_of(alloc: Global, line: &[u8]) -> Result<BucketHeading, LineFault>
     let Some((kind, metadata)) = cut_field(rest) else {
         return Err(LineFault::Wrong);
     };
-    let None = cut_field(metadata) else {
+    if let Some(_) = cut_field(metadata) {
         return Err(LineFault::Wrong);
-    };
+    }
     let name = match BucketName::read(alloc, name) {
         Ok(name) => name,
         Err(BucketNameRefusal::Memory(error)) => return Err(LineFault::Memory(error)),
@@ -120,17 +142,29 @@ fn heading_of(alloc: Global, line: &[u8]) -> Result<BucketHeading, LineFault>
 
 // Whether a line may stand behind these.
 fn heading_fits(before: &[BucketHeading], heading: &BucketHeading) -> bool
-    ensures { result ≡ word.heading_fits before.now heading.now }
+    ensures fits { result ≡ word.heading_fits before.now heading.now }
+    ensures room { IsTrue result → length before.now < most_buckets }
 {
-    rises(before, heading) && !is_bad(heading) && before.len() < MOST_BUCKETS
+    rises(before, heading)
+        && is_root_or_later(before, heading)
+        && !is_bad(heading)
+        && before.len() < MOST_BUCKETS
 }
 
-// Whether the name comes behind the last one, or is the root bucket's and the first.
-fn rises(before: &[BucketHeading], heading: &BucketHeading) -> bool {
+fn rises(before: &[BucketHeading], heading: &BucketHeading) -> bool
+    ensures { result ≡ rises_above heading_cmp before.now heading.now }
+{
     match before.last() {
-        Some(last) => last.name < heading.name,
-        None => heading.name.as_slice().is_empty(),
+        Some(last) => last.name.cmp(&heading.name).is_lt(),
+        None => true,
     }
+}
+
+// Whether the first line is the root bucket's.
+fn is_root_or_later(before: &[BucketHeading], heading: &BucketHeading) -> bool
+    ensures { result ≡ word.is_root_or_later before.now heading.now }
+{
+    !before.is_empty() || heading.name.as_slice().is_empty()
 }
 
 // Whether the bucket may not have this fallback.
@@ -142,8 +176,12 @@ fn is_bad(heading: &BucketHeading) -> bool
 }
 
 /// Whether a bucket of this name is there, of buckets with rising names.
-pub fn has_heading(headings: &[BucketHeading], name: &[u8]) -> bool {
-    headings
-        .binary_search_by(|heading| heading.name.as_slice().cmp(name))
-        .is_ok()
+pub fn has_heading(headings: &[BucketHeading], name: &[u8]) -> bool
+    requires { IsStrictlySortedBy heading_cmp headings.now }
+    ensures { result ≡ list_any (λ heading. same_text heading.name name.now) headings.now }
+{
+    match headings.binary_search_by(|heading| heading.name.as_slice().cmp(name)) {
+        Ok(_) => true,
+        Err(_) => false,
+    }
 }

@@ -1,8 +1,8 @@
 //! The file `apps`: a line for each install.
 
-ghost use Rattle.std.specs.Prelude.{◌≡◌, ◌++◌, ◌∷◌, [], length, IfOk, OnOk};
+ghost use Rattle.std.specs.Prelude.{◌≡◌, ◌++◌, ◌∷◌, [], Some, None, if◌then◌else◌, IfOk, OnOk};
 ghost use Rattle.set_text.specs.Registry as word;
-ghost use Rattle.set_text.specs.parts.Reads.{ReadsLine, ReadsFile};
+ghost use Rattle.set_text.specs.parts.Reads.{ReadsLine};
 
 use crate::lines::{LineFault, cut_field};
 use crate::users::uid_of;
@@ -105,7 +105,9 @@ pub fn install_of(alloc: Global, line: &[u8]) -> Result<Install, LineFault>
     })
 }
 
-fn ident_of(alloc: Global, text: &[u8]) -> Result<Ident, LineFault> {
+fn ident_of(alloc: Global, text: &[u8]) -> Result<Ident, LineFault>
+    ensures { ReadsLine result (if word.is_ident text.now then Some text.now else None) }
+{
     match Ident::read(alloc, text) {
         Ok(ident) => Ok(ident),
         Err(IdentRefusal::Memory(error)) => Err(LineFault::Memory(error)),

@@ -2,6 +2,7 @@
 
 ghost use Rattle.std.specs.Prelude.{◌≡◌, ◌∷◌, ◌<◌, [], length, IfSome, MatchOption, position};
 ghost use Rattle.set_text.specs.Lines.{fields_of, is_semicolon};
+ghost use Rattle.set_text.specs.parts.Reads.{fault_at};
 
 use std::alloc::AllocError;
 

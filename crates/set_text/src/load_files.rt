@@ -1,6 +1,7 @@
 //! The load file of a package: a line for each of its rules.
 
-ghost use Rattle.std.specs.Prelude.{◌≡◌, IfOk};
+ghost use Rattle.std.specs.Prelude.{◌≡◌, IsTrue, IfOk};
+ghost use Rattle.app_registry.specs.Registry.{has_package};
 ghost use Rattle.set_text.specs.Template as word;
 
 use app_registry::{Ident, Install, Registry};

@@ -1,8 +1,8 @@
 //! Numbers as text.
 
-ghost use Rattle.std.specs.Prelude.{◌≡◌, ◌++◌, false, OnOk};
+ghost use Rattle.std.specs.Prelude.{◌≡◌, ◌<◌, ◌++◌, false, decimal, OnOk};
 ghost use Rattle.std.specs.Option.{option_map};
-ghost use Rattle.std.specs.Fmt.{digits};
+ghost use Rattle.std.specs.Fmt.{digits, digit_glyph};
 ghost use Rattle.cynara_keys.specs.Text.{same_text};
 ghost use Rattle.set_text.specs.Numbers as word;
 
@@ -15,16 +15,29 @@ use std::str::from_utf8;
 pub fn decimal_of(text: &[u8], most: u64) -> Option<u64>
     ensures { result ≡ word.decimal_of most text.now }
 {
-    let Ok(digits) = from_utf8(text) else {
-        return None;
+    let digits = match from_utf8(text) {
+        Ok(digits) => digits,
+        Err(_) => return None,
     };
-    let Ok(number) = digits.parse::<u64>() else {
-        return None;
+    let number = match digits.parse::<u64>() {
+        Ok(number) => number,
+        Err(_) => return None,
     };
-    if number > most || Buffer::new().format(number).as_bytes() != text {
+    if number > most {
         return None;
     }
-    Some(number)
+    if is_decimal(number, text) {
+        Some(number)
+    } else {
+        None
+    }
+}
+
+// Whether the text is the number in decimal.
+fn is_decimal(number: u64, text: &[u8]) -> bool
+    ensures { result ≡ same_text (decimal number) text.now }
+{
+    Buffer::new().format(number).as_bytes() == text
 }
 
 /// The kind that a text spells: `0x` and hexadecimal digits, small ones and without leading zeros.
@@ -83,7 +96,7 @@ fn append_hex(number: u16, text: &mut Vec<u8>) -> Result<(), AllocError>
 // The digit for a number below 16.
 fn digit(number: u16) -> u8
     requires { number < 16 }
-    ensures { result ≡ word.hex_digit number }
+    ensures { result ≡ digit_glyph false number }
 {
     if number < 10 {
         b'0' + number as u8

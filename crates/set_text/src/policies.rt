@@ -1,9 +1,13 @@
 //! The file of a bucket: a line for each of its policies.
 
-ghost use Rattle.std.specs.Prelude.{◌≡◌, ◌≤◌, ◌++◌, ◌∷◌, [], length, IfOk, OnOk};
-ghost use Rattle.bucket_store.specs.Refusal as rule;
+ghost use Rattle.std.specs.Prelude.{◌≡◌, ◌++◌, ◌∷◌, [], ◌+◌, ◌≤◌, ◌<◌, length, Ok, IsTrue, Some, None, if◌then◌else◌, IfOk, OnOk, MatchResult};
+ghost use Rattle.cynara_keys.specs.Field.{field_text, field_of};
+ghost use Rattle.std.specs.List.Sorted.{IsStrictlySortedBy};
+ghost use Rattle.bucket_store.specs.Order.{heading_cmp, policy_cmp};
+ghost use Rattle.bucket_store.specs.Refusal.{most_policies};
 ghost use Rattle.set_text.specs.Buckets as word;
-ghost use Rattle.set_text.specs.parts.Reads.{ReadsLine, ReadsFile};
+ghost use Rattle.set_text.specs.Lines.{rises_above};
+ghost use Rattle.set_text.specs.parts.Reads.{ReadsLine, RefusesFile};
 
 use crate::headings::{BucketHeading, has_heading};
 use crate::lines::{FileFault, LineFault, cut_field};
@@ -49,7 +53,9 @@ pub fn read_policies(
     earlier: usize,
     text: &[u8],
 ) -> Result<Vec<Policy>, FileFault>
-    ensures { ReadsFile result (word.policies_of headings.now earlier text.now) }
+    requires rising { IsStrictlySortedBy heading_cmp headings.now }
+    requires count { earlier ≤ most_policies }
+    ensures { MatchResult result (λ policies. word.policies_of headings.now earlier text.now ≡ Ok policies.items) (λ fault. RefusesFile fault (word.policies_of headings.now earlier text.now)) }
 {
     let mut policies = Vec::new(alloc);
     let mut rest = text;
@@ -79,7 +85,10 @@ fn read_policy(
     before: &[Policy],
     line: &[u8],
 ) -> Result<Policy, LineFault>
-    ensures { ReadsLine result (word.read_policy headings.now earlier before.now line.now) }
+    requires rising { IsStrictlySortedBy heading_cmp headings.now }
+    requires count { earlier + length before.now ≤ most_policies }
+    ensures read { ReadsLine result (word.read_policy headings.now earlier before.now line.now) }
+    ensures room { OnOk result (earlier + length before.now < most_policies) }
 {
     match policy_of(alloc, line) {
         Ok(policy) => {
@@ -109,9 +118,9 @@ fn policy_of(alloc: Global, line: &[u8]) -> Result<Policy, LineFault>
     let Some((kind, metadata)) = cut_field(rest) else {
         return Err(LineFault::Wrong);
     };
-    let None = cut_field(metadata) else {
+    if let Some(_) = cut_field(metadata) {
         return Err(LineFault::Wrong);
-    };
+    }
     let key = match key_of(alloc, client, user, privilege) {
         Ok(key) => key,
         Err(fault) => return Err(fault),
@@ -125,7 +134,9 @@ fn policy_of(alloc: Global, line: &[u8]) -> Result<Policy, LineFault>
     }
 }
 
-fn key_of(alloc: Global, client: &[u8], user: &[u8], privilege: &[u8]) -> Result<Key, LineFault> {
+fn key_of(alloc: Global, client: &[u8], user: &[u8], privilege: &[u8]) -> Result<Key, LineFault>
+    ensures { ReadsLine result (word.key_in client.now user.now privilege.now) }
+{
     let client = match field_of(alloc, client) {
         Ok(field) => field,
         Err(fault) => return Err(fault),
@@ -144,7 +155,9 @@ fn key_of(alloc: Global, client: &[u8], user: &[u8], privilege: &[u8]) -> Result
     }
 }
 
-fn field_of(alloc: Global, text: &[u8]) -> Result<Field, LineFault> {
+fn field_of(alloc: Global, text: &[u8]) -> Result<Field, LineFault>
+    ensures { ReadsLine result (if word.is_field text.now then Some (field_of text.now) else None) }
+{
     match Field::read(alloc, text) {
         Ok(field) => Ok(field),
         Err(NameRefusal::Memory(error)) => Err(LineFault::Memory(error)),
@@ -159,23 +172,28 @@ fn policy_fits(
     before: &[Policy],
     policy: &Policy,
 ) -> bool
-    ensures { result ≡ word.policy_fits headings.now earlier before.now policy.now }
+    requires rising { IsStrictlySortedBy heading_cmp headings.now }
+    requires count { earlier + length before.now ≤ most_policies }
+    ensures fits { result ≡ word.policy_fits headings.now earlier before.now policy.now }
+    ensures room { IsTrue result → earlier + length before.now < most_policies }
 {
     rises(before, policy)
         && has_target(headings, policy)
-        && earlier < MOST_POLICIES
-        && before.len() < MOST_POLICIES - earlier
+        && earlier + before.len() < MOST_POLICIES
 }
 
-fn rises(before: &[Policy], policy: &Policy) -> bool {
+fn rises(before: &[Policy], policy: &Policy) -> bool
+    ensures { result ≡ rises_above policy_cmp before.now policy.now }
+{
     match before.last() {
-        Some(last) => last.key < policy.key,
+        Some(last) => last.key.cmp(&policy.key).is_lt(),
         None => true,
     }
 }
 
 // Whether the bucket is there that the policy points to, if it points to one.
 fn has_target(headings: &[BucketHeading], policy: &Policy) -> bool
+    requires { IsStrictlySortedBy heading_cmp headings.now }
     ensures { result ≡ word.has_target headings.now policy.now }
 {
     policy.result.kind() != Kind::BUCKET

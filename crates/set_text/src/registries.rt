@@ -1,7 +1,11 @@
 //! Reading `apps` line by line, with the rules of a registry.
 
+ghost use Rattle.std.specs.Prelude.{◌≡◌, is_none, Ok, MatchResult};
+ghost use Rattle.app_registry.specs.Install.{install_cmp, same_author};
+ghost use Rattle.app_registry.specs.Refusal.{unknown_scope};
+ghost use Rattle.set_text.specs.Lines.{rises_above};
 ghost use Rattle.set_text.specs.Registry as word;
-ghost use Rattle.set_text.specs.parts.Reads.{ReadsFile};
+ghost use Rattle.set_text.specs.parts.Reads.{RefusesFile};
 
 use crate::app_places::AppPlaces;
 use crate::installs::install_of;
@@ -19,7 +23,7 @@ struct Counts {
 
 /// Reads `apps` of a device with these users. Its first wrong line is named.
 pub fn read_installs(alloc: Global, users: &[User], text: &[u8]) -> Result<Vec<Install>, FileFault>
-    ensures { ReadsFile result (word.installs_of users.now text.now) }
+    ensures { MatchResult result (λ installs. word.installs_of users.now text.now ≡ Ok installs.items) (λ fault. RefusesFile fault (word.installs_of users.now text.now)) }
 {
     let mut installs = Vec::new(alloc);
     let mut places = AppPlaces::new(alloc);
@@ -80,7 +84,9 @@ fn belongs(users: &[User], places: &AppPlaces, before: &[Install], install: &Ins
         && has_author(before, install)
 }
 
-fn rises(before: &[Install], install: &Install) -> bool {
+fn rises(before: &[Install], install: &Install) -> bool
+    ensures { result ≡ rises_above install_cmp before.now install.now }
+{
     match before.last() {
         Some(last) => last.compare_place(install).is_lt(),
         None => true,
@@ -88,7 +94,9 @@ fn rises(before: &[Install], install: &Install) -> bool {
 }
 
 // Whether the user is there for whom the install is, if it is for one.
-fn is_known(users: &[User], scope: Scope) -> bool {
+fn is_known(users: &[User], scope: Scope) -> bool
+    ensures { result ≡ is_none (unknown_scope users.now scope) }
+{
     match scope {
         Scope::Everyone => true,
         Scope::One(uid) => users.iter().any(|user| user.uid == uid),
@@ -103,7 +111,9 @@ fn has_author(before: &[Install], install: &Install) -> bool {
     }
 }
 
-fn same_author(author: &Option<Ident>, other: &Option<Ident>) -> bool {
+fn same_author(author: &Option<Ident>, other: &Option<Ident>) -> bool
+    ensures { result ≡ same_author author.now other.now }
+{
     match (author, other) {
         (Some(author), Some(other)) => author == other,
         (None, None) => true,

@@ -1,5 +1,12 @@
 //! Files of a set by their names, and the faults of whole files.
 
+ghost use Rattle.std.specs.Prelude.{◌≡◌, Ok, Err, Some, None, IfErr, IsSomeAnd, OnOk};
+ghost use Rattle.std.specs.Option.{option_copied};
+ghost use Rattle.desk_ports.specs.FileName.{IsFileName};
+ghost use Rattle.desk_ports.specs.FileMap.{NamesRise, names_of};
+ghost use Rattle.set_text.specs.Fault.{bytes_in, unlike, whole};
+ghost use Rattle.set_text.specs.parts.Names.{Names, NamesLine};
+
 use crate::file_names::{Sort, known_name, sort_of};
 use crate::lines::FileFault;
 use crate::refusals::TextRefusal;
@@ -8,7 +15,10 @@ use std::alloc::Global;
 use std::cmp::Ordering;
 
 /// The bytes of the file of a name, none where it is absent. Finds it by halving.
-pub fn bytes_of<'a>(files: &'a [SetFile], name: &[u8]) -> &'a [u8] {
+pub fn bytes_of<'a>(files: &'a [SetFile], name: &[u8]) -> &'a [u8]
+    requires { NamesRise (names_of files.now) }
+    ensures { result.now ≡ bytes_in files.now name.now }
+{
     match files.binary_search_by(|file| file.name.as_slice().cmp(name)) {
         Ok(at) => files[at].bytes.as_slice(),
         Err(_) => &[],
@@ -53,7 +63,10 @@ fn odd_name<'a>(
 }
 
 /// The refusal that names a line of a file, or the file as a whole by line 0.
-pub fn damaged(alloc: Global, name: &[u8], line: u32) -> TextRefusal {
+pub fn damaged(alloc: Global, name: &[u8], line: u32) -> TextRefusal
+    requires { IsFileName name.now }
+    ensures { Names result (record { file = name.now; line = line }) }
+{
     match known_name(alloc, name) {
         Ok(file) => TextRefusal::Damaged { file, line },
         Err(error) => TextRefusal::Memory(error),
@@ -61,7 +74,10 @@ pub fn damaged(alloc: Global, name: &[u8], line: u32) -> TextRefusal {
 }
 
 /// The refusal of a file with this fault.
-pub fn in_file(alloc: Global, name: &[u8], fault: FileFault) -> TextRefusal {
+pub fn in_file(alloc: Global, name: &[u8], fault: FileFault) -> TextRefusal
+    requires { IsFileName name.now }
+    ensures { NamesLine result name.now fault }
+{
     match fault {
         FileFault::Line(line) => damaged(alloc, name, line),
         FileFault::Memory(error) => TextRefusal::Memory(error),
@@ -74,7 +90,12 @@ pub fn test_text(
     files: &[SetFile],
     name: &[u8],
     text: &[u8],
-) -> Result<(), TextRefusal> {
+) -> Result<(), TextRefusal>
+    requires rising { NamesRise (names_of files.now) }
+    requires name { IsFileName name.now }
+    ensures same { OnOk result (unlike files.now name.now text.now ≡ None) }
+    ensures other { IfErr result (λ refusal. IsSomeAnd (unlike files.now name.now text.now) (Names refusal)) }
+{
     if bytes_of(files, name) == text {
         return Ok(());
     }

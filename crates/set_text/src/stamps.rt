@@ -1,6 +1,6 @@
 //! The file `stamp`: the number of the last accepted command.
 
-ghost use Rattle.std.specs.Prelude.{◌≡◌, ◌∷◌, [], IfOk};
+ghost use Rattle.std.specs.Prelude.{◌≡◌, ◌∷◌, [], Ok, Err, IfOk, MatchResult};
 ghost use Rattle.set_text.specs.Stamp as word;
 
 use crate::lines::FileFault;
@@ -21,7 +21,9 @@ pub fn stamp_text(alloc: Global, commit: u64) -> Result<Vec<u8>, AllocError>
 }
 
 /// Reads `stamp`: its one line, or the number of its first wrong line. Takes no memory.
-pub fn read_stamp(text: &[u8]) -> Result<u64, u32> {
+pub fn read_stamp(text: &[u8]) -> Result<u64, u32>
+    ensures { MatchResult result (λ commit. word.commits_of text.now ≡ Ok (commit ∷ [])) (λ line. word.commits_of text.now ≡ Err line) }
+{
     let Some((line, rest)) = split_at_newline(text) else {
         return Err(1);
     };

@@ -1,7 +1,8 @@
 //! The file `template`: a line for each line of the template.
 
+ghost use Rattle.std.specs.Prelude.{◌≡◌, Ok, MatchResult};
 ghost use Rattle.set_text.specs.Template as word;
-ghost use Rattle.set_text.specs.parts.Reads.{ReadsFile};
+ghost use Rattle.set_text.specs.parts.Reads.{RefusesFile};
 
 use crate::lines::FileFault;
 use rule_templates::{LINE_LIMIT, Template, TemplateRefusal};
@@ -10,7 +11,8 @@ use text_lines::split_at_newline;
 
 /// Reads `template`. Its first line that is not in the one spelling of a template line, or one too many, is named.
 pub fn read_template(alloc: Global, text: &[u8]) -> Result<Template, FileFault>
-    ensures { ReadsFile result (word.template_lines_of text.now) }
+    ensures { MatchResult result (λ template. word.template_lines_of text.now ≡ Ok template)
+        (λ fault. RefusesFile fault (word.template_lines_of text.now)) }
 {
     match spelt_template(alloc, text) {
         Ok(Some(template)) => Ok(template),

@@ -1,8 +1,12 @@
 //! The file `users`: a line for each user.
 
-ghost use Rattle.std.specs.Prelude.{◌≡◌, ◌++◌, ◌∷◌, [], length, IfOk, OnOk};
+ghost use Rattle.std.specs.Prelude.{◌≡◌, ◌++◌, ◌∷◌, [], ◌<◌, length, Ok, IsSome, IsTrue, IfOk, OnOk, MatchResult};
+ghost use Rattle.set_text.specs.Numbers as numbers;
+ghost use Rattle.app_registry.specs.Registry.{user_cmp};
+ghost use Rattle.app_registry.specs.declared.refusals.TheConstants.{USER_LIMIT};
+ghost use Rattle.set_text.specs.Lines.{rises_above};
 ghost use Rattle.set_text.specs.Registry as word;
-ghost use Rattle.set_text.specs.parts.Reads.{ReadsFile};
+ghost use Rattle.set_text.specs.parts.Reads.{RefusesFile};
 
 use crate::lines::{FileFault, cut_field};
 use crate::numbers::decimal_of;
@@ -46,7 +50,7 @@ fn type_word(kind: UserType) -> &'static [u8]
 
 /// Reads `users`. Its first wrong line is named.
 pub fn read_users(alloc: Global, text: &[u8]) -> Result<Vec<User>, FileFault>
-    ensures { ReadsFile result (word.users_of text.now) }
+    ensures { MatchResult result (λ users. word.users_of text.now ≡ Ok users.items) (λ fault. RefusesFile fault (word.users_of text.now)) }
 {
     let mut users = Vec::new(alloc);
     let mut rest = text;
@@ -69,7 +73,8 @@ pub fn read_users(alloc: Global, text: &[u8]) -> Result<Vec<User>, FileFault>
 
 // Reads a line of `users`, behind these.
 fn read_user(before: &[User], line: &[u8]) -> Option<User>
-    ensures { result ≡ word.read_user before.now line.now }
+    ensures read { result ≡ word.read_user before.now line.now }
+    ensures room { IsSome result → length before.now < USER_LIMIT }
 {
     let Some(user) = user_of(line) else {
         return None;
@@ -88,9 +93,9 @@ fn user_of(line: &[u8]) -> Option<User>
     let Some((uid, kind)) = cut_field(line) else {
         return None;
     };
-    let None = cut_field(kind) else {
+    if let Some(_) = cut_field(kind) {
         return None;
-    };
+    }
     let Some(uid) = uid_of(uid) else {
         return None;
     };
@@ -102,7 +107,7 @@ fn user_of(line: &[u8]) -> Option<User>
 
 /// The number of a user that a text spells.
 pub fn uid_of(text: &[u8]) -> Option<u32>
-    ensures { result ≡ decimal_of word.last_uid text.now }
+    ensures { result ≡ numbers.decimal_of word.last_uid text.now }
 {
     match decimal_of(text, u64::from(u32::MAX)) {
         Some(uid) => Some(uid as u32),
@@ -114,16 +119,16 @@ pub fn uid_of(text: &[u8]) -> Option<u32>
 fn type_of(text: &[u8]) -> Option<UserType>
     ensures { result ≡ word.type_of text.now }
 {
-    if text == b"system".as_slice() {
+    if b"system".as_slice() == text {
         return Some(UserType::System);
     }
-    if text == b"admin".as_slice() {
+    if b"admin".as_slice() == text {
         return Some(UserType::Admin);
     }
-    if text == b"normal".as_slice() {
+    if b"normal".as_slice() == text {
         return Some(UserType::Normal);
     }
-    if text == b"guest".as_slice() {
+    if b"guest".as_slice() == text {
         return Some(UserType::Guest);
     }
     None
@@ -131,14 +136,17 @@ fn type_of(text: &[u8]) -> Option<UserType>
 
 // Whether a user may stand behind these.
 fn user_fits(before: &[User], user: User) -> bool
-    ensures { result ≡ word.user_fits before.now user }
+    ensures fits { result ≡ word.user_fits before.now user }
+    ensures room { IsTrue result → length before.now < USER_LIMIT }
 {
     rises(before, user) && before.len() < USER_LIMIT
 }
 
-fn rises(before: &[User], user: User) -> bool {
+fn rises(before: &[User], user: User) -> bool
+    ensures { result ≡ rises_above user_cmp before.now user }
+{
     match before.last() {
-        Some(last) => last.uid < user.uid,
+        Some(last) => last.uid.cmp(&user.uid).is_lt(),
         None => true,
     }
 }

@@ -1,0 +1,9 @@
+use Rattle.std.proofs.Common.{◌≡◌, take}
+use Rattle.std.proofs.Common.{map}
+use Rattle.bucket_store.specs.Database.{heading_of}
+use Rattle.set_text.specs.Buckets.{buckets_text}
+use Rattle.set_text.proofs.headings.buckets_text.Given as goal
+
+-- the lines so far
+abbrev pub invariant-loop-bucket : goal.invariant-loop-bucket
+invariant-loop-bucket l = l.text.items ≡ buckets_text (map heading_of (take l.bucket-index l.buckets))

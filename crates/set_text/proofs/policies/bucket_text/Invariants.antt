@@ -1,0 +1,7 @@
+use Rattle.std.proofs.Common.{◌≡◌, take}
+use Rattle.set_text.specs.Buckets.{bucket_text}
+use Rattle.set_text.proofs.policies.bucket_text.Given as goal
+
+-- the lines so far
+abbrev pub invariant-loop-policy : goal.invariant-loop-policy
+invariant-loop-policy l = l.text.items ≡ bucket_text (take l.policy-index l.policies)
