@@ -1,8 +1,12 @@
 -- Numbers have one spelling.
-use Rattle.std.proofs.Common.{◌≡◌, ℕ, zero, suc, ◌-◌, ◌≤◌, ◌<◌, ◌^◌, ◌&&◌, ◌==◌, ◌+◌, ◌/◌, ◌%◌, [], ◌∷◌, Bool, true, false, cond, List, ◌++◌, Option, Some, None, drop, decimal, codes, nat_le, refl, ap, ◌∙◌, sym, arith}
+use Rattle.std.proofs.Common.{◌≡◌, ℕ, zero, suc, ◌-◌, ◌≤◌, ◌<◌, ◌^◌, ◌&&◌, ◌==◌, ◌+◌, ◌/◌, ◌%◌, [], ◌∷◌, Bool, true, false, cond, List, ◌++◌, Option, Some, None, Result, Ok, Err, get_or, ◌≢◌, nat_lt, subst, rules, drop, decimal, codes, nat_le, refl, ap, ◌∙◌, sym, arith}
 use Rattle.std.specs.Fmt.{digits, digits_onto, digit_glyph}
 use mathlib.Core.Logic.{⊎_elim}
-use Rattle.std.specs.Str.Parse.{digits_value}
+use Rattle.std.specs.Str.{IsAscii, IsUtf8}
+use Rattle.std.specs.Result.{OkIff}
+use Rattle.std.specs.Str.Parse.{digits_value, IsNumeral, ParsesUnsigned, without_leading_plus}
+use Rattle.std.proofs.lemmas.Str.{IsUtf8-append, IsUtf8-from_ascii}
+use Rattle.std.proofs.lemmas.Str.Parse.{without_leading_plus_none}
 use Rattle.std.proofs.lemmas.Bool.{and_parts, leb-true, le-leb, cases_lt, eq-eqb, ne_eqb}
 use Rattle.std.proofs.lemmas.Fmt.{digits_is_IsNumeral, hex_one_digit}
 use Rattle.cynara_keys.specs.Text.{same_text}
@@ -114,3 +118,71 @@ pub kind_of-kind_text : (value : ℕ) → value ≤ 65535 → kind_of (kind_text
 kind_of-kind_text value small =
     ap (spelt_as kind_text last_kind (kind_text value)) (digits_is_IsNumeral 16 false (omega arith) (omega arith) value (omega arith)).1
     ∙ spelt_as-spelling kind_text last_kind value (le-leb value last_kind small)
+
+-- ---- what the digits are
+
+hex_by : (P : List ℕ → Type 0) → ((d : ℕ) → d < 16 → P (digit_glyph false d ∷ []))
+    → ((ds : List ℕ) (d : ℕ) → d < 16 → P ds → P (ds ++ digit_glyph false d ∷ []))
+    → (k n : ℕ) → n ≤ k → n < 65536 → P (digits 16 false n)
+hex_by P one more zero n few small = subst P (sym (hex_last n (omega arith))) (one (n % 16) (omega arith))
+hex_by P one more (suc k) n few small = ⊎_elim
+    (λ low. subst P (sym (hex_last n low)) (one (n % 16) (omega arith)))
+    (λ high. subst P (sym (hex_step n high small))
+    (more (digits 16 false (n / 16)) (n % 16) (omega arith) (hex_by P one more k (n / 16) (omega arith) (omega arith))))
+    (cases_lt n 16)
+
+glyph_small : (b : Bool) (d : ℕ) → d < 16 → cond b (48 + d) (87 + d) < 128
+glyph_small true d small = omega arith
+glyph_small false d small = omega arith
+
+glyph_digit : (b : Bool) (d : ℕ) → 48 ≤ cond b (48 + d) (87 + d)
+glyph_digit true d = omega arith
+glyph_digit false d = omega arith
+
+one_ascii : (byte : ℕ) → byte < 128 → IsAscii (byte ∷ [])
+one_ascii byte small zero = small
+one_ascii byte small (suc i) = omega arith
+
+pub hex-IsUtf8 : (n : ℕ) → n < 65536 → IsUtf8 (kind_text n)
+hex-IsUtf8 n small =
+    IsUtf8-append (codes "0x") (digits 16 false n) (IsUtf8-from_ascii (codes "0x") (search rules))
+    (hex_by IsUtf8
+    (λ d low. IsUtf8-from_ascii (digit_glyph false d ∷ []) (one_ascii (digit_glyph false d) (glyph_small (nat_lt d 10) d low)))
+    (λ ds d low text. IsUtf8-append ds (digit_glyph false d ∷ []) text
+    (IsUtf8-from_ascii (digit_glyph false d ∷ []) (one_ascii (digit_glyph false d) (glyph_small (nat_lt d 10) d low))))
+    n n (omega arith) small)
+
+abbrev BeginsWithDigit : List ℕ → Type 0
+BeginsWithDigit [] = ⊥
+BeginsWithDigit (byte ∷ bytes) = 48 ≤ byte
+
+more_digits : (ds : List ℕ) (d : ℕ) → BeginsWithDigit ds → BeginsWithDigit (ds ++ d ∷ [])
+more_digits [] d begins = absurd begins
+more_digits (byte ∷ bytes) d begins = begins
+
+no_plus : (ds : List ℕ) → BeginsWithDigit ds → get_or ds 0 0 ≢ 43
+no_plus [] begins is = absurd begins
+no_plus (byte ∷ bytes) begins is = omega (arith, begins, is)
+
+hex_begins : (n : ℕ) → n < 65536 → BeginsWithDigit (digits 16 false n)
+hex_begins n small =
+    hex_by BeginsWithDigit (λ d low. glyph_digit (nat_lt d 10) d) (λ ds d low begins. more_digits ds (digit_glyph false d) begins) n n
+    (omega arith) small
+
+-- reading the digits of a kind gives the kind
+pub parses_hex : {E : Type 0} (n : ℕ) (ds : List ℕ) (r : Result ℕ E) → n < 65536 → ds ≡ digits 16 false n → ParsesUnsigned 16 16 ds r
+    → r ≡ Ok n
+parses_hex {E} n ds r small is parses =
+    let numeral = digits_is_IsNumeral 16 false (omega arith) (omega arith) n (omega arith) in
+    let plain : without_leading_plus (digits 16 false n) ≡ digits 16 false n =
+    without_leading_plus_none (digits 16 false n) (no_plus (digits 16 false n) (hex_begins n small)) in
+    by r (subst (λ (l : List ℕ). OkIff r (IsNumeral 16 l × (digits_value 16 l < 2 ^ 16)) (digits_value 16 l))
+    (ap without_leading_plus is ∙ plain) parses)
+  where
+    by : (q : Result ℕ E) → OkIff q (IsNumeral 16 (digits 16 false n) × (digits_value 16 (digits 16 false n) < 2 ^ 16))
+        (digits_value 16 (digits 16 false n)) → q ≡ Ok n
+    by (Ok value) h =
+        ap (λ (m : ℕ). Ok m) (h.1 ∙ (digits_is_IsNumeral 16 false (omega arith) (omega arith) n (omega arith)).1)
+    by (Err error) h =
+        let numeral = digits_is_IsNumeral 16 false (omega arith) (omega arith) n (omega arith) in
+        absurd (h (numeral.0, omega (arith, numeral.1, small)))

@@ -1,4 +1,4 @@
-use Rattle.std.proofs.Common.{◌≡◌, ◌≢◌, ◌==◌, ◌+◌, ◌++◌, ◌∷◌, [], length, Err, false, rules, arith, List, ◌<◌, subst, ap, sym, ◌∙◌, length-append}
+use Rattle.std.proofs.Common.{◌≡◌, ◌≢◌, ◌==◌, ◌+◌, ◌++◌, ◌∷◌, [], length, Err, false, rules, arith, List, ◌<◌, subst, refl, ap, sym, ◌∙◌, length-append}
 use Rattle.app_registry.specs.declared.users.User.{User}
 use Rattle.set_text.specs.Lines.{whole_lines, values_behind}
 use Rattle.set_text.specs.Registry.{read_user}
@@ -27,7 +27,7 @@ loop-rest-preserved c =
     let before = c.loop-rest.users.items in
     let user = c.in-Some-read_user.user in
     let pushed : c.push.new.self.items ≡ before ++ user ∷ [] = search rules in
-    let room : length before < 64 = subst (λ (users : List User). length users < 64) c.deref.ensures.value (c.in-Some-read_user.ensures.room tt) in
+    let room : length before < 64 = subst (λ (users : List User). length users < 64) c.deref.ensures.value (c.in-Some-read_user.ensures.room refl) in
     record {
       counted = rw pushed (omega (arith, length-append before (user ∷ []), c.loop-rest.invariant.counted));
       few = rw pushed (omega (arith, length-append before (user ∷ []), room));
