@@ -1,4 +1,6 @@
 pub mod Finding
+pub mod Joining
 pub mod Numbering
 pub mod Refusing
+pub mod Stamping
 pub mod TextLines

@@ -39,7 +39,7 @@ whole_lines-open [] none some = absurd (some refl)
 whole_lines-open (byte ∷ bytes) none some =
     ap (map whole_line) (pieces_of-last byte bytes none) ∙ ap (λ line. line ∷ []) (whole_line-open (byte ∷ bytes) none)
 
-some-length : (byte : ℕ) (bytes : List ℕ) → (length (byte ∷ bytes) == 0) ≡ false
+pub some-length : (byte : ℕ) (bytes : List ℕ) → (length (byte ∷ bytes) == 0) ≡ false
 some-length byte bytes = search rules
 
 module _ {X : Type 0} (read : List X → List ℕ → Option X) (before : List X) where

@@ -1,6 +1,7 @@
 //! The file `apps`: a line for each install.
 
 ghost use Rattle.std.specs.Prelude.{◌≡◌, ◌++◌, ◌∷◌, [], Some, None, if◌then◌else◌, IfOk, OnOk};
+ghost use Rattle.std.specs.List.{flat_map};
 ghost use Rattle.set_text.specs.Registry as word;
 ghost use Rattle.set_text.specs.parts.Reads.{ReadsLine};
 
@@ -59,12 +60,20 @@ fn append_scope(scope: Scope, text: &mut Vec<u8>) -> Result<(), AllocError>
 }
 
 // Appends each privilege, with a semicolon before it.
-fn append_privileges(privileges: &[Name], text: &mut Vec<u8>) -> Result<(), AllocError> {
+fn append_privileges(privileges: &[Name], text: &mut Vec<u8>) -> Result<(), AllocError>
+    ensures { OnOk result (text.new.items ≡ text.old.items ++ flat_map (λ name. 59 ∷ name) privileges.now) }
+{
     for privilege in privileges {
-        text.push(b';')?;
-        text.extend_from_slice(privilege.as_slice())?;
+        append_privilege(privilege, text)?;
     }
     Ok(())
+}
+
+fn append_privilege(privilege: &Name, text: &mut Vec<u8>) -> Result<(), AllocError>
+    ensures { OnOk result (text.new.items ≡ text.old.items ++ 59 ∷ privilege.now) }
+{
+    text.push(b';')?;
+    text.extend_from_slice(privilege.as_slice())
 }
 
 /// The install in a line of `apps`.
