@@ -26,15 +26,24 @@ pub fn apps_text(alloc: Global, installs: &[Install]) -> Result<Vec<u8>, AllocEr
 fn append_install(install: &Install, text: &mut Vec<u8>) -> Result<(), AllocError>
     ensures { OnOk result (text.new.items ≡ text.old.items ++ (word.install_line install.now ++ 10 ∷ [])) }
 {
+    append_names(install, text)?;
+    append_scope(install.scope, text)?;
+    append_privileges(install.privileges.as_slice(), text)?;
+    text.push(b'\n')?;
+    Ok(())
+}
+
+// Appends the package, the author and the application, with a semicolon behind each.
+fn append_names(install: &Install, text: &mut Vec<u8>) -> Result<(), AllocError>
+    ensures { OnOk result (text.new.items ≡ text.old.items ++ (install.now.package
+        ++ (59 ∷ (word.author_text install.now.author ++ (59 ∷ (install.now.app ++ 59 ∷ [])))))) }
+{
     text.extend_from_slice(install.package.as_slice())?;
     text.push(b';')?;
     append_author(&install.author, text)?;
     text.push(b';')?;
     text.extend_from_slice(install.app.as_slice())?;
     text.push(b';')?;
-    append_scope(install.scope, text)?;
-    append_privileges(install.privileges.as_slice(), text)?;
-    text.push(b'\n')?;
     Ok(())
 }
 

@@ -1,7 +1,15 @@
-use Rattle.std.proofs.Common.{rules}
-use Rattle.set_text.specs.Registry.{scope_text}
-use Rattle.set_text.proofs.Joining.{joined-cons}
+use Rattle.std.proofs.Common.{◌≡◌, ◌++◌, ◌∷◌, [], List, ℕ, rules, ap, sym, ◌∙◌}
+use Rattle.std.specs.List.{flat_map}
+use Rattle.set_text.specs.Registry.{author_text, scope_text}
+use Rattle.set_text.proofs.Joining.{joined-cons, install-line}
 use Rattle.set_text.proofs.installs.append_install.Goals as goal
 
 pub returns : goal.returns
-returns c = rw (joined-cons (scope_text c.args.install.now.scope) c.args.install.now.privileges) (search rules)
+returns c =
+    let install = c.args.install.now in
+    let privileges = flat_map (λ (name : List ℕ). 59 ∷ name) install.privileges in
+    let made : c.push.new.self.items ≡ (((c.args.text.now.items ++ (install.package
+        ++ (59 ∷ (author_text install.author ++ (59 ∷ (install.app ++ 59 ∷ [])))))) ++ scope_text install.scope) ++ privileges) ++ 10 ∷ [] =
+    search rules in
+    rw (joined-cons (scope_text install.scope) install.privileges)
+    (made ∙ install-line c.args.text.now.items install.package (author_text install.author) install.app (scope_text install.scope) privileges)
