@@ -70,7 +70,7 @@ bytes-found name set at stands =
     ap (λ set. bytes_in set name) stands.parts
     ∙ bytes-front name stands.front (stands.element ∷ stands.back) stands.before
     ∙ ap (λ b. cond b stands.element.bytes (bytes_in stands.back name))
-      (sym (text_cmp-equal stands.element.name name) ∙ ap is_eq stands.ties)
+    (sym (text_cmp-equal stands.element.name name) ∙ ap is_eq stands.ties)
 
 pub bytes-absent : (name : List ℕ) (set : List SetFile) (at : ℕ) → BelongsAt (λ (file : SetFile). text_cmp file.name name) set at
     → bytes_in set name ≡ []

@@ -68,10 +68,12 @@ hex_more m x small = ⊎_elim one (λ a. ⊎_elim (two a) (λ b. three b) (cases
   where
     nil : digits_onto 64 16 false m [] ≡ digits 16 false m
     nil = digits_onto-nil m
+
     one : m < 16 → digits_onto 63 16 false m (x ∷ []) ≡ digits 16 false m ++ x ∷ []
     one low =
         onto_last m (x ∷ []) 63 (omega arith) (omega arith)
         ∙ sym (ap (λ ds. ds ++ x ∷ []) (sym nil ∙ onto_last m [] 64 (omega arith) (omega arith)))
+
     two : 16 ≤ m → m < 256 → digits_onto 63 16 false m (x ∷ []) ≡ digits 16 false m ++ x ∷ []
     two high low =
         onto_step m (x ∷ []) 63 (omega arith) (omega arith)
@@ -79,6 +81,7 @@ hex_more m x small = ⊎_elim one (λ a. ⊎_elim (two a) (λ b. three b) (cases
         ∙ sym (ap (λ ds. ds ++ x ∷ []) (sym nil
         ∙ onto_step m [] 64 (omega arith) (omega arith)
         ∙ onto_last (m / 16) (digit_glyph false (m % 16) ∷ []) 63 (omega arith) (omega arith)))
+
     three : 256 ≤ m → digits_onto 63 16 false m (x ∷ []) ≡ digits 16 false m ++ x ∷ []
     three high =
         onto_step m (x ∷ []) 63 (omega arith) (omega arith)

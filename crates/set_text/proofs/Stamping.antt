@@ -26,10 +26,11 @@ some-line : (byte : ℕ) (bytes : List ℕ) → (first : Option (List ℕ)) × (
     × (whole_lines (byte ∷ bytes) ≡ first ∷ others)
 some-line byte bytes =
     elim (is_newline byte) as (λ b. (first : Option (List ℕ)) × (others : List (Option (List ℕ)))
-        × (map whole_line (cond b ((byte ∷ []) ∷ pieces_of bytes) (onto_first byte (pieces_of bytes))) ≡ first ∷ others)) [
-    true ↦ (whole_line (byte ∷ []), whole_lines bytes, refl)
-    | false ↦ let part = piece-of byte (pieces_of bytes) in
-      (whole_line part.0, map whole_line part.1, ap (map whole_line) part.2) ]
+    × (map whole_line (cond b ((byte ∷ []) ∷ pieces_of bytes) (onto_first byte (pieces_of bytes))) ≡ first ∷ others)) [
+      | true ↦ (whole_line (byte ∷ []), whole_lines bytes, refl)
+      | false ↦ let part = piece-of byte (pieces_of bytes) in
+          (whole_line part.0, map whole_line part.1, ap (map whole_line) part.2)
+    ]
 
 second-line : (commit : ℕ) (first : Option (List ℕ)) (others : List (Option (List ℕ)))
     → values_behind read_commit (commit ∷ []) (first ∷ others) ≡ Err 2

@@ -25,8 +25,10 @@ fields_of-some [] = ([], [], refl)
 fields_of-some (byte ∷ bytes) =
     let later = fields_of-some bytes in
     elim (is_semicolon byte) as (λ b. (first : List ℕ) × (rest : List (List ℕ))
-        × (cond b ([] ∷ fields_of bytes) (onto_first byte (fields_of bytes)) ≡ first ∷ rest)) [
-    true ↦ ([], fields_of bytes, refl) | false ↦ (byte ∷ later.0, later.1, ap (onto_first byte) later.2) ]
+    × (cond b ([] ∷ fields_of bytes) (onto_first byte (fields_of bytes)) ≡ first ∷ rest)) [
+      | true ↦ ([], fields_of bytes, refl)
+      | false ↦ (byte ∷ later.0, later.1, ap (onto_first byte) later.2)
+    ]
 
 -- the first line, where a newline ends it
 pub whole_lines-newline : (line rest : List ℕ) → HasNoNewline line → whole_lines (line ++ 10 ∷ rest) ≡ Some line ∷ whole_lines rest
@@ -55,8 +57,10 @@ module _ {X : Type 0} (read : List X → List ℕ → Option X) (before : List X
       ap (λ text. values_behind read before (whole_lines text)) is
       ∙ ap (values_behind read before) (whole_lines-newline line rest none)
       ∙ elim (read before line) as (λ found. elim found as (λ found. Result (List X) ℕ) [
-          Some value ↦ values_behind read (before ++ value ∷ []) (whole_lines rest) | None ↦ Err (length before + 1) ]
-          ≡ with_line rest found) [ Some value ↦ refl | None ↦ refl ]
+        | Some value ↦ values_behind read (before ++ value ∷ []) (whole_lines rest)
+        | None ↦ Err (length before + 1)
+      ]
+      ≡ with_line rest found) [ Some value ↦ refl | None ↦ refl ]
 
   -- a line that gives a value
   pub values_behind-value : (text line rest : List ℕ) (value : X) → text ≡ line ++ 10 ∷ rest → HasNoNewline line

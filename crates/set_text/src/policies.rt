@@ -177,9 +177,7 @@ fn policy_fits(
     ensures fits { result ≡ word.policy_fits headings.now earlier before.now policy.now }
     ensures room { IsTrue result → earlier + length before.now < most_policies }
 {
-    rises(before, policy)
-        && has_target(headings, policy)
-        && earlier + before.len() < MOST_POLICIES
+    rises(before, policy) && has_target(headings, policy) && earlier + before.len() < MOST_POLICIES
 }
 
 fn rises(before: &[Policy], policy: &Policy) -> bool

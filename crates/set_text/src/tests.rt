@@ -1,5 +1,6 @@
 //! Sets of files, whole and damaged.
 
+mod counts;
 mod damaged;
 mod worked;
 
