@@ -1,5 +1,6 @@
 pub mod Finding
 pub mod Joining
+pub mod NamingFiles
 pub mod Numbering
 pub mod Refusing
 pub mod Stamping
