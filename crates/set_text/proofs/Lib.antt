@@ -3,5 +3,6 @@ pub mod Joining
 pub mod NamingFiles
 pub mod Numbering
 pub mod Refusing
+pub mod RoundTrips
 pub mod Stamping
 pub mod TextLines
