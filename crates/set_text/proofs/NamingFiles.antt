@@ -35,9 +35,11 @@ bucket_file-is name sound =
     let parts = bucket-parts (ltb 64 (length name)) (position (λ byte. not (is_word_byte byte)) name) sound in
     let short : length name ≤ 64 = ltb-false 64 (length name) parts.0 in
     file_name-none (bucket_file name) (ne_eqb (length (bucket_file name)) 0 (λ none. omega arith))
-    (le-ltb 255 (length (bucket_file name)) (omega (arith, short)))
-    (refl, NonePass-weaker (λ byte. not (is_word_byte byte)) (λ byte. not (is_file_name_byte byte)) word_in_file_name name
-    (none_from_position (λ byte. not (is_word_byte byte)) name parts.1))
+    (le-ltb 255 (length (bucket_file name)) (omega (arith, short))) (
+      refl,
+      NonePass-weaker (λ byte. not (is_word_byte byte)) (λ byte. not (is_file_name_byte byte)) word_in_file_name name
+          (none_from_position (λ byte. not (is_word_byte byte)) name parts.1),
+    )
 
 ident-parts : (a b c : Bool) (at : Option ℕ) → cond a (Some IdentEmpty) (cond b (Some IdentTooLong) (byte_fault (cond c (Some 0) at))) ≡ None
     → (b ≡ false) × (at ≡ None)
@@ -50,9 +52,14 @@ ident-parts false false false (Some at) h = cc
 pub load_file-is : (name : List ℕ) → ident_fault name ≡ None → IsFileName (load_file name)
 load_file-is name sound =
     let parts = ident-parts (eqb (length name) 0) (ltb 100 (length name)) (begins_with_mark name)
-        (position (λ byte. not (is_ident_byte byte)) name) sound in
+    (position (λ byte. not (is_ident_byte byte)) name) sound in
     let short : length name ≤ 100 = ltb-false 100 (length name) parts.0 in
     file_name-none (load_file name) (ne_eqb (length (load_file name)) 0 (λ none. omega arith))
-    (le-ltb 255 (length (load_file name)) (omega (arith, short)))
-    (refl, (refl, NonePass-weaker (λ byte. not (is_ident_byte byte)) (λ byte. not (is_file_name_byte byte)) ident_in_file_name name
-    (none_from_position (λ byte. not (is_ident_byte byte)) name parts.1)))
+    (le-ltb 255 (length (load_file name)) (omega (arith, short))) (
+      refl,
+      (
+        refl,
+        NonePass-weaker (λ byte. not (is_ident_byte byte)) (λ byte. not (is_file_name_byte byte)) ident_in_file_name name
+            (none_from_position (λ byte. not (is_ident_byte byte)) name parts.1),
+      ),
+    )

@@ -1,5 +1,7 @@
 //! The files of the buckets.
 
+ghost use Rattle.desk_ports.specs.FileMap.{NamesRise, names_of};
+
 use crate::file_names::{BUCKETS, Sort, bucket_file};
 use crate::headings::{BucketHeading, read_headings};
 use crate::policies::read_policies;
@@ -10,7 +12,9 @@ use desk_ports::{FileName, SetFile};
 use std::alloc::{AllocError, Global};
 
 /// Reads `buckets`.
-pub fn headings_in(alloc: Global, files: &[SetFile]) -> Result<Vec<BucketHeading>, TextRefusal> {
+pub fn headings_in(alloc: Global, files: &[SetFile]) -> Result<Vec<BucketHeading>, TextRefusal>
+    requires { NamesRise (names_of files.now) }
+{
     match read_headings(alloc, bytes_of(files, BUCKETS)) {
         Ok(headings) => Ok(headings),
         Err(fault) => Err(in_file(alloc, BUCKETS, fault)),
@@ -45,7 +49,9 @@ pub fn buckets_in(
     alloc: Global,
     files: &[SetFile],
     headings: &[BucketHeading],
-) -> Result<Vec<Bucket>, TextRefusal> {
+) -> Result<Vec<Bucket>, TextRefusal>
+    requires { NamesRise (names_of files.now) }
+{
     let mut buckets = Vec::new(alloc);
     let mut earlier = 0;
     for heading in headings {
@@ -68,7 +74,9 @@ fn bucket_in(
     headings: &[BucketHeading],
     earlier: usize,
     heading: &BucketHeading,
-) -> Result<Bucket, TextRefusal> {
+) -> Result<Bucket, TextRefusal>
+    requires { NamesRise (names_of files.now) }
+{
     let name = match bucket_file(alloc, &heading.name) {
         Ok(name) => name,
         Err(error) => return Err(TextRefusal::Memory(error)),

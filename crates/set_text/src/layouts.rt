@@ -1,5 +1,7 @@
 //! The tests of a whole state that is read: the layout, and what users and installs decide.
 
+ghost use Rattle.desk_ports.specs.FileMap.{NamesRise, names_of};
+
 use crate::file_names::BUCKETS;
 use crate::headings::{BucketHeading, has_heading};
 use crate::policies::bucket_text;
@@ -80,7 +82,9 @@ pub fn test_managed(
     files: &[SetFile],
     headings: &[BucketHeading],
     registry: &Registry,
-) -> Result<(), TextRefusal> {
+) -> Result<(), TextRefusal>
+    requires { NamesRise (names_of files.now) }
+{
     if !has_heading(headings, MAIN) {
         return Ok(());
     }

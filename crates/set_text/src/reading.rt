@@ -1,5 +1,7 @@
 //! Reading a set of files.
 
+ghost use Rattle.desk_ports.specs.FileMap.{NamesRise, names_of};
+
 use crate::bucket_files::{buckets_in, headings_in, test_bucket_files};
 use crate::file_names::{APPS, STAMP, Sort, TEMPLATE, USERS, fixed_files, load_file};
 use crate::layouts::{test_fallbacks, test_layout, test_managed};
@@ -51,14 +53,18 @@ fn test_fixed(alloc: Global, files: &[SetFile]) -> Result<(), TextRefusal> {
     }
 }
 
-fn stamp_in(alloc: Global, files: &[SetFile]) -> Result<u64, TextRefusal> {
+fn stamp_in(alloc: Global, files: &[SetFile]) -> Result<u64, TextRefusal>
+    requires { NamesRise (names_of files.now) }
+{
     match read_stamp(bytes_of(files, STAMP)) {
         Ok(commit) => Ok(commit),
         Err(line) => Err(damaged(alloc, STAMP, line)),
     }
 }
 
-fn registry_in(alloc: Global, files: &[SetFile]) -> Result<Registry, TextRefusal> {
+fn registry_in(alloc: Global, files: &[SetFile]) -> Result<Registry, TextRefusal>
+    requires { NamesRise (names_of files.now) }
+{
     let users = match read_users(alloc, bytes_of(files, USERS)) {
         Ok(users) => users,
         Err(fault) => return Err(in_file(alloc, USERS, fault)),
@@ -69,7 +75,9 @@ fn registry_in(alloc: Global, files: &[SetFile]) -> Result<Registry, TextRefusal
     }
 }
 
-fn template_in(alloc: Global, files: &[SetFile]) -> Result<Template, TextRefusal> {
+fn template_in(alloc: Global, files: &[SetFile]) -> Result<Template, TextRefusal>
+    requires { NamesRise (names_of files.now) }
+{
     match read_template(alloc, bytes_of(files, TEMPLATE)) {
         Ok(template) => Ok(template),
         Err(fault) => Err(in_file(alloc, TEMPLATE, fault)),
@@ -103,7 +111,9 @@ fn test_rules(
     template: &Template,
     registry: &Registry,
     packages: &[Ident],
-) -> Result<(), TextRefusal> {
+) -> Result<(), TextRefusal>
+    requires { NamesRise (names_of files.now) }
+{
     for package in packages {
         let name = match load_file(alloc, package) {
             Ok(name) => name,

@@ -1,5 +1,7 @@
 //! Writing a set of files.
 
+ghost use Rattle.desk_ports.specs.FileName.{IsFileName};
+
 use crate::file_names::{
     APPS, BUCKETS, STAMP, TEMPLATE, USERS, bucket_file, known_name, load_file,
 };
@@ -48,7 +50,9 @@ fn push(
     name: &[u8],
     text: Vec<u8>,
     files: &mut Vec<SetFile>,
-) -> Result<(), AllocError> {
+) -> Result<(), AllocError>
+    requires { IsFileName name.now }
+{
     push_file(known_name(alloc, name)?, text, files)
 }
 
