@@ -1,0 +1,9 @@
+pub mod World
+pub mod Clients
+pub mod Links
+pub mod Commits
+pub mod Agents
+pub mod Events
+pub mod Sound
+pub mod Grows
+pub mod Kept
