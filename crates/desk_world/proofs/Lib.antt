@@ -2,3 +2,4 @@ pub mod Options
 pub mod Lists
 pub mod Growing
 pub mod Monotone
+pub mod Keeping

@@ -76,44 +76,48 @@ module _ (before after : World) (grows : Grows before after) where
 
   -- ---- a link that is as it was
 
-  pub between_still : (link : Link) (commit : ℕ) → IsBetween before link commit → IsBetween after link commit
-  between_still link commit between = record { low = between.low; high = omega (arith, between.high, grows.published) }
+  pub between_still : (entered : Option ℕ) (commit : ℕ) → IsBetween before entered commit → IsBetween after entered commit
+  between_still entered commit between = record { low = between.low; high = omega (arith, between.high, grows.published) }
 
   carry : (entered : Option ℕ) (floor : ℕ) → floor ≤ unwrap_or entered before.acknowledged
       → floor ≤ unwrap_or entered after.acknowledged
   carry None floor low = omega (arith, grows.acknowledged)
   carry (Some commit) floor low = low
 
-  pub carried_still : (link : Link) (ask : ℕ) → IsCarried before link ask → IsCarried after link ask
-  carried_still link ask carried = record {
+  pub carried_still : (entered : Option ℕ) (ask : ℕ) → IsCarried before entered ask → IsCarried after entered ask
+  carried_still entered ask carried = record {
     asked = carried.asked;
     asks = begins-get before.asks after.asks ask carried.asked grows.asks carried.asks;
-    floor = carry link.entered carried.asked.floor carried.floor;
+    floor = carry entered carried.asked.floor carried.floor;
   }
 
-  pub read_still : (link : Link) (ask : ℕ) (reading : Reading) → IsRead before link ask reading → IsRead after link ask reading
-  read_still link ask Nothing read = tt
-  read_still link ask (Ready reply) read = (sound_still link.run ask reply read.0, between_still link (commit_of reply) read.1)
-  read_still link ask (Due commit kind metadata) read = (left_still ask commit kind read.0, between_still link commit read.1)
-  read_still link ask (Waiting commit kind number) read =
+  pub read_still : (run : ℕ) (entered : Option ℕ) (ask : ℕ) (reading : Reading) → IsRead before run entered ask reading
+      → IsRead after run entered ask reading
+  read_still run entered ask Nothing read = tt
+  read_still run entered ask (Ready reply) read =
+      (sound_still run ask reply read.0, between_still entered (commit_of reply) read.1)
+  read_still run entered ask (Due commit kind metadata) read =
+      (left_still ask commit kind read.0, between_still entered commit read.1)
+  read_still run entered ask (Waiting commit kind number) read =
       ( record { fresh = fresh_still ask commit read.0.fresh; leaves = read.0.leaves }
-      , between_still link commit read.1
-      , (put_still link.run number ask read.0.fresh.asked.question kind commit read.2).0 )
+      , between_still entered commit read.1
+      , (put_still run number ask read.0.fresh.asked.question kind commit read.2).0 )
 
-  pub sent_still : (link : Link) (transit : Transit) → IsSent before link transit → IsSent after link transit
-  sent_still link transit sent = record {
-    sound = sound_still link.run transit.ask transit.reply sent.sound;
-    between = between_still link (commit_of transit.reply) sent.between;
-    carried = carried_still link transit.ask sent.carried;
+  pub sent_still : (run : ℕ) (entered : Option ℕ) (transit : Transit) → IsSent before run entered transit
+      → IsSent after run entered transit
+  sent_still run entered transit sent = record {
+    sound = sound_still run transit.ask transit.reply sent.sound;
+    between = between_still entered (commit_of transit.reply) sent.between;
+    carried = carried_still entered transit.ask sent.carried;
   }
 
   pub link_still : (link : Link) → IsLink before link → IsLink after link
   link_still link is = record {
     first = λ commit e. subst (λ (first : DeskState). first.commit ≤ commit) (sym grows.first) (is.first commit e);
-    seen = λ commit e. between_still link link.seen (is.seen commit e);
-    question = λ ask e. carried_still link ask (is.question ask e);
-    reading = λ ask e. read_still link ask link.reading (is.reading ask e);
-    reply = λ transit e. sent_still link transit (is.reply transit e);
+    seen = λ commit e. between_still link.entered link.seen (is.seen commit e);
+    question = λ ask e. carried_still link.entered ask (is.question ask e);
+    reading = λ ask e. read_still link.run link.entered ask link.reading (is.reading ask e);
+    reply = λ transit e. sent_still link.run link.entered transit (is.reply transit e);
     unasked = is.unasked;
     not_entered = is.not_entered;
   }
@@ -123,41 +127,37 @@ module _ (before after : World) (grows : Grows before after) where
 
   -- ---- a client that is as it was, though its link may have changed
 
-  -- where the link now entered, it had entered there before, or the cache is empty
-  known_still : (link grown : Link) (known : Known) → LinkGrows link grown → (commit : ℕ) → link.entered ≡ Some commit
-      → IsKnown before link known → IsKnown after grown known
-  known_still link grown known link_grows commit entered known_is = record {
-    desk = known_is.desk;
-    committed = desk_still known.verdict.commit known_is.desk known_is.committed;
+  -- where the link entered, it is there still
+  known_still : (was now : Option ℕ) (known : Known) → now ≡ was → IsKnown before was known → IsKnown after now known
+  known_still was now known same is = record {
+    desk = is.desk;
+    committed = desk_still known.verdict.commit is.desk is.committed;
     between = record {
-      low =
-        let now : grown.entered ≡ link.entered = link_grows.entered commit entered ∙ sym entered in
-        subst (λ entered. unwrap_or entered 0 ≤ known.verdict.commit) (sym now) known_is.between.low;
-      high = omega (arith, known_is.between.high, grows.published);
+      low = subst (λ entered. unwrap_or entered 0 ≤ known.verdict.commit) (sym same) is.between.low;
+      high = omega (arith, is.between.high, grows.published);
     };
-    answer = known_is.answer;
+    answer = is.answer;
   }
 
-  log_still : (link grown : Link) (log : List Known) → LinkGrows link grown → (entered : Option ℕ) → link.entered ≡ entered
-      → (link.entered ≡ None → log ≡ []) → All (IsKnown before link) log → All (IsKnown after grown) log
-  log_still link grown log link_grows None is empty all =
-      subst (λ log. All (IsKnown after grown) log) (sym (empty is)) (All-nil (IsKnown after grown))
-  log_still link grown log link_grows (Some commit) is empty all =
-      All-weaker (IsKnown before link) (IsKnown after grown) (λ known. known_still link grown known link_grows commit is) log all
+  -- a link that had not entered belongs to an empty cache
+  log_still : (was now : Option ℕ) (log : List Known) → ((commit : ℕ) → was ≡ Some commit → now ≡ Some commit)
+      → (was ≡ None → log ≡ []) → All (IsKnown before was) log → All (IsKnown after now) log
+  log_still None now log kept empty all = subst (λ log. All (IsKnown after now) log) (sym (empty refl)) (All-nil (IsKnown after now))
+  log_still (Some commit) now log kept empty all =
+      All-weaker (IsKnown before (Some commit)) (IsKnown after now)
+      (λ known. known_still (Some commit) now known (kept commit refl)) log all
 
-  not_entered_before : (link grown : Link) → LinkGrows link grown → (entered : Option ℕ) → link.entered ≡ entered
-      → grown.entered ≡ None → link.entered ≡ None
-  not_entered_before link grown link_grows None is now = is
-  not_entered_before link grown link_grows (Some commit) is now =
-      absurd (none-some commit (sym now ∙ link_grows.entered commit is))
+  not_entered_before : (was now : Option ℕ) → ((commit : ℕ) → was ≡ Some commit → now ≡ Some commit) → now ≡ None → was ≡ None
+  not_entered_before None now kept is = refl
+  not_entered_before (Some commit) now kept is = absurd (none-some commit (sym is ∙ kept commit refl))
 
-  pub has_link_still : (client : Client) (place : ℕ) → HasLink before client place → HasLink after client place
-  has_link_still client place has =
+  pub has_link_still : (log : List Known) (place : ℕ) → HasLink before log place → HasLink after log place
+  has_link_still log place has =
       let grown = grows.links place has.link has.there in
       record {
         link = grown.0; there = grown.1;
-        log = log_still has.link grown.0 client.log grown.2 has.link.entered refl has.not_entered has.log;
-        not_entered = λ now. has.not_entered (not_entered_before has.link grown.0 grown.2 has.link.entered refl now);
+        known = log_still has.link.entered grown.0.entered log grown.2.entered has.not_entered has.known;
+        not_entered = λ now. has.not_entered (not_entered_before has.link.entered grown.0.entered grown.2.entered now);
       }
 
   pub client_still : (client : Client) → IsClient before client → IsClient after client
@@ -165,7 +165,7 @@ module _ (before after : World) (grows : Grows before after) where
     told = omega (arith, is.told, grows.acknowledged);
     asking = λ ask e.
       let there = is.asking ask e in (there.0, begins-get before.asks after.asks ask there.0 grows.asks there.1);
-    link = λ place e. has_link_still client place (is.link place e);
+    link = λ place e. has_link_still client.log place (is.link place e);
     no_link = is.no_link;
   }
 

@@ -43,68 +43,69 @@ IsChain desk (after ∷ later) = Follows desk after × IsChain after later
 abbrev pub IsCurrent : ℕ → Link → Type 0
 IsCurrent note link = link.up ≡ true → (entered : ℕ) → link.entered ≡ Some entered → note ≤ entered
 
--- ---- 4 to 7: what is on a link
+-- ---- 4 to 7: what is on a link that entered at this commit, or not yet
 
 -- from where the link entered to what is published
-pub record IsBetween (world : World) (link : Link) (commit : ℕ) : Type 0 where
-  pub low : unwrap_or link.entered 0 ≤ commit
+pub record IsBetween (world : World) (entered : Option ℕ) (commit : ℕ) : Type 0 where
+  pub low : unwrap_or entered 0 ≤ commit
   pub high : commit ≤ world.published
 
 -- the ask's floor is not above where the link entered, or will enter
-pub record IsCarried (world : World) (link : Link) (ask : ℕ) : Type 0 where
+pub record IsCarried (world : World) (entered : Option ℕ) (ask : ℕ) : Type 0 where
   pub asked : Asked
   pub asks : slice_get world.asks ask ≡ Some asked
-  pub floor : asked.floor ≤ unwrap_or link.entered world.acknowledged
+  pub floor : asked.floor ≤ unwrap_or entered world.acknowledged
 
 -- the policies of the commit leave the ask to an agent of the kind
 pub record IsLeft (world : World) (ask commit : ℕ) (kind : Kind) : Type 0 where
   pub fresh : IsFresh world ask commit
   pub leaves : LeavesTo kind fresh.desk fresh.asked.question
 
--- what is read for the ask
-abbrev pub IsRead : World → Link → ℕ → Reading → Type 0
-IsRead world link ask Nothing = Unit {0}
-IsRead world link ask (Ready reply) = IsSound world link.run ask reply × IsBetween world link (commit_of reply)
-IsRead world link ask (Due commit kind metadata) = IsLeft world ask commit kind × IsBetween world link commit
-IsRead world link ask (Waiting commit kind number) =
-    (left : IsLeft world ask commit kind) × IsBetween world link commit
-    × IsPutFor world link.run number ask left.fresh.asked.question kind commit
+-- what is read for the ask, on a link of this run
+abbrev pub IsRead : World → ℕ → Option ℕ → ℕ → Reading → Type 0
+IsRead world run entered ask Nothing = Unit {0}
+IsRead world run entered ask (Ready reply) = IsSound world run ask reply × IsBetween world entered (commit_of reply)
+IsRead world run entered ask (Due commit kind metadata) = IsLeft world ask commit kind × IsBetween world entered commit
+IsRead world run entered ask (Waiting commit kind number) =
+    (left : IsLeft world ask commit kind) × IsBetween world entered commit
+    × IsPutFor world run number ask left.fresh.asked.question kind commit
 
 -- the reply in transit
-pub record IsSent (world : World) (link : Link) (transit : Transit) : Type 0 where
-  pub sound : IsSound world link.run transit.ask transit.reply
-  pub between : IsBetween world link (commit_of transit.reply)
-  pub carried : IsCarried world link transit.ask
+pub record IsSent (world : World) (run : ℕ) (entered : Option ℕ) (transit : Transit) : Type 0 where
+  pub sound : IsSound world run transit.ask transit.reply
+  pub between : IsBetween world entered (commit_of transit.reply)
+  pub carried : IsCarried world entered transit.ask
 
 pub record IsLink (world : World) (link : Link) : Type 0 where
   pub first : (commit : ℕ) → link.entered ≡ Some commit → world.first.commit ≤ commit
-  pub seen : (commit : ℕ) → link.entered ≡ Some commit → IsBetween world link link.seen
-  pub question : (ask : ℕ) → link.question ≡ Some ask → IsCarried world link ask
-  pub reading : (ask : ℕ) → link.question ≡ Some ask → IsRead world link ask link.reading
-  pub reply : (transit : Transit) → link.reply ≡ Some transit → IsSent world link transit
+  pub seen : (commit : ℕ) → link.entered ≡ Some commit → IsBetween world link.entered link.seen
+  pub question : (ask : ℕ) → link.question ≡ Some ask → IsCarried world link.entered ask
+  pub reading : (ask : ℕ) → link.question ≡ Some ask → IsRead world link.run link.entered ask link.reading
+  pub reply : (transit : Transit) → link.reply ≡ Some transit → IsSent world link.run link.entered transit
   -- without a question there is no reading, and before it enters neither a reading nor a reply
   pub unasked : link.question ≡ None → link.reading ≡ Nothing
   pub not_entered : link.entered ≡ None → (link.reading ≡ Nothing) × (link.reply ≡ None)
 
 -- ---- clients
 
--- a verdict in the cache of a client whose link this is
-pub record IsKnown (world : World) (link : Link) (known : Known) : Type 0 where
+-- a verdict in the cache of a client whose link entered at this commit
+pub record IsKnown (world : World) (entered : Option ℕ) (known : Known) : Type 0 where
   pub desk : DeskState
   pub committed : desk_at known.verdict.commit (history world) ≡ Some desk
-  pub between : IsBetween world link known.verdict.commit
+  pub between : IsBetween world entered known.verdict.commit
   pub answer : known.verdict.answer ≡ root_answer desk known.question
 
-pub record HasLink (world : World) (client : Client) (place : ℕ) : Type 0 where
+-- the link is there, and the cache is of it
+pub record HasLink (world : World) (log : List Known) (place : ℕ) : Type 0 where
   pub link : Link
   pub there : slice_get world.links place ≡ Some link
-  pub log : All (IsKnown world link) client.log
-  pub not_entered : link.entered ≡ None → client.log ≡ []
+  pub known : All (IsKnown world link.entered) log
+  pub not_entered : link.entered ≡ None → log ≡ []
 
 pub record IsClient (world : World) (client : Client) : Type 0 where
   pub told : client.told ≤ world.acknowledged
   pub asking : (ask : ℕ) → client.asking ≡ Some ask → (asked : Asked) × (slice_get world.asks ask ≡ Some asked)
-  pub link : (place : ℕ) → client.link ≡ Some place → HasLink world client place
+  pub link : (place : ℕ) → client.link ≡ Some place → HasLink world client.log place
   pub no_link : client.link ≡ None → client.log ≡ []
 
 -- ---- all of it
