@@ -3,3 +3,4 @@ pub mod Lists
 pub mod Growing
 pub mod Monotone
 pub mod Keeping
+pub mod steps

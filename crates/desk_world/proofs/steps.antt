@@ -1,0 +1,5 @@
+-- Each event, one step of the world.
+pub mod Dialling
+pub mod Asking
+pub mod Sending
+pub mod Answering
