@@ -3,3 +3,6 @@ pub mod Dialling
 pub mod Asking
 pub mod Sending
 pub mod Answering
+pub mod Delivering
+pub mod Entering
+pub mod Reading

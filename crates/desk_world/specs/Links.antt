@@ -37,12 +37,13 @@ is_nothing (Due commit kind metadata) = false
 is_nothing (Waiting commit kind number) = false
 
 -- what is read of an outcome: a verdict, or that an agent decides, whom a simple check doesn't ask
+abbrev pub read_as : Bool → ℕ → Bool → Outcome → Reading
+read_as false commit simple outcome = Ready (Judged (record { commit = commit; answer = answer_of outcome }))
+read_as true commit true outcome = Ready (NotResolved commit (record { 0 = outcome.result.kind }))
+read_as true commit false outcome = Due commit (record { 0 = outcome.result.kind }) outcome.result.metadata
+
 abbrev pub reading_of : ℕ → Bool → Outcome → Reading
-reading_of commit simple outcome =
-    if is_agent outcome.result.kind
-    then (if simple then Ready (NotResolved commit (record { 0 = outcome.result.kind }))
-    else Due commit (record { 0 = outcome.result.kind }) outcome.result.metadata)
-    else Ready (Judged (record { commit = commit; answer = answer_of outcome }))
+reading_of commit simple outcome = read_as (is_agent outcome.result.kind) commit simple outcome
 
 abbrev pub read_at : ℕ → Link → ℕ → Asked → DeskState → World → Option World
 read_at link found commit asked desk world =
