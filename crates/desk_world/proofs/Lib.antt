@@ -3,4 +3,5 @@ pub mod Lists
 pub mod Growing
 pub mod Monotone
 pub mod Keeping
+pub mod Committing
 pub mod steps

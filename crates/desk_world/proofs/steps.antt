@@ -6,3 +6,4 @@ pub mod Answering
 pub mod Delivering
 pub mod Entering
 pub mod Reading
+pub mod Writing
