@@ -69,10 +69,11 @@ entry_at-map f runs numbers run number entries entry e =
     (λ other i. (runs other i == run) && (numbers other i == number)) entries entry e
 
 pub entries_map : (f : AgentEntry → AgentEntry) (entries : List AgentEntry) → ((entry : AgentEntry) → (f entry).run ≡ entry.run)
-    → ((entry : AgentEntry) → (f entry).number ≡ entry.number) → ((entry : AgentEntry) → EntryGrows entry (f entry))
+    → ((entry : AgentEntry) → (f entry).number ≡ entry.number)
+    → ((run number : ℕ) (entry : AgentEntry) → entry_at run number entries ≡ Some entry → EntryGrows entry (f entry))
     → EntriesGrow entries (map f entries)
 entries_map f entries runs numbers each run number entry e =
-    (f entry, entry_at-map f runs numbers run number entries entry e, each entry)
+    (f entry, entry_at-map f runs numbers run number entries entry e, each run number entry e)
 
 -- ---- a world whose commits stay
 

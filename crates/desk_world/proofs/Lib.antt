@@ -4,4 +4,5 @@ pub mod Growing
 pub mod Monotone
 pub mod Keeping
 pub mod Committing
+pub mod Numbering
 pub mod steps

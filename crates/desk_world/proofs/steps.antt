@@ -7,3 +7,6 @@ pub mod Delivering
 pub mod Entering
 pub mod Reading
 pub mod Writing
+pub mod Storing
+pub mod Hanging
+pub mod Agents

@@ -79,9 +79,6 @@ module _ (w : World) (kept : IsKept w) (client ask : ℕ) (asked : Asked) (link 
   sound : IsSound w found.run ask transit.reply
   sound = subst (λ ask. IsSound w found.run ask transit.reply) mine arrived.sound
 
-  same_asked : sound.fresh.asked ≡ asked
-  same_asked = let is : Some sound.fresh.asked ≡ Some asked = sym sound.fresh.asks ∙ asks in cc
-
   has_entered : found.entered ≡ None → ⊥
   has_entered e = none-some transit (sym (was.not_entered e).1 ∙ sent)
 
@@ -95,29 +92,29 @@ module _ (w : World) (kept : IsKept w) (client ask : ℕ) (asked : Asked) (link 
   known_then = subst (λ (link : Link). All (IsKnown after link.entered) (w.clients client).log) is_freed has.known
 
   known_now : (reply : Reply) → IsSound w found.run ask reply → IsBetween w found.entered (commit_of reply)
-      → ((sound : IsSound w found.run ask reply) → sound.fresh.asked ≡ asked)
+      → ((right : IsSound w found.run ask reply) → right.fresh.asked ≡ asked)
       → All (IsKnown after found.entered) (log_after asked.question reply (w.clients client).log)
-  known_now (Judged verdict) sound between same =
+  known_now (Judged verdict) right between same =
       All-push (IsKnown after found.entered) (w.clients client).log (record { question = asked.question; verdict = verdict })
       known_then
       (record {
-        desk = sound.fresh.desk;
-        committed = desk_still w after grows verdict.commit sound.fresh.desk sound.fresh.committed;
+        desk = right.fresh.desk;
+        committed = desk_still w after grows verdict.commit right.fresh.desk right.fresh.committed;
         between = between_still w after grows found.entered verdict.commit between;
-        answer = sound.right ∙ ap (λ (asked : Asked). root_answer sound.fresh.desk asked.question) (same sound);
+        answer = right.right ∙ ap (λ (asked : Asked). root_answer right.fresh.desk asked.question) (same right);
       })
-  known_now (FromAgent commit kind number allowed) sound between same = known_then
-  known_now (NotResolved commit kind) sound between same = known_then
-  known_now (NoAgent commit kind) sound between same = known_then
-  known_now (AgentGone commit number) sound between same = known_then
-  known_now (AgentFull commit kind most) sound between same = known_then
+  known_now (FromAgent commit kind number allowed) right between same = known_then
+  known_now (NotResolved commit kind) right between same = known_then
+  known_now (NoAgent commit kind) right between same = known_then
+  known_now (AgentGone commit number) right between same = known_then
+  known_now (AgentFull commit kind most) right between same = known_then
 
   has_link : HasLink after log link
   has_link = record {
     link = freed; there = get-set_same w.links link found freed there;
     known =
       known_now transit.reply sound arrived.between
-      (λ sound. let is : Some sound.fresh.asked ≡ Some asked = sym sound.fresh.asks ∙ asks in cc);
+      (λ right. let is : Some right.fresh.asked ≡ Some asked = sym right.fresh.asks ∙ asks in cc);
     not_entered = λ e. absurd (has_entered e);
   }
 

@@ -65,18 +65,18 @@ module _ (w : World) (kept : IsKept w) (link : ℕ) (found : Link) (commit ask :
   between = record { low = entered_low; high = published }
 
   -- the floor of the ask is not above where the link entered
-  abbrev fresh : IsFresh after ask commit
-  fresh = record {
-    asked = asked; desk = desk; asks = asks; committed = committed;
-    no_older =
+  no_older : asked.floor ≤ commit
+  no_older =
       let carried = was.question ask asks_it in
       let is : Some carried.asked ≡ Some asked = sym carried.asks ∙ asks in
       let same : carried.asked ≡ asked = cc in
       let floor = subst (λ entered. carried.asked.floor ≤ unwrap_or entered w.acknowledged) at carried.floor in
       let low = subst (λ entered. unwrap_or entered 0 ≤ commit) at entered_low in
       let floor_same : carried.asked.floor ≡ asked.floor = ap (λ (asked : Asked). asked.floor) same in
-      omega (arith, floor, low, floor_same);
-  }
+      omega (arith, floor, low, floor_same)
+
+  abbrev fresh : IsFresh after ask commit
+  fresh = record { asked = asked; desk = desk; asks = asks; committed = committed; no_older = no_older }
 
   read_is : (agent simple : Bool) → is_agent (root_outcome desk asked.question).result.kind ≡ agent
       → IsRead after found.run found.entered ask (read_as agent commit simple (root_outcome desk asked.question))
