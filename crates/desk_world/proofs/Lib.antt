@@ -6,3 +6,4 @@ pub mod Keeping
 pub mod Committing
 pub mod Numbering
 pub mod steps
+pub mod Runs

@@ -39,11 +39,15 @@ after (AgentLeave kind) world = leave kind world
 after (Stop command kept) world = stop command kept world
 after (Tell client commit) world = tell client commit world
 
+-- what comes next, where the event at this place led to a world
+abbrev pub next_of : ℕ → (World → Result World ℕ) → Option World → Result World ℕ
+next_of at run None = Err at
+next_of at run (Some world) = run world
+
 -- the world after the events, or the place of the first that is not enabled, where the first of all has the place `at`
 abbrev pub run_from : ℕ → List Event → World → Result World ℕ
 run_from at [] world = Ok world
-run_from at (event ∷ events) world =
-    elim (after event world) as (λ next. Result World ℕ) [ None ↦ Err at | Some next ↦ run_from (at + 1) events next ]
+run_from at (event ∷ events) world = next_of at (run_from (at + 1) events) (after event world)
 
 abbrev pub run : World → List Event → Result World ℕ
 run world events = run_from 0 events world

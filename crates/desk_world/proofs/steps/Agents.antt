@@ -29,7 +29,7 @@ use Rattle.desk_world.specs.declared.replies.Reply.TheVariants.{Judged, FromAgen
 use Rattle.desk_world.proofs.Options.{with_some-tells, when-tells, some-tells}
 use Rattle.desk_world.proofs.Lists.{begins_same, begins_push, get-append, get-end, get-set_same, get-set_other, get-map, begins-get, find-begins, all-at}
 use Rattle.desk_world.proofs.Growing.{link_same, links_same, links_push, links_set, links_map, entries_same, entries_push, entries_map, serving}
-use Rattle.desk_world.proofs.Monotone.{desk_still, fresh_still, put_still, right_still, sound_still, left_still, between_still, carried_still, read_still, sent_still, link_still, links_still, has_link_still, client_still, given_still}
+use Rattle.desk_world.proofs.Monotone.{desk_still, fresh_still, right_still, sound_still, left_still, between_still, carried_still, read_still, sent_still, link_still, links_still, has_link_still, client_still, given_still}
 use Rattle.desk_world.proofs.Keeping.{Step, clients_with, told_with, told_same, served, serves}
 use Rattle.std.proofs.lemmas.Bool.{ltb-false, cond_both, both_ways}
 use Rattle.desk_state.specs.Next.{next as next_state}
@@ -150,8 +150,8 @@ module _ (w : World) (kept : IsKept w) (link : ℕ) (found : Link) (ask : ℕ) (
           (record { client = refl; run = refl; entered = λ commit e. e; seen = λ commit e. omega arith; closed = λ e. e }))
         (entries_push w.entries new)
 
-    abbrev put_still : IsLink put_world found
-    put_still = link_still w put_world put_grows found (all-at (IsLink w) w.links link found kept.links there)
+    abbrev kept_link : IsLink put_world found
+    kept_link = link_still w put_world put_grows found (all-at (IsLink w) w.links link found kept.links there)
 
     abbrev still_left : IsLeft put_world ask commit kind
     still_left = record { fresh = fresh_still w put_world put_grows ask commit left.fresh; leaves = left.leaves }
@@ -163,7 +163,7 @@ module _ (w : World) (kept : IsKept w) (link : ℕ) (found : Link) (ask : ℕ) (
 
     waits_is : IsLink put_world waits
     waits_is = record {
-      first = put_still.first; seen = put_still.seen; question = put_still.question;
+      first = kept_link.first; seen = kept_link.seen; question = kept_link.question;
       reading = λ other e.
         let is : Some ask ≡ Some other = sym asks_it ∙ e in
         subst (λ ask. IsRead put_world found.run found.entered ask (Waiting commit kind number)) (same_Some ask other is)
@@ -175,7 +175,7 @@ module _ (w : World) (kept : IsKept w) (link : ℕ) (found : Link) (ask : ℕ) (
               ap (λ (asked : Asked). asked.question) (same_Some asked left.fresh.asked (sym asks ∙ left.fresh.asks));
             same_kind = refl; same_commit = refl;
           } );
-      reply = put_still.reply;
+      reply = kept_link.reply;
       unasked = λ e. absurd (none-some ask (sym e ∙ asks_it));
       not_entered = λ e. absurd (entered e);
     }
