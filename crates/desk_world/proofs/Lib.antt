@@ -7,3 +7,4 @@ pub mod Committing
 pub mod Numbering
 pub mod steps
 pub mod Runs
+pub mod Promise

@@ -7,3 +7,4 @@ pub mod Events
 pub mod Sound
 pub mod Grows
 pub mod Kept
+pub mod Headline
