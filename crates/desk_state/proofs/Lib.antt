@@ -1,0 +1,5 @@
+pub mod Finding
+pub mod Deciding
+pub mod Filters
+pub mod Owning
+pub mod Keeping

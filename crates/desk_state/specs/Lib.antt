@@ -3,3 +3,4 @@ pub mod Layout
 pub mod Next
 pub mod Rules
 pub mod IsDesk
+pub mod parts

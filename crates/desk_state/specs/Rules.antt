@@ -93,11 +93,11 @@ first_of [] = None
 first_of (None ∷ rules) = first_of rules
 first_of (Some refusal ∷ rules) = Some refusal
 
--- what is tested before memory is asked for
+-- what is tested before memory is asked for; a reserved name is copied into its refusal
 abbrev pub layout_rules : DeskState → Command → List (Option Refusal)
 layout_rules desk command =
     let laid_out = has_layout desk.database in
-    reserved laid_out command ∷ layout_there laid_out command ∷ no_layout laid_out command ∷ []
+    layout_there laid_out command ∷ no_layout laid_out command ∷ []
 
 -- The first rule that a command breaks. Limits are in the order in which the counted things are listed.
 abbrev pub fault : DeskState → Command → Option Refusal
@@ -117,7 +117,7 @@ fault desk command =
     ∷ option_map of_store (store.cycle asked.next)
     ∷ [])
 
--- The refusal names the fault. Want of memory says that the layout does not stand against the command.
+-- The refusal names the fault. Want of memory says that no rule tested before stands against the command.
 abbrev pub Refuses : DeskState → Command → Refusal → Type 0
 Refuses desk command (Memory error) = first_of (layout_rules desk command) ≡ None
 Refuses desk command refusal = fault desk command ≡ Some refusal

@@ -1,9 +1,8 @@
-ghost use Rattle.std.specs.Prelude.{◌≡◌, IfOk};
-
 use app_registry::{Ident, Install, Scope, UserType};
 use bucket_store::Changes;
 use cynara_keys::{BucketName, Filter, PolicyResult};
 use rule_templates::Template;
+use std::alloc::{AllocError, Global};
 
 /// What an administrator or an installer asks for.
 #[derive(Debug, Drop)]
@@ -50,4 +49,57 @@ pub enum Command {
         app: Ident,
         scope: Scope,
     },
+}
+
+ghost use Rattle.std.specs.Prelude.{◌≡◌, IfOk};
+
+impl Command {
+    /// An equal command, which shares the names' bytes.
+    pub fn copy(&self, alloc: Global) -> Result<Command, AllocError>
+        ensures { IfOk result (λ copy. copy ≡ self.now) }
+    {
+        match self {
+            Command::SetBucket { bucket, fallback } => Ok(Command::SetBucket {
+                bucket: bucket.copy()?,
+                fallback: fallback.copy()?,
+            }),
+            Command::RemoveBucket { bucket } => Ok(Command::RemoveBucket {
+                bucket: bucket.copy()?,
+            }),
+            Command::SetPolicies { changes } => Ok(Command::SetPolicies {
+                changes: changes_copy(alloc, changes)?,
+            }),
+            Command::Erase { bucket, filter } => Ok(Command::Erase {
+                bucket: bucket.copy()?,
+                filter: filter.copy()?,
+            }),
+            Command::Layout => Ok(Command::Layout),
+            Command::SetTemplate { template } => Ok(Command::SetTemplate {
+                template: template.copy()?,
+            }),
+            Command::UserSet { uid, kind } => Ok(Command::UserSet {
+                uid: *uid,
+                kind: *kind,
+            }),
+            Command::UserRemove { uid } => Ok(Command::UserRemove { uid: *uid }),
+            Command::Install { install } => Ok(Command::Install {
+                install: install.copy()?,
+            }),
+            Command::Uninstall { app, scope } => Ok(Command::Uninstall {
+                app: app.copy()?,
+                scope: *scope,
+            }),
+        }
+    }
+}
+
+fn changes_copy(alloc: Global, changes: &Changes) -> Result<Changes, AllocError>
+    ensures { IfOk result (λ copy. copy ≡ changes.now) }
+{
+    let list = changes.as_slice();
+    let mut copies = Vec::with_capacity(alloc, list.len())?;
+    for change in list {
+        copies.push(change.copy()?)?;
+    }
+    Ok(Changes::of(copies))
 }

@@ -1,9 +1,11 @@
 ghost use Rattle.std.specs.Prelude.{◌≡◌, IfOk};
 ghost use Rattle.desk_state.specs.IsDesk.{IsDesk};
+ghost use Rattle.desk_state.specs.DeskState.{fresh};
 
 use app_registry::Registry;
 use bucket_store::Database;
 use rule_templates::Template;
+use std::alloc::{AllocError, Global};
 use std::marker::Model;
 
 /// The last commit number, at which every command is refused.
@@ -59,6 +61,32 @@ impl Desk {
             registry,
             template,
         }
+    }
+
+    /// The state before the first command: the root bucket alone, no users, no installs, the default template.
+    pub fn fresh(alloc: Global) -> Result<Desk, AllocError>
+        ensures { IfOk result (λ desk. desk ≡ fresh) }
+    {
+        let template = Template::usual(alloc)?;
+        let database = Database::fresh(alloc)?;
+        Ok(Desk {
+            commit: 0,
+            database,
+            registry: Registry::fresh(alloc),
+            template,
+        })
+    }
+
+    /// An equal state, which shares the buckets and the texts.
+    pub fn copy(&self) -> Result<Desk, AllocError>
+        ensures { IfOk result (λ copy. copy ≡ self.now) }
+    {
+        Ok(Desk {
+            commit: self.commit,
+            database: self.database.copy()?,
+            registry: self.registry.copy()?,
+            template: self.template.copy()?,
+        })
     }
 
     /// The number of the last accepted command, 0 before the first.

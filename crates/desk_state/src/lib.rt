@@ -8,7 +8,11 @@
 
 mod commands;
 mod desks;
+mod layout_rules;
+mod names;
 mod refusals;
+mod steps;
+mod store_commands;
 
 pub use commands::Command;
 pub use desks::{Applied, Desk, LAST_COMMIT};
