@@ -4,7 +4,7 @@ use Rattle.std.specs.Prelude.{All, slice_get}
 use Rattle.std.proofs.lemmas.List.Elements.{All-weaker}
 use Rattle.std.proofs.lemmas.List.{append_assoc}
 use Rattle.desk_state.specs.DeskState.{DeskState}
-use Rattle.desk_world.specs.World.{World, latest_of, latest, last}
+use Rattle.desk_world.specs.World.{World, latest_of, latest, last, client_of}
 use Rattle.desk_world.specs.Agents.{count_of, is_open}
 use Rattle.desk_world.specs.Grows.{BeginsWith, LinkGrows, LinksGrow, EntryGrows, EntriesGrow, Grows}
 use Rattle.desk_world.specs.Kept.{IsOrdered, IsChain, Follows, IsCurrent, IsLink, IsKept}
@@ -100,7 +100,7 @@ module _ (w : World) (kept : IsKept w) (later : List DeskState) (acknowledged : 
     grows = grows;
     kept = record {
       ordered = ordered; chain = chain; candidate = candidate_follows; current = current; links = all_links;
-      clients = λ client. client_still w after grows (w.clients client) (kept.clients client);
+      clients = λ client. client_still w after grows (client_of w client) (kept.clients client);
       asks =
         All-weaker (λ (asked : Asked). asked.floor ≤ w.acknowledged) (λ (asked : Asked). asked.floor ≤ acknowledged)
         (λ asked low. omega (arith, low, grows.acknowledged)) w.asks kept.asks;

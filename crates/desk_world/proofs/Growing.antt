@@ -4,10 +4,12 @@ use Rattle.std.specs.Prelude.{All, slice_get}
 use Rattle.std.specs.List.{find}
 use Rattle.std.proofs.lemmas.Bool.{cases_eq}
 use Rattle.std.proofs.lemmas.Option.{none-some}
-use Rattle.desk_world.specs.World.{World, Client, entry_at}
+use Rattle.desk_world.specs.Client.{Client}
+use Rattle.desk_world.specs.World.{World, entry_at, client_of, client_in}
 use Rattle.desk_world.specs.Agents.{is_open}
 use Rattle.desk_world.specs.Grows.{BeginsWith, LinkGrows, LinksGrow, EntryGrows, EntriesGrow, Grows}
 use Rattle.desk_world.specs.declared.agent_entries.AgentEntry.{AgentEntry}
+use Rattle.desk_world.specs.declared.clients.Slot.{Slot}
 use Rattle.desk_world.specs.declared.links.Asked.{Asked}
 use Rattle.desk_world.specs.declared.links.Link.{Link}
 use Rattle.desk_world.specs.declared.replies.Given.{Given}
@@ -77,9 +79,9 @@ entries_map f entries runs numbers each run number entry e =
 
 -- ---- a world whose commits stay
 
-pub serving : (w : World) (links : List Link) (clients : ℕ → Client) (asks : List Asked) (given : List Given)
+pub serving : (w : World) (links : List Link) (clients : List Slot) (asks : List Asked) (given : List Given)
     (agents : List ℕ) (entries : List AgentEntry) → BeginsWith asks w.asks → BeginsWith given w.given
-    → ((client : ℕ) → (w.clients client).told ≤ (clients client).told) → LinksGrow w.links links → EntriesGrow w.entries entries
+    → ((client : ℕ) → (client_of w client).told ≤ (client_in client clients).told) → LinksGrow w.links links → EntriesGrow w.entries entries
     → Grows w (record w {
         links = links; clients = clients; asks = asks; given = given; agents = agents; entries = entries;
       })

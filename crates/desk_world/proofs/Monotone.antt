@@ -6,13 +6,14 @@ use Rattle.std.proofs.lemmas.Option.{none-some}
 use Rattle.cynara_keys.specs.declared.keys.Question.{Question}
 use Rattle.cynara_keys.specs.declared.results.Kind.{Kind}
 use Rattle.desk_state.specs.DeskState.{DeskState}
-use Rattle.desk_world.specs.World.{World, Client, history, desk_at}
+use Rattle.desk_world.specs.Client.{Client}
+use Rattle.desk_world.specs.World.{World, history, desk_at}
 use Rattle.desk_world.specs.Agents.{is_open}
 use Rattle.desk_world.specs.Sound.{IsFresh, IsPutFor, IsRight, IsSound, commit_of}
 use Rattle.desk_world.specs.Grows.{BeginsWith, LinkGrows, EntryGrows, Grows}
 use Rattle.desk_world.specs.Kept.{IsBetween, IsCarried, IsLeft, IsRead, IsSent, IsLink, IsKnown, HasLink, IsClient, IsKept}
 use Rattle.desk_world.specs.declared.agent_entries.EntryState.TheVariants.{Open, Gone, Answered}
-use Rattle.desk_world.specs.declared.clients.Known.{Known}
+use Rattle.desk_world.specs.declared.known.Known.{Known}
 use Rattle.desk_world.specs.declared.links.Link.{Link}
 use Rattle.desk_world.specs.declared.links.Reading.{Reading}
 use Rattle.desk_world.specs.declared.links.Reading.TheVariants.{Nothing, Ready, Due, Waiting}

@@ -6,7 +6,7 @@ use Rattle.std.proofs.lemmas.Option.{same_Some}
 use Rattle.std.proofs.Math.Nat.{le-max_left, le-max_right}
 use Rattle.cynara_keys.specs.declared.keys.Question.{Question}
 use Rattle.desk_state.specs.DeskState.{DeskState}
-use Rattle.desk_world.specs.World.{World, fresh}
+use Rattle.desk_world.specs.World.{World, fresh, client_of}
 use Rattle.desk_world.specs.Clients.{new_ask, asked}
 use Rattle.desk_world.specs.Sound.{IsRight, IsSound}
 use Rattle.desk_world.specs.Headline.{IsVerdictAt, IsVerdict, Freshness}
@@ -52,11 +52,11 @@ freshness desk earlier later client question simple before after first second =
     All-weaker (λ (given : Given). IsSound after given.run given.ask given.reply)
     (λ (given : Given).
       given.ask ≡ length before.asks
-      → IsVerdict after before.acknowledged question given × IsVerdict after (before.clients client).told question given)
+      → IsVerdict after before.acknowledged question given × IsVerdict after (client_of before client).told question given)
     (λ given sound mine.
       let here = subst (λ ask. slice_get after.asks ask ≡ Some new) (sym mine) there in
       ( verdict_of after new before.acknowledged given here
-          (le-max_left before.acknowledged (before.clients client).told) sound
-      , verdict_of after new (before.clients client).told given here
-          (le-max_right before.acknowledged (before.clients client).told) sound ))
+          (le-max_left before.acknowledged (client_of before client).told) sound
+      , verdict_of after new (client_of before client).told given here
+          (le-max_right before.acknowledged (client_of before client).told) sound ))
     after.given rest.kept.given

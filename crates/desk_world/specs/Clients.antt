@@ -2,8 +2,9 @@
 use Rattle.std.specs.Prelude.{ℕ, Bool, true, false, not, ◌&&◌, ◌||◌, ◌==◌, nat_le, if◌then◌else◌, List, [], ◌∷◌, ◌++◌, length, max, Option, Some, None, is_none, slice_get}
 use Rattle.cynara_keys.specs.Text.{same_text}
 use Rattle.cynara_keys.specs.declared.keys.Question.{Question}
-use Rattle.desk_world.specs.World.{World, Client, with_client, with_link}
-use Rattle.desk_world.specs.declared.clients.Known.{Known}
+use Rattle.desk_world.specs.Client.{Client}
+use Rattle.desk_world.specs.World.{World, with_client, with_link, client_of}
+use Rattle.desk_world.specs.declared.known.Known.{Known}
 use Rattle.desk_world.specs.declared.links.Asked.{Asked}
 use Rattle.desk_world.specs.declared.links.Link.{Link}
 use Rattle.desk_world.specs.declared.links.Transit.{Transit}
@@ -35,23 +36,23 @@ new_link client run = record {
 -- a new link, up and not entered, and an empty cache
 abbrev pub dialled : ℕ → World → World
 dialled client world =
-    with_client client (record (world.clients client) { link = Some (length world.links); log = [] })
+    with_client client (record (client_of world client) { link = Some (length world.links); log = [] })
     (record world { links = world.links ++ new_link client world.run ∷ [] })
 
 abbrev pub dial : ℕ → World → Option World
-dial client world = when (is_none (world.clients client).link) (dialled client world)
+dial client world = when (is_none (client_of world client).link) (dialled client world)
 
 -- ---- asking
 
 -- no reply may be older than what is acknowledged now, nor than what the client was told
 abbrev pub new_ask : ℕ → Question → Bool → World → Asked
 new_ask client question simple world = record {
-  client = client; question = question; simple = simple; floor = max world.acknowledged (world.clients client).told;
+  client = client; question = question; simple = simple; floor = max world.acknowledged (client_of world client).told;
 }
 
 abbrev pub asked : ℕ → Question → Bool → World → World
 asked client question simple world =
-    with_client client (record (world.clients client) { asking = Some (length world.asks) })
+    with_client client (record (client_of world client) { asking = Some (length world.asks) })
     (record world { asks = world.asks ++ new_ask client question simple world ∷ [] })
 
 abbrev pub send_on : ℕ → ℕ → Link → World → Option World
@@ -62,8 +63,8 @@ send_on ask link found world =
 -- the question goes out on a link that is up and has no question and no reply
 abbrev pub send : ℕ → World → Option World
 send client world =
-    with_some (world.clients client).asking (λ ask.
-    with_some (world.clients client).link (λ link.
+    with_some (client_of world client).asking (λ ask.
+    with_some (client_of world client).link (λ link.
     with_some (slice_get world.links link) (λ found. send_on ask link found world)))
 
 -- ---- replies
@@ -71,23 +72,23 @@ send client world =
 -- the client has its reply, and no ask is open
 abbrev pub given : ℕ → ℕ → ℕ → Reply → World → World
 given client ask run reply world =
-    with_client client (record (world.clients client) { asking = None })
+    with_client client (record (client_of world client) { asking = None })
     (record world { given = world.given ++ record { ask = ask; run = run; reply = reply } ∷ [] })
 
 abbrev pub hit_in : ℕ → ℕ → Asked → Link → Known → World → Option World
 hit_in client ask asked link known world =
     when (link.up
-    && (same_question known.question asked.question && nat_le (world.clients client).told known.verdict.commit))
+    && (same_question known.question asked.question && nat_le (client_of world client).told known.verdict.commit))
     (given client ask link.run (Judged known.verdict) world)
 
 -- the reply is an entry of the cache for this question, not below the told number; the link is asked whether it is up
 abbrev pub hit : ℕ → ℕ → World → Option World
 hit client entry world =
-    with_some (world.clients client).asking (λ ask.
+    with_some (client_of world client).asking (λ ask.
     with_some (slice_get world.asks ask) (λ asked.
-    with_some (world.clients client).link (λ link.
+    with_some (client_of world client).link (λ link.
     with_some (slice_get world.links link) (λ found.
-    with_some (slice_get (world.clients client).log entry) (λ known. hit_in client ask asked found known world)))))
+    with_some (slice_get (client_of world client).log entry) (λ known. hit_in client ask asked found known world)))))
 
 -- a verdict goes into the cache, and no other reply does
 abbrev pub kept : Question → Reply → List Known → List Known
@@ -101,7 +102,7 @@ kept question (AgentFull commit kind most) log = log
 abbrev pub delivered : ℕ → ℕ → Question → ℕ → Link → Reply → World → World
 delivered client ask question link found reply world =
     with_client client
-    (record (world.clients client) { asking = None; log = kept question reply (world.clients client).log })
+    (record (client_of world client) { asking = None; log = kept question reply (client_of world client).log })
     (with_link link (record found { reply = None })
     (record world { given = world.given ++ record { ask = ask; run = found.run; reply = reply } ∷ [] }))
 
@@ -112,9 +113,9 @@ deliver_to client ask asked link found transit world =
 -- the reply on the client's link, up or closed, to the ask that is open
 abbrev pub deliver : ℕ → World → Option World
 deliver client world =
-    with_some (world.clients client).asking (λ ask.
+    with_some (client_of world client).asking (λ ask.
     with_some (slice_get world.asks ask) (λ asked.
-    with_some (world.clients client).link (λ link.
+    with_some (client_of world client).link (λ link.
     with_some (slice_get world.links link) (λ found.
     with_some found.reply (λ transit. deliver_to client ask asked link found transit world)))))
 
@@ -123,11 +124,11 @@ deliver client world =
 -- the link is given back and the cache emptied
 abbrev pub notice : ℕ → World → Option World
 notice client world =
-    with_some (world.clients client).link (λ link.
+    with_some (client_of world client).link (λ link.
     with_some (slice_get world.links link) (λ found.
-    when (not found.up) (with_client client (record (world.clients client) { link = None; log = [] }) world)))
+    when (not found.up) (with_client client (record (client_of world client) { link = None; log = [] }) world)))
 
 abbrev pub tell : ℕ → ℕ → World → Option World
 tell client commit world =
     when (nat_le commit world.acknowledged)
-    (with_client client (record (world.clients client) { told = max (world.clients client).told commit }) world)
+    (with_client client (record (client_of world client) { told = max (client_of world client).told commit }) world)

@@ -1,6 +1,7 @@
 -- What no event takes back.
 use Rattle.std.specs.Prelude.{◌≡◌, ◌≤◌, ℕ, true, false, List, ◌++◌, Option, Some, slice_get}
-use Rattle.desk_world.specs.World.{World, Client, last, entry_at}
+use Rattle.desk_world.specs.Client.{Client}
+use Rattle.desk_world.specs.World.{World, last, entry_at, client_of}
 use Rattle.desk_world.specs.Agents.{is_open}
 use Rattle.desk_world.specs.declared.agent_entries.AgentEntry.{AgentEntry}
 use Rattle.desk_world.specs.declared.links.Link.{Link}
@@ -47,6 +48,6 @@ pub record Grows (before after : World) : Type 0 where
   pub published : before.published ≤ after.published
   pub last : last before ≤ last after
   pub run : before.run ≤ after.run
-  pub told : (client : ℕ) → (before.clients client).told ≤ (after.clients client).told
+  pub told : (client : ℕ) → (client_of before client).told ≤ (client_of after client).told
   pub links : LinksGrow before.links after.links
   pub entries : EntriesGrow before.entries after.entries

@@ -4,7 +4,7 @@
 use Rattle.std.specs.Prelude.{◌≡◌, ◌≤◌, ℕ, Bool, List, length, Option, Some, Result, Ok, All}
 use Rattle.cynara_keys.specs.declared.keys.Question.{Question}
 use Rattle.desk_state.specs.DeskState.{DeskState}
-use Rattle.desk_world.specs.World.{World, fresh, history, desk_at, root_answer}
+use Rattle.desk_world.specs.World.{World, fresh, history, desk_at, root_answer, client_of}
 use Rattle.desk_world.specs.Clients.{asked}
 use Rattle.desk_world.specs.Events.{run}
 use Rattle.desk_world.specs.Sound.{commit_of, LeavesTo, IsPutFor}
@@ -42,5 +42,5 @@ Freshness =
     → run (fresh desk) earlier ≡ Ok before → run (asked client question simple before) later ≡ Ok after
     → All (λ (given : Given).
         given.ask ≡ length before.asks
-        → IsVerdict after before.acknowledged question given × IsVerdict after (before.clients client).told question given)
+        → IsVerdict after before.acknowledged question given × IsVerdict after (client_of before client).told question given)
       after.given

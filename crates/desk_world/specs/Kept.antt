@@ -5,11 +5,12 @@ use Rattle.desk_state.specs.DeskState.{DeskState}
 use Rattle.desk_state.specs.Next.{next}
 use Rattle.desk_state.specs.Rules.{fault}
 use Rattle.desk_state.specs.declared.commands.Command.{Command}
-use Rattle.desk_world.specs.World.{World, Client, history, latest, last, desk_at, root_answer}
+use Rattle.desk_world.specs.Client.{Client}
+use Rattle.desk_world.specs.World.{World, history, latest, last, desk_at, root_answer, client_of}
 use Rattle.desk_world.specs.Agents.{count_of}
 use Rattle.desk_world.specs.Sound.{commit_of, IsFresh, LeavesTo, IsPutFor, IsSound, AllSound}
 use Rattle.desk_world.specs.declared.agent_entries.AgentEntry.{AgentEntry}
-use Rattle.desk_world.specs.declared.clients.Known.{Known}
+use Rattle.desk_world.specs.declared.known.Known.{Known}
 use Rattle.desk_world.specs.declared.links.Asked.{Asked}
 use Rattle.desk_world.specs.declared.links.Link.{Link}
 use Rattle.desk_world.specs.declared.links.Reading.{Reading}
@@ -116,7 +117,7 @@ pub record IsKept (world : World) : Type 0 where
   pub candidate : (desk : DeskState) → world.candidate ≡ Some desk → Follows (latest world) desk
   pub current : All (IsCurrent world.note) world.links
   pub links : All (IsLink world) world.links
-  pub clients : (client : ℕ) → IsClient world (world.clients client)
+  pub clients : (client : ℕ) → IsClient world (client_of world client)
   pub asks : All (λ (asked : Asked). asked.floor ≤ world.acknowledged) world.asks
   -- an entry's number is below the count of its run's
   pub numbered : All (λ (entry : AgentEntry). entry.number < count_of entry.run world.entries) world.entries

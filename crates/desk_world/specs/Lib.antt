@@ -1,3 +1,4 @@
+pub mod Client
 pub mod World
 pub mod Clients
 pub mod Links

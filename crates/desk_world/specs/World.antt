@@ -7,25 +7,12 @@ use Rattle.bucket_eval.specs.Evaluation.{Outcome, answer}
 use Rattle.bucket_eval.specs.Found.{answer_of}
 use Rattle.bucket_eval.specs.declared.answers.Answer.{Answer}
 use Rattle.desk_state.specs.DeskState.{DeskState}
+use Rattle.desk_world.specs.Client.{Client, unnamed}
 use Rattle.desk_world.specs.declared.agent_entries.AgentEntry.{AgentEntry}
-use Rattle.desk_world.specs.declared.clients.Known.{Known}
+use Rattle.desk_world.specs.declared.clients.Slot.{Slot}
 use Rattle.desk_world.specs.declared.links.Asked.{Asked}
 use Rattle.desk_world.specs.declared.links.Link.{Link}
 use Rattle.desk_world.specs.declared.replies.Given.{Given}
-
-pub record Client : Type 0 where
-  -- the greatest commit that it was told of
-  pub told : ℕ
-  -- the link that it holds, if any
-  pub link : Option ℕ
-  -- its cache: the verdicts that it received on this link, with their questions, in the order in which they came
-  pub log : List Known
-  -- its ask that has no reply yet, if any
-  pub asking : Option ℕ
-
--- a client that no event has named
-abbrev pub unnamed : Client
-unnamed = record { told = 0; link = None; log = []; asking = None }
 
 pub record World : Type 0 where
   -- the committed policy states: the oldest, and the others in the order of their commits
@@ -42,7 +29,8 @@ pub record World : Type 0 where
   -- how often the service has stopped
   pub run : ℕ
   pub links : List Link
-  pub clients : ℕ → Client
+  -- each client that an event has named, with its number
+  pub clients : List Slot
   pub asks : List Asked
   -- the replies that clients were given, in the order in which they were
   pub given : List Given
@@ -53,7 +41,7 @@ pub record World : Type 0 where
 abbrev pub fresh : DeskState → World
 fresh desk = record {
   first = desk; later = []; acknowledged = desk.commit; candidate = None; published = desk.commit; note = desk.commit;
-  run = 0; links = []; clients = λ client. unnamed; asks = []; given = []; agents = []; entries = [];
+  run = 0; links = []; clients = []; asks = []; given = []; agents = []; entries = [];
 }
 
 -- ---- the committed states
@@ -92,9 +80,24 @@ with_commit desk world = record world { later = world.later ++ desk ∷ [] }
 abbrev pub with_link : ℕ → Link → World → World
 with_link link changed world = record world { links = slice_set world.links link changed }
 
+-- ---- clients by number
+
+abbrev pub client_in : ℕ → List Slot → Client
+client_in number [] = unnamed
+client_in number (slot ∷ slots) = if slot.number == number then slot.client else client_in number slots
+
+abbrev pub client_of : World → ℕ → Client
+client_of world number = client_in number world.clients
+
+-- the client of this number is this one from now on
+abbrev pub put_client : ℕ → Client → List Slot → List Slot
+put_client number client [] = record { number = number; client = client } ∷ []
+put_client number client (slot ∷ slots) =
+    if slot.number == number then record { number = number; client = client } ∷ slots
+    else slot ∷ put_client number client slots
+
 abbrev pub with_client : ℕ → Client → World → World
-with_client client changed world =
-    record world { clients = λ other. if other == client then changed else world.clients other }
+with_client number changed world = record world { clients = put_client number changed world.clients }
 
 -- ---- the agents' log
 

@@ -9,9 +9,11 @@
 mod agent_entries;
 mod clients;
 mod events;
+mod known;
 mod links;
 mod refusals;
 mod replies;
+mod states;
 
 pub use events::{Event, Half};
 pub use refusals::WorldRefusal;

@@ -8,7 +8,8 @@ use Rattle.std.proofs.Math.Nat.{le-max_left, le-max_right, max-le}
 use Rattle.cynara_keys.specs.declared.keys.Question.{Question}
 use Rattle.cynara_keys.specs.declared.results.Kind.{Kind}
 use Rattle.desk_state.specs.DeskState.{DeskState}
-use Rattle.desk_world.specs.World.{World, Client, history, desk_at, root_outcome, root_answer, latest, last, with_link, with_client, with_commit, entry_at}
+use Rattle.desk_world.specs.Client.{Client}
+use Rattle.desk_world.specs.World.{World, history, desk_at, root_outcome, root_answer, latest, last, with_link, with_client, with_commit, entry_at, client_of}
 use Rattle.desk_world.specs.Clients.{when, with_some, same_question, new_link, dialled, dial, new_ask, asked, send_on, send, given, hit_in, hit, kept, delivered, deliver_to, deliver, notice, tell}
 use Rattle.desk_world.specs.Links.{enter_at, enter, is_nothing, reading_of, read_at, read, settled, settled_by, outgoing, write_on, write, lose}
 use Rattle.desk_world.specs.Sound.{commit_of, IsFresh, LeavesTo, IsPutFor, IsRight, IsSound, AllSound}
@@ -17,7 +18,7 @@ use Rattle.desk_world.specs.Kept.{IsOrdered, IsChain, Follows, IsCurrent, IsBetw
 use Rattle.desk_world.specs.declared.agent_entries.AgentEntry.{AgentEntry}
 use Rattle.desk_world.specs.declared.agent_entries.EntryState.{EntryState}
 use Rattle.desk_world.specs.declared.agent_entries.EntryState.TheVariants.{Open, Gone, Answered}
-use Rattle.desk_world.specs.declared.clients.Known.{Known}
+use Rattle.desk_world.specs.declared.known.Known.{Known}
 use Rattle.desk_world.specs.declared.links.Asked.{Asked}
 use Rattle.desk_world.specs.declared.links.Link.{Link}
 use Rattle.desk_world.specs.declared.links.Reading.{Reading}
@@ -61,7 +62,7 @@ module _ (w : World) (kept : IsKept w) (agents : List ℕ) where
   join-step =
       serves w kept w.links w.clients w.asks w.given agents w.entries join_grows kept.current
       (links_still w joined join_grows w.links kept.links)
-      (λ client. client_still w joined join_grows (w.clients client) (kept.clients client))
+      (λ client. client_still w joined join_grows (client_of w client) (kept.clients client))
       kept.asks kept.numbered (given_still w joined join_grows w.given kept.given)
 
 pub join-steps : (w next : World) → IsKept w → (kind : Kind) → join kind w ≡ Some next → Step w next
@@ -125,7 +126,7 @@ module _ (w : World) (kept : IsKept w) (link : ℕ) (found : Link) (ask : ℕ) (
         (All-set (IsCurrent w.note) w.links link refused (all-at (IsCurrent w.note) w.links link found kept.current there)
           kept.current)
         (All-set (IsLink after) w.links link refused refused_is (links_still w after grows w.links kept.links))
-        (λ other. client_still w after grows (w.clients other) (kept.clients other))
+        (λ other. client_still w after grows (client_of w other) (kept.clients other))
         kept.asks kept.numbered (given_still w after grows w.given kept.given)
 
   -- it is taken
@@ -186,7 +187,7 @@ module _ (w : World) (kept : IsKept w) (link : ℕ) (found : Link) (ask : ℕ) (
         (All-set (IsCurrent w.note) w.links link waits (all-at (IsCurrent w.note) w.links link found kept.current there)
           kept.current)
         (All-set (IsLink put_world) w.links link waits waits_is (links_still w put_world put_grows w.links kept.links))
-        (λ other. client_still w put_world put_grows (w.clients other) (kept.clients other))
+        (λ other. client_still w put_world put_grows (client_of w other) (kept.clients other))
         kept.asks (numbered_push w.entries new refl kept.numbered) (given_still w put_world put_grows w.given kept.given)
 
   no_agent-step : Step w (with_link link (record found { reading = Ready (NoAgent commit kind) }) w)
@@ -250,7 +251,7 @@ module _ (w : World) (kept : IsKept w) (agents : List ℕ) (f : AgentEntry → A
   change-step =
       serves w kept w.links w.clients w.asks w.given agents (map f w.entries) change_grows kept.current
       (links_still w changed change_grows w.links kept.links)
-      (λ client. client_still w changed change_grows (w.clients client) (kept.clients client))
+      (λ client. client_still w changed change_grows (client_of w client) (kept.clients client))
       kept.asks (numbered_map f w.entries runs numbers kept.numbered) (given_still w changed change_grows w.given kept.given)
 
 find_passes_step : (p : AgentEntry → Bool) (first : AgentEntry) (test : Bool) → p first ≡ test → (rest : Option AgentEntry)

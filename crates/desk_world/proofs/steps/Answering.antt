@@ -10,7 +10,8 @@ use Rattle.cynara_keys.specs.Text.{same_text}
 use Rattle.cynara_keys.specs.declared.keys.Question.{Question}
 use Rattle.cynara_keys.specs.declared.results.Kind.{Kind}
 use Rattle.desk_state.specs.DeskState.{DeskState}
-use Rattle.desk_world.specs.World.{World, Client, history, desk_at, root_outcome, root_answer, latest, last, with_link, with_client, with_commit, entry_at}
+use Rattle.desk_world.specs.Client.{Client}
+use Rattle.desk_world.specs.World.{World, history, desk_at, root_outcome, root_answer, latest, last, with_link, with_client, with_commit, entry_at, client_of}
 use Rattle.desk_world.specs.Clients.{when, with_some, same_question, new_link, dialled, dial, new_ask, asked, send_on, send, given, hit_in, hit, kept, delivered, deliver_to, deliver, notice, tell}
 use Rattle.desk_world.specs.Links.{enter_at, enter, is_nothing, reading_of, read_at, read, settled, settled_by, outgoing, write_on, write, lose}
 use Rattle.desk_world.specs.Sound.{commit_of, IsFresh, LeavesTo, IsPutFor, IsRight, IsSound, AllSound}
@@ -19,7 +20,7 @@ use Rattle.desk_world.specs.Kept.{IsOrdered, IsChain, Follows, IsCurrent, IsBetw
 use Rattle.desk_world.specs.declared.agent_entries.AgentEntry.{AgentEntry}
 use Rattle.desk_world.specs.declared.agent_entries.EntryState.{EntryState}
 use Rattle.desk_world.specs.declared.agent_entries.EntryState.TheVariants.{Open, Gone, Answered}
-use Rattle.desk_world.specs.declared.clients.Known.{Known}
+use Rattle.desk_world.specs.declared.known.Known.{Known}
 use Rattle.desk_world.specs.declared.links.Asked.{Asked}
 use Rattle.desk_world.specs.declared.links.Link.{Link}
 use Rattle.desk_world.specs.declared.links.Reading.{Reading}
@@ -45,14 +46,14 @@ same_questions question other e =
     λ i. record { client = client i; user = user i; privilege = privilege i }
 
 module _ (w : World) (kept : IsKept w) (client ask : ℕ) (asked : Asked) (link : ℕ) (found : Link) (entry : ℕ) (known : Known)
-    (asks : slice_get w.asks ask ≡ Some asked) (holds : (w.clients client).link ≡ Some link)
-    (there : slice_get w.links link ≡ Some found) (stands : slice_get (w.clients client).log entry ≡ Some known)
+    (asks : slice_get w.asks ask ≡ Some asked) (holds : (client_of w client).link ≡ Some link)
+    (there : slice_get w.links link ≡ Some found) (stands : slice_get (client_of w client).log entry ≡ Some known)
     (up : found.up ≡ true) (same : known.question ≡ asked.question) where
   abbrev new : Given
   new = record { ask = ask; run = found.run; reply = Judged known.verdict }
 
   abbrev changed : Client
-  changed = record (w.clients client) { asking = None }
+  changed = record (client_of w client) { asking = None }
 
   abbrev after : World
   after = given client ask found.run (Judged known.verdict) w
@@ -62,8 +63,8 @@ module _ (w : World) (kept : IsKept w) (client ask : ℕ) (asked : Asked) (link 
       serving w w.links after.clients w.asks after.given w.agents w.entries (begins_same w.asks) (begins_push w.given new)
       (told_with w.clients client changed (told_same w.clients client)) (links_same w.links) (entries_same w.entries)
 
-  abbrev still : IsClient after (w.clients client)
-  still = client_still w after grows (w.clients client) (kept.clients client)
+  abbrev still : IsClient after (client_of w client)
+  still = client_still w after grows (client_of w client) (kept.clients client)
 
   changed_is : IsClient after changed
   changed_is = record {
@@ -73,7 +74,7 @@ module _ (w : World) (kept : IsKept w) (client ask : ℕ) (asked : Asked) (link 
     no_link = (kept.clients client).no_link;
   }
 
-  abbrev has : HasLink w (w.clients client).log link
+  abbrev has : HasLink w (client_of w client).log link
   has = (kept.clients client).link link holds
 
   -- the link of the cache is the one that was asked whether it is up
@@ -82,7 +83,7 @@ module _ (w : World) (kept : IsKept w) (client ask : ℕ) (asked : Asked) (link 
       let is : Some has.link ≡ Some found = sym has.there ∙ there in
       let is_found : has.link ≡ found = cc in
       subst (λ (link : Link). IsKnown w link.entered known) is_found
-      (all-at (IsKnown w has.link.entered) (w.clients client).log entry known has.known stands)
+      (all-at (IsKnown w has.link.entered) (client_of w client).log entry known has.known stands)
 
   -- an up link entered at the note or later, and the cache has nothing from before
   low : (entered : Option ℕ) → found.entered ≡ entered → w.note ≤ known.verdict.commit
@@ -112,23 +113,23 @@ module _ (w : World) (kept : IsKept w) (client ask : ℕ) (asked : Asked) (link 
       serves w kept w.links after.clients w.asks after.given w.agents w.entries grows kept.current
       (links_still w after grows w.links kept.links)
       (clients_with (IsClient after) w.clients client changed changed_is
-        (λ other. client_still w after grows (w.clients other) (kept.clients other)))
+        (λ other. client_still w after grows (client_of w other) (kept.clients other)))
       kept.asks kept.numbered
       (All-push (λ (given : Given). IsSound after given.run given.ask given.reply) w.given new
         (given_still w after grows w.given kept.given) (sound_still w after grows found.run ask (Judged known.verdict) sound))
 
 pub hit-steps : (w next : World) → IsKept w → (client entry : ℕ) → hit client entry w ≡ Some next → Step w next
 hit-steps w next kept client entry e =
-    with_some-tells (w.clients client).asking _ next e (λ ask asking e.
+    with_some-tells (client_of w client).asking _ next e (λ ask asking e.
     with_some-tells (slice_get w.asks ask) _ next e (λ asked asks e.
-    with_some-tells (w.clients client).link _ next e (λ link holds e.
+    with_some-tells (client_of w client).link _ next e (λ link holds e.
     with_some-tells (slice_get w.links link) _ next e (λ found there e.
-    with_some-tells (slice_get (w.clients client).log entry) _ next e (λ known stands e.
-    let fits : Bool = same_question known.question asked.question && nat_le (w.clients client).told known.verdict.commit in
+    with_some-tells (slice_get (client_of w client).log entry) _ next e (λ known stands e.
+    let fits : Bool = same_question known.question asked.question && nat_le (client_of w client).told known.verdict.commit in
     when-tells (Step w) (found.up && fits) (given client ask found.run (Judged known.verdict) w) next e
     (λ tests.
       let both = and_parts found.up fits tests in
       let parts = and_parts (same_question known.question asked.question)
-      (nat_le (w.clients client).told known.verdict.commit) both.1 in
+      (nat_le (client_of w client).told known.verdict.commit) both.1 in
       hit-step w kept client ask asked link found entry known asks holds there stands both.0
       (same_questions known.question asked.question parts.0)))))))

@@ -8,7 +8,8 @@ use Rattle.std.proofs.Math.Nat.{le-max_left, le-max_right, max-le}
 use Rattle.cynara_keys.specs.declared.keys.Question.{Question}
 use Rattle.cynara_keys.specs.declared.results.Kind.{Kind}
 use Rattle.desk_state.specs.DeskState.{DeskState}
-use Rattle.desk_world.specs.World.{World, Client, history, desk_at, root_outcome, root_answer, latest, last, with_link, with_client, with_commit, entry_at}
+use Rattle.desk_world.specs.Client.{Client}
+use Rattle.desk_world.specs.World.{World, history, desk_at, root_outcome, root_answer, latest, last, with_link, with_client, with_commit, entry_at, client_of}
 use Rattle.desk_world.specs.Clients.{when, with_some, same_question, new_link, dialled, dial, new_ask, asked, send_on, send, given, hit_in, hit, kept, delivered, deliver_to, deliver, notice, tell}
 use Rattle.desk_world.specs.Links.{enter_at, enter, is_nothing, reading_of, read_at, read, settled, settled_by, outgoing, write_on, write, lose}
 use Rattle.desk_world.specs.Sound.{commit_of, IsFresh, LeavesTo, IsPutFor, IsRight, IsSound, AllSound}
@@ -17,7 +18,7 @@ use Rattle.desk_world.specs.Kept.{IsOrdered, IsChain, Follows, IsCurrent, IsBetw
 use Rattle.desk_world.specs.declared.agent_entries.AgentEntry.{AgentEntry}
 use Rattle.desk_world.specs.declared.agent_entries.EntryState.{EntryState}
 use Rattle.desk_world.specs.declared.agent_entries.EntryState.TheVariants.{Open, Gone, Answered}
-use Rattle.desk_world.specs.declared.clients.Known.{Known}
+use Rattle.desk_world.specs.declared.known.Known.{Known}
 use Rattle.desk_world.specs.declared.links.Asked.{Asked}
 use Rattle.desk_world.specs.declared.links.Link.{Link}
 use Rattle.desk_world.specs.declared.links.Reading.{Reading}
@@ -37,7 +38,7 @@ module _ (w : World) (kept : IsKept w) (client : ℕ) (question : Question) (sim
   new = new_ask client question simple w
 
   abbrev changed : Client
-  changed = record (w.clients client) { asking = Some (length w.asks) }
+  changed = record (client_of w client) { asking = Some (length w.asks) }
 
   abbrev after : World
   after = asked client question simple w
@@ -50,8 +51,8 @@ module _ (w : World) (kept : IsKept w) (client : ℕ) (question : Question) (sim
   there : (asked : Asked) × (slice_get after.asks (length w.asks) ≡ Some asked)
   there = (new, get-end w.asks new)
 
-  abbrev still : IsClient after (w.clients client)
-  still = client_still w after grows (w.clients client) (kept.clients client)
+  abbrev still : IsClient after (client_of w client)
+  still = client_still w after grows (client_of w client) (kept.clients client)
 
   changed_is : IsClient after changed
   changed_is = record {
@@ -68,14 +69,14 @@ module _ (w : World) (kept : IsKept w) (client : ℕ) (question : Question) (sim
       serves w kept w.links after.clients after.asks w.given w.agents w.entries grows kept.current
       (links_still w after grows w.links kept.links)
       (clients_with (IsClient after) w.clients client changed changed_is
-        (λ other. client_still w after grows (w.clients other) (kept.clients other)))
+        (λ other. client_still w after grows (client_of w other) (kept.clients other)))
       (All-push (λ (asked : Asked). asked.floor ≤ w.acknowledged) w.asks new kept.asks
         (max-le (omega arith) (kept.clients client).told))
       kept.numbered (given_still w after grows w.given kept.given)
 
 module _ (w : World) (kept : IsKept w) (client commit : ℕ) (low : commit ≤ w.acknowledged) where
   abbrev told_client : Client
-  told_client = record (w.clients client) { told = max (w.clients client).told commit }
+  told_client = record (client_of w client) { told = max (client_of w client).told commit }
 
   abbrev told_world : World
   told_world = with_client client told_client w
@@ -83,11 +84,11 @@ module _ (w : World) (kept : IsKept w) (client commit : ℕ) (low : commit ≤ w
   tell_grows : Grows w told_world
   tell_grows =
       serving w w.links told_world.clients w.asks w.given w.agents w.entries (begins_same w.asks) (begins_same w.given)
-      (told_with w.clients client told_client (le-max_left (w.clients client).told commit)) (links_same w.links)
+      (told_with w.clients client told_client (le-max_left (client_of w client).told commit)) (links_same w.links)
       (entries_same w.entries)
 
-  abbrev tell_still : IsClient told_world (w.clients client)
-  tell_still = client_still w told_world tell_grows (w.clients client) (kept.clients client)
+  abbrev tell_still : IsClient told_world (client_of w client)
+  tell_still = client_still w told_world tell_grows (client_of w client) (kept.clients client)
 
   told_is : IsClient told_world told_client
   told_is = record {
@@ -102,7 +103,7 @@ module _ (w : World) (kept : IsKept w) (client commit : ℕ) (low : commit ≤ w
       serves w kept w.links told_world.clients w.asks w.given w.agents w.entries tell_grows kept.current
       (links_still w told_world tell_grows w.links kept.links)
       (clients_with (IsClient told_world) w.clients client told_client told_is
-        (λ other. client_still w told_world tell_grows (w.clients other) (kept.clients other)))
+        (λ other. client_still w told_world tell_grows (client_of w other) (kept.clients other)))
       kept.asks kept.numbered (given_still w told_world tell_grows w.given kept.given)
 
 pub ask-steps : (w next : World) → IsKept w → (client : ℕ) (question : Question) (simple : Bool)
@@ -113,5 +114,5 @@ ask-steps w next kept client question simple e =
 pub tell-steps : (w next : World) → IsKept w → (client commit : ℕ) → tell client commit w ≡ Some next → Step w next
 tell-steps w next kept client commit e =
     when-tells (Step w) (nat_le commit w.acknowledged)
-    (with_client client (record (w.clients client) { told = max (w.clients client).told commit }) w) next e
+    (with_client client (record (client_of w client) { told = max (client_of w client).told commit }) w) next e
     (λ low. tell-step w kept client commit (leb-true commit w.acknowledged low))

@@ -8,7 +8,8 @@ use Rattle.std.proofs.Math.Nat.{le-max_left, le-max_right, max-le}
 use Rattle.cynara_keys.specs.declared.keys.Question.{Question}
 use Rattle.cynara_keys.specs.declared.results.Kind.{Kind}
 use Rattle.desk_state.specs.DeskState.{DeskState}
-use Rattle.desk_world.specs.World.{World, Client, history, desk_at, root_outcome, root_answer, latest, last, with_link, with_client, with_commit, entry_at}
+use Rattle.desk_world.specs.Client.{Client}
+use Rattle.desk_world.specs.World.{World, history, desk_at, root_outcome, root_answer, latest, last, with_link, with_client, with_commit, entry_at, client_of}
 use Rattle.desk_world.specs.Clients.{when, with_some, same_question, new_link, dialled, dial, new_ask, asked, send_on, send, given, hit_in, hit, kept as log_after, delivered, deliver_to, deliver, notice, tell}
 use Rattle.desk_world.specs.Links.{enter_at, enter, is_nothing, reading_of, read_at, read, settled, settled_by, outgoing, write_on, write, lose}
 use Rattle.desk_world.specs.Sound.{commit_of, IsFresh, LeavesTo, IsPutFor, IsRight, IsSound, AllSound}
@@ -17,7 +18,7 @@ use Rattle.desk_world.specs.Kept.{IsOrdered, IsChain, Follows, IsCurrent, IsBetw
 use Rattle.desk_world.specs.declared.agent_entries.AgentEntry.{AgentEntry}
 use Rattle.desk_world.specs.declared.agent_entries.EntryState.{EntryState}
 use Rattle.desk_world.specs.declared.agent_entries.EntryState.TheVariants.{Open, Gone, Answered}
-use Rattle.desk_world.specs.declared.clients.Known.{Known}
+use Rattle.desk_world.specs.declared.known.Known.{Known}
 use Rattle.desk_world.specs.declared.links.Asked.{Asked}
 use Rattle.desk_world.specs.declared.links.Link.{Link}
 use Rattle.desk_world.specs.declared.links.Reading.{Reading}
@@ -33,7 +34,7 @@ use Rattle.desk_world.proofs.Monotone.{desk_still, fresh_still, put_still, right
 use Rattle.desk_world.proofs.Keeping.{Step, clients_with, told_with, told_same, served, serves}
 
 module _ (w : World) (kept : IsKept w) (client ask : ℕ) (asked : Asked) (link : ℕ) (found : Link) (transit : Transit)
-    (asks : slice_get w.asks ask ≡ Some asked) (holds : (w.clients client).link ≡ Some link)
+    (asks : slice_get w.asks ask ≡ Some asked) (holds : (client_of w client).link ≡ Some link)
     (there : slice_get w.links link ≡ Some found) (sent : found.reply ≡ Some transit) (mine : transit.ask ≡ ask) where
   abbrev new : Given
   new = record { ask = ask; run = found.run; reply = transit.reply }
@@ -42,10 +43,10 @@ module _ (w : World) (kept : IsKept w) (client ask : ℕ) (asked : Asked) (link 
   freed = record found { reply = None }
 
   abbrev log : List Known
-  log = log_after asked.question transit.reply (w.clients client).log
+  log = log_after asked.question transit.reply (client_of w client).log
 
   abbrev changed : Client
-  changed = record (w.clients client) { asking = None; log = log }
+  changed = record (client_of w client) { asking = None; log = log }
 
   abbrev after : World
   after = delivered client ask asked.question link found transit.reply w
@@ -82,20 +83,20 @@ module _ (w : World) (kept : IsKept w) (client ask : ℕ) (asked : Asked) (link 
   has_entered : found.entered ≡ None → ⊥
   has_entered e = none-some transit (sym (was.not_entered e).1 ∙ sent)
 
-  abbrev has : HasLink after (w.clients client).log link
-  has = has_link_still w after grows (w.clients client).log link ((kept.clients client).link link holds)
+  abbrev has : HasLink after (client_of w client).log link
+  has = has_link_still w after grows (client_of w client).log link ((kept.clients client).link link holds)
 
   is_freed : has.link ≡ freed
   is_freed = let is : Some has.link ≡ Some freed = sym has.there ∙ get-set_same w.links link found freed there in cc
 
-  known_then : All (IsKnown after found.entered) (w.clients client).log
-  known_then = subst (λ (link : Link). All (IsKnown after link.entered) (w.clients client).log) is_freed has.known
+  known_then : All (IsKnown after found.entered) (client_of w client).log
+  known_then = subst (λ (link : Link). All (IsKnown after link.entered) (client_of w client).log) is_freed has.known
 
   known_now : (reply : Reply) → IsSound w found.run ask reply → IsBetween w found.entered (commit_of reply)
       → ((right : IsSound w found.run ask reply) → right.fresh.asked ≡ asked)
-      → All (IsKnown after found.entered) (log_after asked.question reply (w.clients client).log)
+      → All (IsKnown after found.entered) (log_after asked.question reply (client_of w client).log)
   known_now (Judged verdict) right between same =
-      All-push (IsKnown after found.entered) (w.clients client).log (record { question = asked.question; verdict = verdict })
+      All-push (IsKnown after found.entered) (client_of w client).log (record { question = asked.question; verdict = verdict })
       known_then
       (record {
         desk = right.fresh.desk;
@@ -135,16 +136,16 @@ module _ (w : World) (kept : IsKept w) (client ask : ℕ) (asked : Asked) (link 
         kept.current)
       (All-set (IsLink after) w.links link freed freed_is (links_still w after grows w.links kept.links))
       (clients_with (IsClient after) w.clients client changed changed_is
-        (λ other. client_still w after grows (w.clients other) (kept.clients other)))
+        (λ other. client_still w after grows (client_of w other) (kept.clients other)))
       kept.asks kept.numbered
       (All-push (λ (given : Given). IsSound after given.run given.ask given.reply) w.given new
         (given_still w after grows w.given kept.given) (sound_still w after grows found.run ask transit.reply sound))
 
 pub deliver-steps : (w next : World) → IsKept w → (client : ℕ) → deliver client w ≡ Some next → Step w next
 deliver-steps w next kept client e =
-    with_some-tells (w.clients client).asking _ next e (λ ask asking e.
+    with_some-tells (client_of w client).asking _ next e (λ ask asking e.
     with_some-tells (slice_get w.asks ask) _ next e (λ asked asks e.
-    with_some-tells (w.clients client).link _ next e (λ link holds e.
+    with_some-tells (client_of w client).link _ next e (λ link holds e.
     with_some-tells (slice_get w.links link) _ next e (λ found there e.
     with_some-tells found.reply _ next e (λ transit sent e.
     when-tells (Step w) (transit.ask == ask) (delivered client ask asked.question link found transit.reply w) next e
@@ -153,7 +154,7 @@ deliver-steps w next kept client e =
 
 module _ (w : World) (kept : IsKept w) (client : ℕ) where
   abbrev unlinked : Client
-  unlinked = record (w.clients client) { link = None; log = [] }
+  unlinked = record (client_of w client) { link = None; log = [] }
 
   abbrev noticed : World
   noticed = with_client client unlinked w
@@ -172,12 +173,12 @@ module _ (w : World) (kept : IsKept w) (client : ℕ) where
           told = (kept.clients client).told; asking = (kept.clients client).asking;
           link = λ place e. absurd (none-some place e); no_link = λ e. refl;
         })
-        (λ other. client_still w noticed notice_grows (w.clients other) (kept.clients other)))
+        (λ other. client_still w noticed notice_grows (client_of w other) (kept.clients other)))
       kept.asks kept.numbered (given_still w noticed notice_grows w.given kept.given)
 
 pub notice-steps : (w next : World) → IsKept w → (client : ℕ) → notice client w ≡ Some next → Step w next
 notice-steps w next kept client e =
-    with_some-tells (w.clients client).link _ next e (λ link holds e.
+    with_some-tells (client_of w client).link _ next e (λ link holds e.
     with_some-tells (slice_get w.links link) _ next e (λ found there e.
-    when-tells (Step w) (not found.up) (with_client client (record (w.clients client) { link = None; log = [] }) w) next e
+    when-tells (Step w) (not found.up) (with_client client (record (client_of w client) { link = None; log = [] }) w) next e
     (λ down. notice-step w kept client)))

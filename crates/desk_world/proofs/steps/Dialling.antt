@@ -8,7 +8,8 @@ use Rattle.std.proofs.Math.Nat.{le-max_left, le-max_right, max-le}
 use Rattle.cynara_keys.specs.declared.keys.Question.{Question}
 use Rattle.cynara_keys.specs.declared.results.Kind.{Kind}
 use Rattle.desk_state.specs.DeskState.{DeskState}
-use Rattle.desk_world.specs.World.{World, Client, history, desk_at, root_outcome, root_answer, latest, last, with_link, with_client, with_commit, entry_at}
+use Rattle.desk_world.specs.Client.{Client}
+use Rattle.desk_world.specs.World.{World, history, desk_at, root_outcome, root_answer, latest, last, with_link, with_client, with_commit, entry_at, client_of}
 use Rattle.desk_world.specs.Clients.{when, with_some, same_question, new_link, dialled, dial, new_ask, asked, send_on, send, given, hit_in, hit, kept, delivered, deliver_to, deliver, notice, tell}
 use Rattle.desk_world.specs.Links.{enter_at, enter, is_nothing, reading_of, read_at, read, settled, settled_by, outgoing, write_on, write, lose}
 use Rattle.desk_world.specs.Sound.{commit_of, IsFresh, LeavesTo, IsPutFor, IsRight, IsSound, AllSound}
@@ -17,7 +18,7 @@ use Rattle.desk_world.specs.Kept.{IsOrdered, IsChain, Follows, IsCurrent, IsBetw
 use Rattle.desk_world.specs.declared.agent_entries.AgentEntry.{AgentEntry}
 use Rattle.desk_world.specs.declared.agent_entries.EntryState.{EntryState}
 use Rattle.desk_world.specs.declared.agent_entries.EntryState.TheVariants.{Open, Gone, Answered}
-use Rattle.desk_world.specs.declared.clients.Known.{Known}
+use Rattle.desk_world.specs.declared.known.Known.{Known}
 use Rattle.desk_world.specs.declared.links.Asked.{Asked}
 use Rattle.desk_world.specs.declared.links.Link.{Link}
 use Rattle.desk_world.specs.declared.links.Reading.{Reading}
@@ -37,7 +38,7 @@ module _ (w : World) (kept : IsKept w) (client : ℕ) where
   new = new_link client w.run
 
   abbrev changed : Client
-  changed = record (w.clients client) { link = Some (length w.links); log = [] }
+  changed = record (client_of w client) { link = Some (length w.links); log = [] }
 
   abbrev after : World
   after = dialled client w
@@ -78,9 +79,9 @@ module _ (w : World) (kept : IsKept w) (client : ℕ) where
       (All-push (IsCurrent w.note) w.links new kept.current (λ up entered e. absurd (none-some entered e)))
       (All-push (IsLink after) w.links new (links_still w after grows w.links kept.links) new_is)
       (clients_with (IsClient after) w.clients client changed changed_is
-        (λ other. client_still w after grows (w.clients other) (kept.clients other)))
+        (λ other. client_still w after grows (client_of w other) (kept.clients other)))
       kept.asks kept.numbered (given_still w after grows w.given kept.given)
 
 pub dial-steps : (w next : World) → IsKept w → (client : ℕ) → dial client w ≡ Some next → Step w next
 dial-steps w next kept client e =
-    when-tells (Step w) (is_none (w.clients client).link) (dialled client w) next e (λ free. dial-step w kept client)
+    when-tells (Step w) (is_none (client_of w client).link) (dialled client w) next e (λ free. dial-step w kept client)

@@ -8,7 +8,8 @@ use Rattle.std.proofs.Math.Nat.{le-max_left, le-max_right, max-le}
 use Rattle.cynara_keys.specs.declared.keys.Question.{Question}
 use Rattle.cynara_keys.specs.declared.results.Kind.{Kind}
 use Rattle.desk_state.specs.DeskState.{DeskState}
-use Rattle.desk_world.specs.World.{World, Client, history, desk_at, root_outcome, root_answer, latest, last, with_link, with_client, with_commit, entry_at}
+use Rattle.desk_world.specs.Client.{Client}
+use Rattle.desk_world.specs.World.{World, history, desk_at, root_outcome, root_answer, latest, last, with_link, with_client, with_commit, entry_at}
 use Rattle.desk_world.specs.Clients.{when, with_some, same_question, new_link, dialled, dial, new_ask, asked, send_on, send, given, hit_in, hit, kept, delivered, deliver_to, deliver, notice, tell}
 use Rattle.desk_world.specs.Links.{enter_at, enter, is_nothing, reading_of, read_at, read, settled, settled_by, outgoing, write_on, write, lose}
 use Rattle.desk_world.specs.Sound.{commit_of, IsFresh, LeavesTo, IsPutFor, IsRight, IsSound, AllSound}
@@ -17,7 +18,7 @@ use Rattle.desk_world.specs.Kept.{IsOrdered, IsChain, Follows, IsCurrent, IsBetw
 use Rattle.desk_world.specs.declared.agent_entries.AgentEntry.{AgentEntry}
 use Rattle.desk_world.specs.declared.agent_entries.EntryState.{EntryState}
 use Rattle.desk_world.specs.declared.agent_entries.EntryState.TheVariants.{Open, Gone, Answered}
-use Rattle.desk_world.specs.declared.clients.Known.{Known}
+use Rattle.desk_world.specs.declared.known.Known.{Known}
 use Rattle.desk_world.specs.declared.links.Asked.{Asked}
 use Rattle.desk_world.specs.declared.links.Link.{Link}
 use Rattle.desk_world.specs.declared.links.Reading.{Reading}

@@ -8,7 +8,8 @@ use Rattle.std.proofs.Math.Nat.{le-max_left, le-max_right, max-le}
 use Rattle.cynara_keys.specs.declared.keys.Question.{Question}
 use Rattle.cynara_keys.specs.declared.results.Kind.{Kind}
 use Rattle.desk_state.specs.DeskState.{DeskState}
-use Rattle.desk_world.specs.World.{World, Client, history, desk_at, root_outcome, root_answer, latest, last, with_link, with_client, with_commit, entry_at}
+use Rattle.desk_world.specs.Client.{Client}
+use Rattle.desk_world.specs.World.{World, history, desk_at, root_outcome, root_answer, latest, last, with_link, with_client, with_commit, entry_at, client_of}
 use Rattle.desk_world.specs.Clients.{when, with_some, same_question, new_link, dialled, dial, new_ask, asked, send_on, send, given, hit_in, hit, kept, delivered, deliver_to, deliver, notice, tell}
 use Rattle.desk_world.specs.Links.{enter_at, enter, is_nothing, reading_of, read_at, read, settled, settled_by, outgoing, write_on, write, lose}
 use Rattle.desk_world.specs.Sound.{commit_of, IsFresh, LeavesTo, IsPutFor, IsRight, IsSound, AllSound}
@@ -17,7 +18,7 @@ use Rattle.desk_world.specs.Kept.{IsOrdered, IsChain, Follows, IsCurrent, IsBetw
 use Rattle.desk_world.specs.declared.agent_entries.AgentEntry.{AgentEntry}
 use Rattle.desk_world.specs.declared.agent_entries.EntryState.{EntryState}
 use Rattle.desk_world.specs.declared.agent_entries.EntryState.TheVariants.{Open, Gone, Answered}
-use Rattle.desk_world.specs.declared.clients.Known.{Known}
+use Rattle.desk_world.specs.declared.known.Known.{Known}
 use Rattle.desk_world.specs.declared.links.Asked.{Asked}
 use Rattle.desk_world.specs.declared.links.Link.{Link}
 use Rattle.desk_world.specs.declared.links.Reading.{Reading}
@@ -32,7 +33,7 @@ use Rattle.desk_world.proofs.Growing.{link_same, links_same, links_push, links_s
 use Rattle.desk_world.proofs.Monotone.{desk_still, fresh_still, put_still, right_still, sound_still, left_still, between_still, carried_still, read_still, sent_still, link_still, links_still, has_link_still, client_still, given_still}
 use Rattle.desk_world.proofs.Keeping.{Step, clients_with, told_with, told_same, served, serves}
 
-module _ (w : World) (kept : IsKept w) (client ask link : ℕ) (found : Link) (asking : (w.clients client).asking ≡ Some ask)
+module _ (w : World) (kept : IsKept w) (client ask link : ℕ) (found : Link) (asking : (client_of w client).asking ≡ Some ask)
     (there : slice_get w.links link ≡ Some found) (up : found.up ≡ true) (free : found.question ≡ None) where
   abbrev changed : Link
   changed = record found { question = Some ask }
@@ -86,7 +87,7 @@ module _ (w : World) (kept : IsKept w) (client ask link : ℕ) (found : Link) (a
       (All-set (IsCurrent w.note) w.links link changed (all-at (IsCurrent w.note) w.links link found kept.current there)
         kept.current)
       (All-set (IsLink after) w.links link changed changed_is (links_still w after grows w.links kept.links))
-      (λ other. client_still w after grows (w.clients other) (kept.clients other))
+      (λ other. client_still w after grows (client_of w other) (kept.clients other))
       kept.asks kept.numbered (given_still w after grows w.given kept.given)
 
 none_there : {X : Type 0} (o : Option X) → is_none o ≡ true → o ≡ None
@@ -95,8 +96,8 @@ none_there (Some x) e = absurd (false≢true e)
 
 pub send-steps : (w next : World) → IsKept w → (client : ℕ) → send client w ≡ Some next → Step w next
 send-steps w next kept client e =
-    with_some-tells (w.clients client).asking _ next e (λ ask asking e.
-    with_some-tells (w.clients client).link _ next e (λ link holds e.
+    with_some-tells (client_of w client).asking _ next e (λ ask asking e.
+    with_some-tells (client_of w client).link _ next e (λ link holds e.
     with_some-tells (slice_get w.links link) _ next e (λ found there e.
     when-tells (Step w) (found.up && (is_none found.question && is_none found.reply))
     (with_link link (record found { question = Some ask }) w) next e
