@@ -7,4 +7,5 @@ pub mod Committing
 pub mod Numbering
 pub mod steps
 pub mod Runs
-pub mod Promise
+pub mod Headlines
+pub mod Places

@@ -9,3 +9,4 @@ pub mod Sound
 pub mod Grows
 pub mod Kept
 pub mod Headline
+pub mod parts

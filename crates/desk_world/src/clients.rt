@@ -1,5 +1,4 @@
-ghost use Rattle.std.specs.Prelude.{◌≡◌, ◌<◌, length, slice_get, IfOk, IfSome, MatchOption};
-ghost use Rattle.std.specs.List.{position};
+ghost use Rattle.std.specs.Prelude.{◌≡◌, [], ◌∷◌, ◌++◌, max, slice_get, Some, None, IfOk, MatchOption};
 ghost use Rattle.desk_world.specs.Client.{unnamed};
 
 use crate::known::Known;
@@ -43,5 +42,48 @@ impl Client {
             log: Vec::new(alloc),
             asking: None,
         }
+    }
+
+    // The verdict of this entry in the cache.
+    pub fn known(&self, entry: u32) -> Option<&Known>
+        ensures { MatchOption result (slice_get self.now.log entry ≡ None)
+            (λ known. slice_get self.now.log entry ≡ Some known.now) }
+    {
+        self.log.get(entry as usize)
+    }
+
+    // With another link, or none, and an empty cache.
+    pub fn linked(mut self, link: Option<u32>) -> Client
+        ensures { result ≡ record { told = self.told; link = link; log = []; asking = self.asking } }
+    {
+        self.log.clear();
+        self.link = link;
+        self
+    }
+
+    // With this open ask, or none.
+    pub fn asking(mut self, asking: Option<u32>) -> Client
+        ensures { result ≡ record { told = self.told; link = self.link; log = self.log; asking = asking } }
+    {
+        self.asking = asking;
+        self
+    }
+
+    // With this told number, if it is the greater one.
+    pub fn told(mut self, commit: u64) -> Client
+        ensures { result ≡ record { told = max self.told commit; link = self.link; log = self.log; asking = self.asking } }
+    {
+        self.told = self.told.max(commit);
+        self
+    }
+
+    // With one more verdict in its cache.
+    pub fn keeping(mut self, known: Known) -> Result<Client, AllocError>
+        ensures { IfOk result (λ client. client ≡ record {
+          told = self.told; link = self.link; log = self.log ++ known ∷ []; asking = self.asking;
+        }) }
+    {
+        self.log.push(known)?;
+        Ok(self)
     }
 }

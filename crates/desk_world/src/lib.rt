@@ -7,14 +7,20 @@
 #![tactic(auto)]
 
 mod agent_entries;
+mod client_events;
 mod clients;
 mod events;
 mod known;
+mod link_events;
 mod links;
+mod parts;
+mod promise;
 mod refusals;
 mod replies;
+mod slots;
 mod states;
 
 pub use events::{Event, Half};
+pub use promise::freshness;
 pub use refusals::WorldRefusal;
 pub use replies::{Given, Reply};
