@@ -1,6 +1,6 @@
 // What clients do.
-ghost use Rattle.std.specs.Prelude.{◌≡◌, ◌<◌, ◌^◌, max, length, IfOk};
-ghost use Rattle.desk_world.specs.Clients.{dial, asked, send, hit, given, notice, tell, new_link};
+ghost use Rattle.std.specs.Prelude.{◌≡◌, ◌<◌, ◌^◌, length, IfOk};
+ghost use Rattle.desk_world.specs.Clients.{dial, asked, send, hit, given, deliver, notice, tell, new_link};
 ghost use Rattle.desk_world.specs.parts.Parts.{world_of, Becomes};
 
 use crate::links::{Asked, Link, Reading};
@@ -34,7 +34,7 @@ pub fn dial(world: &mut Parts, client: u32) -> Result<bool, AllocError>
         return Ok(false);
     }
     let link = world.links.len() as u32;
-    world.links.push(new_link(client, world.run))?;
+    world.links.extend_from_slice(&[new_link(client, world.run)])?;
     let changed = slots::take_out(&mut world.clients, client).linked(Some(link));
     slots::put(&mut world.clients, client, changed)?;
     Ok(true)
@@ -88,11 +88,11 @@ pub fn send(world: &mut Parts, client: u32) -> bool
 }
 
 // The client has this reply.
-fn give(world: &mut Parts, client: u32, given: Given) -> Result<(), AllocError>
+fn give(world: &mut Parts, client: u32, new: Given) -> Result<(), AllocError>
     ensures { IfOk result (λ done.
-        world_of world.new ≡ given client given.ask given.run given.reply (world_of world.old)) }
+        world_of world.new ≡ given client new.ask new.run new.reply (world_of world.old)) }
 {
-    world.given.push(given)?;
+    world.given.extend_from_slice(&[new])?;
     let changed = slots::take_out(&mut world.clients, client).asking(None);
     slots::put(&mut world.clients, client, changed)?;
     Ok(())
@@ -126,6 +126,40 @@ pub fn hit(world: &mut Parts, client: u32, entry: u32) -> Result<bool, AllocErro
     let run = found.run;
     let reply = Reply::Judged(known.verdict);
     give(world, client, Given { ask, run, reply })?;
+    Ok(true)
+}
+
+// The client receives the reply to its ask.
+pub fn deliver(world: &mut Parts, client: u32) -> Result<bool, AllocError>
+    ensures { IfOk result (λ enabled. Becomes (deliver client (world_of world.old)) enabled (world_of world.new)) }
+{
+    let Some(ask) = slots::asking(&world.clients, client) else {
+        return Ok(false);
+    };
+    let Some(asked) = world.asks.get(ask as usize) else {
+        return Ok(false);
+    };
+    let Some(link) = slots::link(&world.clients, client) else {
+        return Ok(false);
+    };
+    let Some(found) = world.links.get_mut(link as usize) else {
+        return Ok(false);
+    };
+    let Some(transit) = found.reply else {
+        return Ok(false);
+    };
+    if transit.ask != ask {
+        return Ok(false);
+    }
+    let run = found.run;
+    let reply = transit.reply;
+    found.reply = None;
+    let question = asked.question.copy()?;
+    world.given.extend_from_slice(&[Given { ask, run, reply }])?;
+    let changed = slots::take_out(&mut world.clients, client)
+        .asking(None)
+        .receiving(question, &reply)?;
+    slots::put(&mut world.clients, client, changed)?;
     Ok(true)
 }
 

@@ -1,7 +1,10 @@
 ghost use Rattle.std.specs.Prelude.{◌≡◌, [], ◌∷◌, ◌++◌, max, slice_get, Some, None, IfOk, MatchOption};
 ghost use Rattle.desk_world.specs.Client.{unnamed};
+ghost use Rattle.desk_world.specs.Clients.{kept};
 
 use crate::known::Known;
+use crate::replies::Reply;
+use cynara_keys::Question;
 use std::alloc::{AllocError, Global};
 use std::marker::Model;
 
@@ -85,5 +88,24 @@ impl Client {
     {
         self.log.push(known)?;
         Ok(self)
+    }
+
+    // With the reply in its cache, if it is a verdict.
+    pub fn receiving(self, question: Question, reply: &Reply) -> Result<Client, AllocError>
+        ensures { IfOk result (λ client. client ≡ record {
+          told = self.told; link = self.link; log = kept question reply.now self.log; asking = self.asking;
+        }) }
+    {
+        match reply {
+            Reply::Judged(verdict) => self.keeping(Known {
+                question,
+                verdict: *verdict,
+            }),
+            Reply::FromAgent { .. }
+            | Reply::NotResolved { .. }
+            | Reply::NoAgent { .. }
+            | Reply::AgentGone { .. }
+            | Reply::AgentFull { .. } => Ok(self),
+        }
     }
 }

@@ -7,8 +7,10 @@
 #![tactic(auto)]
 
 mod agent_entries;
+mod agent_events;
 mod client_events;
 mod clients;
+mod evaluations;
 mod events;
 mod known;
 mod link_events;

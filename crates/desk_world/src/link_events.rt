@@ -1,7 +1,15 @@
-ghost use Rattle.desk_world.specs.Links.{enter, lose, write};
+// What the workers of links do, and how links close.
+ghost use Rattle.std.specs.Prelude.{◌≡◌, ◌&&◌, ◌==◌, map, find, Some, None, MatchOption};
+ghost use Rattle.desk_world.specs.World.{entry_at};
+ghost use Rattle.desk_world.specs.Links.{enter, read, outgoing, write, lose};
+ghost use Rattle.desk_world.specs.Commits.{entered_before, hung_up, closed};
 ghost use Rattle.desk_world.specs.parts.Parts.{world_of, Becomes};
 
+use crate::agent_entries::{AgentEntry, EntryState};
+use crate::evaluations::{is_nothing, reading_at, state_at};
+use crate::links::{Link, Reading, Transit};
 use crate::parts::Parts;
+use crate::replies::Reply;
 
 // The worker enters the link in the roll.
 pub fn enter(world: &mut Parts, link: u32) -> bool
@@ -20,6 +28,98 @@ pub fn enter(world: &mut Parts, link: u32) -> bool
     true
 }
 
+// The worker reads the policies of this commit.
+pub fn read(world: &mut Parts, link: u32, commit: u64) -> bool
+    ensures { Becomes (read link commit (world_of world.old)) result (world_of world.new) }
+{
+    let alloc = *world.links.allocator();
+    let Some(found) = world.links.get_mut(link as usize) else {
+        return false;
+    };
+    let Some(ask) = found.question else {
+        return false;
+    };
+    let Some(asked) = world.asks.get(ask as usize) else {
+        return false;
+    };
+    let Some(state) = state_at(&world.first, &world.later, commit) else {
+        return false;
+    };
+    if found.entered.is_none() || !is_nothing(&found.reading) {
+        return false;
+    }
+    if commit < found.seen || commit > world.published {
+        return false;
+    }
+    let reading = reading_at(alloc, state.desk(), &asked.question, commit, asked.simple);
+    found.seen = commit;
+    found.reading = reading;
+    true
+}
+
+// The worker sends its reply.
+pub fn write(world: &mut Parts, link: u32) -> bool
+    ensures { Becomes (write link (world_of world.old)) result (world_of world.new) }
+{
+    let Some(found) = world.links.get_mut(link as usize) else {
+        return false;
+    };
+    let Some(ask) = found.question else {
+        return false;
+    };
+    let Some(reply) = outgoing(found.run, &world.entries, &found.reading) else {
+        return false;
+    };
+    if !found.up {
+        return false;
+    }
+    found.question = None;
+    found.reading = Reading::Nothing;
+    found.reply = Some(Transit { ask, reply });
+    true
+}
+
+// The reply of a reading, if it has one.
+fn outgoing(run: u32, entries: &[AgentEntry], reading: &Reading) -> Option<Reply>
+    ensures { result ≡ outgoing run entries.now reading.now }
+{
+    match reading {
+        Reading::Nothing | Reading::Due { .. } => None,
+        Reading::Ready(reply) => Some(*reply),
+        Reading::Waiting {
+            commit,
+            kind,
+            number,
+        } => {
+            let (commit, kind, number) = (*commit, *kind, *number);
+            let entry = entry_at(entries, run, number)?;
+            match entry.state {
+                EntryState::Open => None,
+                EntryState::Gone => Some(Reply::AgentGone { commit, number }),
+                EntryState::Answered(allowed) => Some(Reply::FromAgent {
+                    commit,
+                    kind,
+                    number,
+                    allowed,
+                }),
+            }
+        }
+    }
+}
+
+// The entry of this number in this run.
+pub fn entry_at(entries: &[AgentEntry], run: u32, number: u32) -> Option<&AgentEntry>
+    ensures { MatchOption result (entry_at run number entries.now ≡ None)
+        (λ entry. entry_at run number entries.now ≡ Some entry.now) }
+{
+    for entry in entries {
+        if entry.run == run && entry.number == number {
+            return Some(entry);
+        }
+    }
+    None
+}
+
 // The link is closed.
 pub fn lose(world: &mut Parts, link: u32) -> bool
     ensures { Becomes (lose link (world_of world.old)) result (world_of world.new) }
@@ -32,4 +132,43 @@ pub fn lose(world: &mut Parts, link: u32) -> bool
     }
     found.up = false;
     true
+}
+
+// Every link that entered before the published commit is closed.
+pub fn hang_up(links: &mut [Link], published: u64)
+    ensures { links.new ≡ map (hung_up published) links.old }
+{
+    for link in links.iter_mut() {
+        hang_up_one(link, published);
+    }
+}
+
+fn hang_up_one(link: &mut Link, published: u64)
+    ensures { link.new ≡ hung_up published link.old }
+{
+    link.up = link.up && !entered_before(link.entered, published);
+}
+
+fn entered_before(entered: Option<u64>, published: u64) -> bool
+    ensures { result ≡ entered_before published entered }
+{
+    match entered {
+        None => false,
+        Some(commit) => commit < published,
+    }
+}
+
+// Every link is closed.
+pub fn close_all(links: &mut [Link])
+    ensures { links.new ≡ map closed links.old }
+{
+    for link in links.iter_mut() {
+        close(link);
+    }
+}
+
+fn close(link: &mut Link)
+    ensures { link.new ≡ closed link.old }
+{
+    link.up = false;
 }

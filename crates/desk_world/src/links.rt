@@ -12,7 +12,7 @@ pub struct Asked {
 }
 
 /// A connection of a client, with its worker's part.
-#[derive(Debug, Drop)]
+#[derive(Clone, Copy, Debug)]
 pub struct Link {
     pub client: u32,
     /// The run of the service in which it was dialled.

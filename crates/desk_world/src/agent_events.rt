@@ -1,0 +1,209 @@
+// What agents do.
+ghost use Rattle.std.specs.Prelude.{◌≡◌, ◌&&◌, ◌==◌, not, filter, map, IfOk};
+ghost use Rattle.std.specs.List.{list_any, count_by};
+ghost use Rattle.desk_world.specs.Agents.{join, put, answer, leave, fits, is_open, is_waiting, count_of, waiting_in};
+ghost use Rattle.desk_world.specs.Agents.{answered, gone_if_open, once_stopped, once_left};
+ghost use Rattle.desk_world.specs.parts.Parts.{world_of, Becomes};
+
+use crate::agent_entries::{AgentEntry, EntryState};
+use crate::link_events::entry_at;
+use crate::links::{Link, Reading};
+use crate::parts::Parts;
+use crate::refusals::{MOST_ENTRIES, MOST_WAITING};
+use crate::replies::Reply;
+use cynara_keys::Kind;
+use std::alloc::AllocError;
+
+fn has_agent(agents: &[u16], kind: Kind) -> bool
+    ensures { result ≡ list_any (λ other. other == kind.0) agents.now }
+{
+    agents.iter().any(|other| *other == kind.0)
+}
+
+// An agent registers.
+pub fn join(world: &mut Parts, kind: Kind) -> Result<bool, AllocError>
+    ensures { IfOk result (λ enabled. Becomes (join kind (world_of world.old)) enabled (world_of world.new)) }
+{
+    if !kind.is_agent() || has_agent(&world.agents, kind) {
+        return Ok(false);
+    }
+    world.agents.push(kind.0)?;
+    Ok(true)
+}
+
+fn count_of(entries: &[AgentEntry], run: u32) -> usize
+    ensures { result ≡ count_of run entries.now }
+{
+    entries.iter().filter(|entry| entry.run == run).count()
+}
+
+fn is_waiting(reading: &Reading) -> bool
+    ensures { result ≡ is_waiting reading.now }
+{
+    matches!(reading, Reading::Waiting { .. })
+}
+
+fn waiting_in(links: &[Link], run: u32) -> usize
+    ensures { result ≡ waiting_in run links.now }
+{
+    links
+        .iter()
+        .filter(|link| link.run == run && is_waiting(&link.reading))
+        .count()
+}
+
+fn fits(world: &Parts, full: Option<u32>) -> bool
+    ensures { result ≡ fits full (world_of world.now) }
+{
+    let count = count_of(&world.entries, world.run);
+    match full {
+        None => count < MOST_ENTRIES as usize,
+        Some(most) => {
+            (most == MOST_WAITING && waiting_in(&world.links, world.run) >= MOST_WAITING as usize)
+                || (most == MOST_ENTRIES && count == MOST_ENTRIES as usize)
+        }
+    }
+}
+
+// The worker puts its question to the agent.
+pub fn put(world: &mut Parts, link: u32, full: Option<u32>) -> Result<bool, AllocError>
+    ensures { IfOk result (λ enabled. Becomes (put link full (world_of world.old)) enabled (world_of world.new)) }
+{
+    let fits = fits(world, full);
+    let run = world.run;
+    let Some(found) = world.links.get_mut(link as usize) else {
+        return Ok(false);
+    };
+    let Some(ask) = found.question else {
+        return Ok(false);
+    };
+    let Some(asked) = world.asks.get(ask as usize) else {
+        return Ok(false);
+    };
+    let Reading::Due { commit, kind, .. } = found.reading else {
+        return Ok(false);
+    };
+    if found.run != run || !fits {
+        return Ok(false);
+    }
+    if !has_agent(&world.agents, kind) {
+        found.reading = Reading::Ready(Reply::NoAgent { commit, kind });
+        return Ok(true);
+    }
+    if let Some(most) = full {
+        found.reading = Reading::Ready(Reply::AgentFull { commit, kind, most });
+        return Ok(true);
+    }
+    let number = count_of(&world.entries, run) as u32;
+    let question = asked.question.copy()?;
+    world.entries.push(AgentEntry {
+        run,
+        number,
+        ask,
+        question,
+        kind,
+        commit,
+        state: EntryState::Open,
+    })?;
+    found.reading = Reading::Waiting {
+        commit,
+        kind,
+        number,
+    };
+    Ok(true)
+}
+
+fn is_open(state: EntryState) -> bool
+    ensures { result ≡ is_open state }
+{
+    matches!(state, EntryState::Open)
+}
+
+// An agent answers.
+pub fn answer(world: &mut Parts, number: u32, allowed: bool) -> bool
+    ensures { Becomes (answer number allowed (world_of world.old)) result (world_of world.new) }
+{
+    let run = world.run;
+    let Some(entry) = entry_at(&world.entries, run, number) else {
+        return false;
+    };
+    if !is_open(entry.state) {
+        return false;
+    }
+    answer_all(&mut world.entries, run, number, allowed);
+    true
+}
+
+fn answer_all(entries: &mut [AgentEntry], run: u32, number: u32, allowed: bool)
+    ensures { entries.new ≡ map (answered run number allowed) entries.old }
+{
+    for entry in entries.iter_mut() {
+        answer_one(entry, run, number, allowed);
+    }
+}
+
+fn answer_one(entry: &mut AgentEntry, run: u32, number: u32, allowed: bool)
+    ensures { entry.new ≡ answered run number allowed entry.old }
+{
+    if entry.run == run && entry.number == number {
+        entry.state = EntryState::Answered(allowed);
+    }
+}
+
+fn gone_if_open(state: EntryState) -> EntryState
+    ensures { result ≡ gone_if_open state }
+{
+    match state {
+        EntryState::Open => EntryState::Gone,
+        EntryState::Gone | EntryState::Answered(_) => state,
+    }
+}
+
+// The agent of the kind leaves.
+pub fn leave(world: &mut Parts, kind: Kind) -> bool
+    ensures { Becomes (leave kind (world_of world.old)) result (world_of world.new) }
+{
+    if !has_agent(&world.agents, kind) {
+        return false;
+    }
+    without(&mut world.agents, kind);
+    leave_all(&mut world.entries, kind);
+    true
+}
+
+fn without(agents: &mut Vec<u16>, kind: Kind)
+    ensures { agents.new.items ≡ filter (λ other. not (other == kind.0)) agents.old.items }
+{
+    agents.retain(|other| *other != kind.0);
+}
+
+fn leave_all(entries: &mut [AgentEntry], kind: Kind)
+    ensures { entries.new ≡ map (once_left kind.0) entries.old }
+{
+    for entry in entries.iter_mut() {
+        leave_one(entry, kind);
+    }
+}
+
+fn leave_one(entry: &mut AgentEntry, kind: Kind)
+    ensures { entry.new ≡ once_left kind.0 entry.old }
+{
+    if entry.kind == kind {
+        entry.state = gone_if_open(entry.state);
+    }
+}
+
+// The service has stopped: what is open is gone.
+pub fn stop_all(entries: &mut [AgentEntry])
+    ensures { entries.new ≡ map once_stopped entries.old }
+{
+    for entry in entries.iter_mut() {
+        stop_one(entry);
+    }
+}
+
+fn stop_one(entry: &mut AgentEntry)
+    ensures { entry.new ≡ once_stopped entry.old }
+{
+    entry.state = gone_if_open(entry.state);
+}
