@@ -9,3 +9,4 @@ pub mod steps
 pub mod Runs
 pub mod Headlines
 pub mod Places
+pub mod Roots

@@ -9,6 +9,7 @@ use Rattle.desk_world.specs.declared.links.Asked.{Asked}
 use Rattle.desk_world.specs.declared.links.Link.{Link}
 use Rattle.desk_world.specs.declared.links.Transit.{Transit}
 use Rattle.desk_world.specs.declared.links.Reading.TheVariants.{Nothing}
+use Rattle.desk_world.specs.declared.replies.Given.{Given}
 use Rattle.desk_world.specs.declared.replies.Reply.{Reply}
 use Rattle.desk_world.specs.declared.replies.Reply.TheVariants.{Judged, FromAgent, NotResolved, NoAgent, AgentGone, AgentFull}
 
@@ -99,12 +100,17 @@ kept question (NoAgent commit kind) log = log
 kept question (AgentGone commit number) log = log
 kept question (AgentFull commit kind most) log = log
 
+-- the client has this reply to its question, also in its cache if it is a verdict
+abbrev pub received : ℕ → Question → Given → World → World
+received client question new world =
+    with_client client
+    (record (client_of world client) { asking = None; log = kept question new.reply (client_of world client).log })
+    (record world { given = world.given ++ new ∷ [] })
+
 abbrev pub delivered : ℕ → ℕ → Question → ℕ → Link → Reply → World → World
 delivered client ask question link found reply world =
-    with_client client
-    (record (client_of world client) { asking = None; log = kept question reply (client_of world client).log })
-    (with_link link (record found { reply = None })
-    (record world { given = world.given ++ record { ask = ask; run = found.run; reply = reply } ∷ [] }))
+    received client question (record { ask = ask; run = found.run; reply = reply })
+    (with_link link (record found { reply = None }) world)
 
 abbrev pub deliver_to : ℕ → ℕ → Asked → ℕ → Link → Transit → World → Option World
 deliver_to client ask asked link found transit world =

@@ -1,7 +1,7 @@
 // What agents do.
-ghost use Rattle.std.specs.Prelude.{◌≡◌, ◌&&◌, ◌==◌, not, filter, map, IfOk};
+ghost use Rattle.std.specs.Prelude.{◌≡◌, ◌<◌, ◌^◌, ◌&&◌, ◌==◌, [], ◌∷◌, ◌++◌, not, filter, map, length, slice_get, slice_set, IfOk, IfSome, IsTrue};
 ghost use Rattle.std.specs.List.{list_any, count_by};
-ghost use Rattle.desk_world.specs.Agents.{join, put, answer, leave, fits, is_open, is_waiting, count_of, waiting_in};
+ghost use Rattle.desk_world.specs.Agents.{join, put, put_to, answer, leave, fits, is_open, is_waiting, count_of, waiting_in};
 ghost use Rattle.desk_world.specs.Agents.{answered, gone_if_open, once_stopped, once_left};
 ghost use Rattle.desk_world.specs.parts.Parts.{world_of, Becomes};
 
@@ -11,8 +11,8 @@ use crate::links::{Link, Reading};
 use crate::parts::Parts;
 use crate::refusals::{MOST_ENTRIES, MOST_WAITING};
 use crate::replies::Reply;
-use cynara_keys::Kind;
-use std::alloc::AllocError;
+use cynara_keys::{Kind, Question};
+use std::alloc::{AllocError, Global};
 
 fn has_agent(agents: &[u16], kind: Kind) -> bool
     ensures { result ≡ list_any (λ other. other == kind.0) agents.now }
@@ -69,9 +69,7 @@ fn fits(world: &Parts, full: Option<u32>) -> bool
 pub fn put(world: &mut Parts, link: u32, full: Option<u32>) -> Result<bool, AllocError>
     ensures { IfOk result (λ enabled. Becomes (put link full (world_of world.old)) enabled (world_of world.new)) }
 {
-    let fits = fits(world, full);
-    let run = world.run;
-    let Some(found) = world.links.get_mut(link as usize) else {
+    let Some(found) = world.links.get(link as usize) else {
         return Ok(false);
     };
     let Some(ask) = found.question else {
@@ -83,20 +81,82 @@ pub fn put(world: &mut Parts, link: u32, full: Option<u32>) -> Result<bool, Allo
     let Reading::Due { commit, kind, .. } = found.reading else {
         return Ok(false);
     };
-    if found.run != run || !fits {
+    if found.run != world.run || !fits(world, full) {
         return Ok(false);
     }
+    let question = asked.question.copy()?;
+    put_to(world, link, ask, question, full, commit, kind)?;
+    Ok(true)
+}
+
+// The question goes to the agent of the kind, or is refused.
+fn put_to(
+    world: &mut Parts,
+    link: u32,
+    ask: u32,
+    question: Question,
+    full: Option<u32>,
+    commit: u64,
+    kind: Kind,
+) -> Result<(), AllocError>
+    requires link { link < length world.old.links.items }
+    requires fits { IsTrue (fits full (world_of world.old)) }
+    ensures { IfOk result (λ done. IfSome (slice_get world.old.links.items link) (λ found.
+        world_of world.new ≡ put_to link found ask question full commit kind (world_of world.old))) }
+{
     if !has_agent(&world.agents, kind) {
-        found.reading = Reading::Ready(Reply::NoAgent { commit, kind });
-        return Ok(true);
+        note(
+            &mut world.links,
+            link,
+            Reading::Ready(Reply::NoAgent { commit, kind }),
+        );
+        return Ok(());
     }
     if let Some(most) = full {
-        found.reading = Reading::Ready(Reply::AgentFull { commit, kind, most });
-        return Ok(true);
+        note(
+            &mut world.links,
+            link,
+            Reading::Ready(Reply::AgentFull { commit, kind, most }),
+        );
+        return Ok(());
     }
-    let number = count_of(&world.entries, run) as u32;
-    let question = asked.question.copy()?;
-    world.entries.push(AgentEntry {
+    let run = world.run;
+    let number = log_entry(&mut world.entries, run, ask, question, kind, commit)?;
+    let reading = Reading::Waiting {
+        commit,
+        kind,
+        number,
+    };
+    note(&mut world.links, link, reading);
+    Ok(())
+}
+
+fn note(links: &mut [Link], link: u32, reading: Reading)
+    requires { link < length links.old }
+    ensures { IfSome (slice_get links.old link)
+        (λ found. links.new ≡ slice_set links.old link (record found { reading = reading })) }
+{
+    links[link as usize].reading = reading;
+}
+
+// A new open entry, under the next number of the run.
+fn log_entry(
+    entries: &mut Vec<AgentEntry>,
+    run: u32,
+    ask: u32,
+    question: Question,
+    kind: Kind,
+    commit: u64,
+) -> Result<u32, AllocError>
+    requires { count_of run entries.old.items < 2 ^ 32 }
+    ensures number { IfOk result (λ number. number ≡ count_of run entries.old.items) }
+    ensures entries { IfOk result (λ number. entries.new.items ≡ entries.old.items ++ record {
+      run = run; number = count_of run entries.old.items; ask = ask; question = question; kind = kind; commit = commit;
+      state = EntryState.Open;
+    } ∷ []) }
+{
+    let number = count_of(entries, run) as u32;
+    entries.push(AgentEntry {
         run,
         number,
         ask,
@@ -105,12 +165,7 @@ pub fn put(world: &mut Parts, link: u32, full: Option<u32>) -> Result<bool, Allo
         commit,
         state: EntryState::Open,
     })?;
-    found.reading = Reading::Waiting {
-        commit,
-        kind,
-        number,
-    };
-    Ok(true)
+    Ok(number)
 }
 
 fn is_open(state: EntryState) -> bool
@@ -160,21 +215,27 @@ fn gone_if_open(state: EntryState) -> EntryState
 }
 
 // The agent of the kind leaves.
-pub fn leave(world: &mut Parts, kind: Kind) -> bool
-    ensures { Becomes (leave kind (world_of world.old)) result (world_of world.new) }
+pub fn leave(world: &mut Parts, kind: Kind) -> Result<bool, AllocError>
+    ensures { IfOk result (λ enabled. Becomes (leave kind (world_of world.old)) enabled (world_of world.new)) }
 {
     if !has_agent(&world.agents, kind) {
-        return false;
+        return Ok(false);
     }
-    without(&mut world.agents, kind);
+    let alloc = *world.agents.allocator();
+    let left = without(alloc, &world.agents, kind)?;
+    world.agents = left;
     leave_all(&mut world.entries, kind);
-    true
+    Ok(true)
 }
 
-fn without(agents: &mut Vec<u16>, kind: Kind)
-    ensures { agents.new.items ≡ filter (λ other. not (other == kind.0)) agents.old.items }
+fn without(alloc: Global, agents: &[u16], kind: Kind) -> Result<Vec<u16>, AllocError>
+    ensures { IfOk result (λ left. left.items ≡ filter (λ other. not (other == kind.0)) agents.now) }
 {
-    agents.retain(|other| *other != kind.0);
+    agents
+        .iter()
+        .copied()
+        .filter(|other| *other != kind.0)
+        .collect(alloc)
 }
 
 fn leave_all(entries: &mut [AgentEntry], kind: Kind)

@@ -1,6 +1,6 @@
 // What clients do.
-ghost use Rattle.std.specs.Prelude.{◌≡◌, ◌<◌, ◌^◌, length, IfOk};
-ghost use Rattle.desk_world.specs.Clients.{dial, asked, send, hit, given, deliver, notice, tell, new_link};
+ghost use Rattle.std.specs.Prelude.{◌≡◌, ◌<◌, ◌^◌, length, slice_get, slice_set, None, IfOk, IfSome};
+ghost use Rattle.desk_world.specs.Clients.{dial, asked, send, hit, given, received, deliver, notice, tell, new_link};
 ghost use Rattle.desk_world.specs.parts.Parts.{world_of, Becomes};
 
 use crate::links::{Asked, Link, Reading};
@@ -142,7 +142,7 @@ pub fn deliver(world: &mut Parts, client: u32) -> Result<bool, AllocError>
     let Some(link) = slots::link(&world.clients, client) else {
         return Ok(false);
     };
-    let Some(found) = world.links.get_mut(link as usize) else {
+    let Some(found) = world.links.get(link as usize) else {
         return Ok(false);
     };
     let Some(transit) = found.reply else {
@@ -153,14 +153,36 @@ pub fn deliver(world: &mut Parts, client: u32) -> Result<bool, AllocError>
     }
     let run = found.run;
     let reply = transit.reply;
-    found.reply = None;
     let question = asked.question.copy()?;
-    world.given.extend_from_slice(&[Given { ask, run, reply }])?;
+    free(&mut world.links, link);
+    receive(world, client, question, Given { ask, run, reply })?;
+    Ok(true)
+}
+
+// The reply is taken from the link.
+fn free(links: &mut [Link], link: u32)
+    requires { link < length links.old }
+    ensures { IfSome (slice_get links.old link)
+        (λ found. links.new ≡ slice_set links.old link (record found { reply = None })) }
+{
+    links[link as usize].reply = None;
+}
+
+// The client has this reply to its question, also in its cache if it is a verdict.
+fn receive(
+    world: &mut Parts,
+    client: u32,
+    question: Question,
+    new: Given,
+) -> Result<(), AllocError>
+    ensures { IfOk result (λ done. world_of world.new ≡ received client question new (world_of world.old)) }
+{
+    world.given.extend_from_slice(&[new])?;
     let changed = slots::take_out(&mut world.clients, client)
         .asking(None)
-        .receiving(question, &reply)?;
+        .receiving(question, &new.reply)?;
     slots::put(&mut world.clients, client, changed)?;
-    Ok(true)
+    Ok(())
 }
 
 // The client gives its closed link back.

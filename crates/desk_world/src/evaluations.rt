@@ -1,5 +1,6 @@
 // What the policies of a state answer, and what a worker makes of it.
-ghost use Rattle.std.specs.Prelude.{◌≡◌, ◌∷◌, Some, None, MatchOption};
+ghost use Rattle.std.specs.Prelude.{◌≡◌, ◌<◌, ◌∷◌, true, length, slice_get, Some, None, IfSome, MatchOption};
+ghost use Rattle.bucket_store.specs.Database.{root, has_bucket};
 ghost use Rattle.bucket_eval.specs.Found.{answer_of};
 ghost use Rattle.desk_world.specs.World.{desk_at, root_outcome};
 ghost use Rattle.desk_world.specs.Links.{is_nothing, reading_of};
@@ -8,6 +9,7 @@ use crate::links::Reading;
 use crate::replies::Reply;
 use crate::states::State;
 use bucket_eval::{Answer, Verdict, describe, plain};
+use bucket_store::Database;
 use cynara_keys::{BucketName, Question};
 use desk_state::Desk;
 use std::alloc::Global;
@@ -17,11 +19,22 @@ pub fn root_answer(alloc: Global, desk: &Desk, question: &Question) -> Answer
     ensures { result ≡ answer_of (root_outcome desk.now question.now) }
 {
     let database = desk.database();
-    let Some(root) = database.place(&BucketName::root(alloc)) else {
-        unreachable!()
-    };
+    let root = root_place(alloc, database);
     let found = plain(database, root, question, true);
     describe(database, found)
+}
+
+// Where the root bucket stands.
+fn root_place(alloc: Global, database: &Database) -> usize
+    requires { has_bucket root database.now ≡ true }
+    ensures in_range { result < length database.now.buckets }
+    ensures root { IfSome (slice_get database.now.buckets result) (λ heading. heading.name ≡ root) }
+{
+    let name = BucketName::root(alloc);
+    match database.place(&name) {
+        Some(place) => place,
+        None => unreachable!(),
+    }
 }
 
 // What is read at a state: a verdict, or that an agent decides.

@@ -10,6 +10,7 @@ mod agent_entries;
 mod agent_events;
 mod client_events;
 mod clients;
+mod commit_events;
 mod evaluations;
 mod events;
 mod known;

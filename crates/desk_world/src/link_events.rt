@@ -1,7 +1,7 @@
 // What the workers of links do, and how links close.
-ghost use Rattle.std.specs.Prelude.{◌≡◌, ◌&&◌, ◌==◌, map, find, Some, None, MatchOption};
+ghost use Rattle.std.specs.Prelude.{◌≡◌, ◌<◌, ◌&&◌, nat_le, length, map, slice_get, slice_set, is_some, Some, None, IfSome, MatchOption};
 ghost use Rattle.desk_world.specs.World.{entry_at};
-ghost use Rattle.desk_world.specs.Links.{enter, read, outgoing, write, lose};
+ghost use Rattle.desk_world.specs.Links.{enter, is_nothing, read, outgoing, write, lose};
 ghost use Rattle.desk_world.specs.Commits.{entered_before, hung_up, closed};
 ghost use Rattle.desk_world.specs.parts.Parts.{world_of, Becomes};
 
@@ -32,8 +32,7 @@ pub fn enter(world: &mut Parts, link: u32) -> bool
 pub fn read(world: &mut Parts, link: u32, commit: u64) -> bool
     ensures { Becomes (read link commit (world_of world.old)) result (world_of world.new) }
 {
-    let alloc = *world.links.allocator();
-    let Some(found) = world.links.get_mut(link as usize) else {
+    let Some(found) = world.links.get(link as usize) else {
         return false;
     };
     let Some(ask) = found.question else {
@@ -45,16 +44,34 @@ pub fn read(world: &mut Parts, link: u32, commit: u64) -> bool
     let Some(state) = state_at(&world.first, &world.later, commit) else {
         return false;
     };
-    if found.entered.is_none() || !is_nothing(&found.reading) {
+    if !may_read(found, commit, world.published) {
         return false;
     }
-    if commit < found.seen || commit > world.published {
-        return false;
-    }
+    let alloc = *world.links.allocator();
     let reading = reading_at(alloc, state.desk(), &asked.question, commit, asked.simple);
+    note_reading(&mut world.links, link, commit, reading);
+    true
+}
+
+// It has entered and read nothing, and the commit is from the last one seen to the published one.
+fn may_read(found: &Link, commit: u64, published: u64) -> bool
+    ensures { result ≡ (is_some found.now.entered
+        && (is_nothing found.now.reading && (nat_le found.now.seen commit && nat_le commit published))) }
+{
+    found.entered.is_some()
+        && is_nothing(&found.reading)
+        && found.seen <= commit
+        && commit <= published
+}
+
+fn note_reading(links: &mut [Link], link: u32, commit: u64, reading: Reading)
+    requires { link < length links.old }
+    ensures { IfSome (slice_get links.old link)
+        (λ found. links.new ≡ slice_set links.old link (record found { seen = commit; reading = reading })) }
+{
+    let found = &mut links[link as usize];
     found.seen = commit;
     found.reading = reading;
-    true
 }
 
 // The worker sends its reply.
