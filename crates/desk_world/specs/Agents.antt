@@ -66,12 +66,14 @@ put_down link found ask question commit kind world =
     with_link link (record found { reading = Waiting commit kind (count_of world.run world.entries) })
     (record world { entries = world.entries ++ new_entry ask question kind commit world ∷ [] })
 
+abbrev pub put_with : ℕ → Link → ℕ → Question → Option ℕ → ℕ → Kind → World → World
+put_with link found ask question None commit kind world = put_down link found ask question commit kind world
+put_with link found ask question (Some most) commit kind world =
+    with_link link (record found { reading = Ready (AgentFull commit kind most) }) world
+
 abbrev pub put_to : ℕ → Link → ℕ → Question → Option ℕ → ℕ → Kind → World → World
-put_to link found ask question None commit kind world =
-    if has_agent kind.0 world then put_down link found ask question commit kind world
-    else with_link link (record found { reading = Ready (NoAgent commit kind) }) world
-put_to link found ask question (Some most) commit kind world =
-    if has_agent kind.0 world then with_link link (record found { reading = Ready (AgentFull commit kind most) }) world
+put_to link found ask question full commit kind world =
+    if has_agent kind.0 world then put_with link found ask question full commit kind world
     else with_link link (record found { reading = Ready (NoAgent commit kind) }) world
 
 abbrev pub put_due : ℕ → Link → ℕ → Question → Option ℕ → Reading → World → Option World

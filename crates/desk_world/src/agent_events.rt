@@ -1,12 +1,12 @@
 // What agents do.
-ghost use Rattle.std.specs.Prelude.{◌≡◌, ◌<◌, ◌^◌, ◌&&◌, ◌==◌, [], ◌∷◌, ◌++◌, not, filter, map, length, slice_get, slice_set, IfOk, IfSome, IsTrue};
+ghost use Rattle.std.specs.Prelude.{◌≡◌, ◌<◌, ◌^◌, ◌&&◌, ◌==◌, [], ◌∷◌, ◌++◌, not, filter, map, length, None, IfOk, IsTrue};
 ghost use Rattle.std.specs.List.{list_any, count_by};
-ghost use Rattle.desk_world.specs.Agents.{join, put, put_to, answer, leave, fits, is_open, is_waiting, count_of, waiting_in};
+ghost use Rattle.desk_world.specs.Agents.{join, put, put_to, put_with, put_down, answer, leave, fits, is_open, is_waiting, count_of, waiting_in};
 ghost use Rattle.desk_world.specs.Agents.{answered, gone_if_open, once_stopped, once_left};
 ghost use Rattle.desk_world.specs.parts.Parts.{world_of, Becomes};
 
 use crate::agent_entries::{AgentEntry, EntryState};
-use crate::link_events::entry_at;
+use crate::link_events::{entry_at, set_link};
 use crate::links::{Link, Reading};
 use crate::parts::Parts;
 use crate::refusals::{MOST_ENTRIES, MOST_WAITING};
@@ -69,6 +69,7 @@ fn fits(world: &Parts, full: Option<u32>) -> bool
 pub fn put(world: &mut Parts, link: u32, full: Option<u32>) -> Result<bool, AllocError>
     ensures { IfOk result (λ enabled. Becomes (put link full (world_of world.old)) enabled (world_of world.new)) }
 {
+    let fits = fits(world, full);
     let Some(found) = world.links.get(link as usize) else {
         return Ok(false);
     };
@@ -81,11 +82,12 @@ pub fn put(world: &mut Parts, link: u32, full: Option<u32>) -> Result<bool, Allo
     let Reading::Due { commit, kind, .. } = found.reading else {
         return Ok(false);
     };
-    if found.run != world.run || !fits(world, full) {
+    if found.run != world.run || !fits {
         return Ok(false);
     }
     let question = asked.question.copy()?;
-    put_to(world, link, ask, question, full, commit, kind)?;
+    let found = *found;
+    put_to(world, link, found, ask, &question, full, commit, kind)?;
     Ok(true)
 }
 
@@ -93,50 +95,77 @@ pub fn put(world: &mut Parts, link: u32, full: Option<u32>) -> Result<bool, Allo
 fn put_to(
     world: &mut Parts,
     link: u32,
+    found: Link,
     ask: u32,
-    question: Question,
+    question: &Question,
     full: Option<u32>,
     commit: u64,
     kind: Kind,
 ) -> Result<(), AllocError>
     requires link { link < length world.old.links.items }
     requires fits { IsTrue (fits full (world_of world.old)) }
-    ensures { IfOk result (λ done. IfSome (slice_get world.old.links.items link) (λ found.
-        world_of world.new ≡ put_to link found ask question full commit kind (world_of world.old))) }
+    ensures { IfOk result (λ done.
+        world_of world.new ≡ put_to link found ask question.now full commit kind (world_of world.old)) }
 {
     if !has_agent(&world.agents, kind) {
-        note(
-            &mut world.links,
-            link,
-            Reading::Ready(Reply::NoAgent { commit, kind }),
-        );
+        let reading = Reading::Ready(Reply::NoAgent { commit, kind });
+        set_link(world, link, Link { reading, ..found });
         return Ok(());
     }
-    if let Some(most) = full {
-        note(
-            &mut world.links,
-            link,
-            Reading::Ready(Reply::AgentFull { commit, kind, most }),
-        );
-        return Ok(());
+    put_with(world, link, found, ask, question, full, commit, kind)
+}
+
+// The question goes to the agent of the kind, or is refused at a limit.
+fn put_with(
+    world: &mut Parts,
+    link: u32,
+    found: Link,
+    ask: u32,
+    question: &Question,
+    full: Option<u32>,
+    commit: u64,
+    kind: Kind,
+) -> Result<(), AllocError>
+    requires link { link < length world.old.links.items }
+    requires fits { IsTrue (fits full (world_of world.old)) }
+    ensures { IfOk result (λ done.
+        world_of world.new ≡ put_with link found ask question.now full commit kind (world_of world.old)) }
+{
+    match full {
+        Some(most) => {
+            let reading = Reading::Ready(Reply::AgentFull { commit, kind, most });
+            set_link(world, link, Link { reading, ..found });
+            Ok(())
+        }
+        None => put_down(world, link, found, ask, question, commit, kind),
     }
+}
+
+// The question goes to the agent of the kind.
+fn put_down(
+    world: &mut Parts,
+    link: u32,
+    found: Link,
+    ask: u32,
+    question: &Question,
+    commit: u64,
+    kind: Kind,
+) -> Result<(), AllocError>
+    requires link { link < length world.old.links.items }
+    requires fits { IsTrue (fits None (world_of world.old)) }
+    ensures { IfOk result (λ done.
+        world_of world.new ≡ put_down link found ask question.now commit kind (world_of world.old)) }
+{
     let run = world.run;
+    let question = question.copy()?;
     let number = log_entry(&mut world.entries, run, ask, question, kind, commit)?;
     let reading = Reading::Waiting {
         commit,
         kind,
         number,
     };
-    note(&mut world.links, link, reading);
+    set_link(world, link, Link { reading, ..found });
     Ok(())
-}
-
-fn note(links: &mut [Link], link: u32, reading: Reading)
-    requires { link < length links.old }
-    ensures { IfSome (slice_get links.old link)
-        (λ found. links.new ≡ slice_set links.old link (record found { reading = reading })) }
-{
-    links[link as usize].reading = reading;
 }
 
 // A new open entry, under the next number of the run.

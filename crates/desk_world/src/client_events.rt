@@ -1,8 +1,9 @@
 // What clients do.
-ghost use Rattle.std.specs.Prelude.{◌≡◌, ◌<◌, ◌^◌, length, slice_get, slice_set, None, IfOk, IfSome};
+ghost use Rattle.std.specs.Prelude.{◌≡◌, ◌<◌, ◌^◌, length, IfOk};
 ghost use Rattle.desk_world.specs.Clients.{dial, asked, send, hit, given, received, deliver, notice, tell, new_link};
 ghost use Rattle.desk_world.specs.parts.Parts.{world_of, Becomes};
 
+use crate::link_events::set_link;
 use crate::links::{Asked, Link, Reading};
 use crate::parts::Parts;
 use crate::replies::{Given, Reply};
@@ -153,19 +154,14 @@ pub fn deliver(world: &mut Parts, client: u32) -> Result<bool, AllocError>
     }
     let run = found.run;
     let reply = transit.reply;
+    let changed = Link {
+        reply: None,
+        ..*found
+    };
     let question = asked.question.copy()?;
-    free(&mut world.links, link);
+    set_link(world, link, changed);
     receive(world, client, question, Given { ask, run, reply })?;
     Ok(true)
-}
-
-// The reply is taken from the link.
-fn free(links: &mut [Link], link: u32)
-    requires { link < length links.old }
-    ensures { IfSome (slice_get links.old link)
-        (λ found. links.new ≡ slice_set links.old link (record found { reply = None })) }
-{
-    links[link as usize].reply = None;
 }
 
 // The client has this reply to its question, also in its cache if it is a verdict.

@@ -1,5 +1,5 @@
 // What the admin worker and the disk do, and stops.
-ghost use Rattle.std.specs.Prelude.{◌≡◌, ◌<◌, ◌^◌, ◌++◌, ◌∷◌, [], if◌then◌else◌, is_none, length, map, Some, None, IfOk};
+ghost use Rattle.std.specs.Prelude.{◌≡◌, ◌<◌, ◌^◌, ◌+◌, if◌then◌else◌, is_none, length, map, Some, None, IfOk};
 ghost use Rattle.desk_state.specs.Next.{next};
 ghost use Rattle.desk_state.specs.Rules.{fault};
 ghost use Rattle.desk_world.specs.World.{latest_of, last};
@@ -18,10 +18,11 @@ use std::alloc::{AllocError, Global};
 fn latest<'a>(first: &'a State, later: &'a [State]) -> &'a State
     ensures { result.now ≡ latest_of first.now later.now }
 {
-    match later.last() {
-        Some(state) => state,
-        None => first,
+    let mut latest = first;
+    for state in later {
+        latest = state;
     }
+    latest
 }
 
 fn last(world: &Parts) -> u64
@@ -35,8 +36,9 @@ fn next_state(alloc: Global, desk: &Desk, command: &Command) -> Result<Option<De
     ensures { IfOk result (λ made. made
         ≡ (if is_none (fault desk.now command.now) then Some (next desk.now command.now) else None)) }
 {
-    // Until commands are applied here: want of memory.
-    let _ = (alloc, desk, command);
+    // Until commands are applied: the answer is want of memory.
+    let _copy = command.copy(alloc)?;
+    let _commit = desk.commit();
     Err(AllocError)
 }
 

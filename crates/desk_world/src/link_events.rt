@@ -1,6 +1,6 @@
 // What the workers of links do, and how links close.
-ghost use Rattle.std.specs.Prelude.{◌≡◌, ◌<◌, ◌&&◌, nat_le, length, map, slice_get, slice_set, is_some, Some, None, IfSome, MatchOption};
-ghost use Rattle.desk_world.specs.World.{entry_at};
+ghost use Rattle.std.specs.Prelude.{◌≡◌, ◌<◌, ◌&&◌, nat_le, length, map, is_some, Some, None, MatchOption};
+ghost use Rattle.desk_world.specs.World.{entry_at, with_link};
 ghost use Rattle.desk_world.specs.Links.{enter, is_nothing, read, outgoing, write, lose};
 ghost use Rattle.desk_world.specs.Commits.{entered_before, hung_up, closed};
 ghost use Rattle.desk_world.specs.parts.Parts.{world_of, Becomes};
@@ -49,7 +49,12 @@ pub fn read(world: &mut Parts, link: u32, commit: u64) -> bool
     }
     let alloc = *world.links.allocator();
     let reading = reading_at(alloc, state.desk(), &asked.question, commit, asked.simple);
-    note_reading(&mut world.links, link, commit, reading);
+    let changed = Link {
+        seen: commit,
+        reading,
+        ..*found
+    };
+    set_link(world, link, changed);
     true
 }
 
@@ -64,14 +69,12 @@ fn may_read(found: &Link, commit: u64, published: u64) -> bool
         && commit <= published
 }
 
-fn note_reading(links: &mut [Link], link: u32, commit: u64, reading: Reading)
-    requires { link < length links.old }
-    ensures { IfSome (slice_get links.old link)
-        (λ found. links.new ≡ slice_set links.old link (record found { seen = commit; reading = reading })) }
+// The link is this one from now on.
+pub fn set_link(world: &mut Parts, link: u32, changed: Link)
+    requires { link < length world.old.links.items }
+    ensures { world_of world.new ≡ with_link link changed (world_of world.old) }
 {
-    let found = &mut links[link as usize];
-    found.seen = commit;
-    found.reading = reading;
+    world.links[link as usize] = changed;
 }
 
 // The worker sends its reply.

@@ -38,7 +38,7 @@ use Rattle.desk_state.specs.Rules.{fault}
 use Rattle.desk_state.specs.declared.commands.Command.{Command}
 use Rattle.desk_world.specs.World.{latest_of}
 use Rattle.desk_world.specs.Commits.{may_store, stored, undecided, committed, decided, decide, publish, entered_before, hung_up, hang, acknowledge, closed, restarted, under_way, may_stop, stop}
-use Rattle.desk_world.specs.Agents.{is_open, has_agent, join, count_of, fits, new_entry, put_down, put_to, put_due, put, gone_if_open, once_stopped, once_left, leave, answered, answer}
+use Rattle.desk_world.specs.Agents.{is_open, has_agent, join, count_of, fits, new_entry, put_down, put_with, put_to, put_due, put, gone_if_open, once_stopped, once_left, leave, answered, answer}
 use Rattle.cynara_keys.specs.PolicyResult.{is_agent}
 use Rattle.std.specs.Prelude.{filter}
 use Rattle.std.specs.List.{find}
@@ -193,16 +193,16 @@ module _ (w : World) (kept : IsKept w) (link : ℕ) (found : Link) (ask : ℕ) (
   no_agent-step : Step w (with_link link (record found { reading = Ready (NoAgent commit kind) }) w)
   no_agent-step = refuse-step (NoAgent commit kind) refl (λ desk leaves. leaves)
 
+  put_with-step : (full : Option ℕ) → slice_get w.asks ask ≡ Some asked → found.run ≡ w.run
+      → Step w (put_with link found ask asked.question full commit kind w)
+  put_with-step None asks run = put-step asks run
+  put_with-step (Some most) asks run = refuse-step (AgentFull commit kind most) refl (λ desk leaves. leaves)
+
   put_to-step : (full : Option ℕ) → slice_get w.asks ask ≡ Some asked → found.run ≡ w.run
       → Step w (put_to link found ask asked.question full commit kind w)
-  put_to-step None asks run =
-      cond_each (Step w) (has_agent kind.0 w) (put_down link found ask asked.question commit kind w)
-      (with_link link (record found { reading = Ready (NoAgent commit kind) }) w) (put-step asks run) no_agent-step
-  put_to-step (Some most) asks run =
-      cond_each (Step w) (has_agent kind.0 w)
-      (with_link link (record found { reading = Ready (AgentFull commit kind most) }) w)
-      (with_link link (record found { reading = Ready (NoAgent commit kind) }) w)
-      (refuse-step (AgentFull commit kind most) refl (λ desk leaves. leaves)) no_agent-step
+  put_to-step full asks run =
+      cond_each (Step w) (has_agent kind.0 w) (put_with link found ask asked.question full commit kind w)
+      (with_link link (record found { reading = Ready (NoAgent commit kind) }) w) (put_with-step full asks run) no_agent-step
 
 put_due-steps : (w next : World) → IsKept w → (link : ℕ) (found : Link) (ask : ℕ) (asked : Asked) (full : Option ℕ)
     (reading : Reading) → slice_get w.links link ≡ Some found → found.question ≡ Some ask → slice_get w.asks ask ≡ Some asked
