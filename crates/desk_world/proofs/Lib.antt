@@ -10,3 +10,4 @@ pub mod Runs
 pub mod Headlines
 pub mod Places
 pub mod Roots
+pub mod Becoming

@@ -4,4 +4,4 @@ use Rattle.desk_world.proofs.commit_events.latest.Given as goal
 
 -- the states that are left lead to the last one
 abbrev pub invariant-loop-state : goal.invariant-loop-state
-invariant-loop-state l = latest_of l.latest.now (drop l.state-index l.later) ≡ latest_of l.first.now l.later
+invariant-loop-state l = latest_of l.latest (drop l.state-index l.later) ≡ latest_of l.first l.later
