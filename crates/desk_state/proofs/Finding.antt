@@ -1,5 +1,5 @@
 -- The first element that passes a test, in a list that a function made.
-use Rattle.std.proofs.Common.{◌≡◌, Bool, true, false, cond, List, [], ◌∷◌, map, find, Option, Some, None, refl, ap, ◌∙◌}
+use Rattle.std.proofs.Common.{◌≡◌, Bool, true, false, cond, List, [], ◌∷◌, map, find, Some, refl}
 use Rattle.std.specs.Option.{option_map}
 
 pub find-map : {X Y : Type 0} (test : Y → Bool) (f : X → Y) (xs : List X)

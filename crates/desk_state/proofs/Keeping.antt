@@ -1,8 +1,6 @@
 -- What commands on the database keep: a desk without a layout stays so, and one with the layout keeps it.
-use Rattle.std.proofs.Common.{◌≡◌, ◌⊎◌, ℕ, ◌+◌, ◌==◌, Bool, true, false, not, cond, ◌&&◌, ◌||◌, List, [], ◌∷◌, ◌++◌, map, find, Option, Some, None, refl, sym, ap, ◌∙◌, subst, inl, inr, decimal}
-use Rattle.std.specs.declared.cmp.Ordering.{Ordering}
-use Rattle.std.specs.declared.cmp.Ordering.TheVariants.{Less, Equal, Greater}
-use Rattle.std.specs.Option.{option_map}
+use Rattle.std.proofs.Common.{◌≡◌, ℕ, Bool, true, false, not, cond, ◌&&◌, ◌||◌, List, [], ◌∷◌, map, find, Some, None, refl, sym, ap, ◌∙◌, subst, inl, inr}
+use Rattle.std.specs.declared.cmp.Ordering.TheVariants.{Equal}
 use Rattle.std.specs.List.{AllByRecursion, filter, fold, list_any}
 use Rattle.std.specs.List.Sorted.{IsStrictlySortedBy}
 use Rattle.std.specs.Ordering.{is_lt, is_gt, is_eq}
@@ -10,7 +8,7 @@ use Rattle.std.proofs.lemmas.Bool.{true≢false}
 use Rattle.std.proofs.lemmas.List.Folds.{list_any-append}
 use Rattle.std.proofs.lemmas.List.Kept.{IsStrictlySortedBy-filter}
 use Rattle.cynara_keys.specs.Text.{same_text, text_cmp}
-use Rattle.cynara_keys.specs.PolicyResult.{Ruling, deny}
+use Rattle.cynara_keys.specs.PolicyResult.{deny}
 use Rattle.cynara_keys.specs.declared.keys.Filter.{Filter}
 use Rattle.cynara_keys.specs.declared.keys.Policy.{Policy}
 use Rattle.cynara_keys.specs.declared.keys.Key.{Key}
@@ -18,7 +16,7 @@ use Rattle.cynara_keys.proofs.Order.{same_text-≡, ≡-same_text, text_cmp-equa
 use Rattle.bucket_store.specs.Database.{Database, Heading, Placed, has_bucket}
 use Rattle.bucket_store.specs.Order.{heading_cmp, placed_cmp, policy_cmp, put}
 use Rattle.bucket_store.specs.Change.{with_bucket, without_bucket, concerns, after_change, with_changes, erased, is_admitted}
-use Rattle.bucket_store.specs.Walk.{points, target, points_to}
+use Rattle.bucket_store.specs.Walk.{points_to}
 use Rattle.bucket_store.specs.WellFormed.{IsWellFormed}
 use Rattle.bucket_store.specs.parts.Batch.{name_of}
 use Rattle.bucket_store.specs.declared.policy_changes.Change.{Change}
@@ -34,15 +32,13 @@ use Rattle.app_registry.specs.declared.users.UserType.{UserType}
 use Rattle.app_registry.specs.declared.users.UserType.TheVariants.{System, Admin, Normal, Guest}
 use Rattle.app_registry.proofs.Filters.{AllByRecursion-both, option_map-none}
 use Rattle.app_registry.proofs.Rising.{AllByRecursion-placed}
-use Rattle.cynara_keys.specs.declared.fields.Field.TheVariants.{Any, Exact}
+use Rattle.cynara_keys.specs.declared.fields.Field.TheVariants.{Any}
 use Rattle.desk_state.specs.DeskState.{DeskState}
 use Rattle.desk_state.specs.IsDesk.{IsBare, IsLaidOut, IsDesk}
-use Rattle.desk_state.specs.Layout.{main, manifests, admin, type_bucket, built_in, is_built_in, is_managed, has_layout, link, user_link, main_policies, manifest_policies, settled}
+use Rattle.desk_state.specs.Layout.{main, manifests, type_bucket, built_in, is_built_in, is_managed, has_layout, link, user_link, main_policies, manifest_policies}
 use Rattle.desk_state.specs.Rules.{reserved, reserves, changed_bucket}
 use Rattle.desk_state.specs.parts.Stepping.{IsArranged, moved}
-use Rattle.desk_state.specs.declared.commands.Command.{Command}
 use Rattle.desk_state.specs.declared.commands.Command.TheVariants.{SetBucket, RemoveBucket, SetPolicies, Erase}
-use Rattle.desk_state.specs.declared.refusals.Refusal.{Refusal}
 use Rattle.desk_state.specs.declared.refusals.Refusal.TheVariants.{Reserved}
 use Rattle.desk_state.proofs.Filters.{filter-within, filter-turn, none-filter}
 use Rattle.desk_state.proofs.Owning.{own, in_bucket, IsOwned, settled-IsOwned, IsOwned-settled, own-apart}
@@ -83,13 +79,13 @@ bare-out desk bare = bare.no_bucket.0
 laid-out : (desk : DeskState) → IsLaidOut desk → has_layout desk.database ≡ true
 laid-out desk laid = laid.buckets.0
 
-laid-owned : (desk : DeskState) → IsLaidOut desk → IsOwned desk.registry desk.database.policies
+pub laid-owned : (desk : DeskState) → IsLaidOut desk → IsOwned desk.registry desk.database.policies
 laid-owned desk laid =
     subst (λ (database : Database). IsOwned desk.registry database.policies) laid.settled (settled-IsOwned desk.registry desk.database)
 
 -- ---- a bucket made
 
-has-with : (heading : Heading) (other : List ℕ) (database : Database) → has_bucket other database ≡ true
+pub has-with : (heading : Heading) (other : List ℕ) (database : Database) → has_bucket other database ≡ true
     → has_bucket other (with_bucket heading database) ≡ true
 has-with heading other database has =
     any-put (λ (here : Heading). same_text here.name other) heading_cmp heading

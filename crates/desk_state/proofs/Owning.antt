@@ -1,28 +1,25 @@
 -- The policies of one bucket among those of all: what the settled buckets have, and which changes leave them.
-use Rattle.std.proofs.Common.{◌≡◌, ℕ, Bool, true, false, not, cond, ◌&&◌, ◌||◌, List, [], ◌∷◌, ◌++◌, map, refl, sym, ap, ◌∙◌, subst}
+use Rattle.std.proofs.Common.{◌≡◌, ℕ, Bool, true, false, not, cond, ◌&&◌, List, [], ◌∷◌, ◌++◌, map, refl, sym, ap, ◌∙◌}
 use Rattle.std.specs.declared.cmp.Ordering.{Ordering}
 use Rattle.std.specs.declared.cmp.Ordering.TheVariants.{Less, Equal, Greater}
-use Rattle.std.specs.List.{AllByRecursion, filter, fold}
+use Rattle.std.specs.List.{AllByRecursion, filter}
 use Rattle.std.specs.List.Sorted.{IsStrictlySortedBy}
 use Rattle.std.specs.Ordering.{is_lt, is_gt, is_eq, ordering_reverse, ordering_then}
 use Rattle.std.proofs.lemmas.Bool.{true≢false}
 use Rattle.std.proofs.lemmas.List.Elements.{filter-append}
 use Rattle.cynara_keys.specs.Text.{same_text, text_cmp}
 use Rattle.cynara_keys.specs.Key.{key_cmp, same_key}
-use Rattle.cynara_keys.specs.PolicyResult.{Ruling}
-use Rattle.cynara_keys.specs.declared.keys.Key.{Key}
 use Rattle.cynara_keys.specs.declared.keys.Policy.{Policy}
 use Rattle.cynara_keys.proofs.Order.{same_text-≡, ≡-same_text, text_total, text_cmp-equal}
 use Rattle.bucket_store.specs.Database.{Database, Placed}
-use Rattle.bucket_store.specs.Order.{placed_cmp, policy_cmp, put}
+use Rattle.bucket_store.specs.Order.{placed_cmp, policy_cmp}
 use Rattle.bucket_store.specs.Change.{after_change, is_at}
 use Rattle.bucket_store.specs.parts.Batch.{name_of}
 use Rattle.bucket_store.specs.declared.policy_changes.Change.{Change}
 use Rattle.bucket_store.specs.declared.policy_changes.Change.TheVariants.{Set, Delete}
-use Rattle.bucket_store.proofs.Lists.{filter-all, filter-none}
 use Rattle.app_registry.specs.Registry.{RegistryLists}
 use Rattle.desk_state.specs.Layout.{main, manifests, with_own, main_policies, manifest_policies, settled}
-use Rattle.desk_state.proofs.Filters.{filter-within, filter-outside, filter-turn, AllUp, up, three-parts, up-through}
+use Rattle.desk_state.proofs.Filters.{filter-within, filter-outside, AllUp, up, three-parts, up-through}
 
 -- the policies of a bucket
 abbrev pub own : List ℕ → List Placed → List Placed

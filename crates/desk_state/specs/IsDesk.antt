@@ -1,5 +1,5 @@
 -- What every policy state keeps.
-use Rattle.std.specs.Prelude.{◌≡◌, ◌≤◌, ◌⊎◌, ℕ, true, false, [], IsTrue}
+use Rattle.std.specs.Prelude.{◌≡◌, ◌≤◌, ◌⊎◌, true, false, [], IsTrue}
 use Rattle.std.specs.List.{AllByRecursion}
 use Rattle.cynara_keys.specs.PolicyResult.{deny}
 use Rattle.bucket_store.specs.Database.{Heading, has_bucket}

@@ -1,6 +1,5 @@
 -- What a command makes of a policy state, where no rule refuses it.
 use Rattle.std.specs.Prelude.{ℕ, ◌+◌, List, [], length}
-use Rattle.cynara_keys.specs.PolicyResult.{Ruling}
 use Rattle.bucket_store.specs.Database.{Database}
 use Rattle.bucket_store.specs.Change.{listed}
 use Rattle.bucket_store.specs.Refusal.{Request, set_bucket, remove_bucket, set_policies, erase}

@@ -2,7 +2,6 @@
 use Rattle.std.specs.Prelude.{◌≡◌, ℕ, Bool, true, false, not, ◌&&◌, ◌||◌, ◌==◌, if◌then◌else◌, List, [], ◌∷◌, map, find, Option, Some, None}
 use Rattle.std.specs.Option.{option_map}
 use Rattle.cynara_keys.specs.declared.limits.Counted.TheVariants.{Commits}
-use Rattle.bucket_store.specs.Database.{Database}
 use Rattle.bucket_store.specs.Refusal as store
 use Rattle.bucket_store.specs.declared.policy_changes.Change.{Change}
 use Rattle.bucket_store.specs.declared.policy_changes.Change.TheVariants.{Set, Delete}
@@ -14,9 +13,9 @@ use Rattle.app_registry.specs.declared.refusals.RegistryRefusal.TheVariants as r
 use Rattle.app_registry.specs.declared.refusals.RegistryRefusal.{RegistryRefusal}
 use Rattle.desk_state.specs.DeskState.{DeskState}
 use Rattle.desk_state.specs.Layout.{is_built_in, is_managed, has_layout}
-use Rattle.desk_state.specs.Next.{request, next_registry}
+use Rattle.desk_state.specs.Next.{request}
 use Rattle.desk_state.specs.declared.commands.Command.{Command}
-use Rattle.desk_state.specs.declared.commands.Command.TheVariants.{SetBucket, RemoveBucket, SetPolicies, Erase, Layout, SetTemplate, UserSet, UserRemove, Install, Uninstall}
+use Rattle.desk_state.specs.declared.commands.Command.TheVariants.{SetBucket, RemoveBucket, SetPolicies, Erase, Layout, UserSet, UserRemove, Install, Uninstall}
 use Rattle.desk_state.specs.declared.desks.TheConstants.{LAST_COMMIT}
 use Rattle.desk_state.specs.declared.refusals.Refusal.{Refusal}
 use Rattle.desk_state.specs.declared.refusals.Refusal.TheVariants.{Reserved, LayoutThere, NoLayout, NoBucket, RootBucket, BadKind, UnknownUser, OtherPackage, OtherAuthor, NotInstalled, Limit, Cycle, Memory}

@@ -1,2 +1,5 @@
 pub mod Naming
 pub mod Stepping
+pub mod Following
+pub mod Linking
+pub mod Packages

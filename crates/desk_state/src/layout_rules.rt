@@ -47,7 +47,9 @@ impl Desk {
 fn has_bucket(buckets: &[Bucket], name: &[u8]) -> bool
     ensures { result ≡ list_any (λ bucket. same_text bucket.name name.now) buckets.now }
 {
-    buckets.iter().any(|bucket| bucket.name().as_slice() == name)
+    buckets
+        .iter()
+        .any(|bucket| bucket.name().as_slice() == name)
 }
 
 // The refusal of a reserved name.

@@ -6,11 +6,16 @@
 //! refusals are this project's profile.
 #![tactic(auto)]
 
+mod applying;
 mod commands;
 mod desks;
+mod following;
 mod layout_rules;
+mod layouts;
 mod names;
+mod package_rules;
 mod refusals;
+mod registry_commands;
 mod steps;
 mod store_commands;
 

@@ -14,10 +14,13 @@ pub const MANIFESTS: &[u8] = b"MANIFESTS";
 /// What the administrator decides for all types.
 pub const ADMIN: &[u8] = b"ADMIN";
 
-const SYSTEM: &[u8] = b"USER_TYPE_SYSTEM";
-const ADMINS: &[u8] = b"USER_TYPE_ADMIN";
-const NORMAL: &[u8] = b"USER_TYPE_NORMAL";
-const GUEST: &[u8] = b"USER_TYPE_GUEST";
+pub(crate) const SYSTEM: &[u8] = b"USER_TYPE_SYSTEM";
+
+pub(crate) const ADMINS: &[u8] = b"USER_TYPE_ADMIN";
+
+pub(crate) const NORMAL: &[u8] = b"USER_TYPE_NORMAL";
+
+pub(crate) const GUEST: &[u8] = b"USER_TYPE_GUEST";
 
 /// What the administrator decides for a type.
 pub fn type_bucket(kind: UserType) -> &'static [u8]

@@ -79,7 +79,7 @@ impl Desk {
     }
 
     // The next state with this database, all else as it is.
-    fn on_database(&self, database: Database, erased: u32) -> Result<Applied, Refusal>
+    pub(crate) fn on_database(&self, database: Database, erased: u32) -> Result<Applied, Refusal>
         requires { IsArranged (moved self.now database self.now.registry self.now.template) }
         ensures { Steps self.now (moved self.now database self.now.registry self.now.template) erased result }
     {

@@ -132,6 +132,11 @@ impl Template {
         Ok(Template { lines })
     }
 
+    /// The allocator of the template's memory, for what is made beside it.
+    pub fn allocator(&self) -> Global {
+        *self.lines.allocator()
+    }
+
     /// The rules that the template gives for a package with an author, or with none: its lines in order, each
     /// placeholder replaced by the package's label. A line with `~AUTHOR~` is left out without an author.
     pub fn rules_for(

@@ -1,7 +1,9 @@
 -- The parts of a step from a desk to the next.
-use Rattle.std.specs.Prelude.{◌≡◌, ◌⊎◌, ℕ, ◌+◌, ◌==◌, if◌then◌else◌, List, Result, Ok, Err, Option, Some, None}
+use Rattle.std.specs.Prelude.{◌≡◌, ◌⊎◌, ℕ, ◌+◌, ◌==◌, if◌then◌else◌, List, [], ◌∷◌, Result, Ok, Err, Option, Some, None}
+use Rattle.std.specs.Option.{option_map}
 use Rattle.cynara_keys.specs.declared.limits.Counted.TheVariants.{Commits}
 use Rattle.bucket_store.specs.Database.{Database}
+use Rattle.bucket_store.specs.Refusal as store
 use Rattle.bucket_store.specs.declared.refusals.StoreRefusal.TheVariants as stored
 use Rattle.bucket_store.specs.declared.refusals.StoreRefusal.{StoreRefusal}
 use Rattle.app_registry.specs.Registry.{RegistryLists}
@@ -11,13 +13,13 @@ use Rattle.rule_templates.specs.declared.lines.TemplateLine.{TemplateLine}
 use Rattle.desk_state.specs.DeskState.{DeskState}
 use Rattle.desk_state.specs.IsDesk.{IsBare, IsLaidOut}
 use Rattle.desk_state.specs.Next.{next, erased_by}
-use Rattle.desk_state.specs.Rules.{fault, Refuses, of_store, of_registry, commit_limit, reserved, layout_there, no_layout}
-use Rattle.desk_state.specs.Layout.{has_layout}
+use Rattle.desk_state.specs.Rules.{first_of, fault, Refuses, of_store, commit_limit, reserved, layout_there, no_layout}
+use Rattle.desk_state.specs.Layout.{has_layout, settled}
 use Rattle.desk_state.specs.declared.commands.Command.{Command}
 use Rattle.desk_state.specs.declared.desks.Applied.{Applied}
 use Rattle.desk_state.specs.declared.desks.TheConstants.{LAST_COMMIT}
 use Rattle.desk_state.specs.declared.refusals.Refusal.{Refusal}
-use Rattle.desk_state.specs.declared.refusals.Refusal.TheVariants.{Reserved, LayoutThere, NoLayout, NoBucket, RootBucket, BadKind, UnknownUser, OtherPackage, OtherAuthor, NotInstalled, Limit, Cycle, Memory}
+use Rattle.desk_state.specs.declared.refusals.Refusal.TheVariants.{NoBucket, RootBucket, BadKind, UnknownUser, OtherPackage, OtherAuthor, NotInstalled, Limit, Cycle, Memory}
 
 -- the desk after the next command, with these parts
 abbrev pub moved : DeskState → Database → RegistryLists → List TemplateLine → DeskState
@@ -77,3 +79,19 @@ pub record IsApplied (desk : DeskState) (command : Command) (applied : Applied) 
 abbrev pub Answers : DeskState → Command → Result Applied Refusal → Type 0
 Answers desk command (Ok applied) = IsApplied desk command applied
 Answers desk command (Err refusal) = Refuses desk command refusal
+
+-- what stands against the two buckets as a registry gives them
+abbrev pub settled_fault : DeskState → RegistryLists → Option Refusal
+settled_fault desk registry =
+    let next = settled registry desk.database in
+    first_of (commit_limit desk.commit ∷ option_map of_store (store.limit next) ∷ option_map of_store (store.cycle next) ∷ [])
+
+pub record IsSettled (desk : DeskState) (registry : RegistryLists) (applied : Applied) : Type 0 where
+  pub next : applied.desk ≡ moved desk (settled registry desk.database) registry desk.template
+  pub erased : applied.erased ≡ 0
+  pub accepted : settled_fault desk registry ≡ None
+
+abbrev pub Settles : DeskState → RegistryLists → Result Applied Refusal → Type 0
+Settles desk registry (Ok applied) = IsSettled desk registry applied
+Settles desk registry (Err (Memory error)) = Unit {0}
+Settles desk registry (Err refusal) = settled_fault desk registry ≡ Some refusal

@@ -1,5 +1,5 @@
-use Rattle.std.proofs.Common.{◌≡◌, Some, None, find, map, sym, ap, ◌∙◌}
-use Rattle.std.specs.Option.{option_copied, option_map}
+use Rattle.std.proofs.Common.{◌≡◌, Some, None, find, sym, ap, ◌∙◌}
+use Rattle.std.specs.Option.{option_map}
 use Rattle.bucket_store.specs.declared.policy_changes.Change.{Change}
 use Rattle.desk_state.specs.Layout.{is_managed}
 use Rattle.desk_state.specs.Rules.{changed_bucket}

@@ -1,4 +1,4 @@
-use Rattle.std.proofs.Common.{◌≡◌, ◌≤◌, List, [], ◌∷◌, IsTrue, false, rules, refl, sym, ap, inl, arith, subst}
+use Rattle.std.proofs.Common.{◌≡◌, [], ◌∷◌, IsTrue, false, rules, refl, sym, inl, arith, subst}
 use Rattle.cynara_keys.specs.PolicyResult.{deny}
 use Rattle.bucket_store.specs.Bucket.{Bucket}
 use Rattle.bucket_store.specs.Database.{Database, has_bucket}
@@ -11,9 +11,8 @@ use Rattle.bucket_store.proofs.Sound.{well_formed}
 use Rattle.app_registry.specs.Registry.{RegistryLists}
 use Rattle.app_registry.proofs.Changes.{IsRegistry-fresh}
 use Rattle.rule_templates.specs.Template.{is_template}
-use Rattle.rule_templates.specs.declared.lines.TemplateLine.{TemplateLine}
 use Rattle.desk_state.specs.DeskState.{fresh}
-use Rattle.desk_state.specs.IsDesk.{IsBare, IsDesk}
+use Rattle.desk_state.specs.IsDesk.{IsBare}
 use Rattle.desk_state.proofs.desks.Desk.fresh.Goals as goal
 
 abbrev root : Bucket

@@ -1,6 +1,6 @@
-use Rattle.std.proofs.Common.{◌≡◌, sym, ap, ◌∙◌}
+use Rattle.std.proofs.Common.{sym, ap, ◌∙◌}
 use Rattle.cynara_keys.specs.Text.{same_text}
-use Rattle.bucket_store.specs.Database.{Database, Heading, heading_of}
+use Rattle.bucket_store.specs.Database.{Heading, heading_of}
 use Rattle.bucket_store.proofs.Sound.{any-map}
 use Rattle.desk_state.specs.Layout.{main, has_layout}
 use Rattle.desk_state.proofs.desks.Desk.has_layout.Goals as goal

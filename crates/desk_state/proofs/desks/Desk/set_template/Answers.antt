@@ -1,11 +1,8 @@
-use Rattle.std.proofs.Common.{◌≡◌, IsTrue, None, refl, sym, ap, ◌∙◌, subst}
-use Rattle.bucket_store.specs.Database.{Database}
-use Rattle.app_registry.specs.Registry.{RegistryLists}
-use Rattle.rule_templates.specs.declared.lines.TemplateLine.{TemplateLine}
+use Rattle.std.proofs.Common.{◌≡◌, refl, ◌∙◌}
 use Rattle.desk_state.specs.declared.commands.Command.{Command}
 use Rattle.desk_state.specs.declared.commands.Command.TheVariants.{SetTemplate}
 use Rattle.desk_state.specs.parts.Stepping.{moved}
-use Rattle.desk_state.proofs.Deciding.{IsOnDatabase, stepped_by_store, quiet}
+use Rattle.desk_state.proofs.Deciding.{stepped_by_store, quiet}
 use Rattle.desk_state.proofs.desks.Desk.set_template.Goals as goal
 
 pub returns : goal.returns
