@@ -6,7 +6,7 @@ ghost use Rattle.desk_world.specs.Agents.{answered, gone_if_open, once_stopped, 
 ghost use Rattle.desk_world.specs.parts.Parts.{world_of, Becomes};
 
 use crate::agent_entries::{AgentEntry, EntryState};
-use crate::link_events::{entry_at, set_link};
+use crate::link_events::{ask_at, entry_at, link_at, set_link};
 use crate::links::{Link, Reading};
 use crate::parts::Parts;
 use crate::refusals::{MOST_ENTRIES, MOST_WAITING};
@@ -70,13 +70,13 @@ pub fn put(world: &mut Parts, link: u32, full: Option<u32>) -> Result<bool, Allo
     ensures { IfOk result (λ enabled. Becomes (put link full (world_of world.old)) enabled (world_of world.new)) }
 {
     let fits = fits(world, full);
-    let Some(found) = world.links.get(link as usize) else {
+    let Some(found) = link_at(&world.links, link) else {
         return Ok(false);
     };
     let Some(ask) = found.question else {
         return Ok(false);
     };
-    let Some(asked) = world.asks.get(ask as usize) else {
+    let Some(asked) = ask_at(&world.asks, ask) else {
         return Ok(false);
     };
     let Reading::Due { commit, kind, .. } = found.reading else {

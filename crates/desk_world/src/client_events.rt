@@ -3,7 +3,7 @@ ghost use Rattle.std.specs.Prelude.{◌≡◌, ◌<◌, ◌^◌, length, IfOk};
 ghost use Rattle.desk_world.specs.Clients.{dial, asked, send, hit, given, received, deliver, notice, tell, new_link};
 ghost use Rattle.desk_world.specs.parts.Parts.{world_of, Becomes};
 
-use crate::link_events::set_link;
+use crate::link_events::{ask_at, link_at, set_link};
 use crate::links::{Asked, Link, Reading};
 use crate::parts::Parts;
 use crate::replies::{Given, Reply};
@@ -137,13 +137,13 @@ pub fn deliver(world: &mut Parts, client: u32) -> Result<bool, AllocError>
     let Some(ask) = slots::asking(&world.clients, client) else {
         return Ok(false);
     };
-    let Some(asked) = world.asks.get(ask as usize) else {
+    let Some(asked) = ask_at(&world.asks, ask) else {
         return Ok(false);
     };
     let Some(link) = slots::link(&world.clients, client) else {
         return Ok(false);
     };
-    let Some(found) = world.links.get(link as usize) else {
+    let Some(found) = link_at(&world.links, link) else {
         return Ok(false);
     };
     let Some(transit) = found.reply else {

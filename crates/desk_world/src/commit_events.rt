@@ -11,8 +11,8 @@ use crate::agent_events::stop_all;
 use crate::link_events::{close_all, hang_up};
 use crate::parts::Parts;
 use crate::states::State;
-use desk_state::{Command, Desk};
-use std::alloc::{AllocError, Global};
+use desk_state::{Applied, Command, Desk, Refusal};
+use std::alloc::AllocError;
 
 // The last of a state and those after it.
 fn latest<'a>(first: &'a State, later: &'a [State]) -> &'a State
@@ -32,14 +32,15 @@ fn last(world: &Parts) -> u64
 }
 
 // The state that the command leads to, if no rule refuses it.
-fn next_state(alloc: Global, desk: &Desk, command: &Command) -> Result<Option<Desk>, AllocError>
+fn next_state(desk: &Desk, command: &Command) -> Result<Option<Desk>, AllocError>
     ensures { IfOk result (λ made. made
         ≡ (if is_none (fault desk.now command.now) then Some (next desk.now command.now) else None)) }
 {
-    // Until commands are applied: the answer is want of memory.
-    let _copy = command.copy(alloc)?;
-    let _commit = desk.commit();
-    Err(AllocError)
+    match desk.apply(command) {
+        Ok(Applied { desk, erased: _ }) => Ok(Some(desk)),
+        Err(Refusal::Memory(error)) => Err(error),
+        Err(_) => Ok(None),
+    }
 }
 
 // The state that the command leads to, if it may be stored.
@@ -52,7 +53,7 @@ fn proposed(world: &Parts, command: &Command) -> Result<Option<State>, AllocErro
         return Ok(None);
     }
     let latest = latest(&world.first, &world.later);
-    match next_state(alloc, latest.desk(), command)? {
+    match next_state(latest.desk(), command)? {
         Some(desk) => {
             let state = State::of(alloc, desk)?;
             Ok(Some(state))

@@ -1,5 +1,5 @@
 // What the workers of links do, and how links close.
-ghost use Rattle.std.specs.Prelude.{◌≡◌, ◌<◌, ◌&&◌, nat_le, length, map, is_some, Some, None, MatchOption};
+ghost use Rattle.std.specs.Prelude.{◌≡◌, ◌<◌, ◌&&◌, nat_le, length, map, slice_get, is_some, Some, None, MatchOption};
 ghost use Rattle.desk_world.specs.World.{entry_at, with_link};
 ghost use Rattle.desk_world.specs.Links.{enter, is_nothing, read, outgoing, write, lose};
 ghost use Rattle.desk_world.specs.Commits.{entered_before, hung_up, closed};
@@ -7,7 +7,7 @@ ghost use Rattle.desk_world.specs.parts.Parts.{world_of, Becomes};
 
 use crate::agent_entries::{AgentEntry, EntryState};
 use crate::evaluations::{is_nothing, reading_at, state_at};
-use crate::links::{Link, Reading, Transit};
+use crate::links::{Asked, Link, Reading, Transit};
 use crate::parts::Parts;
 use crate::replies::Reply;
 
@@ -67,6 +67,22 @@ fn may_read(found: &Link, commit: u64, published: u64) -> bool
         && is_nothing(&found.reading)
         && found.seen <= commit
         && commit <= published
+}
+
+// The link of the number.
+pub fn link_at(links: &[Link], link: u32) -> Option<&Link>
+    ensures { MatchOption result (slice_get links.now link ≡ None)
+        (λ found. slice_get links.now link ≡ Some found.now) }
+{
+    links.get(link as usize)
+}
+
+// The ask of the number.
+pub fn ask_at(asks: &[Asked], ask: u32) -> Option<&Asked>
+    ensures { MatchOption result (slice_get asks.now ask ≡ None)
+        (λ asked. slice_get asks.now ask ≡ Some asked.now) }
+{
+    asks.get(ask as usize)
 }
 
 // The link is this one from now on.
