@@ -3,7 +3,7 @@ ghost use Rattle.std.specs.Prelude.{◌≡◌, ◌<◌, ◌^◌, ◌+◌, if◌t
 ghost use Rattle.desk_state.specs.Next.{next};
 ghost use Rattle.desk_state.specs.Rules.{fault};
 ghost use Rattle.desk_world.specs.World.{latest_of, last};
-ghost use Rattle.desk_world.specs.Commits.{stored, undecided, decide, publish, hang, acknowledge, restarted, stop};
+ghost use Rattle.desk_world.specs.Commits.{stored, undecided, decide, publish, hang, acknowledge, restarted};
 ghost use Rattle.desk_world.specs.Commits.{may_store, committed};
 ghost use Rattle.desk_world.specs.parts.Parts.{world_of, Becomes};
 
@@ -145,12 +145,21 @@ fn restart(world: &mut Parts)
     stop_all(&mut world.entries);
 }
 
-// The state is committed, if there is one.
-fn commit(world: &mut Parts, state: Option<State>) -> Result<(), AllocError>
-    ensures { IfOk result (λ done. world_of world.new ≡ committed state (world_of world.old)) }
+// The service stops, and what was under way is kept or not.
+pub fn stop_alone(world: &mut Parts, kept: bool) -> Result<(), AllocError>
+    requires { world.old.run + 1 < 2 ^ 32 }
+    ensures { IfOk result (λ done. world_of world.new
+        ≡ restarted (committed (if kept then world.old.candidate else None) (world_of world.old))) }
 {
-    if let Some(state) = state {
-        world.later.push(state)?;
+    if !kept {
+        restart(world);
+        return Ok(());
     }
+    let Some(state) = world.candidate.take() else {
+        restart(world);
+        return Ok(());
+    };
+    world.later.push(state)?;
+    restart(world);
     Ok(())
 }

@@ -22,8 +22,10 @@ mod refusals;
 mod replies;
 mod slots;
 mod states;
+mod worlds;
 
 pub use events::{Event, Half};
 pub use promise::freshness;
 pub use refusals::WorldRefusal;
 pub use replies::{Given, Reply};
+pub use worlds::World;
