@@ -1,8 +1,8 @@
 // What is left of a frame, and the plain fields at its front.
-ghost use Rattle.std.specs.Prelude.{◌≡◌, ◌≤◌, length};
+ghost use Rattle.std.specs.Prelude.{◌≡◌, ◌≤◌, ◌==◌, length};
 ghost use Rattle.std.specs.Int.{w8, w16, w32, w64};
 ghost use Rattle.wire_messages.specs.Left.{Gives, GivesText, place};
-ghost use Rattle.wire_messages.specs.Format.{number, text};
+ghost use Rattle.wire_messages.specs.Format.{number, text, behind};
 
 use crate::WireRefusal;
 use std::marker::Model;
@@ -34,6 +34,21 @@ impl<'a> Fields<'a> {
             end: frame.len() as u32,
             rest: frame,
         }
+    }
+
+    /// Steps over the length of a frame.
+    pub fn skip_length(&mut self)
+        requires { 4 ≤ length self.old.rest }
+        ensures { self.new ≡ behind 4 self.old }
+    {
+        self.rest = &self.rest[4..];
+    }
+
+    /// Whether no byte is left.
+    pub fn is_empty(&self) -> bool
+        ensures { result ≡ (length self.now.rest == 0) }
+    {
+        self.rest.is_empty()
     }
 
     /// The place of the next byte.

@@ -5,8 +5,20 @@
 //! The frames are this project's profile.
 #![tactic(auto)]
 
+mod decoding;
 mod fields;
+mod limits;
+mod list_readers;
+mod message_readers;
+mod messages;
+mod operations;
 mod readers;
+mod refusal_readers;
 mod refusals;
+mod rules;
 
+pub use decoding::decode;
+pub use limits::{LEAST_LENGTH, MOST_FRAME_BYTES, MOST_LENGTH};
+pub use messages::{Framed, Message};
+pub use operations::{Heard, Operation};
 pub use refusals::{EncodeRefusal, WireRefusal};

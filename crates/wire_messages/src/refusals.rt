@@ -1,4 +1,7 @@
-use std::alloc::AllocError;
+ghost use Rattle.std.specs.Prelude.{◌≡◌, alloc_error};
+ghost use Rattle.wire_messages.specs.declared.refusals.WireRefusal.TheVariants.{Memory};
+
+use std::alloc::{AllocError, AllocFailed};
 use thiserror::Error;
 
 /// Why bytes are no frame of the side that hears them: the first fault from left to right. Places count from the frame's
@@ -22,6 +25,22 @@ pub enum WireRefusal {
     Trailing(u32),
     #[error("out of memory")]
     Memory(AllocError),
+}
+
+impl From<AllocError> for WireRefusal {
+    ghost from_gives = { λ error refusal. refusal ≡ Memory error };
+
+    fn from(error: AllocError) -> WireRefusal {
+        WireRefusal::Memory(error)
+    }
+}
+
+impl<T: Drop> From<AllocFailed<T>> for WireRefusal {
+    ghost from_gives = { λ _ refusal. refusal ≡ Memory alloc_error };
+
+    fn from(failed: AllocFailed<T>) -> WireRefusal {
+        WireRefusal::Memory(AllocError::from(failed))
+    }
 }
 
 /// Why a message is not spelled.

@@ -1,0 +1,4 @@
+pub mod Exact
+pub mod Loops
+pub mod Rises
+pub mod Lengths
