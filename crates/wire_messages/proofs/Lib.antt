@@ -1,4 +1,11 @@
 pub mod Exact
+pub mod Lengths
 pub mod Loops
 pub mod Rises
-pub mod Lengths
+pub mod FieldLaws
+pub mod RefusalLaws
+pub mod MessageLaws
+pub mod FrameLaws
+pub mod Streams
+pub mod Settling
+pub mod Appending

@@ -148,8 +148,11 @@ verdict = seen
     (number w64 ⊗ (ruling ⊗ (bucket ⊗ optional row)))
 
 -- how many open questions there may be, and how many numbers of questions
+abbrev pub is_most : ℕ → Bool
+is_most n = n == 1024 || n == 4294967295
+
 abbrev pub most : Format ℕ
-most = tested (λ n. n == 1024 || n == 4294967295) (number w32)
+most = tested is_most (number w32)
 
 -- ---- users and installs
 
@@ -233,8 +236,11 @@ install = seen
 
 -- ---- files and templates
 
+abbrev pub is_file_text : List ℕ → Bool
+is_file_text bytes = is_none (file_name_fault bytes)
+
 abbrev pub file_name : Format (List ℕ)
-file_name = tested (λ bytes. is_none (file_name_fault bytes)) text
+file_name = tested is_file_text text
 
 -- whether a text is the one spelling of the template that it is read as
 abbrev pub is_text_of : List ℕ → Result (List TemplateLine) TemplateRefusal → Bool

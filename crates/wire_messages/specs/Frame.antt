@@ -1,5 +1,5 @@
 -- Frames: a length, which counts what follows it, a sequence number, the number of an operation, and its fields.
-use Rattle.std.specs.Prelude.{◌≡◌, ℕ, ◌-◌, ◌==◌, nat_lt, if◌then◌else◌, List, ◌∷◌, ◌++◌, length, take, drop, Option, Some, None, Result, Ok, Err}
+use Rattle.std.specs.Prelude.{◌≡◌, ℕ, ◌<◌, ◌==◌, nat_lt, if◌then◌else◌, List, ◌∷◌, ◌++◌, length, take, drop, Option, Some, None, Result, Ok, Err}
 use Rattle.std.specs.Int.{w8, w16, w32, to_be_bytes, from_be_bytes}
 use Rattle.wire_messages.specs.declared.messages.Framed.{Framed}
 use Rattle.wire_messages.specs.declared.messages.Message.{Message}
@@ -7,6 +7,8 @@ use Rattle.wire_messages.specs.declared.operations.Heard.{Heard}
 use Rattle.wire_messages.specs.declared.operations.Operation.{Operation}
 use Rattle.wire_messages.specs.declared.refusals.WireRefusal.{WireRefusal}
 use Rattle.wire_messages.specs.declared.refusals.WireRefusal.TheVariants.{TooShort, TooLong, BadOperation, Trailing}
+use Rattle.wire_messages.specs.declared.refusals.EncodeRefusal.{EncodeRefusal}
+use Rattle.wire_messages.specs.declared.refusals.EncodeRefusal.TheVariants.{TooLong as TooLongFor, Memory as NoMemory}
 use Rattle.wire_messages.specs.declared.limits.TheConstants.{LEAST_LENGTH, MOST_LENGTH}
 use Rattle.wire_messages.specs.Left.{Left, Reading, place, ◌>>=◌, Refuses}
 use Rattle.wire_messages.specs.Format.{number}
@@ -55,6 +57,11 @@ unless_fault None framed = framed
 abbrev pub frame_of : Heard → List ℕ → Result Framed WireRefusal
 frame_of heard frame =
     unless_fault (length_fault (length_of frame)) (body_of heard (record { end = length frame; rest = drop 4 frame }))
+
+-- the frame of the message would be longer than a frame may be, and this is its length
+abbrev pub IsTooLong : Framed → EncodeRefusal → Type 0
+IsTooLong framed (TooLongFor n) = (n ≡ length (body framed)) × (MOST_LENGTH < n)
+IsTooLong framed (NoMemory error) = Unit {0}
 
 -- A call gives what is read. Want of memory says nothing of the bytes.
 abbrev pub Answers : {X : Type 0} → Result X WireRefusal → Result X WireRefusal → Type 0

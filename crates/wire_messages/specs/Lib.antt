@@ -1,8 +1,13 @@
 pub mod Left
 pub mod Format
 pub mod Field
-pub mod Right
 pub mod Refused
 pub mod Operation
 pub mod Message
+pub mod Right
 pub mod Frame
+pub mod Hearing
+pub mod Stream
+pub mod Commands
+pub mod Appended
+pub mod parts

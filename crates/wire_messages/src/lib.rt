@@ -5,19 +5,28 @@
 //! The frames are this project's profile.
 #![tactic(auto)]
 
+mod commands;
 mod decoding;
+mod encoding;
+mod feeding;
 mod fields;
 mod limits;
 mod list_readers;
+mod list_writers;
 mod message_readers;
+mod message_writers;
 mod messages;
 mod operations;
 mod readers;
 mod refusal_readers;
 mod refusals;
 mod rules;
+mod writers;
 
+pub use commands::{command_of, message_of, refused_of};
 pub use decoding::decode;
+pub use encoding::encode;
+pub use feeding::Feeder;
 pub use limits::{LEAST_LENGTH, MOST_FRAME_BYTES, MOST_LENGTH};
 pub use messages::{Framed, Message};
 pub use operations::{Heard, Operation};
