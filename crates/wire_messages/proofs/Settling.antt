@@ -2,7 +2,7 @@
 use Rattle.std.proofs.Common.{◌≡◌, ℕ, ◌+◌, ◌<◌, ◌≤◌, Bool, true, false, cond, ltb, List, [], ◌∷◌, ◌++◌, length, take, drop, Option, Some, None, Result, Ok, Err, refl, sym, ap, subst, ◌∙◌, arith}
 use Rattle.std.specs.Int.{w32, from_be_bytes}
 use Rattle.std.proofs.lemmas.Bool.{ltb-false, ltb-true, le-ltb, lt-ltb}
-use Rattle.std.proofs.lemmas.List.{take-append-le, length-append, append-nil, take_all, drop_all}
+use Rattle.std.proofs.lemmas.List.{take-append-le, length-append, append-nil, append_assoc, take_all, drop_all}
 use Rattle.wire_messages.specs.declared.messages.Framed.{Framed}
 use Rattle.wire_messages.specs.declared.operations.Heard.{Heard}
 use Rattle.wire_messages.specs.declared.refusals.WireRefusal.{WireRefusal}
@@ -59,7 +59,7 @@ finished heard bytes long none same =
 
 -- ---- how far a frame that is not whole has come
 
-record Bound (bytes : List ℕ) : Type 0 where
+pub record Bound (bytes : List ℕ) : Type 0 where
   pub less : 4 ≤ length bytes → length bytes < length_of bytes + 4
   pub most : length bytes ≤ 1048579
 
@@ -132,3 +132,98 @@ refused_whole heard bytes (BadOperation n) is refused = is ∙ ap (λ (r : Resul
 refused_whole heard bytes (BadField n) is refused = is ∙ ap (λ (r : Result Framed WireRefusal). front_of r []) refused
 refused_whole heard bytes (Trailing n) is refused = is ∙ ap (λ (r : Result Framed WireRefusal). front_of r []) refused
 refused_whole heard bytes (Memory error) is refused = tt
+
+-- ---- steps of a feeder
+
+abbrev pub feeding : Heard → List Framed → List ℕ → Option WireRefusal → Feeding
+feeding heard waiting partial failed = record { heard = heard; waiting = waiting; partial = partial; failed = failed }
+
+pub step_ok : (heard : Heard) (partial front left bytes after : List ℕ) (waiting then_waiting : List Framed)
+    (failed : Option WireRefusal) → bytes ≡ front ++ left → Settled heard (partial ++ front) after waiting then_waiting
+    → Stepped (feeding heard waiting partial failed) (feeding heard then_waiting after failed) bytes left
+step_ok heard partial front left bytes after waiting then_waiting failed is settled = record {
+  messages = settled.messages;
+  waiting = settled.waiting;
+  hears = subst (λ (all : List ℕ). Hears heard all settled.messages (after ++ left))
+  (append_assoc partial front left ∙ ap (λ (b : List ℕ). partial ++ b) (sym is))
+  (hears_more heard (partial ++ front) left settled.messages after settled.hears);
+  unfinished = settled.unfinished;
+  side = refl;
+  failed = refl;
+}
+
+pub step_err : (heard : Heard) (partial front left bytes after : List ℕ) (waiting then_waiting : List Framed)
+    (failed : Option WireRefusal) (refusal : WireRefusal) → bytes ≡ front ++ left
+    → Unsettled heard (partial ++ front) after waiting then_waiting refusal
+    → Unstepped (feeding heard waiting partial failed) (feeding heard then_waiting after failed) bytes refusal
+step_err heard partial front left bytes after waiting then_waiting failed refusal is unsettled = record {
+  messages = [];
+  behind = partial ++ bytes;
+  waiting = unsettled.waiting ∙ sym (append-nil waiting);
+  hears = refl;
+  wrong = subst (λ (all : List ℕ). BeginsWrong heard all refusal)
+  (append_assoc partial front left ∙ ap (λ (b : List ℕ). partial ++ b) (sym is))
+  (wrong_more heard (partial ++ front) left refusal unsettled.wrong);
+  side = refl;
+  failed = refl;
+}
+
+pub no_step : (old : Feeding) (bytes : List ℕ) → IsOpen old.heard old.partial → Stepped old old bytes bytes
+no_step old bytes is = record {
+  messages = [];
+  waiting = sym (append-nil old.waiting);
+  hears = refl;
+  unfinished = is;
+  side = refl;
+  failed = refl;
+}
+
+pub step_then : (a b c : Feeding) (p q r : List ℕ) → Stepped a b p q → Stepped b c q r → Stepped a c p r
+step_then a b c p q r first second = record {
+  messages = first.messages ++ second.messages;
+  waiting = second.waiting ∙ ap (λ (w : List Framed). w ++ second.messages) first.waiting
+  ∙ append_assoc a.waiting first.messages second.messages;
+  hears = hears_then a.heard (a.partial ++ p) first.messages (b.partial ++ q) second.messages (c.partial ++ r) first.hears
+  (subst (λ (heard : Heard). Hears heard (b.partial ++ q) second.messages (c.partial ++ r)) first.side second.hears);
+  unfinished = subst (λ (heard : Heard). IsOpen heard c.partial) first.side second.unfinished;
+  side = second.side ∙ first.side;
+  failed = second.failed ∙ first.failed;
+}
+
+pub step_wrong : (a b c : Feeding) (p q : List ℕ) (refusal : WireRefusal) → Stepped a b p q → Unstepped b c q refusal
+    → Unstepped a c p refusal
+step_wrong a b c p q refusal first second = record {
+  messages = first.messages ++ second.messages;
+  behind = second.behind;
+  waiting = second.waiting ∙ ap (λ (w : List Framed). w ++ second.messages) first.waiting
+  ∙ append_assoc a.waiting first.messages second.messages;
+  hears = hears_then a.heard (a.partial ++ p) first.messages (b.partial ++ q) second.messages second.behind first.hears
+  (subst (λ (heard : Heard). Hears heard (b.partial ++ q) second.messages second.behind) first.side second.hears);
+  wrong = subst (λ (heard : Heard). BeginsWrong heard second.behind refusal) first.side second.wrong;
+  side = second.side ∙ first.side;
+  failed = second.failed ∙ first.failed;
+}
+
+pub all_fed : (old new : Feeding) (piece left : List ℕ) → left ≡ [] → old.failed ≡ None → Stepped old new piece left → Fed old new piece
+all_fed old new piece left none free stepped = record {
+  messages = stepped.messages;
+  waiting = stepped.waiting;
+  heard = subst (λ (b : List ℕ). Hears old.heard (old.partial ++ piece) stepped.messages b)
+  (ap (λ (b : List ℕ). new.partial ++ b) none ∙ append-nil new.partial) stepped.hears;
+  unfinished = stepped.unfinished;
+  side = stepped.side;
+  failed = stepped.failed ∙ free;
+}
+
+pub has_failed : (old new : Feeding) (piece : List ℕ) (refusal : WireRefusal) → Unstepped old new piece refusal
+    → Failed old (feeding new.heard new.waiting [] (Some refusal)) piece refusal
+has_failed old new piece refusal wrong = record {
+  messages = wrong.messages;
+  behind = wrong.behind;
+  waiting = wrong.waiting;
+  heard = wrong.hears;
+  wrong = wrong.wrong;
+  side = wrong.side;
+  partial = refl;
+  failed = refl;
+}

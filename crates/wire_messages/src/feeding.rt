@@ -89,7 +89,8 @@ impl Feeder {
 
     // hears the piece, in steps each of which takes bytes from its front
     fn hear(&mut self, piece: &[u8]) -> Result<(), WireRefusal>
-        requires { self.old.failed ≡ None }
+        requires free { self.old.failed ≡ None }
+        requires open_frame { IsOpen self.old.heard self.old.partial }
         ensures fed { OnOk result (Fed self.old self.new piece.now) }
         ensures refused { IfErr result (Unstepped self.old self.new piece.now) }
     {
@@ -112,10 +113,15 @@ impl Feeder {
         if let Err(error) = self.partial.append(front) {
             return Err(WireRefusal::Memory(error));
         }
-        match settle(self.alloc, self.heard, &mut self.partial, &mut self.waiting) {
-            Ok(()) => Ok(left),
-            Err(refusal) => Err(refusal),
+        if let Err(refusal) = settle(
+            self.alloc,
+            self.heard,
+            &mut self.partial,
+            &mut self.waiting,
+        ) {
+            return Err(refusal);
         }
+        Ok(left)
     }
 
     // how many bytes are wanted until the length is there, or else the whole frame

@@ -31,3 +31,6 @@ pub use limits::{LEAST_LENGTH, MOST_FRAME_BYTES, MOST_LENGTH};
 pub use messages::{Framed, Message};
 pub use operations::{Heard, Operation};
 pub use refusals::{EncodeRefusal, WireRefusal};
+
+#[cfg(test)]
+mod tests;

@@ -20,7 +20,7 @@ pub record Settled (heard : Heard) (bytes left : List ℕ) (old new : List Frame
 pub record Unsettled (heard : Heard) (bytes left : List ℕ) (old new : List Framed) (refusal : WireRefusal) : Type 0 where
   pub waiting : new ≡ old
   pub wrong : BeginsWrong heard bytes refusal
-  pub left : left ≡ []
+  pub emptied : left ≡ []
 
 -- the state after some bytes, of which these are left
 pub record Stepped (old new : Feeding) (bytes left : List ℕ) : Type 0 where
