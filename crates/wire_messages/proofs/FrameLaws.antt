@@ -158,23 +158,32 @@ body_again heard framed end is =
 body_size : (framed : Framed) → 3 ≤ length (body framed)
 body_size framed = omega (arith, length-append (to_be_bytes w16 framed.sequence) (number_of (operation framed.message) ∷ fields framed.message))
 
-pub frame_again : (heard : Heard) (framed : Framed) → IsHeard heard framed → frame_of heard (spelling framed) ≡ Ok framed
-frame_again heard framed is =
+-- the length in front of a spelling, and that it has no fault
+pub spelled_length : (heard : Heard) (framed : Framed) → IsHeard heard framed → length_of (spelling framed) ≡ length (body framed)
+spelled_length heard framed is =
     let n = length (body framed) in
     let front : take 4 (spelling framed) ≡ to_be_bytes w32 n = take_at (to_be_bytes w32 n) (body framed) 4 refl in
-    let behind : drop 4 (spelling framed) ≡ body framed = drop_at (to_be_bytes w32 n) (body framed) 4 refl in
     let small : n < 2 ^ 32 = omega (arith, is.short) in
-    let size : length_of (spelling framed) ≡ n = ap (from_be_bytes w32) front ∙ wide32.again n small in
+    ap (from_be_bytes w32) front ∙ wide32.again n small
+
+pub spelled_right : (heard : Heard) (framed : Framed) → IsHeard heard framed → length_fault (length_of (spelling framed)) ≡ None
+spelled_right heard framed is =
+    let n = length (body framed) in
     let not_short : ltb n 3 ≡ false = le-ltb _ _ (body_size framed) in
     let not_long : ltb 1048576 n ≡ false = le-ltb _ _ is.short in
-    let free : length_fault (length_of (spelling framed)) ≡ None = ap length_fault size ∙ rw (not_short, not_long) refl in
-    ap (λ (fault : Option WireRefusal). unless_fault fault (body_of heard (record { end = length (spelling framed); rest = drop 4 (spelling framed) }))) free
+    ap length_fault (spelled_length heard framed is) ∙ rw (not_short, not_long) refl
+
+pub frame_again : (heard : Heard) (framed : Framed) → IsHeard heard framed → frame_of heard (spelling framed) ≡ Ok framed
+frame_again heard framed is =
+    let behind : drop 4 (spelling framed) ≡ body framed = drop_at (to_be_bytes w32 (length (body framed))) (body framed) 4 refl in
+    ap (λ (fault : Option WireRefusal). unless_fault fault (body_of heard (record { end = length (spelling framed); rest = drop 4 (spelling framed) })))
+    (spelled_right heard framed is)
     ∙ ap (λ (r : List ℕ). body_of heard (record { end = length (spelling framed); rest = r })) behind
     ∙ body_again heard framed (length (spelling framed)) is
 
 -- ---- no spelling begins another
 
-spelling_size : (framed : Framed) → length (spelling framed) ≡ 4 + length (body framed)
+pub spelling_size : (framed : Framed) → length (spelling framed) ≡ 4 + length (body framed)
 spelling_size framed = length-append (to_be_bytes w32 (length (body framed))) (body framed)
 
 same_size : (a b : Framed) (x y : List ℕ) → length (body a) < 2 ^ 32 → length (body b) < 2 ^ 32 → spelling a ++ x ≡ spelling b ++ y

@@ -9,3 +9,4 @@ pub mod FrameLaws
 pub mod Streams
 pub mod Settling
 pub mod Appending
+pub mod Hearings

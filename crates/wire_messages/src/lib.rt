@@ -10,6 +10,7 @@ mod decoding;
 mod encoding;
 mod feeding;
 mod fields;
+mod laws;
 mod limits;
 mod list_readers;
 mod list_writers;
@@ -27,6 +28,10 @@ pub use commands::{command_of, message_of, refused_of};
 pub use decoding::decode;
 pub use encoding::encode;
 pub use feeding::Feeder;
+pub use laws::{
+    one_reading, one_spelling, pieces_do_not_matter, what_is_heard_is_spelled,
+    what_is_spelled_is_heard,
+};
 pub use limits::{LEAST_LENGTH, MOST_FRAME_BYTES, MOST_LENGTH};
 pub use messages::{Framed, Message};
 pub use operations::{Heard, Operation};
