@@ -11,6 +11,7 @@ use Rattle.wire_messages.specs.declared.messages.Message.{Message}
 use Rattle.wire_messages.specs.declared.operations.Heard.{Heard}
 use Rattle.wire_messages.specs.declared.operations.Operation.{Operation}
 use Rattle.wire_messages.specs.declared.operations.Operation.TheVariants as op
+use Rattle.wire_messages.specs.declared.refusals.EncodeRefusal.{EncodeRefusal}
 use Rattle.wire_messages.specs.declared.refusals.WireRefusal.{WireRefusal}
 use Rattle.wire_messages.specs.declared.refusals.WireRefusal.TheVariants.{TooShort, TooLong, BadOperation, Trailing}
 use Rattle.wire_messages.specs.Left.{Left, Reading, place, ◌>>=◌}
@@ -215,3 +216,8 @@ pub is_read : (heard : Heard) (frame : List ℕ) (answer : Result Framed WireRef
     → frame ≡ spelling framed → Answers answer (frame_of heard frame) → Answers answer (Ok framed)
 is_read heard frame answer framed is same given =
     subst (Answers answer) (ap (frame_of heard) same ∙ frame_again heard framed is) given
+
+pub is_read_again : (framed : Framed) (answer : Result (List ℕ) EncodeRefusal) → IfOk answer (λ frame. frame ≡ spelling framed)
+    → IfOk answer (λ frame. (heard : Heard) → IsHeard heard framed → frame_of heard frame ≡ Ok framed)
+is_read_again framed (Ok frame) spelled = λ heard is. ap (frame_of heard) spelled ∙ frame_again heard framed is
+is_read_again framed (Err refusal) spelled = tt

@@ -1,5 +1,7 @@
 ghost use Rattle.std.specs.Prelude.{◌≡◌, ◌≤◌, ◌++◌, ◌∷◌, [], length, IfOk, OnOk, IfErr};
-ghost use Rattle.wire_messages.specs.Frame.{body, spelling, IsTooLong};
+ghost use Rattle.wire_messages.specs.Frame.{body, spelling, frame_of, IsTooLong};
+ghost use Rattle.wire_messages.specs.Hearing.{IsHeard};
+ghost use Rattle.wire_messages.specs.declared.operations.Heard.{Heard};
 
 use crate::limits::MOST_LENGTH;
 use crate::message_writers::{operation, put_fields};
@@ -12,6 +14,16 @@ use std::alloc::{AllocError, Global};
 /// Spells a message with its sequence number, as a frame. Refuses `TooLong` where the frame's length would be above
 /// 1,048,576, and gives that length.
 pub fn encode(alloc: Global, framed: &Framed) -> Result<Bytes, EncodeRefusal>
+    ensures spelled { IfOk result (λ frame. frame ≡ spelling framed.now) }
+    // What is spelled is read again, by the side that knows the operation.
+    ensures again { IfOk result (λ frame. (heard : Heard) → IsHeard heard framed.now → frame_of heard frame ≡ Ok framed.now) }
+    ensures fits { OnOk result (length (body framed.now) ≤ MOST_LENGTH) }
+    ensures refused { IfErr result (IsTooLong framed.now) }
+{
+    spell(alloc, framed)
+}
+
+fn spell(alloc: Global, framed: &Framed) -> Result<Bytes, EncodeRefusal>
     ensures spelled { IfOk result (λ frame. frame ≡ spelling framed.now) }
     ensures fits { OnOk result (length (body framed.now) ≤ MOST_LENGTH) }
     ensures refused { IfErr result (IsTooLong framed.now) }
