@@ -66,9 +66,9 @@ Takes-then a x b y c p q = record {
 -- What is read is what is spelled at the front, and such as it must be; and what is such is read from its spelling.
 pub record IsExact {X : Type 0} (format : Format X) (Right : X → Type 0) : Type 0 where
   pub takes : (left : Left) (x : X × Left) → IsBytes left.rest → format.read left ≡ Ok x
-    → Takes left (format.spelled x.0) x.1 × Right x.0
+      → Takes left (format.spelled x.0) x.1 × Right x.0
   pub again : (end : ℕ) (x : X) (rest : List ℕ) → Right x
-    → format.read (record { end = end; rest = format.spelled x ++ rest }) ≡ Ok (x, record { end = end; rest = rest })
+      → format.read (record { end = end; rest = format.spelled x ++ rest }) ≡ Ok (x, record { end = end; rest = rest })
 
 -- ---- numbers
 
@@ -202,8 +202,8 @@ module _ {X : Type 0} (passes : X → Bool) (format : Format X) {Right : X → T
   tested_exact = record { takes = tested_takes; again = tested_again }
 
 module _ {X Y : Type 0} (of : X → Y) (plain : Y → X) (format : Format X) {Right : X → Type 0} (exact : IsExact format Right)
-  {Good : Y → Type 0} (there : (x : X) → Right x → (plain (of x) ≡ x) × Good (of x))
-  (back : (y : Y) → Good y → Right (plain y) × (of (plain y) ≡ y)) where
+    {Good : Y → Type 0} (there : (x : X) → Right x → (plain (of x) ≡ x) × Good (of x))
+    (back : (y : Y) → Good y → Right (plain y) × (of (plain y) ≡ y)) where
   seen_takes : (left : Left) (y : Y × Left) → IsBytes left.rest → (seen of plain format).read left ≡ Ok y
       → Takes left (format.spelled (plain y.0)) y.1 × Good y.0
   seen_takes left y fits e =
@@ -228,7 +228,7 @@ module _ {X Y : Type 0} (of : X → Y) (plain : Y → X) (format : Format X) {Ri
   seen_exact = record { takes = seen_takes; again = seen_again }
 
 module _ {X Y : Type 0} (first : Format X) (second : X → Format Y) {P : X → Type 0} {Q : X → Y → Type 0}
-  (exact : IsExact first P) (exact_then : (x : X) → P x → IsExact (second x) (Q x)) where
+    (exact : IsExact first P) (exact_then : (x : X) → P x → IsExact (second x) (Q x)) where
   leading_takes : (left : Left) (x : (X × Y) × Left) → IsBytes left.rest → (leading first second).read left ≡ Ok x
       → Takes left ((leading first second).spelled x.0) x.1 × (P x.0.0 × Q x.0.0 x.0.1)
   leading_takes left x fits e =
@@ -260,7 +260,7 @@ pair_exact first second {P} {Q} p q = leading_exact first (λ x. second) {P = P}
 pub nothing_exact : IsExact nothing (λ x. Unit {0})
 nothing_exact = record {
   takes = λ left x fits e. subst (λ (y : Unit {0} × Left). Takes left [] y.1 × Unit {0}) (ok_is (tt, left) x e)
-  (record { parts = refl; same_end = refl; bytes = fits }, tt);
+      (record { parts = refl; same_end = refl; bytes = fits }, tt);
   again = λ end x rest right. refl;
 }
 
@@ -284,7 +284,7 @@ OneOf P Q (inl x) = P x
 OneOf P Q (inr y) = Q y
 
 module _ {X Y : Type 0} (one : Format X) (other : Format Y) {P : X → Type 0} {Q : Y → Type 0} (exact : IsExact one P)
-  (exact_other : IsExact other Q) where
+    (exact_other : IsExact other Q) where
   branch_takes : (sign : Bool) (left : Left) (x : (X ⊎ Y) × Left) → IsBytes left.rest → behind_flag one other sign left ≡ Ok x
       → (rest : List ℕ) × (flagged one other x.0 ≡ flag.spelled sign ++ rest) × Takes left rest x.1 × OneOf P Q x.0
   branch_takes true left x fits e =
@@ -358,8 +358,7 @@ module _ {X : Type 0} (format : Format X) {P : X → Type 0} (exact : IsExact fo
       let a = bind_ok ((number w32).read left) (λ count. each format count.0 count.1) x e in
       let s = (number_exact w32 (2 ^ 32) wide32).takes left a.0 fits a.1 in
       let t = each_takes a.0.0 a.0.1 x s.0.bytes a.2 in
-      let both = Takes-then left (to_be_bytes w32 a.0.0) a.0.1 (flat_map format.spelled x.0) x.1 s.0 t.0 in
-      (
+      let both = Takes-then left (to_be_bytes w32 a.0.0) a.0.1 (flat_map format.spelled x.0) x.1 s.0 t.0 in (
         subst (λ (n : ℕ). Takes left (to_be_bytes w32 n ++ flat_map format.spelled x.0) x.1) (sym t.1) both,
         (subst (λ (n : ℕ). n < 2 ^ 32) (sym t.1) s.1, t.2),
       )

@@ -108,9 +108,9 @@ field_back (Exact name) good =
 field_text_short : (bytes : List ℕ) → is_field_text bytes ≡ true → length bytes < 2 ^ 16
 field_text_short bytes passes = shorter (same_text bytes keys.wildcard) bytes refl passes
   where
-  shorter : (wild : Bool) (bytes : List ℕ) → same_text bytes keys.wildcard ≡ wild → is_none (cond wild None (name_fault bytes)) ≡ true → length bytes < 2 ^ 16
-  shorter true bytes same passes = rw (same_is bytes keys.wildcard same) (omega arith)
-  shorter false bytes same passes = name_short bytes (none_is (name_fault bytes) passes)
+    shorter : (wild : Bool) (bytes : List ℕ) → same_text bytes keys.wildcard ≡ wild → is_none (cond wild None (name_fault bytes)) ≡ true → length bytes < 2 ^ 16
+    shorter true bytes same passes = rw (same_is bytes keys.wildcard same) (omega arith)
+    shorter false bytes same passes = name_short bytes (none_is (name_fault bytes) passes)
 
 pub field_text_exact : IsExact field.field_text right.IsFieldText
 field_text_exact = short_exact is_field_text field_text_short
@@ -255,12 +255,13 @@ row_exact =
 optional_row_exact : IsExact (field.optional field.row) right.IsOptionalRow
 optional_row_exact = exact_as (field.optional field.row) (optional_exact field.row right.IsRow row_exact) there back
   where
-  there : (o : Option _) → SomeIs right.IsRow o → right.IsOptionalRow o
-  there None good = tt
-  there (Some row) good = good
-  back : (o : Option _) → right.IsOptionalRow o → SomeIs right.IsRow o
-  back None good = tt
-  back (Some row) good = good
+    there : (o : Option _) → SomeIs right.IsRow o → right.IsOptionalRow o
+    there None good = tt
+    there (Some row) good = good
+
+    back : (o : Option _) → right.IsOptionalRow o → SomeIs right.IsRow o
+    back None good = tt
+    back (Some row) good = good
 
 pub verdict_exact : IsExact field.verdict right.IsVerdict
 verdict_exact =
@@ -374,30 +375,32 @@ rising_again end last (name ∷ names) rest all rise =
     ap (λ (t : List ℕ). t ++ rest) (flat_map-cons field.name.spelled name names)
     ∙ append_assoc (field.name.spelled name) (flat_map field.name.spelled names) rest in
     ap (λ (r : List ℕ). rising_names last (suc (length names)) (record { end = end; rest = r })) regrouped
-    ∙ rw ((tested_exact (comes_after last) field.name name_exact).again end name (flat_map field.name.spelled names ++ rest) (all.0, rise.0),
-    rising_again end (Some name) names rest all.1 rise.1) refl
+    ∙ rw (
+      (tested_exact (comes_after last) field.name name_exact).again end name (flat_map field.name.spelled names ++ rest) (all.0, rise.0),
+      rising_again end (Some name) names rest all.1 rise.1,
+    ) refl
 
 pub privileges_exact : IsExact field.privileges right.ArePrivileges
 privileges_exact = record { takes = taken; again = again }
   where
-  taken : (left : Left) (x : List (List ℕ) × Left) → IsBytes left.rest → field.privileges.read left ≡ Ok x
-      → Takes left (field.privileges.spelled x.0) x.1 × right.ArePrivileges x.0
-  taken left x fits e =
-      let a = bind_ok ((number w32).read left) (λ count. rising_names None count.0 count.1) x e in
-      let s = (number_exact w32 (2 ^ 32) wide32).takes left a.0 fits a.1 in
-      let t = rising_take None a.0.0 a.0.1 x s.0.bytes a.2 in
-      let both = Takes-then left (to_be_bytes w32 a.0.0) a.0.1 (flat_map field.name.spelled x.0) x.1 s.0 t.0 in
-      (
-        subst (λ (n : ℕ). Takes left (to_be_bytes w32 n ++ flat_map field.name.spelled x.0) x.1) (sym t.1) both,
-        (subst (λ (n : ℕ). n < 2 ^ 32) (sym t.1) s.1, t.2),
-      )
-  again : (end : ℕ) (names : List (List ℕ)) (rest : List ℕ) → right.ArePrivileges names
-      → field.privileges.read (record { end = end; rest = field.privileges.spelled names ++ rest }) ≡ Ok (names, record { end = end; rest = rest })
-  again end names rest good =
-      let regrouped : field.privileges.spelled names ++ rest ≡ to_be_bytes w32 (length names) ++ (flat_map field.name.spelled names ++ rest) =
-      append_assoc (to_be_bytes w32 (length names)) (flat_map field.name.spelled names) rest in
-      ap (λ (r : List ℕ). field.privileges.read (record { end = end; rest = r })) regrouped
-      ∙ rw ((number_exact w32 (2 ^ 32) wide32).again end (length names) (flat_map field.name.spelled names ++ rest) good.0) (rising_again end None names rest good.1.0 good.1.1)
+    taken : (left : Left) (x : List (List ℕ) × Left) → IsBytes left.rest → field.privileges.read left ≡ Ok x
+        → Takes left (field.privileges.spelled x.0) x.1 × right.ArePrivileges x.0
+    taken left x fits e =
+        let a = bind_ok ((number w32).read left) (λ count. rising_names None count.0 count.1) x e in
+        let s = (number_exact w32 (2 ^ 32) wide32).takes left a.0 fits a.1 in
+        let t = rising_take None a.0.0 a.0.1 x s.0.bytes a.2 in
+        let both = Takes-then left (to_be_bytes w32 a.0.0) a.0.1 (flat_map field.name.spelled x.0) x.1 s.0 t.0 in (
+          subst (λ (n : ℕ). Takes left (to_be_bytes w32 n ++ flat_map field.name.spelled x.0) x.1) (sym t.1) both,
+          (subst (λ (n : ℕ). n < 2 ^ 32) (sym t.1) s.1, t.2),
+        )
+
+    again : (end : ℕ) (names : List (List ℕ)) (rest : List ℕ) → right.ArePrivileges names
+        → field.privileges.read (record { end = end; rest = field.privileges.spelled names ++ rest }) ≡ Ok (names, record { end = end; rest = rest })
+    again end names rest good =
+        let regrouped : field.privileges.spelled names ++ rest ≡ to_be_bytes w32 (length names) ++ (flat_map field.name.spelled names ++ rest) =
+        append_assoc (to_be_bytes w32 (length names)) (flat_map field.name.spelled names) rest in
+        ap (λ (r : List ℕ). field.privileges.read (record { end = end; rest = r })) regrouped
+        ∙ rw ((number_exact w32 (2 ^ 32) wide32).again end (length names) (flat_map field.name.spelled names ++ rest) good.0) (rising_again end None names rest good.1.0 good.1.1)
 
 pub install_exact : IsExact field.install right.IsInstall
 install_exact =

@@ -99,8 +99,7 @@ frame_takes heard frame framed fits len e =
     let small : n ≤ 1048576 = short_of (ltb n 3) (ltb 1048576 n) n refl refl f.0 in
     let size : length (body framed) ≡ n = ap length (sym b.parts) ∙ length-drop 4 frame ∙ omega (arith, len) in
     let front : to_be_bytes w32 n ≡ take 4 frame =
-    wide32.back (take 4 frame) (omega (arith, length-take 4 frame, len)) (IsBytes-take 4 frame fits) in
-    (
+    wide32.back (take 4 frame) (omega (arith, length-take 4 frame, len)) (IsBytes-take 4 frame fits) in (
       record { sequence = b.sequence; right = b.right; known = b.known; short = omega (arith, size, small) },
       sym (take-append-drop 4 frame) ∙ λ i. (sym front ∙ ap (to_be_bytes w32) (sym size)) i ++ b.parts i,
     )

@@ -32,39 +32,40 @@ with_length_spelt : (heard : Heard) (bytes : List ℕ) (fault : Option WireRefus
 with_length_spelt heard bytes (Some fault) framed rest fits long e = absurd cc
 with_length_spelt heard bytes None framed rest fits long e = spelt (ltb (length bytes) size) refl e
   where
-  size : ℕ
-  size = length_of bytes + 4
-  spelt : (b : Bool) → ltb (length bytes) (length_of bytes + 4) ≡ b
-      → cond b Partial (front_of (frame_of heard (take (length_of bytes + 4) bytes)) (drop (length_of bytes + 4) bytes)) ≡ Whole framed rest
-      → Spelt heard bytes framed rest
-  spelt true is e = absurd cc
-  spelt false is e =
-      let n = length_of bytes + 4 in
-      let frame = take n bytes in
-      let there : n ≤ length bytes = ltb-false _ _ is in
-      let whole = framed_spelt heard bytes (frame_of heard frame) (drop n bytes) framed rest e in
-      let len : length frame ≡ n = omega (arith, length-take n bytes) in
-      let front : take 4 bytes ≡ take 4 frame =
-      ap (take 4) (sym (take-append-drop n bytes)) ∙ take-append-le 4 frame (drop n bytes) (omega (arith, len)) in
-      let value : length_of frame ≡ length_of bytes = ap (from_be_bytes w32) (sym front) in
-      let size : length frame ≡ length_of frame + 4 = len ∙ ap (λ (k : ℕ). k + 4) (sym value) in
-      let taken = frame_takes heard frame framed (IsBytes-take n bytes fits) size whole.0 in
-      record {
-        parts = sym (take-append-drop n bytes) ∙ λ i. taken.1 i ++ whole.1 i;
-        right = taken.0;
-        fits = subst IsBytes whole.1 (IsBytes-drop n bytes fits);
-      }
+    size : ℕ
+    size = length_of bytes + 4
+
+    spelt : (b : Bool) → ltb (length bytes) (length_of bytes + 4) ≡ b
+        → cond b Partial (front_of (frame_of heard (take (length_of bytes + 4) bytes)) (drop (length_of bytes + 4) bytes)) ≡ Whole framed rest
+        → Spelt heard bytes framed rest
+    spelt true is e = absurd cc
+    spelt false is e =
+        let n = length_of bytes + 4 in
+        let frame = take n bytes in
+        let there : n ≤ length bytes = ltb-false _ _ is in
+        let whole = framed_spelt heard bytes (frame_of heard frame) (drop n bytes) framed rest e in
+        let len : length frame ≡ n = omega (arith, length-take n bytes) in
+        let front : take 4 bytes ≡ take 4 frame =
+        ap (take 4) (sym (take-append-drop n bytes)) ∙ take-append-le 4 frame (drop n bytes) (omega (arith, len)) in
+        let value : length_of frame ≡ length_of bytes = ap (from_be_bytes w32) (sym front) in
+        let size : length frame ≡ length_of frame + 4 = len ∙ ap (λ (k : ℕ). k + 4) (sym value) in
+        let taken = frame_takes heard frame framed (IsBytes-take n bytes fits) size whole.0 in
+        record {
+          parts = sym (take-append-drop n bytes) ∙ λ i. taken.1 i ++ whole.1 i;
+          right = taken.0;
+          fits = subst IsBytes whole.1 (IsBytes-drop n bytes fits);
+        }
 
 first_spelt : (heard : Heard) (bytes : List ℕ) (framed : Framed) (rest : List ℕ) → IsBytes bytes → first_of heard bytes ≡ Whole framed rest
     → Spelt heard bytes framed rest
 unfolding first_of
 first_spelt heard bytes framed rest fits e = spelt (ltb (length bytes) 4) refl e
   where
-  spelt : (b : Bool) → ltb (length bytes) 4 ≡ b
-      → cond b Partial (with_length heard bytes (length_of bytes + 4) (length_fault (length_of bytes))) ≡ Whole framed rest
-      → Spelt heard bytes framed rest
-  spelt true is e = absurd cc
-  spelt false is e = with_length_spelt heard bytes (length_fault (length_of bytes)) framed rest fits (ltb-false _ _ is) e
+    spelt : (b : Bool) → ltb (length bytes) 4 ≡ b
+        → cond b Partial (with_length heard bytes (length_of bytes + 4) (length_fault (length_of bytes))) ≡ Whole framed rest
+        → Spelt heard bytes framed rest
+    spelt true is e = absurd cc
+    spelt false is e = with_length_spelt heard bytes (length_fault (length_of bytes)) framed rest fits (ltb-false _ _ is) e
 
 -- what was heard is spelled in the bytes
 pub heard_spelled : (heard : Heard) (bytes : List ℕ) (messages : List Framed) (behind : List ℕ) → IsBytes bytes
@@ -72,11 +73,10 @@ pub heard_spelled : (heard : Heard) (bytes : List ℕ) (messages : List Framed) 
 heard_spelled heard bytes [] behind fits is = (is, tt)
 heard_spelled heard bytes (framed ∷ messages) behind fits is =
     let one = first_spelt heard bytes framed is.0 fits is.1 in
-    let more = heard_spelled heard is.0 messages behind one.fits is.2 in
-    (
+    let more = heard_spelled heard is.0 messages behind one.fits is.2 in (
       one.parts ∙ ap (λ (rest : List ℕ). spelling framed ++ rest) more.0
-      ∙ sym (append_assoc (spelling framed) (flat_map spelling messages) behind)
-      ∙ ap (λ (b : List ℕ). b ++ behind) (sym (flat_map-cons spelling framed messages)),
+          ∙ sym (append_assoc (spelling framed) (flat_map spelling messages) behind)
+          ∙ ap (λ (b : List ℕ). b ++ behind) (sym (flat_map-cons spelling framed messages)),
       (one.right, more.1),
     )
 
@@ -99,8 +99,7 @@ spelled_heard heard (framed ∷ messages) behind all =
     let rest = flat_map spelling messages ++ behind in
     let regrouped : flat_map spelling (framed ∷ messages) ++ behind ≡ spelling framed ++ rest =
     ap (λ (b : List ℕ). b ++ behind) (flat_map-cons spelling framed messages)
-    ∙ append_assoc (spelling framed) (flat_map spelling messages) behind in
-    (
+    ∙ append_assoc (spelling framed) (flat_map spelling messages) behind in (
       rest,
       ap (first_of heard) regrouped ∙ first_spelled heard framed rest all.0,
       spelled_heard heard messages behind all.1,

@@ -60,14 +60,14 @@ word_there bytes None is some = absurd cc
 word_short : (bytes : List ℕ) (found : Option Counted) → counted_of bytes ≡ found → is_some found ≡ true → length bytes < 2 ^ 16
 word_short bytes found is some = rw (← word_there bytes found is some) (short (unwrap_or found Commits))
   where
-  short : (counted : Counted) → length (counted_text counted) < 2 ^ 16
-  short Commits = omega arith
-  short Users = omega arith
-  short Packages = omega arith
-  short Installs = omega arith
-  short Grants = omega arith
-  short Buckets = omega arith
-  short Policies = omega arith
+    short : (counted : Counted) → length (counted_text counted) < 2 ^ 16
+    short Commits = omega arith
+    short Users = omega arith
+    short Packages = omega arith
+    short Installs = omega arith
+    short Grants = omega arith
+    short Buckets = omega arith
+    short Policies = omega arith
 
 word_back : (counted : Counted) → counted_of (counted_text counted) ≡ Some counted
 word_back Commits = refl
@@ -195,13 +195,13 @@ rule_at_takes n None is left next y fits e = absurd cc
 pub refused_exact : IsExact refused right.IsTold
 refused_exact = record { takes = taken; again = refusal_again }
   where
-  taken : (left : Left) (y : Refusal × Left) → IsBytes left.rest → refused.read left ≡ Ok y
-      → Takes left (refusal_spelled y.0) y.1 × right.IsTold y.0
-  taken left y fits e =
-      let a = bind_ok ((number w8).read left) (λ n. rule_at (rule_of n.0) left n.1) y e in
-      let s = (number_exact w8 256 wide8).takes left a.0 fits a.1 in
-      let t = rule_at_takes a.0.0 (rule_of a.0.0) refl left a.0.1 y s.0.bytes a.2 in
-      let one : to_be_bytes w8 a.0.0 ≡ a.0.0 ∷ [] = ap (λ (b : ℕ). b ∷ []) (mod-eq_of_lt s.1) in
-      let both = Takes-then left (to_be_bytes w8 a.0.0) a.0.1 t.0 y.1 s.0 t.2 in
-      let is : to_be_bytes w8 a.0.0 ++ t.0 ≡ refusal_spelled y.0 = ap (λ (b : List ℕ). b ++ t.0) one ∙ sym t.1 in
-      (subst (λ (bytes : List ℕ). Takes left bytes y.1) is both, t.3)
+    taken : (left : Left) (y : Refusal × Left) → IsBytes left.rest → refused.read left ≡ Ok y
+        → Takes left (refusal_spelled y.0) y.1 × right.IsTold y.0
+    taken left y fits e =
+        let a = bind_ok ((number w8).read left) (λ n. rule_at (rule_of n.0) left n.1) y e in
+        let s = (number_exact w8 256 wide8).takes left a.0 fits a.1 in
+        let t = rule_at_takes a.0.0 (rule_of a.0.0) refl left a.0.1 y s.0.bytes a.2 in
+        let one : to_be_bytes w8 a.0.0 ≡ a.0.0 ∷ [] = ap (λ (b : ℕ). b ∷ []) (mod-eq_of_lt s.1) in
+        let both = Takes-then left (to_be_bytes w8 a.0.0) a.0.1 t.0 y.1 s.0 t.2 in
+        let is : to_be_bytes w8 a.0.0 ++ t.0 ≡ refusal_spelled y.0 = ap (λ (b : List ℕ). b ++ t.0) one ∙ sym t.1 in
+        (subst (λ (bytes : List ℕ). Takes left bytes y.1) is both, t.3)

@@ -32,9 +32,11 @@ weaker P Q f (x ∷ xs) all = (f x all.0, weaker P Q f xs all.1)
 behind : (last : List ℕ) (names : List (List ℕ)) → AreRising (Some last) names → AllByRecursion (λ other. text_cmp last other ≡ Less) names
 behind last [] rise = tt
 behind last (name ∷ names) rise =
-    let less = less_from (text_cmp last name) rise.0 in
-    (less, weaker (λ other. text_cmp name other ≡ Less) (λ other. text_cmp last other ≡ Less)
-    (λ other below. total.trans last name other less below) names (behind name names rise.1))
+    let less = less_from (text_cmp last name) rise.0 in (
+      less,
+      weaker (λ other. text_cmp name other ≡ Less) (λ other. text_cmp last other ≡ Less)
+          (λ other below. total.trans last name other less below) names (behind name names rise.1),
+    )
 
 pub sorted_from_rising : (last : Option (List ℕ)) (names : List (List ℕ)) → AreRising last names → IsStrictlySortedBy text_cmp names
 unfolding IsStrictlySortedBy

@@ -74,41 +74,41 @@ with_length_bound heard bytes (Some fault) is e = absurd cc
 with_length_bound heard bytes None is e =
     less (ltb (length bytes) (length_of bytes + 4)) refl (frame_of heard (take (length_of bytes + 4) bytes)) e
   where
-  less : (b : Bool) → ltb (length bytes) (length_of bytes + 4) ≡ b → (read : Result Framed WireRefusal)
-      → cond b Partial (front_of read (drop (length_of bytes + 4) bytes)) ≡ Partial → Bound bytes
-  less true is_less read e =
-      let small : length_of bytes ≤ 1048576 = no_fault (ltb (length_of bytes) 3) (ltb 1048576 (length_of bytes)) (length_of bytes) refl is in
-      let under : length bytes < length_of bytes + 4 = ltb-true _ _ is_less in
-      record { less = λ long. under; most = omega (arith, small, under) }
-  less false is_less (Ok framed) e = absurd cc
-  less false is_less (Err refusal) e = absurd cc
+    less : (b : Bool) → ltb (length bytes) (length_of bytes + 4) ≡ b → (read : Result Framed WireRefusal)
+        → cond b Partial (front_of read (drop (length_of bytes + 4) bytes)) ≡ Partial → Bound bytes
+    less true is_less read e =
+        let small : length_of bytes ≤ 1048576 = no_fault (ltb (length_of bytes) 3) (ltb 1048576 (length_of bytes)) (length_of bytes) refl is in
+        let under : length bytes < length_of bytes + 4 = ltb-true _ _ is_less in
+        record { less = λ long. under; most = omega (arith, small, under) }
+    less false is_less (Ok framed) e = absurd cc
+    less false is_less (Err refusal) e = absurd cc
 
 pub open_bound : (heard : Heard) (bytes : List ℕ) → IsOpen heard bytes → Bound bytes
 unfolding first_of
 open_bound heard bytes e = bounded (ltb (length bytes) 4) refl e
   where
-  bounded : (b : Bool) → ltb (length bytes) 4 ≡ b
-      → cond b Partial (with_length heard bytes (length_of bytes + 4) (length_fault (length_of bytes))) ≡ Partial → Bound bytes
-  bounded true short e =
-      let less : length bytes < 4 = ltb-true _ _ short in
-      record { less = λ long. absurd (omega arith); most = omega (arith, less) }
-  bounded false short e = with_length_bound heard bytes (length_fault (length_of bytes)) refl e
+    bounded : (b : Bool) → ltb (length bytes) 4 ≡ b
+        → cond b Partial (with_length heard bytes (length_of bytes + 4) (length_fault (length_of bytes))) ≡ Partial → Bound bytes
+    bounded true short e =
+        let less : length bytes < 4 = ltb-true _ _ short in
+        record { less = λ long. absurd (omega arith); most = omega (arith, less) }
+    bounded false short e = with_length_bound heard bytes (length_fault (length_of bytes)) refl e
 
 -- no more was taken than was wanted
 pub up_to : (old front : List ℕ) (wanted : ℕ) → length front ≤ wanted → (length old < 4 → wanted + length old ≡ 4)
     → (4 ≤ length old → wanted + length old ≡ length_of old + 4) → IsUpTo (old ++ front)
 up_to old front wanted few short long = up (ltb (length old) 4) refl
   where
-  up : (b : Bool) → ltb (length old) 4 ≡ b → IsUpTo (old ++ front)
-  up true is =
-      let less : length old < 4 = ltb-true _ _ is in
-      let all = short less in
-      omega (arith, length-append old front, all, few)
-  up false is =
-      let more : 4 ≤ length old = ltb-false _ _ is in
-      let all = long more in
-      let same : length_of (old ++ front) ≡ length_of old = ap (from_be_bytes w32) (take-append-le 4 old front more) in
-      omega (arith, length-append old front, all, few, same)
+    up : (b : Bool) → ltb (length old) 4 ≡ b → IsUpTo (old ++ front)
+    up true is =
+        let less : length old < 4 = ltb-true _ _ is in
+        let all = short less in
+        omega (arith, length-append old front, all, few)
+    up false is =
+        let more : 4 ≤ length old = ltb-false _ _ is in
+        let all = long more in
+        let same : length_of (old ++ front) ≡ length_of old = ap (from_be_bytes w32) (take-append-le 4 old front more) in
+        omega (arith, length-append old front, all, few, same)
 
 -- ---- what became of the bytes
 
@@ -145,8 +145,8 @@ step_ok heard partial front left bytes after waiting then_waiting failed is sett
   messages = settled.messages;
   waiting = settled.waiting;
   hears = subst (λ (all : List ℕ). Hears heard all settled.messages (after ++ left))
-  (append_assoc partial front left ∙ ap (λ (b : List ℕ). partial ++ b) (sym is))
-  (hears_more heard (partial ++ front) left settled.messages after settled.hears);
+      (append_assoc partial front left ∙ ap (λ (b : List ℕ). partial ++ b) (sym is))
+      (hears_more heard (partial ++ front) left settled.messages after settled.hears);
   unfinished = settled.unfinished;
   side = refl;
   failed = refl;
@@ -162,8 +162,8 @@ step_err heard partial front left bytes after waiting then_waiting failed refusa
   waiting = unsettled.waiting ∙ sym (append-nil waiting);
   hears = refl;
   wrong = subst (λ (all : List ℕ). BeginsWrong heard all refusal)
-  (append_assoc partial front left ∙ ap (λ (b : List ℕ). partial ++ b) (sym is))
-  (wrong_more heard (partial ++ front) left refusal unsettled.wrong);
+      (append_assoc partial front left ∙ ap (λ (b : List ℕ). partial ++ b) (sym is))
+      (wrong_more heard (partial ++ front) left refusal unsettled.wrong);
   side = refl;
   failed = refl;
 }
@@ -182,9 +182,9 @@ pub step_then : (a b c : Feeding) (p q r : List ℕ) → Stepped a b p q → Ste
 step_then a b c p q r first second = record {
   messages = first.messages ++ second.messages;
   waiting = second.waiting ∙ ap (λ (w : List Framed). w ++ second.messages) first.waiting
-  ∙ append_assoc a.waiting first.messages second.messages;
+      ∙ append_assoc a.waiting first.messages second.messages;
   hears = hears_then a.heard (a.partial ++ p) first.messages (b.partial ++ q) second.messages (c.partial ++ r) first.hears
-  (subst (λ (heard : Heard). Hears heard (b.partial ++ q) second.messages (c.partial ++ r)) first.side second.hears);
+      (subst (λ (heard : Heard). Hears heard (b.partial ++ q) second.messages (c.partial ++ r)) first.side second.hears);
   unfinished = subst (λ (heard : Heard). IsOpen heard c.partial) first.side second.unfinished;
   side = second.side ∙ first.side;
   failed = second.failed ∙ first.failed;
@@ -196,9 +196,9 @@ step_wrong a b c p q refusal first second = record {
   messages = first.messages ++ second.messages;
   behind = second.behind;
   waiting = second.waiting ∙ ap (λ (w : List Framed). w ++ second.messages) first.waiting
-  ∙ append_assoc a.waiting first.messages second.messages;
+      ∙ append_assoc a.waiting first.messages second.messages;
   hears = hears_then a.heard (a.partial ++ p) first.messages (b.partial ++ q) second.messages second.behind first.hears
-  (subst (λ (heard : Heard). Hears heard (b.partial ++ q) second.messages second.behind) first.side second.hears);
+      (subst (λ (heard : Heard). Hears heard (b.partial ++ q) second.messages second.behind) first.side second.hears);
   wrong = subst (λ (heard : Heard). BeginsWrong heard second.behind refusal) first.side second.wrong;
   side = second.side ∙ first.side;
   failed = second.failed ∙ first.failed;
@@ -209,7 +209,7 @@ all_fed old new piece left none free stepped = record {
   messages = stepped.messages;
   waiting = stepped.waiting;
   heard = subst (λ (b : List ℕ). Hears old.heard (old.partial ++ piece) stepped.messages b)
-  (ap (λ (b : List ℕ). new.partial ++ b) none ∙ append-nil new.partial) stepped.hears;
+      (ap (λ (b : List ℕ). new.partial ++ b) none ∙ append-nil new.partial) stepped.hears;
   unfinished = stepped.unfinished;
   side = stepped.side;
   failed = stepped.failed ∙ free;

@@ -28,16 +28,16 @@ with_length_more : (heard : Heard) (bytes more : List ℕ) (size : ℕ) (fault :
 with_length_more heard bytes more size (Some fault) settled = refl
 with_length_more heard bytes more size None settled = whole (ltb (length bytes) size) refl settled
   where
-  whole : (b : Bool) → ltb (length bytes) size ≡ b
-      → (cond b Partial (front_of (frame_of heard (take size bytes)) (drop size bytes)) ≡ Partial → ⊥)
-      → with_length heard (bytes ++ more) size None ≡ and_more more (cond b Partial (front_of (frame_of heard (take size bytes)) (drop size bytes)))
-  whole true is settled = absurd (settled refl)
-  whole false is settled =
-      let long : size ≤ length bytes = ltb-false _ _ is in
-      let longer : ltb (length (bytes ++ more)) size ≡ false = le-ltb _ _ (omega (arith, length-append bytes more)) in
-      let front : take size (bytes ++ more) ≡ take size bytes = take-append-le size bytes more long in
-      let behind : drop size (bytes ++ more) ≡ drop size bytes ++ more = drop-append-le size bytes more long in
-      rw (longer, front, behind) (front_more (frame_of heard (take size bytes)) (drop size bytes) more)
+    whole : (b : Bool) → ltb (length bytes) size ≡ b
+        → (cond b Partial (front_of (frame_of heard (take size bytes)) (drop size bytes)) ≡ Partial → ⊥)
+        → with_length heard (bytes ++ more) size None ≡ and_more more (cond b Partial (front_of (frame_of heard (take size bytes)) (drop size bytes)))
+    whole true is settled = absurd (settled refl)
+    whole false is settled =
+        let long : size ≤ length bytes = ltb-false _ _ is in
+        let longer : ltb (length (bytes ++ more)) size ≡ false = le-ltb _ _ (omega (arith, length-append bytes more)) in
+        let front : take size (bytes ++ more) ≡ take size bytes = take-append-le size bytes more long in
+        let behind : drop size (bytes ++ more) ≡ drop size bytes ++ more = drop-append-le size bytes more long in
+        rw (longer, front, behind) (front_more (frame_of heard (take size bytes)) (drop size bytes) more)
 
 first_more_by : (heard : Heard) (bytes more : List ℕ) (b : Bool) → ltb (length bytes) 4 ≡ b
     → (cond b Partial (with_length heard bytes (length_of bytes + 4) (length_fault (length_of bytes))) ≡ Partial → ⊥)

@@ -18,7 +18,7 @@ abbrev pub number : Width → Format ℕ
 number w = record {
   spelled = to_be_bytes w;
   read = λ left. if nat_lt (length left.rest) (byte_len w) then wrong left
-  else Ok (from_be_bytes w (take (byte_len w) left.rest), behind (byte_len w) left);
+      else Ok (from_be_bytes w (take (byte_len w) left.rest), behind (byte_len w) left);
 }
 
 -- the bytes of which a number of two bytes tells how many
@@ -26,8 +26,8 @@ abbrev pub text : Format (List ℕ)
 text = record {
   spelled = λ bytes. to_be_bytes w16 (length bytes) ++ bytes;
   read = λ left. (number w16).read left
-  >>= λ count. if nat_lt (length count.1.rest) count.0 then wrong left
-  else Ok (take count.0 count.1.rest, behind count.0 count.1);
+      >>= λ count. if nat_lt (length count.1.rest) count.0 then wrong left
+      else Ok (take count.0 count.1.rest, behind count.0 count.1);
 }
 
 -- a field whose value must pass a test

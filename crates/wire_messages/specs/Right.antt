@@ -108,8 +108,8 @@ abbrev pub IsVerdict : Verdict → Type 0
 IsVerdict verdict =
     IsNumber8 verdict.commit
     × (
-      IsRuling (record { kind = verdict.answer.kind.0; metadata = verdict.answer.metadata })
-      × (IsBucket verdict.answer.cause.bucket × IsOptionalRow verdict.answer.cause.row)
+    IsRuling (record { kind = verdict.answer.kind.0; metadata = verdict.answer.metadata })
+    × (IsBucket verdict.answer.cause.bucket × IsOptionalRow verdict.answer.cause.row)
     )
 
 -- ---- installs

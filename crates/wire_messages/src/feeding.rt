@@ -113,12 +113,7 @@ impl Feeder {
         if let Err(error) = self.partial.append(front) {
             return Err(WireRefusal::Memory(error));
         }
-        if let Err(refusal) = settle(
-            self.alloc,
-            self.heard,
-            &mut self.partial,
-            &mut self.waiting,
-        ) {
+        if let Err(refusal) = settle(self.alloc, self.heard, &mut self.partial, &mut self.waiting) {
             return Err(refusal);
         }
         Ok(left)

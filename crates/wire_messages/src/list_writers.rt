@@ -7,8 +7,8 @@ ghost use Rattle.wire_messages.specs.Refused as refused;
 ghost use Rattle.wire_messages.specs.Appended.{Appended};
 
 use crate::writers::{
-    put_author, put_bucket, put_ident, put_key, put_kind_and_metadata, put_name, put_ruling,
-    put_count, put_scope, put_text, put1, put8,
+    put_author, put_bucket, put_count, put_ident, put_key, put_kind_and_metadata, put_name,
+    put_ruling, put_scope, put_text, put1, put8,
 };
 use app_registry::Install;
 use bucket_eval::{Row, Verdict};

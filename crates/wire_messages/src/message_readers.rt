@@ -5,8 +5,8 @@ ghost use Rattle.wire_messages.specs.Message as message;
 use crate::fields::Fields;
 use crate::list_readers::{changes, install, verdict};
 use crate::readers::{
-    agent_kind, bucket, file_name, filter, flag, ident, kind, most, policy, question, ruling, scope,
-    template, user_type,
+    agent_kind, bucket, file_name, filter, flag, ident, kind, most, policy, question, ruling,
+    scope, template, user_type,
 };
 use crate::refusal_readers::refusal;
 use crate::{Message, Operation, WireRefusal};
@@ -153,7 +153,11 @@ fn admin_check(alloc: Global, fields: &mut Fields) -> Result<Message, WireRefusa
     let bucket = bucket(alloc, fields)?;
     let recursive = flag(fields)?;
     let question = question(alloc, fields)?;
-    Ok(Message::AdminCheck { bucket, recursive, question })
+    Ok(Message::AdminCheck {
+        bucket,
+        recursive,
+        question,
+    })
 }
 
 fn register(fields: &mut Fields) -> Result<Message, WireRefusal>
@@ -185,7 +189,12 @@ fn from_agent(fields: &mut Fields) -> Result<Message, WireRefusal>
     let kind = kind(fields)?;
     let number = fields.number4()?;
     let allowed = flag(fields)?;
-    Ok(Message::FromAgent { commit, kind, number, allowed })
+    Ok(Message::FromAgent {
+        commit,
+        kind,
+        number,
+        allowed,
+    })
 }
 
 fn not_resolved(fields: &mut Fields) -> Result<Message, WireRefusal>
@@ -278,7 +287,11 @@ fn agent_question(alloc: Global, fields: &mut Fields) -> Result<Message, WireRef
     let number = fields.number4()?;
     let question = question(alloc, fields)?;
     let result = ruling(alloc, fields)?;
-    Ok(Message::AgentQuestion { number, question, result })
+    Ok(Message::AgentQuestion {
+        number,
+        question,
+        result,
+    })
 }
 
 fn unknown_number(fields: &mut Fields) -> Result<Message, WireRefusal>

@@ -5,8 +5,8 @@ ghost use Rattle.wire_messages.specs.Message as words;
 
 use crate::list_writers::{put_changes, put_install, put_refusal, put_verdict};
 use crate::writers::{
-    put_bucket, put_file_name, put_filter, put_flag, put_ident, put_kind, put_policy,
-    put_question, put_ruling, put_scope, put_template, put_user_type, put4, put8,
+    put_bucket, put_file_name, put_filter, put_flag, put_ident, put_kind, put_policy, put_question,
+    put_ruling, put_scope, put_template, put_user_type, put4, put8,
 };
 use crate::{Message, Operation};
 use cynara_keys::Kind;
@@ -86,7 +86,11 @@ pub fn put_fields(out: &mut Vec<u8>, message: &Message) -> Result<(), AllocError
             put_bucket(out, bucket)?;
             put_filter(out, filter)
         }
-        Message::AdminCheck { bucket, recursive, question } => {
+        Message::AdminCheck {
+            bucket,
+            recursive,
+            question,
+        } => {
             put_bucket(out, bucket)?;
             put_flag(out, *recursive)?;
             put_question(out, question)
@@ -98,7 +102,12 @@ pub fn put_fields(out: &mut Vec<u8>, message: &Message) -> Result<(), AllocError
             put_flag(out, *allowed)
         }
         Message::Judged { verdict } => put_verdict(out, verdict),
-        Message::FromAgent { commit, kind, number, allowed } => {
+        Message::FromAgent {
+            commit,
+            kind,
+            number,
+            allowed,
+        } => {
             put8(out, *commit)?;
             put_kind(out, *kind)?;
             put4(out, *number)?;
@@ -112,15 +121,9 @@ pub fn put_fields(out: &mut Vec<u8>, message: &Message) -> Result<(), AllocError
             put8(out, *commit)?;
             put_kind(out, *kind)
         }
-        Message::AgentGone { commit, number } => {
-            put_commit_and_count(out, *commit, *number)
-        }
-        Message::AgentFull { commit, kind, most } => {
-            put_agent_full(out, *commit, *kind, *most)
-        }
-        Message::Done { commit, erased } => {
-            put_commit_and_count(out, *commit, *erased)
-        }
+        Message::AgentGone { commit, number } => { put_commit_and_count(out, *commit, *number) }
+        Message::AgentFull { commit, kind, most } => { put_agent_full(out, *commit, *kind, *most) }
+        Message::Done { commit, erased } => { put_commit_and_count(out, *commit, *erased) }
         Message::Refused { refusal } => put_refusal(out, refusal),
         Message::ListRow { policy } => put_policy(out, policy),
         Message::ListEnd { count } => put4(out, *count),
@@ -131,7 +134,11 @@ pub fn put_fields(out: &mut Vec<u8>, message: &Message) -> Result<(), AllocError
         }
         Message::Registered { kind } => put_kind(out, *kind),
         Message::KindTaken { kind } => put_kind(out, *kind),
-        Message::AgentQuestion { number, question, result } => {
+        Message::AgentQuestion {
+            number,
+            question,
+            result,
+        } => {
             put4(out, *number)?;
             put_question(out, question)?;
             put_ruling(out, result)

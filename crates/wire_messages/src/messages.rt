@@ -10,25 +10,45 @@ use rule_templates::Template;
 #[derive(Debug, Drop)]
 pub enum Message {
     /// A client asks whether the use of a privilege is granted; an agent may be asked.
-    Check { question: Question },
+    Check {
+        question: Question,
+    },
     /// A client asks the same, and no agent is asked.
-    SimpleCheck { question: Question },
+    SimpleCheck {
+        question: Question,
+    },
     SetBucket {
         bucket: BucketName,
         fallback: PolicyResult,
     },
-    RemoveBucket { bucket: BucketName },
-    SetPolicies { changes: Changes },
+    RemoveBucket {
+        bucket: BucketName,
+    },
+    SetPolicies {
+        changes: Changes,
+    },
     Erase {
         bucket: BucketName,
         filter: Filter,
     },
     Layout,
-    SetTemplate { template: Template },
-    UserSet { uid: u32, kind: UserType },
-    UserRemove { uid: u32 },
-    Install { install: Install },
-    Uninstall { app: Ident, scope: Scope },
+    SetTemplate {
+        template: Template,
+    },
+    UserSet {
+        uid: u32,
+        kind: UserType,
+    },
+    UserRemove {
+        uid: u32,
+    },
+    Install {
+        install: Install,
+    },
+    Uninstall {
+        app: Ident,
+        scope: Scope,
+    },
     /// An administrator asks for the policies of a bucket that a filter admits.
     Listing {
         bucket: BucketName,
@@ -42,11 +62,18 @@ pub enum Message {
     },
     Stop,
     /// An agent says what kind it answers.
-    Register { kind: Kind },
+    Register {
+        kind: Kind,
+    },
     /// An agent answers the question of a number.
-    AgentAnswer { number: u32, allowed: bool },
+    AgentAnswer {
+        number: u32,
+        allowed: bool,
+    },
     /// The policies decide.
-    Judged { verdict: Verdict },
+    Judged {
+        verdict: Verdict,
+    },
     /// An agent decided.
     FromAgent {
         commit: u64,
@@ -55,29 +82,58 @@ pub enum Message {
         allowed: bool,
     },
     /// An agent would have to be asked.
-    NotResolved { commit: u64, kind: Kind },
+    NotResolved {
+        commit: u64,
+        kind: Kind,
+    },
     /// No agent of the kind is there.
-    NoAgent { commit: u64, kind: Kind },
+    NoAgent {
+        commit: u64,
+        kind: Kind,
+    },
     /// The agent left before it answered.
-    AgentGone { commit: u64, number: u32 },
+    AgentGone {
+        commit: u64,
+        number: u32,
+    },
     /// No further question can be put to an agent.
-    AgentFull { commit: u64, kind: Kind, most: u32 },
+    AgentFull {
+        commit: u64,
+        kind: Kind,
+        most: u32,
+    },
     /// The command is accepted, or the service stops.
-    Done { commit: u64, erased: u32 },
+    Done {
+        commit: u64,
+        erased: u32,
+    },
     /// The command is refused by a rule.
-    Refused { refusal: Refusal },
+    Refused {
+        refusal: Refusal,
+    },
     /// One policy that was asked for.
-    ListRow { policy: Policy },
+    ListRow {
+        policy: Policy,
+    },
     /// The end of the policies that were asked for, and how many there were.
-    ListEnd { count: u32 },
+    ListEnd {
+        count: u32,
+    },
     /// The disk failed.
     StoreFault,
     /// The line of the file is damaged, or the file as a whole where the line is 0.
-    StoreDamaged { file: FileName, line: u32 },
+    StoreDamaged {
+        file: FileName,
+        line: u32,
+    },
     /// The agent is registered.
-    Registered { kind: Kind },
+    Registered {
+        kind: Kind,
+    },
     /// Another agent of the kind is there.
-    KindTaken { kind: Kind },
+    KindTaken {
+        kind: Kind,
+    },
     /// An agent is asked.
     AgentQuestion {
         number: u32,
@@ -85,7 +141,9 @@ pub enum Message {
         result: PolicyResult,
     },
     /// No question of the number waits for an answer.
-    UnknownNumber { number: u32 },
+    UnknownNumber {
+        number: u32,
+    },
 }
 
 /// A message with its sequence number. A reply carries that of its question.

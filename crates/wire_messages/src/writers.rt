@@ -155,7 +155,11 @@ pub fn put_ruling(out: &mut Vec<u8>, ruling: &PolicyResult) -> Result<(), AllocE
     put_kind_and_metadata(out, ruling.kind(), ruling.metadata().as_slice())
 }
 
-pub fn put_kind_and_metadata(out: &mut Vec<u8>, kind: Kind, metadata: &[u8]) -> Result<(), AllocError>
+pub fn put_kind_and_metadata(
+    out: &mut Vec<u8>,
+    kind: Kind,
+    metadata: &[u8],
+) -> Result<(), AllocError>
     ensures { Appended result out.old.items out.new.items (field.ruling.spelled (record { kind = kind.0; metadata = metadata.now })) }
 {
     put_kind(out, kind)?;
