@@ -1,5 +1,5 @@
 -- Texts that are appended one after the other.
-use Rattle.std.proofs.Common.{◌≡◌, ℕ, List, ◌++◌, Result, Ok, Err, sym, ap, ◌∙◌, append_assoc}
+use Rattle.std.proofs.Common.{◌≡◌, ℕ, List, ◌++◌, Result, Ok, Err, ap, ◌∙◌, append_assoc}
 use Rattle.wire_messages.specs.Appended.{Appended}
 
 pub then_last : {E : Type 0} (result : Result (Unit {0}) E) (old mid new text last : List ℕ) → mid ≡ old ++ text

@@ -1,11 +1,11 @@
 -- Each field is read exactly as it is spelled.
-use Rattle.std.proofs.Common.{◌≡◌, ℕ, zero, suc, ◌+◌, ◌^◌, ◌<◌, ◌≤◌, Bool, true, false, cond, ltb, eqb, ◌&&◌, ◌||◌, List, [], ◌∷◌, ◌++◌, length, Option, Some, None, Result, Ok, Err, refl, sym, ap, subst, ◌∙◌, append_assoc, arith, inl, inr}
-use Rattle.std.specs.Prelude.{◌⊎◌, is_none, is_some, unwrap_or}
+use Rattle.std.proofs.Common.{◌≡◌, ℕ, zero, suc, ◌^◌, ◌<◌, Bool, true, false, cond, ltb, eqb, ◌&&◌, ◌||◌, List, [], ◌∷◌, ◌++◌, length, Option, Some, None, Result, Ok, Err, refl, sym, ap, subst, ◌∙◌, append_assoc, arith, inl, inr}
+use Rattle.std.specs.Prelude.{◌⊎◌, is_none}
 use Rattle.std.specs.Result.{result_unwrap_or}
-use Rattle.std.specs.List.{AllByRecursion, find, flat_map}
+use Rattle.std.specs.List.{AllByRecursion, flat_map}
 use Rattle.std.specs.Int.{w8, w16, w32, w64, to_be_bytes}
 use Rattle.std.specs.Cmp.Lexicographic as texts
-use Rattle.std.proofs.lemmas.Bool.{ltb-false, ltb-true, eqb-true}
+use Rattle.std.proofs.lemmas.Bool.{ltb-true, eqb-true}
 use Rattle.std.proofs.lemmas.Cmp.{nat_list_eq_equiv}
 use Rattle.std.proofs.lemmas.List.Concat.{flat_map-cons}
 use Rattle.cynara_keys.specs.Text.{same_text}
@@ -19,9 +19,6 @@ use Rattle.cynara_keys.specs.declared.fields.Field.TheVariants.{Any, Exact}
 use Rattle.cynara_keys.specs.declared.fields.FilterField.{FilterField}
 use Rattle.cynara_keys.specs.declared.fields.FilterField.TheVariants.{Every, Any as AnyStored, Exact as ExactStored}
 use Rattle.cynara_keys.specs.declared.keys.Key.{Key}
-use Rattle.cynara_keys.specs.declared.keys.Filter.{Filter}
-use Rattle.cynara_keys.specs.declared.keys.Question.{Question}
-use Rattle.cynara_keys.specs.declared.results.Kind.{Kind}
 use Rattle.bucket_store.specs.declared.policy_changes.Change.{Change}
 use Rattle.bucket_store.specs.declared.policy_changes.Change.TheVariants.{Set, Delete}
 use Rattle.app_registry.specs.Ident.{ident_fault}
@@ -33,14 +30,13 @@ use Rattle.desk_ports.specs.FileName.{file_name_fault}
 use Rattle.rule_templates.specs.declared.lines.TemplateLine.{TemplateLine}
 use Rattle.rule_templates.specs.declared.templates.TemplateRefusal.{TemplateRefusal}
 use Rattle.rule_templates.specs.Template.{template_of, template_text}
-use Rattle.wire_messages.specs.Left.{Left, Reading, wrong, place, ◌>>=◌}
-use Rattle.wire_messages.specs.Format.{Format, number, text, tested, seen, ◌⊗◌, leading, nothing, flag, either, each, counted}
+use Rattle.wire_messages.specs.Left.{Left, ◌>>=◌}
+use Rattle.wire_messages.specs.Format.{Format, number, text, tested, ◌⊗◌, leading, nothing, either, counted}
 use Rattle.wire_messages.specs.Field as field
 use Rattle.wire_messages.specs.Field.{is_field_text, is_filter_text, is_ident, is_file_text, is_most, is_author_text, author_of, author_text, is_text_of, is_template_text, user_type_of, user_type_number, change_of, of_change, some_or, or_none, scope_of, scope_uid, comes_after, rising_names}
 use Rattle.wire_messages.specs.Right as right
-use Rattle.wire_messages.proofs.Exact.{IsBytes, bind_ok, ok_is, Takes, Takes-then, IsExact, number_exact, wide8, wide16, wide32, wide64, text_exact, tested_exact, seen_exact, leading_exact, pair_exact, nothing_exact, flag_exact, either_exact, OneOf, counted_exact}
+use Rattle.wire_messages.proofs.Exact.{IsBytes, bind_ok, ok_is, Takes, Takes-then, IsExact, number_exact, wide8, wide16, wide32, wide64, text_exact, tested_exact, seen_exact, leading_exact, pair_exact, nothing_exact, either_exact, OneOf, counted_exact}
 use Rattle.wire_messages.proofs.Lengths.{name_short, bucket_name_short, metadata_short, ident_short, file_name_short}
-use Rattle.wire_messages.proofs.Rises.{names_rise}
 
 -- the same law, for what the value is said in other words
 pub exact_as : {X : Type 0} (format : Format X) {P Q : X → Type 0} → IsExact format P → ((x : X) → P x → Q x)

@@ -1,11 +1,10 @@
 -- Each frame is read exactly as it is spelled, and no spelling begins another.
-use Rattle.std.proofs.Common.{◌≡◌, ℕ, zero, suc, ◌+◌, ◌-◌, ◌^◌, ◌<◌, ◌≤◌, Bool, true, false, cond, ltb, eqb, List, [], ◌∷◌, ◌++◌, length, take, drop, Option, Some, None, Result, Ok, Err, refl, sym, ap, subst, ◌∙◌, append_assoc, arith}
+use Rattle.std.proofs.Common.{◌≡◌, ℕ, ◌+◌, ◌^◌, ◌<◌, ◌≤◌, Bool, true, false, cond, ltb, eqb, List, [], ◌∷◌, ◌++◌, length, take, drop, Option, Some, None, Result, Ok, Err, refl, sym, ap, subst, ◌∙◌, append_assoc, arith}
 use Rattle.std.specs.Int.{w8, w16, w32, to_be_bytes, from_be_bytes}
-use Rattle.std.specs.List.{find}
 use Rattle.std.specs.Prelude.{IfOk}
 use Rattle.std.proofs.Math.Nat.{mod-eq_of_lt}
 use Rattle.std.proofs.lemmas.Bool.{ltb-false, le-ltb, eqb-true}
-use Rattle.std.proofs.lemmas.List.{take_at, drop_at, take-append-drop, length-append, length-take, length-drop, append-nil, nil_from_length, append_cancel_left}
+use Rattle.std.proofs.lemmas.List.{take_at, drop_at, take-append-drop, length-append, length-take, length-drop, append-nil, nil_from_length}
 use Rattle.wire_messages.specs.declared.messages.Framed.{Framed}
 use Rattle.wire_messages.specs.declared.messages.Message.{Message}
 use Rattle.wire_messages.specs.declared.operations.Heard.{Heard}
@@ -13,15 +12,15 @@ use Rattle.wire_messages.specs.declared.operations.Operation.{Operation}
 use Rattle.wire_messages.specs.declared.operations.Operation.TheVariants as op
 use Rattle.wire_messages.specs.declared.refusals.EncodeRefusal.{EncodeRefusal}
 use Rattle.wire_messages.specs.declared.refusals.WireRefusal.{WireRefusal}
-use Rattle.wire_messages.specs.declared.refusals.WireRefusal.TheVariants.{TooShort, TooLong, BadOperation, Trailing}
-use Rattle.wire_messages.specs.Left.{Left, Reading, place, ◌>>=◌}
+use Rattle.wire_messages.specs.declared.refusals.WireRefusal.TheVariants.{TooShort, TooLong, Trailing}
+use Rattle.wire_messages.specs.Left.{Left, place, ◌>>=◌}
 use Rattle.wire_messages.specs.Format.{number}
 use Rattle.wire_messages.specs.Operation.{number_of, operation_of, known_at}
 use Rattle.wire_messages.specs.Message.{operation, fields, read}
 use Rattle.wire_messages.specs.Frame.{body, spelling, length_of, length_fault, message_of, whole, body_of, unless_fault, frame_of, Answers}
 use Rattle.wire_messages.specs.Hearing.{IsHeard}
 use Rattle.wire_messages.specs.Right.{IsRight}
-use Rattle.wire_messages.proofs.Exact.{IsBytes, IsBytes-drop, IsBytes-take, bind_ok, pass_ok, ok_is, Takes, Takes-then, number_exact, wide8, wide16, wide32}
+use Rattle.wire_messages.proofs.Exact.{IsBytes, IsBytes-drop, IsBytes-take, bind_ok, pass_ok, ok_is, number_exact, wide8, wide16, wide32}
 use Rattle.wire_messages.proofs.RefusalLaws.{find_passes, byte_read}
 use Rattle.wire_messages.proofs.MessageLaws.{Says, message_takes, message_again}
 

@@ -1,11 +1,9 @@
 -- The texts of names and keys are short enough for a field.
-use Rattle.std.proofs.Common.{◌≡◌, ℕ, ◌+◌, ◌^◌, ◌<◌, ◌≤◌, Bool, true, false, cond, ltb, eqb, List, [], ◌∷◌, length, Option, Some, None, refl, arith}
+use Rattle.std.proofs.Common.{◌≡◌, ℕ, ◌^◌, ◌<◌, Bool, true, false, cond, ltb, eqb, List, length, Option, Some, None, refl, arith}
 use Rattle.std.proofs.lemmas.Bool.{ltb-false}
 use Rattle.cynara_keys.specs.Name.{name_fault}
 use Rattle.cynara_keys.specs.BucketName.{bucket_name_fault}
 use Rattle.cynara_keys.specs.Metadata.{metadata_fault}
-use Rattle.cynara_keys.specs.Field.{field_fault, filter_field_fault, field_text, filter_field_text, wildcard, every}
-use Rattle.cynara_keys.specs.Text.{same_text}
 use Rattle.app_registry.specs.Ident.{ident_fault}
 use Rattle.desk_ports.specs.FileName.{file_name_fault}
 

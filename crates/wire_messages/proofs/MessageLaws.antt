@@ -1,5 +1,5 @@
 -- Each message is read exactly as it is spelled.
-use Rattle.std.proofs.Common.{◌≡◌, ℕ, ◌^◌, ◌<◌, List, [], ◌∷◌, ◌++◌, Result, Ok, Err, refl, sym, ap, subst, ◌∙◌}
+use Rattle.std.proofs.Common.{◌≡◌, ℕ, ◌^◌, ◌<◌, List, ◌++◌, Ok, refl, sym, ap, subst}
 use Rattle.std.specs.Int.{w32, w64}
 use Rattle.wire_messages.specs.declared.messages.Message.{Message}
 use Rattle.wire_messages.specs.declared.messages.Message.TheVariants.{Check, SimpleCheck, SetBucket, RemoveBucket, SetPolicies, Erase, Layout, SetTemplate, UserSet, UserRemove, Install, Uninstall, Listing, AdminCheck, Stop, Register, AgentAnswer, Judged, FromAgent, NotResolved, NoAgent, AgentGone, AgentFull, Done, Refused, ListRow, ListEnd, StoreFault, StoreDamaged, Registered, KindTaken, AgentQuestion, UnknownNumber}

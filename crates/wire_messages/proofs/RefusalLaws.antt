@@ -1,5 +1,5 @@
 -- A refusal in a frame is read exactly as it is spelled.
-use Rattle.std.proofs.Common.{◌≡◌, ℕ, zero, suc, ◌+◌, ◌^◌, ◌<◌, ◌≤◌, Bool, true, false, cond, ltb, eqb, List, [], ◌∷◌, ◌++◌, length, Option, Some, None, Result, Ok, Err, refl, sym, ap, subst, ◌∙◌, append_assoc, arith}
+use Rattle.std.proofs.Common.{◌≡◌, ℕ, ◌^◌, ◌<◌, ◌≤◌, Bool, true, false, cond, ltb, eqb, List, [], ◌∷◌, ◌++◌, length, Option, Some, None, Ok, refl, sym, ap, subst, ◌∙◌, arith}
 use Rattle.std.specs.Prelude.{is_some, unwrap_or}
 use Rattle.std.specs.List.{find}
 use Rattle.std.specs.Int.{w8, w64, to_be_bytes}
@@ -13,8 +13,8 @@ use Rattle.desk_state.specs.declared.refusals.Refusal.{Refusal}
 use Rattle.desk_state.specs.declared.refusals.Refusal.TheVariants as refusal
 use Rattle.wire_messages.specs.declared.rules.Rule.{Rule}
 use Rattle.wire_messages.specs.declared.rules.Rule.TheVariants.{Reserved, LayoutThere, NoLayout, NoBucket, RootBucket, BadKind, UnknownUser, OtherPackage, OtherAuthor, NotInstalled, Limit, Cycle}
-use Rattle.wire_messages.specs.Left.{Left, Reading, wrong, place, ◌>>=◌}
-use Rattle.wire_messages.specs.Format.{Format, number, text, tested, seen, made, ◌⊗◌}
+use Rattle.wire_messages.specs.Left.{Left, Reading, ◌>>=◌}
+use Rattle.wire_messages.specs.Format.{Format, number, text, tested, made, ◌⊗◌}
 use Rattle.wire_messages.specs.Field as field
 use Rattle.wire_messages.specs.Refused.{no_text, zero_value, value_below, counted_text, counted_of, all_counted, which, rule_number, all_rules, rule_of, plain, read_rule, rule_at, refusal_spelled, refused}
 use Rattle.wire_messages.specs.Right as right

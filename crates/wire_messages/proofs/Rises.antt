@@ -1,5 +1,5 @@
 -- Names that rise, as a list in order and as they are read one behind the other.
-use Rattle.std.proofs.Common.{◌≡◌, ℕ, zero, suc, Bool, true, false, cond, List, [], ◌∷◌, ◌++◌, Option, Some, None, Ok, Err, refl, sym, ap, subst, ◌∙◌}
+use Rattle.std.proofs.Common.{◌≡◌, ℕ, zero, suc, true, cond, List, [], ◌∷◌, ◌++◌, Option, Some, None, Ok, refl, ap, subst, ◌∙◌}
 use Rattle.std.specs.declared.cmp.Ordering.{Ordering}
 use Rattle.std.specs.declared.cmp.Ordering.TheVariants.{Less, Equal, Greater}
 use Rattle.std.specs.List.{AllByRecursion, filter}
@@ -9,7 +9,7 @@ use Rattle.std.specs.Cmp.{IsTotalOrder}
 use Rattle.std.proofs.lemmas.Cmp.{nat_list_cmp_total}
 use Rattle.cynara_keys.specs.Text.{text_cmp}
 use Rattle.app_registry.specs.Rising.{rising}
-use Rattle.wire_messages.specs.Left.{Left, Reading, wrong, place, ◌>>=◌}
+use Rattle.wire_messages.specs.Left.{Left, wrong, place, ◌>>=◌}
 use Rattle.wire_messages.specs.Format.{tested}
 use Rattle.wire_messages.specs.Field.{name, comes_after, rising_names}
 use Rattle.wire_messages.specs.Right.{AreRising}

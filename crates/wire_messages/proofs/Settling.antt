@@ -9,7 +9,7 @@ use Rattle.wire_messages.specs.declared.refusals.WireRefusal.{WireRefusal}
 use Rattle.wire_messages.specs.declared.refusals.WireRefusal.TheVariants.{TooShort, TooLong, BadOperation, BadField, Trailing, Memory}
 use Rattle.wire_messages.specs.Left.{Refuses}
 use Rattle.wire_messages.specs.Frame.{length_of, length_fault, frame_of}
-use Rattle.wire_messages.specs.Stream.{Feeding, Front, Partial, Wrong, Whole, front_of, with_length, first_of, Hears, BeginsWrong, IsOpen, Fed, Failed}
+use Rattle.wire_messages.specs.Stream.{Feeding, Partial, Wrong, Whole, front_of, with_length, first_of, Hears, BeginsWrong, IsOpen, Fed, Failed}
 use Rattle.wire_messages.specs.parts.Feeding.{IsUpTo, Settled, Unsettled, Stepped, Unstepped}
 use Rattle.wire_messages.proofs.Streams.{hears_more, hears_then, wrong_more}
 

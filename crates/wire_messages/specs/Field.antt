@@ -1,5 +1,5 @@
 -- The fields of messages: how each is spelled and read.
-use Rattle.std.specs.Prelude.{ℕ, zero, suc, Bool, true, false, not, ◌&&◌, ◌||◌, nat_lt, nat_le, ◌==◌, if◌then◌else◌, List, [], ◌∷◌, ◌++◌, length, Option, Some, None, is_none, Result, Ok, Err, ◌⊎◌}
+use Rattle.std.specs.Prelude.{ℕ, zero, suc, Bool, true, false, ◌&&◌, ◌||◌, nat_lt, ◌==◌, if◌then◌else◌, List, [], ◌∷◌, ◌++◌, length, Option, Some, None, is_none, Result, Ok, Err, ◌⊎◌}
 use Rattle.std.specs.List.{flat_map}
 use Rattle.std.specs.Result.{result_unwrap_or}
 use Rattle.std.specs.Int.{w8, w16, w32, w64, to_be_bytes}
@@ -33,7 +33,7 @@ use Rattle.rule_templates.specs.declared.lines.TemplateLine.{TemplateLine}
 use Rattle.rule_templates.specs.declared.templates.TemplateRefusal.{TemplateRefusal}
 use Rattle.rule_templates.specs.Template.{template_of, template_text}
 use Rattle.wire_messages.specs.Left.{Left, Reading, ◌>>=◌}
-use Rattle.wire_messages.specs.Format.{Format, number, text, tested, seen, ◌⊗◌, leading, nothing, flag, either, counted}
+use Rattle.wire_messages.specs.Format.{Format, number, text, tested, seen, ◌⊗◌, leading, nothing, either}
 
 -- ---- names and keys
 

@@ -1,12 +1,12 @@
 -- Messages: the operation of each, how its fields are spelled, and what is read as it.
 use Rattle.std.specs.Prelude.{ℕ, List}
-use Rattle.std.specs.Int.{w16, w32, w64}
+use Rattle.std.specs.Int.{w32, w64}
 use Rattle.wire_messages.specs.declared.messages.Message.{Message}
 use Rattle.wire_messages.specs.declared.messages.Message.TheVariants.{Check, SimpleCheck, SetBucket, RemoveBucket, SetPolicies, Erase, Layout, SetTemplate, UserSet, UserRemove, Install, Uninstall, Listing, AdminCheck, Stop, Register, AgentAnswer, Judged, FromAgent, NotResolved, NoAgent, AgentGone, AgentFull, Done, Refused, ListRow, ListEnd, StoreFault, StoreDamaged, Registered, KindTaken, AgentQuestion, UnknownNumber}
 use Rattle.wire_messages.specs.declared.operations.Operation.{Operation}
 use Rattle.wire_messages.specs.declared.operations.Operation.TheVariants as op
 use Rattle.wire_messages.specs.Left.{Left, Reading}
-use Rattle.wire_messages.specs.Format.{Format, number, flag, nothing, made, ◌⊗◌, counted}
+use Rattle.wire_messages.specs.Format.{number, flag, nothing, made, ◌⊗◌, counted}
 use Rattle.wire_messages.specs.Field as field
 use Rattle.wire_messages.specs.Refused.{refused}
 

@@ -1,5 +1,5 @@
 -- The refusal of a command in a frame: the number of the rule, a text and a value, each of which only some rules have.
-use Rattle.std.specs.Prelude.{◌≡◌, ℕ, Bool, nat_lt, ◌==◌, if◌then◌else◌, List, [], ◌∷◌, ◌++◌, length, Option, Some, None, is_some, codes, find, unwrap_or}
+use Rattle.std.specs.Prelude.{ℕ, nat_lt, ◌==◌, List, [], ◌∷◌, length, Option, Some, None, is_some, codes, find, unwrap_or}
 use Rattle.std.specs.Int.{w8, w64}
 use Rattle.cynara_keys.specs.Text.{same_text}
 use Rattle.cynara_keys.specs.declared.limits.Counted.{Counted}

@@ -1,5 +1,5 @@
 -- What the values of a message are that has a spelling. Most of it the types of the fields keep.
-use Rattle.std.specs.Prelude.{◌≡◌, ◌<◌, ◌^◌, ℕ, Bool, true, ◌&&◌, List, [], ◌∷◌, length, Option, Some, None, Ok}
+use Rattle.std.specs.Prelude.{◌≡◌, ◌<◌, ◌^◌, ℕ, true, ◌&&◌, List, [], ◌∷◌, length, Option, Some, None, Ok}
 use Rattle.std.specs.List.{AllByRecursion}
 use Rattle.cynara_keys.specs.Name.{is_name}
 use Rattle.cynara_keys.specs.BucketName.{is_bucket_name}

@@ -1,9 +1,9 @@
 -- Streams of frames: what bytes begin with, the messages that were heard one after the other, and the feeder's state.
-use Rattle.std.specs.Prelude.{◌≡◌, ◌≤◌, ℕ, ◌+◌, Bool, nat_lt, if◌then◌else◌, List, [], ◌∷◌, ◌++◌, length, take, drop, Option, Some, None, Result, Ok, Err}
+use Rattle.std.specs.Prelude.{◌≡◌, ℕ, ◌+◌, nat_lt, if◌then◌else◌, List, [], ◌∷◌, ◌++◌, length, take, drop, Option, Some, None, Result, Ok, Err}
 use Rattle.wire_messages.specs.declared.messages.Framed.{Framed}
 use Rattle.wire_messages.specs.declared.operations.Heard.{Heard}
 use Rattle.wire_messages.specs.declared.refusals.WireRefusal.{WireRefusal}
-use Rattle.wire_messages.specs.declared.refusals.WireRefusal.TheVariants.{TooShort, TooLong, BadOperation, BadField, Trailing, Memory}
+use Rattle.wire_messages.specs.declared.refusals.WireRefusal.TheVariants.{Memory}
 use Rattle.wire_messages.specs.Frame.{length_of, length_fault, frame_of}
 
 -- What bytes begin with: less than a frame, a frame that is refused, or a frame of a message with the bytes behind it.

@@ -1,10 +1,4 @@
-use Rattle.std.proofs.Common.{◌≡◌, Result, Ok, Err, refl, sym, subst, ◌∙◌, ap, arith, rules}
-use Rattle.std.specs.Prelude.{IfOk}
-use Rattle.wire_messages.specs.declared.messages.Framed.{Framed}
-use Rattle.wire_messages.specs.declared.operations.Heard.{Heard}
-use Rattle.wire_messages.specs.declared.refusals.WireRefusal.{WireRefusal}
-use Rattle.wire_messages.specs.Frame.{frame_of, spelling, Answers}
-use Rattle.wire_messages.specs.Hearing.{IsHeard}
+use Rattle.std.proofs.Common.{arith}
 use Rattle.wire_messages.proofs.FrameLaws.{is_found, is_read}
 use Rattle.wire_messages.proofs.decoding.decode.Goals as goal
 

@@ -4,7 +4,6 @@ use Rattle.wire_messages.specs.declared.refusals.WireRefusal.{WireRefusal}
 use Rattle.wire_messages.specs.Left.{Refuses}
 use Rattle.wire_messages.specs.Frame.{length_of, length_fault, frame_of}
 use Rattle.wire_messages.specs.Stream.{Whole, first_of, front_of}
-use Rattle.wire_messages.specs.parts.Feeding.{Settled}
 use Rattle.wire_messages.proofs.Settling.{kept, short_open, begins_wrong, length_wrong, not_finished, finished, heard_whole, refused_whole}
 use Rattle.wire_messages.proofs.feeding.settle.Goals as goal
 

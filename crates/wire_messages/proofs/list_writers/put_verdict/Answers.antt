@@ -1,6 +1,5 @@
-use Rattle.std.proofs.Common.{◌++◌, ◌≡◌, ap, ◌∙◌, rules}
+use Rattle.std.proofs.Common.{◌++◌, ◌≡◌, rules}
 use Rattle.std.specs.Int.{w64, to_be_bytes}
-use Rattle.wire_messages.specs.Format.{text}
 use Rattle.wire_messages.specs.Field.{ruling, bucket, optional, row}
 use Rattle.wire_messages.proofs.Appending.{then_last}
 use Rattle.wire_messages.proofs.list_writers.put_verdict.Goals as goal

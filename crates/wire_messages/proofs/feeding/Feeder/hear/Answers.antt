@@ -1,5 +1,3 @@
-use Rattle.std.proofs.Common.{◌≡◌, [], rules}
-use Rattle.std.proofs.lemmas.List.{nil_from_length}
 use Rattle.std.proofs.lemmas.Result.{err_from_is_err_and}
 use Rattle.wire_messages.proofs.Settling.{no_step, step_then, step_wrong}
 use Rattle.wire_messages.proofs.feeding.Feeder.hear.Goals as goal

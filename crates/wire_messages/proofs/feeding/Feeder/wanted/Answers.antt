@@ -1,4 +1,4 @@
-use Rattle.std.proofs.Common.{rules, arith, ◌≡◌, ◌≤◌, ◌<◌, ◌+◌, ℕ, List, length, ap}
+use Rattle.std.proofs.Common.{rules, arith, ◌≡◌, ◌≤◌, length, ap}
 use Rattle.wire_messages.specs.Frame.{length_of}
 use Rattle.wire_messages.proofs.Settling.{open_bound}
 use Rattle.wire_messages.proofs.feeding.Feeder.wanted.Goals as goal
