@@ -8,6 +8,9 @@ ghost use Rattle.bucket_store.specs.Refusal.{fault, Refuses};
 ghost use Rattle.bucket_store.specs.WellFormed.{IsWellFormed, IsKept};
 ghost use Rattle.bucket_store.specs.parts.Naming.{NamesAbsent, NamesCycle};
 
+mod made;
+
+pub use made::has_cycle;
 use crate::batches::{adds_link, changed_buckets, is_over};
 use crate::buckets::Bucket;
 use crate::copies::{admitted, all_buckets, not_admitted};

@@ -18,7 +18,7 @@ mod refusals;
 mod searches;
 
 pub use buckets::Bucket;
-pub use databases::{Database, Erased};
+pub use databases::{Database, Erased, has_cycle};
 pub use limits::{MOST_BUCKETS, MOST_POLICIES};
 pub use policy_changes::{Change, Changes};
 pub use refusals::StoreRefusal;
