@@ -77,7 +77,7 @@ def change_of(words):
         case _:
             return None
     bucket, key = bucket_of(bucket), (client, user, privilege)
-    if bucket is None or not is_known or not all(map(is_name_or(b"*"), key)):
+    if bucket is None or not is_known or not all(map(is_name_or((b"*",)), key)):
         return None
     return bucket, key, result
 
