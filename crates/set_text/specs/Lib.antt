@@ -1,0 +1,13 @@
+pub mod Numbers
+pub mod Lines
+pub mod Stamp
+pub mod Buckets
+pub mod Registry
+pub mod Template
+pub mod FileNames
+pub mod Files
+pub mod Fault
+pub mod Reading
+pub mod Refusal
+pub mod IsSpelt
+pub mod parts

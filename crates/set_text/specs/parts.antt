@@ -1,0 +1,9 @@
+pub mod Kept
+pub mod Names
+pub mod Parts
+pub mod Puts
+pub mod Reads
+pub mod Rights
+pub mod Sorts
+pub mod Stages
+pub mod Standing
