@@ -1,0 +1,107 @@
+-- From what a store recovers to, to what its folder keeps.
+use Rattle.std.proofs.Common.{◌≡◌, ℕ, List, Option, Some, Ok, Err, ◌⊎◌, ◌<◌, ap, ◌∙◌, inl, inr}
+use Rattle.desk_ports.specs.declared.file_sets.SetFile.{SetFile}
+use Rattle.desk_ports.specs.FileMap.{FileMap}
+use Rattle.desk_ports.specs.Disk.{DiskState}
+use Rattle.desk_ports.specs.Disk.{WhereTold}
+use Rattle.desk_ports.specs.Moments.{LeavesOnly}
+use Rattle.desk_ports.proofs.Moments.{LeavesOnly-more}
+use Rattle.guard_files.specs.Mounted.{RecoversAsAllowed, EndsAtRest, IfDamaged as IfStoreDamaged}
+use Rattle.guard_files.specs.declared.refusals.VaultRefusal.{VaultRefusal}
+use Rattle.guard_files.specs.declared.refusals.VaultRefusal.TheVariants as vault
+use Rattle.guard_files.specs.Recovery.{Recovered, recover}
+use Rattle.guard_files.specs.Settled.{IsSettled, IsBeforeOrAfter as IsSetBeforeOrAfter}
+use Rattle.guard_files.proofs.SaveMoments.{settled_leaves}
+use Rattle.desk_state.specs.DeskState.{DeskState}
+use Rattle.set_text.specs.FileNames.{stamp}
+use Rattle.set_text.specs.Reading.{read_of}
+use Rattle.desk_keeper.specs.Kept.{desk_of_set, desk_of, kept}
+use Rattle.desk_keeper.specs.Keeping.{IsKept, EndsKept, StandsAsAllowed, IfDamaged, IsOlder, IsBeforeOrAfter}
+use Rattle.desk_keeper.specs.parts.Reading.{RefusesSet, NamesStamp, refused}
+use Rattle.desk_keeper.specs.declared.refusals.KeeperRefusal.{KeeperRefusal}
+use Rattle.desk_keeper.specs.declared.refusals.KeeperRefusal.TheVariants.{StoreFault, Damaged, Memory}
+
+pub kept-of : (files : FileMap) (found : Recovered) → recover files ≡ found → kept files ≡ desk_of found
+unfolding kept
+kept-of files found same = ap desk_of same
+
+pub kept-alike : (files others : FileMap) → recover files ≡ recover others → kept files ≡ kept others
+unfolding kept
+kept-alike files others same = ap desk_of same
+
+-- a store at rest keeps what its set stands for
+pub kept-at-rest : (desk : DeskState) (held : Option (List SetFile)) (state : DiskState) → desk_of_set held ≡ Ok desk
+    → IsSettled held state
+    → IsKept desk held state
+kept-at-rest desk held state stands settled = record {
+  stands = stands;
+  settled = settled;
+  alone = λ left leaves. kept-of left (Ok held) (settled_leaves held state settled left leaves) ∙ stands;
+}
+
+pub stands-as : (before : DiskState) (left : FileMap) → RecoversAsAllowed before left → StandsAsAllowed before left
+stands-as before left (other, may, same) = (other, may, kept-alike left other same)
+
+-- what recovers to one of two sets stands for one of two states
+pub one-of : (before next : DeskState) (held : Option (List SetFile)) (set : List SetFile) → desk_of_set held ≡ Ok before
+    → read_of set ≡ Ok next
+    → (left : FileMap)
+    → IsSetBeforeOrAfter held (Some set) left
+    → IsBeforeOrAfter before next left
+one-of before next held set stands reads left (inl same) = inl (kept-of left (Ok held) same ∙ stands)
+one-of before next held set stands reads left (inr same) = inr (kept-of left (Ok (Some set)) same ∙ reads)
+
+module _ {D : Type 0} (moment : D → ℕ) (left_since : D → ℕ → FileMap → Type 0) (old new : D) where
+  pub moments-stand : (before : DiskState) → LeavesOnly moment left_since old new (RecoversAsAllowed before)
+      → LeavesOnly moment left_since old new (StandsAsAllowed before)
+  moments-stand before leaves =
+      LeavesOnly-more moment left_since old new (RecoversAsAllowed before) (StandsAsAllowed before) (stands-as before) leaves
+
+  pub moments-one-of : (before next : DeskState) (held : Option (List SetFile)) (set : List SetFile) → desk_of_set held ≡ Ok before
+      → read_of set ≡ Ok next
+      → LeavesOnly moment left_since old new (IsSetBeforeOrAfter held (Some set))
+      → LeavesOnly moment left_since old new (IsBeforeOrAfter before next)
+  moments-one-of before next held set stands reads leaves =
+      LeavesOnly-more moment left_since old new (IsSetBeforeOrAfter held (Some set)) (IsBeforeOrAfter before next)
+      (one-of before next held set stands reads) leaves
+
+-- what a damaged store and a damaged set are called
+pub store-damage : (told : Option DiskState) (Left : DiskState → Type 0) (refusal : VaultRefusal)
+    → IfStoreDamaged refusal (λ file. WhereTold told (λ before. (recover before.current ≡ Err file) × Left before))
+    → IfDamaged (refused refusal) (λ fault. WhereTold told (λ before. kept before.current ≡ Err fault))
+store-damage told Left vault.StoreFault damaged = tt
+store-damage told Left (vault.Damaged file) damaged =
+    λ before said. kept-of before.current (Err file) (damaged before said).0
+store-damage told Left (vault.Memory error) damaged = tt
+
+pub set-damage : (told : Option DiskState) (held : Option (List SetFile)) (refusal : KeeperRefusal) → RefusesSet held refusal
+    → WhereTold told (λ before. recover before.current ≡ Ok held)
+    → IfDamaged refusal (λ fault. WhereTold told (λ before. kept before.current ≡ Err fault))
+set-damage told held StoreFault refuses found = tt
+set-damage told held (Damaged file line) refuses found =
+    λ before said. kept-of before.current (Ok held) (found before said) ∙ refuses
+set-damage told held (Memory error) refuses found = tt
+
+pub at-rest-kept : (desk : DeskState) (held : Option (List SetFile)) (told : Option DiskState) → desk_of_set held ≡ Ok desk
+    → EndsAtRest held told
+    → EndsKept desk held told
+at-rest-kept desk held told stands (after, is, settled) = (after, is, kept-at-rest desk held after stands settled)
+
+-- a folder that stands for no state, and one that stands for an older one
+pub first-damage : (told : Option DiskState) (last : DeskState) (refusal : KeeperRefusal)
+    → IfDamaged refusal (λ fault. WhereTold told (λ before. kept before.current ≡ Err fault))
+    → IfDamaged refusal
+    (λ fault. WhereTold told (λ before. (kept before.current ≡ Err fault) ⊎ IsOlder last before.current fault))
+first-damage told last StoreFault damaged = tt
+first-damage told last (Damaged file line) damaged = λ before said. inl (damaged before said)
+first-damage told last (Memory error) damaged = tt
+
+pub older-damage : (told : Option DiskState) (last found : DeskState) (refusal : KeeperRefusal) → NamesStamp refusal
+    → found.commit < last.commit
+    → WhereTold told (λ before. kept before.current ≡ Ok found)
+    → IfDamaged refusal
+    (λ fault. WhereTold told (λ before. (kept before.current ≡ Err fault) ⊎ IsOlder last before.current fault))
+older-damage told last found StoreFault names older finds = tt
+older-damage told last found (Damaged file line) names older finds =
+    λ before said. inr (found, finds before said, older, ap (λ name. record { file = name; line = line }) names.0 ∙ ap (λ number. record { file = stamp; line = number }) names.1)
+older-damage told last found (Memory error) names older finds = tt

@@ -1,0 +1,4 @@
+pub mod Keeping
+pub mod Listable
+pub mod Refusing
+pub mod SetNames

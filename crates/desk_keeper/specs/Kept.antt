@@ -1,0 +1,27 @@
+-- What a folder's files stand for, whatever a stop made of them: a policy state, or the file and line by which they are
+-- none. Every promise of the keeper on stops cites `kept`.
+use Rattle.std.specs.Prelude.{List, Option, Some, None, Result, Ok, Err}
+use Rattle.desk_ports.specs.declared.file_sets.SetFile.{SetFile}
+use Rattle.desk_ports.specs.FileMap.{FileMap}
+use Rattle.guard_files.specs.Recovery.{Recovered, recover}
+use Rattle.desk_state.specs.DeskState.{DeskState, fresh}
+use Rattle.set_text.specs.Fault.{Fault, whole}
+use Rattle.set_text.specs.Reading.{read_of}
+
+-- a set of files, or its first fault; no set is the state before the first command
+abbrev pub desk_of_set : Option (List SetFile) → Result DeskState Fault
+desk_of_set None = Ok fresh
+desk_of_set (Some set) = read_of set
+
+-- a damaged store names its file as a whole
+abbrev pub desk_of : Recovered → Result DeskState Fault
+desk_of (Err file) = Err (whole file)
+desk_of (Ok held) = desk_of_set held
+
+unfoldable pub kept : FileMap → Result DeskState Fault
+kept files = desk_of (recover files)
+
+-- what a folder at rest keeps: the set that it holds, or none, and the state that this stands for
+pub record Kept : Type 0 where
+  pub held : Option (List SetFile)
+  pub desk : DeskState

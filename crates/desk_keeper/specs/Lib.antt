@@ -1,0 +1,4 @@
+pub mod Kept
+pub mod Commit
+pub mod Keeping
+pub mod parts

@@ -1,0 +1,89 @@
+// What a folder keeps, found before its disk is lent to a keeper.
+ghost use Rattle.std.specs.Prelude.{◌≡◌, Ok, IfOk, IfErr};
+ghost use Rattle.std.specs.Option.{option_copied};
+ghost use Rattle.desk_ports.specs.Disk.{WhereTold};
+ghost use Rattle.desk_ports.specs.Moments.{LeavesOnly};
+ghost use Rattle.desk_keeper.specs.Kept.{desk_of_set, kept};
+ghost use Rattle.desk_keeper.specs.Keeping.{EndsKept, StandsAsAllowed, IfDamaged, count_after_mount};
+ghost use Rattle.desk_keeper.specs.parts.Reading.{RefusesSet, refused};
+
+use crate::refusals::KeeperRefusal;
+use desk_ports::{Disk, FileSet};
+use desk_state::Desk;
+use guard_files::{Mounted, VaultRefusal};
+use set_text::{TextRefusal, read};
+use std::alloc::Global;
+use std::marker::Model;
+
+/// The policy state that a mount found in a folder, with what a keeper over the folder needs.
+#[derive(Drop)]
+pub struct KeptDesk {
+    pub(crate) found: Mounted,
+    pub(crate) desk: Desk,
+}
+
+impl Model for KeptDesk {
+    ghost use Rattle.std.specs.Prelude.{◌≡◌, Ok};
+    ghost use Rattle.desk_keeper.specs.Kept.{Kept, desk_of_set};
+
+    ghost Value = { Kept };
+
+    ghost view = { λ kept. record { held = kept.found; desk = kept.desk } };
+
+    ghost invariant = { λ kept. desk_of_set kept.found ≡ Ok kept.desk };
+}
+
+impl KeptDesk {
+    /// Brings the folder to rest, as `guard_files::settle` does, and reads the policy state that it keeps; a folder
+    /// without a set keeps the one before the first command. Refuses `StoreFault`, where a call of the disk failed;
+    /// `Damaged`, with the file and line of the first fault; and `Memory`.
+    pub fn find<D: Disk>(alloc: Global, disk: &mut D) -> Result<KeptDesk, KeeperRefusal>
+        ensures desk { IfOk result (λ found. WhereTold (D.state disk.old)
+            (λ before. kept before.current ≡ Ok found.desk)) }
+        ensures settled { IfOk result (λ found. WhereTold (D.state disk.old)
+            (λ before. EndsKept found.desk found.held (D.state disk.new))) }
+        ensures moments { WhereTold (D.state disk.old)
+            (λ before. LeavesOnly D.moment D.left_since disk.old disk.new (StandsAsAllowed before)) }
+        ensures damaged { IfErr result (λ refusal. IfDamaged refusal (λ fault. WhereTold (D.state disk.old)
+            (λ before. kept before.current ≡ Err fault))) }
+        ensures count { D.faults disk.new ≡ count_after_mount result (D.faults disk.old) }
+    {
+        let found = match Mounted::find(alloc, disk) {
+            Ok(found) => found,
+            Err(refusal) => return Err(refusal_of(refusal)),
+        };
+        match desk_of(alloc, found.held()) {
+            Ok(desk) => Ok(KeptDesk { found, desk }),
+            Err(refusal) => Err(refusal),
+        }
+    }
+}
+
+/// The state that a set of files, or none, stands for.
+pub(crate) fn desk_of(alloc: Global, held: Option<&FileSet>) -> Result<Desk, KeeperRefusal>
+    ensures desk { IfOk result (λ desk. desk_of_set (option_copied held.entry) ≡ Ok desk) }
+    ensures refused { IfErr result (RefusesSet (option_copied held.entry)) }
+{
+    match held {
+        Some(set) => match read(alloc, set) {
+            Ok(desk) => Ok(desk),
+            Err(TextRefusal::Damaged { file, line }) => Err(KeeperRefusal::Damaged { file, line }),
+            Err(TextRefusal::Memory(error)) => Err(KeeperRefusal::Memory(error)),
+        },
+        None => match Desk::fresh(alloc) {
+            Ok(desk) => Ok(desk),
+            Err(error) => Err(KeeperRefusal::Memory(error)),
+        },
+    }
+}
+
+/// The refusal that a refused mount of the store leads to.
+pub(crate) fn refusal_of(refusal: VaultRefusal) -> KeeperRefusal
+    ensures { result ≡ refused refusal }
+{
+    match refusal {
+        VaultRefusal::StoreFault => KeeperRefusal::StoreFault,
+        VaultRefusal::Damaged { file } => KeeperRefusal::Damaged { file, line: 0 },
+        VaultRefusal::Memory(error) => KeeperRefusal::Memory(error),
+    }
+}

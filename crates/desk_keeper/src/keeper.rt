@@ -1,0 +1,202 @@
+ghost use Rattle.std.specs.Prelude.{◌≡◌, ◌≤◌, ◌&&◌, ◌⊎◌, true, false, None, Some, Ok, Err, IfOk, IfErr, OnOk, OnErr};
+ghost use Rattle.desk_ports.specs.Disk.{WhereTold};
+ghost use Rattle.desk_ports.specs.Faults.{next_count};
+ghost use Rattle.desk_ports.specs.Moments.{LeavesOnly};
+ghost use Rattle.guard_files.specs.Settled.{gone_names};
+ghost use Rattle.desk_state.specs.Next.{next, erased_by};
+ghost use Rattle.desk_state.specs.Rules.{Refuses, fault};
+ghost use Rattle.set_text.specs.Files.{files};
+ghost use Rattle.desk_keeper.specs.Kept.{kept};
+ghost use Rattle.desk_keeper.specs.parts.Reading.{NamesStamp};
+ghost use Rattle.desk_keeper.specs.Keeping.{IsKept, EndsKept, StandsAsAllowed, IfDamaged, count_after_mount, IsOlder, IsBeforeOrAfter};
+
+use crate::folders::{KeptDesk, desk_of, refusal_of};
+use crate::prepared::PreparedCommit;
+use crate::refusals::KeeperRefusal;
+use desk_ports::Disk;
+use desk_state::{Command, Desk, Refusal};
+use guard_files::{StoreFault, Vault, fixed_name};
+use set_text::write;
+use std::alloc::Global;
+
+/// The policy state of a device over a folder. It gives the last state that is known to be kept; each commit replaces the
+/// folder's files at once. Clauses see its vault, that state, and whether what the vault holds was read.
+#[derive(Drop)]
+pub struct Keeper<'d, D: Disk> {
+    vault: Vault<'d, D>,
+    alloc: Global,
+    desk: Desk,
+    read: bool,
+}
+
+impl<'d, D: Disk> Keeper<'d, D> {
+    /// Mounts the folder, as `KeptDesk::find` does, and keeps its disk. Where more is to be known of the disk after a
+    /// refusal than clauses can say here, which hand it on in the answer, `KeptDesk::find` and then `of` do the same.
+    pub fn mount(alloc: Global, disk: &'d mut D) -> Result<Keeper<'d, D>, KeeperRefusal>
+        ensures decided { IfOk result (λ keeper. (keeper.read && keeper.vault.decided) ≡ true) }
+        ensures desk { IfOk result (λ keeper. WhereTold (D.state disk.old)
+            (λ before. kept before.current ≡ Ok keeper.desk)) }
+        ensures settled { IfOk result (λ keeper. WhereTold (D.state disk.old)
+            (λ before. EndsKept keeper.desk keeper.vault.held (D.state keeper.vault.disk.now))) }
+        ensures moments { IfOk result (λ keeper. WhereTold (D.state disk.old)
+            (λ before. LeavesOnly D.moment D.left_since disk.old keeper.vault.disk.now (StandsAsAllowed before))) }
+        ensures damaged { IfErr result (λ refusal. IfDamaged refusal (λ fault. WhereTold (D.state disk.old)
+            (λ before. kept before.current ≡ Err fault))) }
+        ensures count { IfOk result (λ keeper. D.faults keeper.vault.disk.now ≡ D.faults disk.old) }
+        ensures same_disk { IfOk result (λ keeper. keeper.vault.disk.ghost_name ≡ disk.entry.ghost_name) }
+    {
+        let found = KeptDesk::find(alloc, disk)?;
+        Ok(Keeper::of(alloc, disk, found))
+    }
+
+    /// The keeper over a disk on which this state was found last, and which no other call was made on since. Takes no
+    /// memory.
+    pub fn of(alloc: Global, disk: &'d mut D, found: KeptDesk) -> Keeper<'d, D>
+        ensures decided { (result.read && result.vault.decided) ≡ true }
+        ensures desk { result.desk ≡ found.desk }
+        ensures held { result.vault.held ≡ found.held }
+        ensures disk { result.vault.disk.now ≡ disk.old }
+        ensures same_disk { result.vault.disk.ghost_name ≡ disk.entry.ghost_name }
+    {
+        let KeptDesk { found, desk } = found;
+        Keeper {
+            vault: Vault::of(alloc, disk, found),
+            alloc,
+            desk,
+            read: true,
+        }
+    }
+
+    /// Settles what the folder keeps, as a mount does, from whatever state. Refuses as a mount does; and `Damaged`, with
+    /// the file `stamp` and line 0, where the commit found is below that of `desk`, which no stop leads to. A refusal
+    /// leaves the keeper undecided, and `desk` as it was.
+    pub fn remount(&mut self) -> Result<(), KeeperRefusal>
+        ensures decided { OnOk result ((self.new.read && self.new.vault.decided) ≡ true) }
+        ensures undecided { OnErr result ((self.new.read && self.new.vault.decided) ≡ false) }
+        ensures desk { OnOk result (WhereTold (D.state self.old.vault.disk.now)
+            (λ before. kept before.current ≡ Ok self.new.desk)) }
+        ensures last { OnErr result (self.new.desk ≡ self.old.desk) }
+        ensures no_older { OnOk result (self.old.desk.commit ≤ self.new.desk.commit) }
+        ensures settled { OnOk result (WhereTold (D.state self.old.vault.disk.now)
+            (λ before. EndsKept self.new.desk self.new.vault.held (D.state self.new.vault.disk.now))) }
+        ensures moments { WhereTold (D.state self.old.vault.disk.now)
+            (λ before. LeavesOnly D.moment D.left_since self.old.vault.disk.now self.new.vault.disk.now
+            (StandsAsAllowed before)) }
+        ensures damaged { IfErr result (λ refusal. IfDamaged refusal (λ fault.
+            WhereTold (D.state self.old.vault.disk.now) (λ before. (kept before.current ≡ Err fault)
+            ⊎ IsOlder self.old.desk before.current fault))) }
+        ensures count { D.faults self.new.vault.disk.now ≡ count_after_mount result (D.faults self.old.vault.disk.now) }
+        ensures same_disk { self.new.vault.disk.ghost_name ≡ self.old.vault.disk.ghost_name }
+    {
+        self.read = false;
+        if let Err(refusal) = self.vault.remount() {
+            return Err(refusal_of(refusal));
+        }
+        let desk = match desk_of(self.alloc, self.vault.held()) {
+            Ok(desk) => desk,
+            Err(refusal) => return Err(refusal),
+        };
+        if desk.commit() < self.desk.commit() {
+            return Err(older(self.alloc));
+        }
+        self.desk = desk;
+        self.read = true;
+        Ok(())
+    }
+
+    /// Whether it is known what the folder keeps. After a failed commit or a refused remount only `remount` and `desk` may
+    /// be called.
+    pub fn is_decided(&self) -> bool
+        ensures { result ≡ (self.now.read && self.now.vault.decided) }
+    {
+        self.read && self.vault.is_decided()
+    }
+
+    /// The last state that was known to be kept.
+    pub fn desk(&self) -> &Desk
+        ensures { result.now ≡ self.now.desk }
+    {
+        &self.desk
+    }
+
+    /// What a commit of this command needs. Refuses as `Desk::apply` does.
+    pub fn prepare(&self, command: &Command) -> Result<PreparedCommit, Refusal>
+        requires { (self.now.read && self.now.vault.decided) ≡ true }
+        ensures base { IfOk result (λ prepared. prepared.base ≡ self.now.desk.commit) }
+        ensures erased { IfOk result (λ prepared. prepared.erased ≡ erased_by self.now.desk command.now) }
+        ensures desk { IfOk result (λ prepared. prepared.desk ≡ next self.now.desk command.now) }
+        ensures set { IfOk result (λ prepared. prepared.save.set ≡ files prepared.desk) }
+        ensures gone { IfOk result
+            (λ prepared. prepared.save.gone ≡ gone_names self.now.vault.held prepared.save.set) }
+        ensures accepted { OnOk result (fault self.now.desk command.now ≡ None) }
+        ensures refused { IfErr result (Refuses self.now.desk command.now) }
+    {
+        let applied = match self.desk.apply(command) {
+            Ok(applied) => applied,
+            Err(refusal) => return Err(refusal),
+        };
+        let set = match write(self.alloc, &applied.desk) {
+            Ok(set) => set,
+            Err(error) => return Err(Refusal::Memory(error)),
+        };
+        let save = match self.vault.prepare(set) {
+            Ok(save) => save,
+            Err(error) => return Err(Refusal::Memory(error)),
+        };
+        Ok(PreparedCommit {
+            base: self.desk.commit(),
+            erased: applied.erased,
+            desk: applied.desk,
+            save,
+        })
+    }
+
+    /// Makes the folder keep the prepared state, and gives its commit number. It was prepared from what is kept now. Takes
+    /// no memory. After `StoreFault` the keeper is undecided, and the folder keeps the state before or the prepared one.
+    pub fn commit(&mut self, prepared: PreparedCommit) -> Result<u64, StoreFault>
+        requires decided { (self.old.read && self.old.vault.decided) ≡ true }
+        requires prepared { prepared.save.gone ≡ gone_names self.old.vault.held prepared.save.set }
+
+        ensures commit { IfOk result (λ commit. commit ≡ prepared.desk.commit) }
+        ensures desk { OnOk result (self.new.desk ≡ prepared.desk) }
+        ensures last { OnErr result (self.new.desk ≡ self.old.desk) }
+        ensures held { OnOk result (self.new.vault.held ≡ Some prepared.save.set) }
+        ensures decided { OnOk result ((self.new.read && self.new.vault.decided) ≡ true) }
+        ensures undecided { OnErr result ((self.new.read && self.new.vault.decided) ≡ false) }
+
+        // From a folder that keeps this state it ends with one that keeps the prepared state, and a stop at any moment of
+        // the call leaves what stands for one of the two.
+        ensures settled { OnOk result (WhereTold (D.state self.old.vault.disk.now)
+            (λ before. IsKept self.old.desk self.old.vault.held before
+            → EndsKept self.new.desk self.new.vault.held (D.state self.new.vault.disk.now))) }
+        ensures moments { WhereTold (D.state self.old.vault.disk.now)
+            (λ before. IsKept self.old.desk self.old.vault.held before
+            → LeavesOnly D.moment D.left_since self.old.vault.disk.now self.new.vault.disk.now
+            (IsBeforeOrAfter self.old.desk prepared.desk)) }
+
+        // It fails only where a call of the disk did, once.
+        ensures count { OnOk result (D.faults self.new.vault.disk.now ≡ D.faults self.old.vault.disk.now) }
+        ensures cause { OnErr result
+            (D.faults self.new.vault.disk.now ≡ next_count (D.faults self.old.vault.disk.now)) }
+        ensures same_disk { self.new.vault.disk.ghost_name ≡ self.old.vault.disk.ghost_name }
+    {
+        let PreparedCommit { desk, save, .. } = prepared;
+        if let Err(fault) = self.vault.replace(save) {
+            return Err(fault);
+        }
+        self.desk = desk;
+        Ok(self.desk.commit())
+    }
+}
+
+const STAMP: &[u8] = b"stamp";
+
+// The refusal of a folder that keeps an older state than the last one.
+fn older(alloc: Global) -> KeeperRefusal
+    ensures { NamesStamp result }
+{
+    match fixed_name(alloc, STAMP) {
+        Ok(file) => KeeperRefusal::Damaged { file, line: 0 },
+        Err(error) => KeeperRefusal::Memory(error),
+    }
+}

@@ -1,0 +1,80 @@
+//! A folder from nothing, through commits, and folders typed by hand.
+
+use super::{FIRST, Files, SECOND, THIRD, command, commit, disk_with, found};
+use crate::Keeper;
+use desk_ports::{Disk, FileName, MemDisk};
+use std::alloc::Global;
+use std::test::Fail;
+
+fn has(disk: &mut MemDisk, alloc: Global, name: &str) -> Result<bool, Fail> {
+    Ok(
+        disk.read(&FileName::read(alloc, name.as_bytes())?)?
+            .is_some(),
+    )
+}
+
+#[test]
+fn commits_are_found_again(rt: HostRuntime) -> Result<(), Fail> {
+    let mut disk = disk_with(rt.alloc(), &[("notes", "n")], &[])?;
+    let mut keeper = Keeper::mount(rt.alloc(), &mut disk)?;
+    assert_eq!(rt; keeper.desk().commit(), 0);
+    assert_eq!(rt; commit(rt.alloc(), &mut keeper, "user 7")?, None);
+    assert_eq!(rt; commit(rt.alloc(), &mut keeper, FIRST)?, Some(1));
+    assert_eq!(rt; commit(rt.alloc(), &mut keeper, SECOND)?, Some(2));
+    let prepared = keeper.prepare(&command(rt.alloc(), "erase")?)?;
+    assert_eq!(rt;
+        (prepared.base(), prepared.erased(), prepared.desk().commit()),
+        (2, 1, 3)
+    );
+    keeper.remount()?;
+    assert_eq!(rt; (keeper.is_decided(), keeper.desk().commit()), (true, 2));
+    assert!(rt; has(&mut disk, rt.alloc(), "r.pk")?);
+    let mut again = Keeper::mount(rt.alloc(), &mut disk)?;
+    assert_eq!(rt; commit(rt.alloc(), &mut again, THIRD)?, Some(3));
+    assert!(rt; !has(&mut disk, rt.alloc(), "r.pk")?);
+    assert!(rt; has(&mut disk, rt.alloc(), "notes")?);
+    assert_eq!(rt; found(rt.alloc(), &mut disk)?.as_str(), "commit 3");
+    Ok(())
+}
+
+/// Folders, and what a mount finds in them.
+const FOLDERS: &[(Files, &str)] = &[
+    (&[], "commit 0"),
+    (&[("guard", "")], "damaged list~ 0"),
+    (&[("list", "guard\n")], "damaged list 0"),
+    (&[("list", "stamp\n")], "damaged stamp 0"),
+    (&[("list", "stamp\n"), ("stamp", "1\n")], "damaged apps 0"),
+    (
+        &[
+            ("_", ""),
+            ("apps", ""),
+            ("buckets", ";0x0;\n"),
+            ("list", "_\napps\nbuckets\nstamp\ntemplate\nusers\n"),
+            ("stamp", "7\n"),
+            ("template", ""),
+            ("users", ""),
+        ],
+        "commit 7",
+    ),
+    (
+        &[
+            ("_", "c;u;p;0xffff;\nc;u;p;0xffff;\n"),
+            ("apps", ""),
+            ("buckets", ";0x0;\n"),
+            ("list", "_\napps\nbuckets\nstamp\ntemplate\nusers\n"),
+            ("stamp", "7\n"),
+            ("template", ""),
+            ("users", ""),
+        ],
+        "damaged _ 2",
+    ),
+];
+
+#[test]
+fn folders_stand_for_states(rt: HostRuntime) -> Result<(), Fail> {
+    for (files, text) in FOLDERS {
+        let mut disk = disk_with(rt.alloc(), files, &[])?;
+        assert_eq!(rt; found(rt.alloc(), &mut disk)?.as_str(), *text);
+    }
+    Ok(())
+}
