@@ -11,3 +11,6 @@ pub mod Headlines
 pub mod Places
 pub mod Roots
 pub mod Becoming
+pub mod Adding
+pub mod Turning
+pub mod Copying

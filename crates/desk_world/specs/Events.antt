@@ -1,5 +1,5 @@
 -- The table of events: the world after each, or none where it is not enabled. And whole runs.
-use Rattle.std.specs.Prelude.{◌≡◌, ℕ, ◌+◌, List, [], ◌∷◌, Option, Some, None, Result, Ok, Err}
+use Rattle.std.specs.Prelude.{◌≡◌, ◌<◌, ℕ, ◌+◌, ◌^◌, List, [], ◌∷◌, length, Option, Some, None, Result, Ok, Err}
 use Rattle.desk_world.specs.World.{World}
 use Rattle.desk_world.specs.Clients.{dial, asked, hit, send, deliver, notice, tell}
 use Rattle.desk_world.specs.Links.{enter, read, write, lose}
@@ -51,6 +51,12 @@ run_from at (event ∷ events) world = next_of at (run_from (at + 1) events) (af
 
 abbrev pub run : World → List Event → Result World ℕ
 run world events = run_from 0 events world
+
+-- links, asks and stops have numbers of 32 bits, also after so many events more
+pub record HasRoom (events : ℕ) (world : World) : Type 0 where
+  pub links : length world.links + events < 2 ^ 32
+  pub asks : length world.asks + events < 2 ^ 32
+  pub run : world.run + events < 2 ^ 32
 
 -- the refusal names the first event that is not enabled; want of memory may come in its place
 abbrev pub Refuses : WorldRefusal → Result World ℕ → Type 0

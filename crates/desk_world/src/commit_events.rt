@@ -3,7 +3,7 @@ ghost use Rattle.std.specs.Prelude.{◌≡◌, ◌<◌, ◌^◌, ◌+◌, if◌t
 ghost use Rattle.desk_state.specs.Next.{next};
 ghost use Rattle.desk_state.specs.Rules.{fault};
 ghost use Rattle.desk_world.specs.World.{latest_of, last};
-ghost use Rattle.desk_world.specs.Commits.{stored, undecided, decide, publish, hang, acknowledge, restarted};
+ghost use Rattle.desk_world.specs.Commits.{stored, undecided, decide, publish, hang, acknowledge, restarted, stop};
 ghost use Rattle.desk_world.specs.Commits.{may_store, committed};
 ghost use Rattle.desk_world.specs.parts.Parts.{world_of, Becomes};
 
@@ -145,7 +145,22 @@ fn restart(world: &mut Parts)
     stop_all(&mut world.entries);
 }
 
-// The service stops, and what was under way is kept or not.
+// The service stops while this state is under way, which is kept or not.
+fn restart_with(world: &mut Parts, state: State, kept: bool) -> Result<(), AllocError>
+    requires { world.old.run + 1 < 2 ^ 32 }
+    ensures { IfOk result (λ done. world_of world.new
+        ≡ restarted (committed (if kept then Some state else None) (world_of world.old))) }
+{
+    if !kept {
+        restart(world);
+        return Ok(());
+    }
+    world.later.push(state)?;
+    restart(world);
+    Ok(())
+}
+
+// The service stops, and the candidate, if there is one, is kept or not.
 pub fn stop_alone(world: &mut Parts, kept: bool) -> Result<(), AllocError>
     requires { world.old.run + 1 < 2 ^ 32 }
     ensures { IfOk result (λ done. world_of world.new
@@ -162,4 +177,17 @@ pub fn stop_alone(world: &mut Parts, kept: bool) -> Result<(), AllocError>
     world.later.push(state)?;
     restart(world);
     Ok(())
+}
+
+// The service stops while it stores the command's state, which is kept or not.
+pub fn stop_storing(world: &mut Parts, command: &Command, kept: bool) -> Result<bool, AllocError>
+    requires { world.old.run + 1 < 2 ^ 32 }
+    ensures { IfOk result (λ enabled.
+        Becomes (stop (Some command.now) kept (world_of world.old)) enabled (world_of world.new)) }
+{
+    let Some(state) = proposed(world, command)? else {
+        return Ok(false);
+    };
+    restart_with(world, state, kept)?;
+    Ok(true)
 }

@@ -11,6 +11,7 @@ mod agent_events;
 mod client_events;
 mod clients;
 mod commit_events;
+mod copies;
 mod evaluations;
 mod events;
 mod known;
@@ -20,12 +21,17 @@ mod parts;
 mod promise;
 mod refusals;
 mod replies;
+mod running;
 mod slots;
 mod states;
+mod stepping;
 mod worlds;
 
 pub use events::{Event, Half};
 pub use promise::freshness;
-pub use refusals::WorldRefusal;
+pub use refusals::{MOST_ENTRIES, MOST_WAITING, WorldRefusal};
 pub use replies::{Given, Reply};
-pub use worlds::World;
+pub use worlds::{World, run};
+
+#[cfg(test)]
+mod tests;

@@ -1,9 +1,15 @@
-ghost use Rattle.std.specs.Prelude.{◌≡◌, IfOk};
+ghost use Rattle.std.specs.Prelude.{◌≡◌, ◌↔◌, Ok, IfOk, IfErr, IsTrue, length};
 ghost use Rattle.desk_world.specs.World.{fresh};
+ghost use Rattle.desk_world.specs.Events.{run, HasRoom, Refuses};
+ghost use Rattle.desk_world.specs.Grows.{Grows};
 ghost use Rattle.desk_world.specs.Sound.{AllSound};
 
+use crate::copies::world_copy;
+use crate::events::Event;
 use crate::parts::Parts;
+use crate::refusals::WorldRefusal;
 use crate::replies::Given;
+use crate::running::{has_room, run_all};
 use crate::states::State;
 use desk_state::Desk;
 use std::alloc::{AllocError, Global};
@@ -60,5 +66,31 @@ impl World {
         ensures sound { AllSound self.now }
     {
         &self.parts.given
+    }
+
+    /// Whether links, asks and stops still have numbers after so many events more, as `run` wants it. Takes no memory.
+    pub fn has_room(&self, events: usize) -> bool
+        ensures { IsTrue result ↔ HasRoom events self.now }
+    {
+        has_room(&self.parts, events)
+    }
+}
+
+/// The world after the events, each of which is enabled in its turn; the world given stays as it is. Refused with the place
+/// of the first event that is not enabled, from 0, and with want of memory, which may come in its place.
+pub fn run(world: &World, events: &[Event]) -> Result<World, WorldRefusal>
+    requires { HasRoom (length events.now) world.now }
+    ensures done { IfOk result (λ after. run world.now events.now ≡ Ok after) }
+    ensures grows { IfOk result (λ after. Grows world.now after) }
+    ensures sound { IfOk result (λ after. AllSound after) }
+    ensures refused { IfErr result (λ refusal. Refuses refusal (run world.now events.now)) }
+{
+    let mut parts = match world_copy(&world.parts) {
+        Ok(parts) => parts,
+        Err(error) => return Err(WorldRefusal::Memory(error)),
+    };
+    match run_all(&mut parts, events) {
+        Ok(()) => Ok(World { parts }),
+        Err(refusal) => Err(refusal),
     }
 }
