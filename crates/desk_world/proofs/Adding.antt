@@ -1,29 +1,23 @@
 -- An event adds at most one link, one ask and one stop.
-use Rattle.std.proofs.Common.{◌≡◌, ℕ, ◌≤◌, ◌+◌, ◌==◌, ◌&&◌, Bool, true, false, not, cond, List, [], ◌∷◌, ◌++◌, length, map, Option, Some, None, refl, arith}
-use Rattle.std.specs.Prelude.{slice_get, is_none, is_some, nat_le, nat_lt}
+use Rattle.std.proofs.Common.{◌≡◌, ℕ, ◌≤◌, ◌+◌, ◌==◌, ◌&&◌, Bool, true, false, cond, [], ◌∷◌, length, Option, Some, None, refl, arith}
+use Rattle.std.specs.Prelude.{slice_get}
 use Rattle.std.proofs.lemmas.List.{length-append, length-map, length-set}
-use Rattle.cynara_keys.specs.PolicyResult.{is_agent}
 use Rattle.cynara_keys.specs.declared.keys.Question.{Question}
 use Rattle.cynara_keys.specs.declared.results.Kind.{Kind}
 use Rattle.desk_state.specs.DeskState.{DeskState}
-use Rattle.desk_state.specs.Next.{next as next_state}
-use Rattle.desk_state.specs.declared.commands.Command.{Command}
-use Rattle.desk_world.specs.World.{World, history, desk_at, root_outcome, latest, last, with_commit, with_link, entry_at, client_of}
-use Rattle.desk_world.specs.Clients.{when, with_some, same_question, new_link, dialled, dial, asked, send_on, send, given, hit_in, hit, delivered, deliver_to, deliver, notice, tell}
-use Rattle.desk_world.specs.Links.{enter_at, enter, is_nothing, reading_of, read_at, read, outgoing, write_on, write, lose}
-use Rattle.desk_world.specs.Commits.{may_store, stored, undecided, committed, decided, decide, publish, hung_up, hang, acknowledge, closed, restarted, under_way, may_stop, stop}
-use Rattle.desk_world.specs.Agents.{has_agent, join, put, put_due, put_to, put_with, put_down, fits, is_open, answer, leave}
+use Rattle.desk_world.specs.World.{World, history, desk_at, with_link, entry_at, client_of}
+use Rattle.desk_world.specs.Clients.{when, with_some, new_link, dialled, asked, send, given, hit, delivered, deliver, notice}
+use Rattle.desk_world.specs.Links.{enter, read, outgoing, write, lose}
+use Rattle.desk_world.specs.Commits.{committed, decide, hung_up, hang, closed, restarted, under_way}
+use Rattle.desk_world.specs.Agents.{has_agent, put, put_due, put_with, fits, answer}
 use Rattle.desk_world.specs.Events.{connect, after}
 use Rattle.desk_world.specs.declared.events.Event.{Event}
 use Rattle.desk_world.specs.declared.events.Event.TheVariants.{Connect, Ask, Hit, Send, Read, Write, Deliver, Notice, Lose, Stored, Undecided, Decide, Publish, Hang, Acknowledge, AgentJoin, AgentPut, AgentReply, AgentLeave, Stop, Tell}
 use Rattle.desk_world.specs.declared.events.Half.{Half}
 use Rattle.desk_world.specs.declared.events.Half.TheVariants.{Dial, Enter}
-use Rattle.desk_world.specs.declared.links.Asked.{Asked}
 use Rattle.desk_world.specs.declared.links.Link.{Link}
 use Rattle.desk_world.specs.declared.links.Reading.{Reading}
 use Rattle.desk_world.specs.declared.links.Reading.TheVariants.{Nothing, Ready, Due, Waiting}
-use Rattle.desk_world.specs.declared.links.Transit.{Transit}
-use Rattle.desk_world.specs.declared.replies.Reply.{Reply}
 
 pub record Adds (before after : World) : Type 0 where
   pub links : length after.links ≤ length before.links + 1

@@ -1,10 +1,10 @@
 -- How an event shows its step that changes the commits, and no client, ask or given reply.
-use Rattle.std.proofs.Common.{◌≡◌, ℕ, ◌<◌, ◌≤◌, ◌+◌, Bool, true, false, List, [], ◌∷◌, ◌++◌, length, Option, Some, None, refl, sym, ap, subst, ◌∙◌, arith}
-use Rattle.std.specs.Prelude.{All, slice_get}
+use Rattle.std.proofs.Common.{◌≡◌, ℕ, ◌<◌, ◌≤◌, ◌+◌, List, [], ◌∷◌, ◌++◌, Option, Some, refl, ap, ◌∙◌, arith}
+use Rattle.std.specs.Prelude.{All}
 use Rattle.std.proofs.lemmas.List.Elements.{All-weaker}
 use Rattle.std.proofs.lemmas.List.{append_assoc}
 use Rattle.desk_state.specs.DeskState.{DeskState}
-use Rattle.desk_world.specs.World.{World, latest_of, latest, last, client_of}
+use Rattle.desk_world.specs.World.{World, latest_of, last, client_of}
 use Rattle.desk_world.specs.Agents.{count_of, is_open}
 use Rattle.desk_world.specs.Grows.{BeginsWith, LinkGrows, LinksGrow, EntryGrows, EntriesGrow, Grows}
 use Rattle.desk_world.specs.Kept.{IsOrdered, IsChain, Follows, IsCurrent, IsLink, IsKept}

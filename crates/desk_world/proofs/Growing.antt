@@ -1,12 +1,8 @@
 -- Growth of links and entries under each kind of change, and of a world whose commits stay.
-use Rattle.std.proofs.Common.{◌≡◌, ℕ, ◌<◌, ◌≤◌, ◌+◌, ◌==◌, Bool, true, false, ◌&&◌, List, [], ◌∷◌, ◌++◌, length, set, Option, Some, None, cond, refl, sym, ap, subst, ◌∙◌, arith, map, inl, inr, ◌⊎◌}
-use Rattle.std.specs.Prelude.{All, slice_get}
-use Rattle.std.specs.List.{find}
+use Rattle.std.proofs.Common.{◌≡◌, ℕ, ◌≤◌, ◌+◌, ◌==◌, ◌&&◌, List, [], ◌∷◌, ◌++◌, set, Some, refl, sym, subst, ◌∙◌, arith, map, inl, inr}
+use Rattle.std.specs.Prelude.{slice_get}
 use Rattle.std.proofs.lemmas.Bool.{cases_eq}
-use Rattle.std.proofs.lemmas.Option.{none-some}
-use Rattle.desk_world.specs.Client.{Client}
 use Rattle.desk_world.specs.World.{World, entry_at, client_of, client_in}
-use Rattle.desk_world.specs.Agents.{is_open}
 use Rattle.desk_world.specs.Grows.{BeginsWith, LinkGrows, LinksGrow, EntryGrows, EntriesGrow, Grows}
 use Rattle.desk_world.specs.declared.agent_entries.AgentEntry.{AgentEntry}
 use Rattle.desk_world.specs.declared.clients.Slot.{Slot}

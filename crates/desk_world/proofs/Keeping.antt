@@ -1,19 +1,18 @@
 -- One step: the world grows and keeps its facts. How an event shows it that leaves the commits as they are.
-use Rattle.std.proofs.Common.{◌≡◌, ℕ, ◌<◌, ◌≤◌, ◌==◌, Bool, true, false, cond, List, [], ◌∷◌, ◌++◌, length, Option, Some, None, refl, sym, ap, subst, ◌∙◌, arith}
-use Rattle.std.specs.Prelude.{All, slice_get}
+use Rattle.std.proofs.Common.{◌≡◌, ℕ, ◌<◌, ◌≤◌, ◌==◌, Bool, true, false, cond, List, [], ◌∷◌, refl, sym, ap, subst, ◌∙◌, arith}
+use Rattle.std.specs.Prelude.{All}
 use Rattle.std.proofs.lemmas.Bool.{eqb-true, eqb-false, cond_both}
 use Rattle.desk_world.specs.Client.{Client}
 use Rattle.desk_world.specs.World.{World, client_in, put_client}
 use Rattle.desk_world.specs.Agents.{count_of}
 use Rattle.desk_world.specs.Sound.{AllSound}
 use Rattle.desk_world.specs.Grows.{Grows}
-use Rattle.desk_world.specs.Kept.{IsOrdered, IsCurrent, IsLink, IsClient, IsKept}
+use Rattle.desk_world.specs.Kept.{IsCurrent, IsLink, IsClient, IsKept}
 use Rattle.desk_world.specs.declared.agent_entries.AgentEntry.{AgentEntry}
 use Rattle.desk_world.specs.declared.clients.Slot.{Slot}
 use Rattle.desk_world.specs.declared.links.Asked.{Asked}
 use Rattle.desk_world.specs.declared.links.Link.{Link}
 use Rattle.desk_world.specs.declared.replies.Given.{Given}
-use Rattle.desk_world.proofs.Monotone.{client_still}
 
 pub record Step (before after : World) : Type 0 where
   pub grows : Grows before after

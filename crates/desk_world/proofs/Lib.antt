@@ -3,6 +3,7 @@ pub mod Lists
 pub mod Growing
 pub mod Monotone
 pub mod Keeping
+pub mod Relinking
 pub mod Committing
 pub mod Numbering
 pub mod steps

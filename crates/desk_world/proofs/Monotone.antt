@@ -1,6 +1,6 @@
 -- What held of a reply, a link or a client before an event still holds after it, since the world has only grown.
-use Rattle.std.proofs.Common.{◌≡◌, ℕ, ◌≤◌, ◌==◌, true, false, List, [], ◌∷◌, ◌++◌, Option, Some, None, refl, sym, ap, subst, ◌∙◌, arith}
-use Rattle.std.specs.Prelude.{All, slice_get, unwrap_or}
+use Rattle.std.proofs.Common.{◌≡◌, ℕ, ◌≤◌, ◌==◌, false, List, [], ◌∷◌, Option, Some, None, refl, sym, ap, subst, ◌∙◌, arith}
+use Rattle.std.specs.Prelude.{All, unwrap_or}
 use Rattle.std.proofs.lemmas.List.Elements.{All-nil, All-weaker}
 use Rattle.std.proofs.lemmas.Option.{none-some}
 use Rattle.cynara_keys.specs.declared.keys.Question.{Question}
@@ -10,9 +10,8 @@ use Rattle.desk_world.specs.Client.{Client}
 use Rattle.desk_world.specs.World.{World, history, desk_at}
 use Rattle.desk_world.specs.Agents.{is_open}
 use Rattle.desk_world.specs.Sound.{IsFresh, IsPutFor, IsRight, IsSound, commit_of}
-use Rattle.desk_world.specs.Grows.{BeginsWith, LinkGrows, EntryGrows, Grows}
-use Rattle.desk_world.specs.Kept.{IsBetween, IsCarried, IsLeft, IsRead, IsSent, IsLink, IsKnown, HasLink, IsClient, IsKept}
-use Rattle.desk_world.specs.declared.agent_entries.EntryState.TheVariants.{Open, Gone, Answered}
+use Rattle.desk_world.specs.Grows.{BeginsWith, Grows}
+use Rattle.desk_world.specs.Kept.{IsBetween, IsCarried, IsLeft, IsRead, IsSent, IsLink, IsKnown, HasLink, IsClient}
 use Rattle.desk_world.specs.declared.known.Known.{Known}
 use Rattle.desk_world.specs.declared.links.Link.{Link}
 use Rattle.desk_world.specs.declared.links.Reading.{Reading}

@@ -1,5 +1,7 @@
 -- What an event that is enabled tells: each test held, and each thing was there.
 use Rattle.std.proofs.Common.{◌≡◌, Bool, true, false, Option, Some, None, refl, subst}
+use Rattle.std.specs.Prelude.{is_none, is_some}
+use Rattle.std.proofs.lemmas.Bool.{false≢true}
 use Rattle.std.proofs.lemmas.Option.{none-some, cond_some}
 use Rattle.desk_world.specs.World.{World}
 use Rattle.desk_world.specs.Clients.{when, with_some}
@@ -16,3 +18,11 @@ when-tells P enabled world next e so =
 
 pub some-tells : (P : World → Type 0) (world next : World) → Some world ≡ Some next → P world → P next
 some-tells P world next e so = subst P (cond_some true world next e).1 so
+
+pub none_there : {X : Type 0} (o : Option X) → is_none o ≡ true → o ≡ None
+none_there None e = refl
+none_there (Some x) e = absurd (false≢true e)
+
+pub some_there : {X : Type 0} (o : Option X) → is_some o ≡ true → (x : X) × (o ≡ Some x)
+some_there None e = absurd (false≢true e)
+some_there (Some x) e = (x, refl)

@@ -1,6 +1,5 @@
 -- Whole runs from a fresh world: what is kept, what grows, and what each given reply is.
-use Rattle.std.proofs.Common.{◌≡◌, ℕ, ◌<◌, ◌≤◌, ◌+◌, Bool, true, false, List, [], ◌∷◌, Option, Some, None, Result, Ok, Err, refl, sym, ap, subst, ◌∙◌, arith}
-use Rattle.std.specs.Prelude.{All}
+use Rattle.std.proofs.Common.{◌≡◌, ℕ, ◌<◌, ◌≤◌, ◌+◌, List, [], ◌∷◌, Option, Some, None, Result, Ok, Err, refl, subst, arith}
 use Rattle.std.proofs.lemmas.List.Elements.{All-nil}
 use Rattle.std.proofs.lemmas.Option.{none-some}
 use Rattle.desk_state.specs.DeskState.{DeskState}
@@ -8,8 +7,7 @@ use Rattle.desk_world.specs.World.{World, fresh}
 use Rattle.desk_world.specs.Events.{connect, after, next_of, run_from, run}
 use Rattle.desk_world.specs.Agents.{count_of}
 use Rattle.desk_world.specs.Commits.{hang}
-use Rattle.desk_world.specs.Sound.{AllSound, IsSound}
-use Rattle.desk_world.specs.Grows.{Grows}
+use Rattle.desk_world.specs.Sound.{IsSound}
 use Rattle.desk_world.specs.Kept.{IsCurrent, IsLink, IsKept}
 use Rattle.desk_world.specs.declared.agent_entries.AgentEntry.{AgentEntry}
 use Rattle.desk_world.specs.declared.events.Event.{Event}

@@ -1,6 +1,5 @@
 -- What no event takes back.
-use Rattle.std.specs.Prelude.{◌≡◌, ◌≤◌, ℕ, true, false, List, ◌++◌, Option, Some, slice_get}
-use Rattle.desk_world.specs.Client.{Client}
+use Rattle.std.specs.Prelude.{◌≡◌, ◌≤◌, ℕ, false, List, ◌++◌, Some, slice_get}
 use Rattle.desk_world.specs.World.{World, last, entry_at, client_of}
 use Rattle.desk_world.specs.Agents.{is_open}
 use Rattle.desk_world.specs.declared.agent_entries.AgentEntry.{AgentEntry}

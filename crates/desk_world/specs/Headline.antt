@@ -1,7 +1,7 @@
 -- The promise in one sentence: over every interleaving of checks, commits, hang-ups and stops each verdict, cached or not, is
 -- the bucket evaluation of one committed state no older than any commit acknowledged before its question was asked, or the
 -- agent's reply to that very question.
-use Rattle.std.specs.Prelude.{◌≡◌, ◌≤◌, ℕ, Bool, List, length, Option, Some, Result, Ok, All}
+use Rattle.std.specs.Prelude.{◌≡◌, ◌≤◌, ℕ, Bool, List, length, Some, Ok, All}
 use Rattle.cynara_keys.specs.declared.keys.Question.{Question}
 use Rattle.desk_state.specs.DeskState.{DeskState}
 use Rattle.desk_world.specs.World.{World, fresh, history, desk_at, root_answer, client_of}

@@ -1,5 +1,5 @@
 -- What every world keeps, whatever list of events led to it from a fresh one.
-use Rattle.std.specs.Prelude.{◌≡◌, ◌≤◌, ◌<◌, ◌+◌, ℕ, true, List, [], ◌∷◌, Option, Some, None, All, IfSome, slice_get, unwrap_or}
+use Rattle.std.specs.Prelude.{◌≡◌, ◌≤◌, ◌<◌, ◌+◌, ℕ, true, List, [], ◌∷◌, Option, Some, None, All, slice_get, unwrap_or}
 use Rattle.cynara_keys.specs.declared.results.Kind.{Kind}
 use Rattle.desk_state.specs.DeskState.{DeskState}
 use Rattle.desk_state.specs.Next.{next}

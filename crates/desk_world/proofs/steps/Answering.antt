@@ -1,39 +1,28 @@
 -- A client is given an entry of its cache.
-use Rattle.std.proofs.Common.{◌≡◌, ℕ, ◌<◌, ◌≤◌, ◌==◌, Bool, true, false, not, ◌&&◌, cond, List, [], ◌∷◌, ◌++◌, length, set, map, Option, Some, None, refl, sym, ap, subst, ◌∙◌, arith}
-use Rattle.std.specs.Prelude.{All, slice_get, unwrap_or, is_none, nat_le, max}
-use Rattle.std.proofs.lemmas.Bool.{and_parts, true≢false, false≢true, not-true, leb-true, ltb-true, eqb-true}
-use Rattle.std.proofs.lemmas.List.Elements.{All-nil, All-push, All-set, All-map, All-weaker}
+use Rattle.std.proofs.Common.{◌≡◌, ℕ, ◌≤◌, Bool, true, ◌&&◌, Option, Some, None, refl, sym, ap, subst, ◌∙◌, arith}
+use Rattle.std.specs.Prelude.{slice_get, unwrap_or, nat_le}
+use Rattle.std.proofs.lemmas.Bool.{and_parts}
+use Rattle.std.proofs.lemmas.List.Elements.{All-push}
 use Rattle.std.proofs.lemmas.Option.{none-some}
-use Rattle.std.proofs.Math.Nat.{le-max_left, le-max_right, max-le}
 use Rattle.std.specs.Cmp.Lexicographic.{same_text as same_bytes}
 use Rattle.cynara_keys.specs.Text.{same_text}
 use Rattle.cynara_keys.specs.declared.keys.Question.{Question}
-use Rattle.cynara_keys.specs.declared.results.Kind.{Kind}
-use Rattle.desk_state.specs.DeskState.{DeskState}
 use Rattle.desk_world.specs.Client.{Client}
-use Rattle.desk_world.specs.World.{World, history, desk_at, root_outcome, root_answer, latest, last, with_link, with_client, with_commit, entry_at, client_of}
-use Rattle.desk_world.specs.Clients.{when, with_some, same_question, new_link, dialled, dial, new_ask, asked, send_on, send, given, hit_in, hit, kept, delivered, deliver_to, deliver, notice, tell}
-use Rattle.desk_world.specs.Links.{enter_at, enter, is_nothing, reading_of, read_at, read, settled, settled_by, outgoing, write_on, write, lose}
-use Rattle.desk_world.specs.Sound.{commit_of, IsFresh, LeavesTo, IsPutFor, IsRight, IsSound, AllSound}
-use Rattle.desk_world.specs.Grows.{BeginsWith, LinkGrows, LinksGrow, EntryGrows, EntriesGrow, Grows}
-use Rattle.desk_world.specs.Kept.{IsOrdered, IsChain, Follows, IsCurrent, IsBetween, IsCarried, IsLeft, IsRead, IsSent, IsLink, IsKnown, HasLink, IsClient, IsKept}
-use Rattle.desk_world.specs.declared.agent_entries.AgentEntry.{AgentEntry}
-use Rattle.desk_world.specs.declared.agent_entries.EntryState.{EntryState}
-use Rattle.desk_world.specs.declared.agent_entries.EntryState.TheVariants.{Open, Gone, Answered}
+use Rattle.desk_world.specs.World.{World, root_answer, client_of}
+use Rattle.desk_world.specs.Clients.{same_question, asked, given, hit, kept}
+use Rattle.desk_world.specs.Sound.{IsSound}
+use Rattle.desk_world.specs.Grows.{Grows}
+use Rattle.desk_world.specs.Kept.{IsCurrent, IsKnown, HasLink, IsClient, IsKept}
 use Rattle.desk_world.specs.declared.known.Known.{Known}
 use Rattle.desk_world.specs.declared.links.Asked.{Asked}
 use Rattle.desk_world.specs.declared.links.Link.{Link}
-use Rattle.desk_world.specs.declared.links.Reading.{Reading}
-use Rattle.desk_world.specs.declared.links.Reading.TheVariants.{Nothing, Ready, Due, Waiting}
-use Rattle.desk_world.specs.declared.links.Transit.{Transit}
 use Rattle.desk_world.specs.declared.replies.Given.{Given}
-use Rattle.desk_world.specs.declared.replies.Reply.{Reply}
-use Rattle.desk_world.specs.declared.replies.Reply.TheVariants.{Judged, FromAgent, NotResolved, NoAgent, AgentGone, AgentFull}
-use Rattle.desk_world.proofs.Options.{with_some-tells, when-tells, some-tells}
-use Rattle.desk_world.proofs.Lists.{begins_same, begins_push, get-append, get-end, get-set_same, get-set_other, get-map, begins-get, find-begins, all-at}
-use Rattle.desk_world.proofs.Growing.{link_same, links_same, links_push, links_set, links_map, entries_same, entries_push, entries_map, serving}
-use Rattle.desk_world.proofs.Monotone.{desk_still, fresh_still, put_still, right_still, sound_still, left_still, between_still, carried_still, read_still, sent_still, link_still, links_still, has_link_still, client_still, given_still}
-use Rattle.desk_world.proofs.Keeping.{Step, clients_with, told_with, told_same, served, serves}
+use Rattle.desk_world.specs.declared.replies.Reply.TheVariants.{Judged}
+use Rattle.desk_world.proofs.Options.{with_some-tells, when-tells}
+use Rattle.desk_world.proofs.Lists.{begins_same, begins_push, all-at}
+use Rattle.desk_world.proofs.Growing.{links_same, entries_same, serving}
+use Rattle.desk_world.proofs.Monotone.{sound_still, links_still, client_still, given_still}
+use Rattle.desk_world.proofs.Keeping.{Step, clients_with, told_with, told_same, serves}
 
 same_questions : (question other : Question) → same_question question other ≡ true → question ≡ other
 same_questions question other e =

@@ -1,38 +1,22 @@
 -- The worker of a link reads the published policies.
-use Rattle.std.proofs.Common.{◌≡◌, ℕ, ◌<◌, ◌≤◌, ◌==◌, Bool, true, false, not, ◌&&◌, cond, List, [], ◌∷◌, ◌++◌, length, set, map, Option, Some, None, refl, sym, ap, subst, ◌∙◌, arith}
-use Rattle.std.specs.Prelude.{All, slice_get, unwrap_or, is_none, is_some, nat_le, max}
-use Rattle.std.proofs.lemmas.Bool.{and_parts, true≢false, false≢true, not-true, leb-true, ltb-true, eqb-true}
-use Rattle.std.proofs.lemmas.List.Elements.{All-nil, All-push, All-set, All-map, All-weaker}
+use Rattle.std.proofs.Common.{◌≡◌, ℕ, ◌≤◌, Bool, true, false, ◌&&◌, Some, refl, sym, ap, subst, ◌∙◌, arith}
+use Rattle.std.specs.Prelude.{slice_get, unwrap_or, is_some, nat_le}
+use Rattle.std.proofs.lemmas.Bool.{and_parts, leb-true}
 use Rattle.std.proofs.lemmas.Option.{none-some}
-use Rattle.std.proofs.Math.Nat.{le-max_left, le-max_right, max-le}
 use Rattle.cynara_keys.specs.PolicyResult.{is_agent}
-use Rattle.cynara_keys.specs.declared.keys.Question.{Question}
-use Rattle.cynara_keys.specs.declared.results.Kind.{Kind}
 use Rattle.desk_state.specs.DeskState.{DeskState}
-use Rattle.desk_world.specs.Client.{Client}
-use Rattle.desk_world.specs.World.{World, history, desk_at, root_outcome, root_answer, latest, last, with_link, with_client, with_commit, entry_at, client_of}
-use Rattle.desk_world.specs.Clients.{when, with_some, same_question, new_link, dialled, dial, new_ask, asked, send_on, send, given, hit_in, hit, kept, delivered, deliver_to, deliver, notice, tell}
-use Rattle.desk_world.specs.Links.{enter_at, enter, is_nothing, reading_of, read_as, read_at, read, settled, settled_by, outgoing, write_on, write, lose}
-use Rattle.desk_world.specs.Sound.{commit_of, IsFresh, LeavesTo, IsPutFor, IsRight, IsSound, AllSound}
-use Rattle.desk_world.specs.Grows.{BeginsWith, LinkGrows, LinksGrow, EntryGrows, EntriesGrow, Grows}
-use Rattle.desk_world.specs.Kept.{IsOrdered, IsChain, Follows, IsCurrent, IsBetween, IsCarried, IsLeft, IsRead, IsSent, IsLink, IsKnown, HasLink, IsClient, IsKept}
-use Rattle.desk_world.specs.declared.agent_entries.AgentEntry.{AgentEntry}
-use Rattle.desk_world.specs.declared.agent_entries.EntryState.{EntryState}
-use Rattle.desk_world.specs.declared.agent_entries.EntryState.TheVariants.{Open, Gone, Answered}
-use Rattle.desk_world.specs.declared.known.Known.{Known}
+use Rattle.desk_world.specs.World.{World, history, desk_at, root_outcome, with_link}
+use Rattle.desk_world.specs.Clients.{asked, kept}
+use Rattle.desk_world.specs.Links.{is_nothing, reading_of, read_as, read}
+use Rattle.desk_world.specs.Sound.{IsFresh}
+use Rattle.desk_world.specs.Grows.{LinkGrows}
+use Rattle.desk_world.specs.Kept.{IsBetween, IsRead, IsLink, IsKept}
 use Rattle.desk_world.specs.declared.links.Asked.{Asked}
 use Rattle.desk_world.specs.declared.links.Link.{Link}
-use Rattle.desk_world.specs.declared.links.Reading.{Reading}
-use Rattle.desk_world.specs.declared.links.Reading.TheVariants.{Nothing, Ready, Due, Waiting}
-use Rattle.desk_world.specs.declared.links.Transit.{Transit}
-use Rattle.desk_world.specs.declared.replies.Given.{Given}
-use Rattle.desk_world.specs.declared.replies.Reply.{Reply}
-use Rattle.desk_world.specs.declared.replies.Reply.TheVariants.{Judged, FromAgent, NotResolved, NoAgent, AgentGone, AgentFull}
-use Rattle.desk_world.proofs.Options.{with_some-tells, when-tells, some-tells}
-use Rattle.desk_world.proofs.Lists.{begins_same, begins_push, get-append, get-end, get-set_same, get-set_other, get-map, begins-get, find-begins, all-at}
-use Rattle.desk_world.proofs.Growing.{link_same, links_same, links_push, links_set, links_map, entries_same, entries_push, entries_map, serving}
-use Rattle.desk_world.proofs.Monotone.{desk_still, fresh_still, put_still, right_still, sound_still, left_still, between_still, carried_still, read_still, sent_still, link_still, links_still, has_link_still, client_still, given_still}
-use Rattle.desk_world.proofs.Keeping.{Step, clients_with, told_with, told_same, served, serves}
+use Rattle.desk_world.proofs.Options.{with_some-tells, when-tells, some_there}
+use Rattle.desk_world.proofs.Lists.{all-at}
+use Rattle.desk_world.proofs.Relinking.{link_was, relink-step}
+use Rattle.desk_world.proofs.Keeping.{Step}
 
 module _ (w : World) (kept : IsKept w) (link : ℕ) (found : Link) (commit ask : ℕ) (asked : Asked) (desk : DeskState)
     (entered : ℕ) (there : slice_get w.links link ≡ Some found) (asks_it : found.question ≡ Some ask)
@@ -44,19 +28,14 @@ module _ (w : World) (kept : IsKept w) (link : ℕ) (found : Link) (commit ask :
   abbrev after : World
   after = with_link link changed w
 
-  grows : Grows w after
-  grows =
-      serving w after.links w.clients w.asks w.given w.agents w.entries (begins_same w.asks) (begins_same w.given)
-      (told_same w.clients)
-      (links_set w.links link found changed there
-        (record { client = refl; run = refl; entered = λ commit e. e; seen = λ commit e. seen; closed = λ e. e }))
-      (entries_same w.entries)
+  abbrev grown : LinkGrows found changed
+  grown = record { client = refl; run = refl; entered = λ commit e. e; seen = λ commit e. seen; closed = λ e. e }
 
   abbrev was : IsLink w found
   was = all-at (IsLink w) w.links link found kept.links there
 
   abbrev still : IsLink after found
-  still = link_still w after grows found was
+  still = link_was w link found changed there grown kept
 
   -- what was seen is not below where the link entered
   entered_low : unwrap_or found.entered 0 ≤ commit
@@ -102,16 +81,7 @@ module _ (w : World) (kept : IsKept w) (link : ℕ) (found : Link) (commit ask :
 
   pub read-step : Step w after
   read-step =
-      serves w kept after.links w.clients w.asks w.given w.agents w.entries grows
-      (All-set (IsCurrent w.note) w.links link changed (all-at (IsCurrent w.note) w.links link found kept.current there)
-        kept.current)
-      (All-set (IsLink after) w.links link changed changed_is (links_still w after grows w.links kept.links))
-      (λ other. client_still w after grows (client_of w other) (kept.clients other))
-      kept.asks kept.numbered (given_still w after grows w.given kept.given)
-
-some_there : {X : Type 0} (o : Option X) → is_some o ≡ true → (x : X) × (o ≡ Some x)
-some_there None e = absurd (false≢true e)
-some_there (Some x) e = (x, refl)
+      relink-step w link found changed there grown kept (λ current. current) changed_is
 
 pub read-steps : (w next : World) → IsKept w → (link commit : ℕ) → read link commit w ≡ Some next → Step w next
 read-steps w next kept link commit e =

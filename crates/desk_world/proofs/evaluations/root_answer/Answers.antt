@@ -1,8 +1,7 @@
-use Rattle.std.proofs.Common.{refl, true, ◌≡◌, Some, subst, sym, IsSome, IfSome}
+use Rattle.std.proofs.Common.{refl, true, ◌≡◌, subst, sym, IsSome, IfSome}
 use Rattle.bucket_store.specs.Database.{root, has_bucket}
 use Rattle.bucket_eval.specs.Found.{outcome_at, answer_of}
 use Rattle.bucket_eval.specs.Evaluation.{Outcome}
-use Rattle.desk_world.specs.World.{root_outcome}
 use Rattle.desk_world.proofs.Roots.{root_found}
 use Rattle.desk_world.proofs.evaluations.root_answer.Goals as goal
 

@@ -1,5 +1,5 @@
 use Rattle.desk_world.proofs.Places.{place_tells}
-use Rattle.std.proofs.Common.{rules, sym, subst, MatchOption}
+use Rattle.std.proofs.Common.{sym, subst, MatchOption}
 use Rattle.desk_world.specs.parts.Slots.{IsPlace, IsAbsent}
 use Rattle.desk_world.proofs.slots.place_of.Goals as goal
 

@@ -1,4 +1,4 @@
-use Rattle.std.proofs.Common.{◌≡◌, List, [], ◌∷◌, ◌++◌, set, sym, subst, ◌∙◌}
+use Rattle.std.proofs.Common.{◌≡◌, [], ◌∷◌, ◌++◌, set, sym, subst, ◌∙◌}
 use Rattle.desk_world.specs.World.{put_client}
 use Rattle.desk_world.specs.declared.clients.Slot.{Slot}
 use Rattle.desk_world.proofs.slots.put.Goals as goal
