@@ -109,3 +109,7 @@ run_from-steps at (event ∷ events) w last kept e =
 
 pub run-steps : (events : List Event) (w last : World) → IsKept w → run w events ≡ Ok last → Step w last
 run-steps events w last kept e = run_from-steps 0 events w last kept e
+
+-- the same, where a copy of the world was run
+pub copied-steps : (events : List Event) (w copy last : World) → IsKept w → copy ≡ w → run copy events ≡ Ok last → Step w last
+copied-steps events w copy last kept same e = run-steps events w last kept (subst (λ start. run start events ≡ Ok last) same e)

@@ -1,6 +1,6 @@
 -- One event more of a list that is being run.
-use Rattle.std.proofs.Common.{◌≡◌, ℕ, ◌<◌, ◌+◌, Bool, true, false, List, ◌∷◌, length, get_or, drop, Option, Some, None, Result, Err, refl, sym, ap, subst, ◌∙◌, arith}
-use Rattle.std.proofs.lemmas.Bool.{false≢true}
+use Rattle.std.proofs.Common.{◌≡◌, ℕ, ◌<◌, ◌+◌, ◌^◌, ◌&&◌, ◌↔◌, Bool, true, false, List, ◌∷◌, length, get_or, drop, Option, Some, None, Result, Err, refl, sym, ap, subst, ◌∙◌, arith}
+use Rattle.std.proofs.lemmas.Bool.{false≢true, and_parts, and_from}
 use Rattle.std.proofs.lemmas.List.{drop_more, length-drop}
 use Rattle.desk_world.specs.World.{World}
 use Rattle.desk_world.specs.Events.{after, next_of, run_from, HasRoom}
@@ -64,3 +64,17 @@ turn_done w next events at outcome event low is turning some = record {
     room_after w next (length (drop (at + 1) events)) (length (drop at events)) (omega (arith, now, left, low)) turning.room
     (subst (AddsIf w) some (event-adds w event));
 }
+
+-- ---- a test of room
+
+pub room_tells : (world : World) (events : ℕ) (links asks run : Bool) → (links ≡ true ↔ length world.links + events < 2 ^ 32)
+    → (asks ≡ true ↔ length world.asks + events < 2 ^ 32) → (run ≡ true ↔ world.run + events < 2 ^ 32)
+    → (links && (asks && run)) ≡ true ↔ HasRoom events world
+room_tells world events links asks run links_fit asks_fit run_fits =
+    ( (λ all.
+        let both = and_parts links (asks && run) all in
+        let rest = and_parts asks run both.1 in
+        record { links = links_fit.0 both.0; asks = asks_fit.0 rest.0; run = run_fits.0 rest.1 })
+    , (λ room.
+        and_from links (asks && run) (links_fit.1 room.links)
+        (and_from asks run (asks_fit.1 room.asks) (run_fits.1 room.run))) )

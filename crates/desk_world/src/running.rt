@@ -21,9 +21,10 @@ fn fits(count: usize, events: usize) -> bool
 pub fn has_room(world: &Parts, events: usize) -> bool
     ensures { IsTrue result ↔ HasRoom events (world_of world.now) }
 {
-    fits(world.links.len(), events)
-        && fits(world.asks.len(), events)
-        && fits(world.run as usize, events)
+    let links = fits(world.links.len(), events);
+    let asks = fits(world.asks.len(), events);
+    let run = fits(world.run as usize, events);
+    links && asks && run
 }
 
 // The world after the events; or the place of the first that is not enabled, or want of memory.

@@ -1,7 +1,8 @@
 use super::event_texts::add_events;
 use super::outcomes::{outcome, ran};
-use std::process::Abort;
 use std::alloc::Global;
+use std::fs;
+use std::process::Abort;
 use std::test::Fail;
 
 // The events, and what they lead to.
@@ -166,6 +167,30 @@ fn events_that_are_not_enabled(rt: HostRuntime) -> Result<(), Fail> {
     compare(&rt, rt.alloc(), "", &ORDERS)?;
     compare(&rt, rt.alloc(), "", &BARE_ROWS)?;
     Ok(())
+}
+
+fn compare_line(rt: &impl Abort, alloc: Global, line: &str) -> Result<(), Fail> {
+    let (events, want) = line.split_once(" => ").ok_or("a line without ` => `")?;
+    let text = outcome(alloc, events, "")?;
+    assert_eq!(rt; text.trim(), want.trim(), "{events}");
+    Ok(())
+}
+
+fn compare_lines(rt: &impl Abort, alloc: Global, text: &str) -> Result<(), Fail> {
+    for line in text.lines() {
+        compare_line(rt, alloc, line)?;
+    }
+    Ok(())
+}
+
+// Lists that stand in a file in the folder that the test runs in, each on a line of its own with ` => ` and what it leads to.
+// Without the file there is nothing to compare.
+#[test]
+fn lists_of_a_file(rt: HostRuntime) -> Result<(), Fail> {
+    let Ok(text) = fs::read_to_string(&rt, "lists.txt") else {
+        return Ok(());
+    };
+    compare_lines(&rt, rt.alloc(), text.as_str())
 }
 
 #[test]
