@@ -6,7 +6,7 @@ use Rattle.cynara_keys.specs.declared.keys.Question.{Question}
 use Rattle.cynara_keys.specs.declared.results.Kind.{Kind}
 use Rattle.desk_state.specs.DeskState.{DeskState}
 use Rattle.desk_world.specs.World.{World, history, desk_at, with_link, entry_at, client_of}
-use Rattle.desk_world.specs.Clients.{when, with_some, new_link, dialled, asked, send, given, hit, delivered, deliver, notice}
+use Rattle.desk_world.specs.Clients.{when, with_some, new_link, dialled, new_ask, asked, send, given, hit, delivered, deliver, notice}
 use Rattle.desk_world.specs.Links.{enter, read, outgoing, write, lose}
 use Rattle.desk_world.specs.Commits.{committed, decide, hung_up, hang, closed, restarted, under_way}
 use Rattle.desk_world.specs.Agents.{has_agent, put, put_due, put_with, fits, answer}
@@ -18,6 +18,7 @@ use Rattle.desk_world.specs.declared.events.Half.TheVariants.{Dial, Enter}
 use Rattle.desk_world.specs.declared.links.Link.{Link}
 use Rattle.desk_world.specs.declared.links.Reading.{Reading}
 use Rattle.desk_world.specs.declared.links.Reading.TheVariants.{Nothing, Ready, Due, Waiting}
+use Rattle.desk_world.specs.declared.replies.Reply.TheVariants.{Judged}
 
 pub record Adds (before after : World) : Type 0 where
   pub links : length after.links ≤ length before.links + 1
