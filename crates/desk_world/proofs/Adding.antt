@@ -49,7 +49,9 @@ where_there w (Some x) event adds = adds x
 
 adds-dialled : (w : World) (client : ℕ) → Adds w (dialled client w)
 adds-dialled w client = record {
-  links = omega (arith, length-append w.links (new_link client w.run ∷ [])); asks = omega arith; run = omega arith;
+  links = omega (arith, length-append w.links (new_link client w.run ∷ []));
+  asks = omega arith;
+  run = omega arith;
 }
 
 adds-asked : (w : World) (client : ℕ) (question : Question) (simple : Bool) → Adds w (asked client question simple w)
@@ -68,7 +70,7 @@ adds-send w client =
     where_there w (client_of w client).link _ (λ link.
     where_there w (slice_get w.links link) _ (λ found.
     where_held w (with_link link (record found { question = Some ask }) w) _
-      (with_link_adds w link (record found { question = Some ask })))))
+    (with_link_adds w link (record found { question = Some ask })))))
 
 adds-hit : (w : World) (client entry : ℕ) → AddsIf w (hit client entry w)
 adds-hit w client entry =
@@ -87,7 +89,7 @@ adds-deliver w client =
     where_there w (slice_get w.links link) _ (λ found.
     where_there w found.reply _ (λ transit.
     where_held w (delivered client ask asked.question link found transit.reply w) _
-      (same w _ (length-set w.links link (record found { reply = None })) refl refl))))))
+    (same w _ (length-set w.links link (record found { reply = None })) refl refl))))))
 
 adds-notice : (w : World) (client : ℕ) → AddsIf w (notice client w)
 adds-notice w client =

@@ -33,8 +33,8 @@ put_becomes w link full found ask asked commit kind metadata after there asks_it
     (some_becomes found.question ask _ true after asks_it
     (some_becomes (slice_get w.asks ask) asked _ true after asks
     (subst (λ reading. Becomes (put_due link found ask asked.question full reading w) true after) (sym due)
-      (when_becomes (found.run == w.run && fits full w) (put_to link found ask asked.question full commit kind w) after
-        (and_from (found.run == w.run) (fits full w) (eq-eqb found.run w.run run) fit) so))))
+    (when_becomes (found.run == w.run && fits full w) (put_to link found ask asked.question full commit kind w) after
+    (and_from (found.run == w.run) (fits full w) (eq-eqb found.run w.run run) fit) so))))
 
 pub deliver_becomes : (w : World) (client ask : ℕ) (asked : Asked) (link : ℕ) (found : Link) (transit : Transit) (after : World)
     → (client_of w client).asking ≡ Some ask → slice_get w.asks ask ≡ Some asked → (client_of w client).link ≡ Some link
@@ -46,8 +46,8 @@ deliver_becomes w client ask asked link found transit after asking asks holds th
     (some_becomes (client_of w client).link link _ true after holds
     (some_becomes (slice_get w.links link) found _ true after there
     (some_becomes found.reply transit _ true after sent
-      (when_becomes (transit.ask == ask) (delivered client ask asked.question link found transit.reply w) after
-        (eq-eqb transit.ask ask mine) so)))))
+    (when_becomes (transit.ask == ask) (delivered client ask asked.question link found transit.reply w) after
+    (eq-eqb transit.ask ask mine) so)))))
 
 -- what may be stored, and the state that it leads to
 proposed_step : (test : Bool) (state : DeskState) (made : Option DeskState) → made ≡ cond test (Some state) None → made ≡ None

@@ -15,7 +15,11 @@ use Rattle.desk_world.proofs.Lists.{begins_same, get-append, get-set_same, get-s
 
 pub link_same : (link : Link) → LinkGrows link link
 link_same link = record {
-  client = refl; run = refl; entered = λ commit e. e; seen = λ commit e. omega arith; closed = λ e. e;
+  client = refl;
+  run = refl;
+  entered = λ commit e. e;
+  seen = λ commit e. omega arith;
+  closed = λ e. e;
 }
 
 pub links_same : (links : List Link) → LinksGrow links links
@@ -28,14 +32,15 @@ pub links_set : (links : List Link) (at : ℕ) (old new : Link) → slice_get li
     → LinksGrow links (set links at new)
 links_set links at old new there grows place link e =
     elim (cases_eq place at) [
-      inl same ↦
-        let here : slice_get links at ≡ Some link = subst (λ k. slice_get links k ≡ Some link) same e in
-        let is : Some old ≡ Some link = sym there ∙ here in
-        let is_old : old ≡ link = cc in
-        ( new
-        , subst (λ k. slice_get (set links at new) k ≡ Some new) (sym same) (get-set_same links at old new there)
-        , subst (λ before. LinkGrows before new) is_old grows )
-    | inr other ↦ (link, get-set_other links at place new other ∙ e, link_same link)
+      | inl same ↦
+          let here : slice_get links at ≡ Some link = subst (λ k. slice_get links k ≡ Some link) same e in
+          let is : Some old ≡ Some link = sym there ∙ here in
+          let is_old : old ≡ link = cc in (
+            new,
+            subst (λ k. slice_get (set links at new) k ≡ Some new) (sym same) (get-set_same links at old new there),
+            subst (λ before. LinkGrows before new) is_old grows,
+          )
+      | inr other ↦ (link, get-set_other links at place new other ∙ e, link_same link)
     ]
 
 pub links_map : (f : Link → Link) (links : List Link) → ((link : Link) → LinkGrows link (f link)) → LinksGrow links (map f links)
@@ -51,11 +56,12 @@ pub entries_same : (entries : List AgentEntry) → EntriesGrow entries entries
 entries_same entries run number entry e = (entry, e, entry_same entry)
 
 pub entries_push : (entries : List AgentEntry) (new : AgentEntry) → EntriesGrow entries (entries ++ new ∷ [])
-entries_push entries new run number entry e =
-    ( entry
-    , find-begins (λ (other : AgentEntry). other.run == run && other.number == number) entries (entries ++ new ∷ []) entry
-        (new ∷ [], refl) e
-    , entry_same entry )
+entries_push entries new run number entry e = (
+  entry,
+  find-begins (λ (other : AgentEntry). other.run == run && other.number == number) entries (entries ++ new ∷ []) entry
+      (new ∷ [], refl) e,
+  entry_same entry,
+)
 
 -- a change of every entry that keeps run and number
 pub entry_at-map : (f : AgentEntry → AgentEntry) → ((entry : AgentEntry) → (f entry).run ≡ entry.run)
@@ -79,10 +85,24 @@ pub serving : (w : World) (links : List Link) (clients : List Slot) (asks : List
     (agents : List ℕ) (entries : List AgentEntry) → BeginsWith asks w.asks → BeginsWith given w.given
     → ((client : ℕ) → (client_of w client).told ≤ (client_in client clients).told) → LinksGrow w.links links → EntriesGrow w.entries entries
     → Grows w (record w {
-        links = links; clients = clients; asks = asks; given = given; agents = agents; entries = entries;
-      })
+      links = links;
+      clients = clients;
+      asks = asks;
+      given = given;
+      agents = agents;
+      entries = entries;
+    })
 serving w links clients asks given agents entries asks_begin given_begin told links_grow entries_grow = record {
-  first = refl; later = begins_same w.later; asks = asks_begin; given = given_begin;
-  acknowledged = omega arith; note = omega arith; published = omega arith; last = omega arith; run = omega arith;
-  told = told; links = links_grow; entries = entries_grow;
+  first = refl;
+  later = begins_same w.later;
+  asks = asks_begin;
+  given = given_begin;
+  acknowledged = omega arith;
+  note = omega arith;
+  published = omega arith;
+  last = omega arith;
+  run = omega arith;
+  told = told;
+  links = links_grow;
+  entries = entries_grow;
 }

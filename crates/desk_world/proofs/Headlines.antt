@@ -34,11 +34,12 @@ verdict_of w one oldest given there low sound =
     let same : sound.fresh.asked ≡ one = same_Some sound.fresh.asked one (sym sound.fresh.asks ∙ there) in
     let floor = ap (λ (asked : Asked). asked.floor) same in
     record {
-      desk = sound.fresh.desk; committed = sound.fresh.committed;
+      desk = sound.fresh.desk;
+      committed = sound.fresh.committed;
       no_older = omega (arith, low, floor, sound.fresh.no_older);
       verdict =
-        verdict_from w given.run given.ask one.question sound.fresh.desk given.reply
-        (subst (λ (asked : Asked). IsRight w given.run given.ask asked.question sound.fresh.desk given.reply) same sound.right);
+          verdict_from w given.run given.ask one.question sound.fresh.desk given.reply
+          (subst (λ (asked : Asked). IsRight w given.run given.ask asked.question sound.fresh.desk given.reply) same sound.right);
     }
 
 pub freshness : Freshness
@@ -51,12 +52,13 @@ freshness desk earlier later client question simple before after first second =
     (get-end before.asks new) in
     All-weaker (λ (given : Given). IsSound after given.run given.ask given.reply)
     (λ (given : Given).
-      given.ask ≡ length before.asks
-      → IsVerdict after before.acknowledged question given × IsVerdict after (client_of before client).told question given)
+    given.ask ≡ length before.asks
+    → IsVerdict after before.acknowledged question given × IsVerdict after (client_of before client).told question given)
     (λ given sound mine.
-      let here = subst (λ ask. slice_get after.asks ask ≡ Some new) (sym mine) there in
-      ( verdict_of after new before.acknowledged given here
-          (le-max_left before.acknowledged (client_of before client).told) sound
-      , verdict_of after new (client_of before client).told given here
-          (le-max_right before.acknowledged (client_of before client).told) sound ))
+    let here = subst (λ ask. slice_get after.asks ask ≡ Some new) (sym mine) there in (
+      verdict_of after new before.acknowledged given here
+          (le-max_left before.acknowledged (client_of before client).told) sound,
+      verdict_of after new (client_of before client).told given here
+          (le-max_right before.acknowledged (client_of before client).told) sound,
+    ))
     after.given rest.kept.given

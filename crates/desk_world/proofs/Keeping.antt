@@ -37,16 +37,16 @@ cond_twice false x y z = refl
 client-put_step : (number other : ℕ) (changed : Client) (slot : Slot) (slots put : List Slot) (test : Bool)
     → (slot.number == number) ≡ test → client_in other put ≡ cond (number == other) changed (client_in other slots)
     → client_in other (cond test (record { number = number; client = changed } ∷ slots) (slot ∷ put))
-      ≡ cond (number == other) changed (cond (slot.number == other) slot.client (client_in other slots))
+    ≡ cond (number == other) changed (cond (slot.number == other) slot.client (client_in other slots))
 client-put_step number other changed slot slots put true is rest =
     cond_twice (number == other) changed slot.client (client_in other slots)
     ∙ ap (λ own. cond (number == other) changed (cond (own == other) slot.client (client_in other slots)))
-      (sym (eqb-true slot.number number is))
+    (sym (eqb-true slot.number number is))
 client-put_step number other changed slot slots put false is rest =
     ap (λ client. cond (slot.number == other) slot.client client) rest
     ∙ swap_cond (slot.number == other) (number == other)
-      (λ own this. eqb-false slot.number number is (eqb-true slot.number other own ∙ sym (eqb-true number other this)))
-      slot.client changed (client_in other slots)
+    (λ own this. eqb-false slot.number number is (eqb-true slot.number other own ∙ sym (eqb-true number other this)))
+    slot.client changed (client_in other slots)
 
 -- the client of this number is the changed one, and the others are as they were
 pub client-put : (number other : ℕ) (changed : Client) (slots : List Slot)
@@ -68,8 +68,8 @@ pub told_with : (clients : List Slot) (client : ℕ) (changed : Client) → (cli
 told_with clients client changed low other =
     subst (λ (now : Client). (client_in other clients).told ≤ now.told) (sym (client-put client other changed clients))
     (cond_both (client == other) changed (client_in other clients) (λ (now : Client). (client_in other clients).told ≤ now.told)
-      (λ e. subst (λ other. (client_in other clients).told ≤ changed.told) (eqb-true client other e) low)
-      (λ e. omega arith))
+    (λ e. subst (λ other. (client_in other clients).told ≤ changed.told) (eqb-true client other e) low)
+    (λ e. omega arith))
 
 pub told_same : (clients : List Slot) (client : ℕ) → (client_in client clients).told ≤ (client_in client clients).told
 told_same clients client = omega arith
@@ -92,10 +92,20 @@ serves w kept links clients asks given agents entries grows current all_links al
   grows = grows;
   kept = record {
     ordered = record {
-      first = kept.ordered.first; acknowledged = kept.ordered.acknowledged; note = kept.ordered.note;
-      published = kept.ordered.published; under_way = kept.ordered.under_way; candidate = kept.ordered.candidate;
+      first = kept.ordered.first;
+      acknowledged = kept.ordered.acknowledged;
+      note = kept.ordered.note;
+      published = kept.ordered.published;
+      under_way = kept.ordered.under_way;
+      candidate = kept.ordered.candidate;
     };
-    chain = kept.chain; candidate = kept.candidate; current = current; links = all_links; clients = all_clients;
-    asks = floors; numbered = numbered; given = sound;
+    chain = kept.chain;
+    candidate = kept.candidate;
+    current = current;
+    links = all_links;
+    clients = all_clients;
+    asks = floors;
+    numbered = numbered;
+    given = sound;
   };
 }

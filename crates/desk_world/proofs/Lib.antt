@@ -14,4 +14,3 @@ pub mod Roots
 pub mod Becoming
 pub mod Adding
 pub mod Turning
-pub mod Copying

@@ -33,7 +33,8 @@ module _ (before after : World) (grows : Grows before after) where
 
   abbrev pub fresh_still : (ask commit : ℕ) → IsFresh before ask commit → IsFresh after ask commit
   fresh_still ask commit fresh = record {
-    asked = fresh.asked; desk = fresh.desk;
+    asked = fresh.asked;
+    desk = fresh.desk;
     asks = begins-get before.asks after.asks ask fresh.asked grows.asks fresh.asks;
     committed = desk_still commit fresh.desk fresh.committed;
     no_older = fresh.no_older;
@@ -42,15 +43,19 @@ module _ (before after : World) (grows : Grows before after) where
   pub put_still : (run number ask : ℕ) (question : Question) (kind : Kind) (commit : ℕ)
       → (put : IsPutFor before run number ask question kind commit)
       → (now : IsPutFor after run number ask question kind commit)
-        × (is_open put.entry.state ≡ false → now.entry.state ≡ put.entry.state)
+      × (is_open put.entry.state ≡ false → now.entry.state ≡ put.entry.state)
   put_still run number ask question kind commit put =
-      let grown = grows.entries run number put.entry put.logged in
-      ( record {
-          entry = grown.0; logged = grown.1; same_ask = grown.2.ask ∙ put.same_ask;
-          same_question = grown.2.question ∙ put.same_question; same_kind = grown.2.kind ∙ put.same_kind;
+      let grown = grows.entries run number put.entry put.logged in (
+        record {
+          entry = grown.0;
+          logged = grown.1;
+          same_ask = grown.2.ask ∙ put.same_ask;
+          same_question = grown.2.question ∙ put.same_question;
+          same_kind = grown.2.kind ∙ put.same_kind;
           same_commit = grown.2.commit ∙ put.same_commit;
-        }
-      , grown.2.settled )
+        },
+        grown.2.settled,
+      )
 
   pub right_still : (run ask : ℕ) (question : Question) (desk : DeskState) (reply : Reply)
       → IsRight before run ask question desk reply → IsRight after run ask question desk reply
@@ -98,10 +103,11 @@ module _ (before after : World) (grows : Grows before after) where
       (sound_still run ask reply read.0, between_still entered (commit_of reply) read.1)
   read_still run entered ask (Due commit kind metadata) read =
       (left_still ask commit kind read.0, between_still entered commit read.1)
-  read_still run entered ask (Waiting commit kind number) read =
-      ( record { fresh = fresh_still ask commit read.0.fresh; leaves = read.0.leaves }
-      , between_still entered commit read.1
-      , (put_still run number ask read.0.fresh.asked.question kind commit read.2).0 )
+  read_still run entered ask (Waiting commit kind number) read = (
+    record { fresh = fresh_still ask commit read.0.fresh; leaves = read.0.leaves },
+    between_still entered commit read.1,
+    (put_still run number ask read.0.fresh.asked.question kind commit read.2).0,
+  )
 
   pub sent_still : (run : ℕ) (entered : Option ℕ) (transit : Transit) → IsSent before run entered transit
       → IsSent after run entered transit
@@ -155,7 +161,8 @@ module _ (before after : World) (grows : Grows before after) where
   has_link_still log place has =
       let grown = grows.links place has.link has.there in
       record {
-        link = grown.0; there = grown.1;
+        link = grown.0;
+        there = grown.1;
         known = log_still has.link.entered grown.0.entered log grown.2.entered has.not_entered has.known;
         not_entered = λ now. has.not_entered (not_entered_before has.link.entered grown.0.entered grown.2.entered now);
       }
@@ -164,7 +171,7 @@ module _ (before after : World) (grows : Grows before after) where
   client_still client is = record {
     told = omega (arith, is.told, grows.acknowledged);
     asking = λ ask e.
-      let there = is.asking ask e in (there.0, begins-get before.asks after.asks ask there.0 grows.asks there.1);
+        let there = is.asking ask e in (there.0, begins-get before.asks after.asks ask there.0 grows.asks there.1);
     link = λ place e. has_link_still client.log place (is.link place e);
     no_link = is.no_link;
   }

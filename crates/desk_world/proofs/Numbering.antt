@@ -31,12 +31,12 @@ pub numbered_map : (f : AgentEntry → AgentEntry) (entries : List AgentEntry) �
 numbered_map f entries runs numbers all =
     All-map (λ (entry : AgentEntry). entry.number < count_of entry.run (map f entries)) f entries
     (All-weaker (λ (entry : AgentEntry). entry.number < count_of entry.run entries)
-      (λ (entry : AgentEntry). (f entry).number < count_of (f entry).run (map f entries))
-      (λ entry low.
-        let count = count_of-map f runs (f entry).run entries in
-        let same = ap (λ run. count_of run entries) (runs entry) in
-        omega (arith, low, numbers entry, count, same))
-      entries all)
+    (λ (entry : AgentEntry). (f entry).number < count_of (f entry).run (map f entries))
+    (λ entry low.
+    let count = count_of-map f runs (f entry).run entries in
+    let same = ap (λ run. count_of run entries) (runs entry) in
+    omega (arith, low, numbers entry, count, same))
+    entries all)
 
 -- ---- one more entry
 
@@ -51,10 +51,10 @@ pub numbered_push : (entries : List AgentEntry) (new : AgentEntry) → new.numbe
 numbered_push entries new is all =
     All-push (λ (entry : AgentEntry). entry.number < count_of entry.run (entries ++ new ∷ [])) entries new
     (All-weaker (λ (entry : AgentEntry). entry.number < count_of entry.run entries)
-      (λ (entry : AgentEntry). entry.number < count_of entry.run (entries ++ new ∷ []))
-      (λ entry low. omega (arith, low, count_push entries new entry.run)) entries all)
+    (λ (entry : AgentEntry). entry.number < count_of entry.run (entries ++ new ∷ []))
+    (λ entry low. omega (arith, low, count_push entries new entry.run)) entries all)
     (let one = ap {B = ℕ} (λ test. cond test 1 0) (eq-eqb new.run new.run refl) in
-      omega (arith, count_push entries new new.run, one, is))
+    omega (arith, count_push entries new new.run, one, is))
 
 -- ---- the next number is free
 
@@ -69,14 +69,14 @@ next_is_free : (entries : List AgentEntry) (run : ℕ) → IsNumbered entries �
 next_is_free entries run all =
     none_found (λ (entry : AgentEntry). entry.run == run && entry.number == count_of run entries) entries
     (All-weaker (λ (entry : AgentEntry). entry.number < count_of entry.run entries)
-      (λ (entry : AgentEntry). (entry.run == run && entry.number == count_of run entries) ≡ false)
-      (λ entry low.
-        false_from_ne_true (entry.run == run && entry.number == count_of run entries)
-        (λ e.
-          let both = and_parts (entry.run == run) (entry.number == count_of run entries) e in
-          let same = ap (λ run. count_of run entries) (eqb-true entry.run run both.0) in
-          omega (arith, low, same, eqb-true entry.number (count_of run entries) both.1)))
-      entries all)
+    (λ (entry : AgentEntry). (entry.run == run && entry.number == count_of run entries) ≡ false)
+    (λ entry low.
+    false_from_ne_true (entry.run == run && entry.number == count_of run entries)
+    (λ e.
+    let both = and_parts (entry.run == run) (entry.number == count_of run entries) e in
+    let same = ap (λ run. count_of run entries) (eqb-true entry.run run both.0) in
+    omega (arith, low, same, eqb-true entry.number (count_of run entries) both.1)))
+    entries all)
 
 -- the new entry is the one of its number
 pub new_is_found : (entries : List AgentEntry) (new : AgentEntry) → new.number ≡ count_of new.run entries → IsNumbered entries

@@ -17,7 +17,7 @@ place_step number slot slots at true is next low = record {
   same = λ other. eqb-true slot.number number is;
   client = λ other. sym (ap (λ test. cond test slot.client (client_in number slots)) is);
   put = λ client.
-    ap (λ test. cond test (record { number = number; client = client } ∷ slots) (slot ∷ put_client number client slots)) is;
+      ap (λ test. cond test (record { number = number; client = client } ∷ slots) (slot ∷ put_client number client slots)) is;
 }
 place_step number slot slots at false is next low =
     let rest = next (omega (arith, low)) in
@@ -26,8 +26,8 @@ place_step number slot slots at false is next low =
       same = rest.same;
       client = λ other. rest.client other ∙ sym (ap (λ test. cond test slot.client (client_in number slots)) is);
       put = λ client.
-        ap (λ test. cond test (record { number = number; client = client } ∷ slots) (slot ∷ put_client number client slots)) is
-        ∙ ap (λ list. slot ∷ list) (rest.put client);
+          ap (λ test. cond test (record { number = number; client = client } ∷ slots) (slot ∷ put_client number client slots)) is
+          ∙ ap (λ list. slot ∷ list) (rest.put client);
     } in
     subst (IsPlace (slot ∷ slots) number) (sym (one-add at)) here
 
@@ -47,8 +47,8 @@ absent_step number slot slots at false is next low =
     record {
       client = ap (λ test. cond test slot.client (client_in number slots)) is ∙ rest.client;
       put = λ client.
-        ap (λ test. cond test (record { number = number; client = client } ∷ slots) (slot ∷ put_client number client slots)) is
-        ∙ ap (λ list. slot ∷ list) (rest.put client);
+          ap (λ test. cond test (record { number = number; client = client } ∷ slots) (slot ∷ put_client number client slots)) is
+          ∙ ap (λ list. slot ∷ list) (rest.put client);
     }
 
 absent_is : (number : ℕ) (slots : List Slot) → length slots ≤ position_or_len (λ (slot : Slot). slot.number == number) slots
@@ -75,10 +75,10 @@ place_tells number slots =
 put_step : (number : ℕ) (client before : Client) (slot : Slot) (slots put : List Slot) (test : Bool)
     → (slot.number == number) ≡ test → put_client number client put ≡ put_client number client slots
     → put_client number client (cond test (record { number = number; client = before } ∷ slots) (slot ∷ put))
-      ≡ cond test (record { number = number; client = client } ∷ slots) (slot ∷ put_client number client slots)
+    ≡ cond test (record { number = number; client = client } ∷ slots) (slot ∷ put_client number client slots)
 put_step number client before slot slots put true is next =
     ap (λ test. cond test (record { number = number; client = client } ∷ slots)
-      (record { number = number; client = before } ∷ put_client number client slots)) (eq-eqb number number refl)
+    (record { number = number; client = before } ∷ put_client number client slots)) (eq-eqb number number refl)
 put_step number client before slot slots put false is next =
     ap (λ test. cond test (record { number = number; client = client } ∷ put) (slot ∷ put_client number client put)) is
     ∙ ap (λ list. slot ∷ list) next
@@ -87,7 +87,7 @@ pub put_twice : (number : ℕ) (client before : Client) (slots : List Slot)
     → put_client number client (put_client number before slots) ≡ put_client number client slots
 put_twice number client before [] =
     ap (λ test. cond test (record { number = number; client = client } ∷ [])
-      (record { number = number; client = before } ∷ record { number = number; client = client } ∷ []))
+    (record { number = number; client = before } ∷ record { number = number; client = client } ∷ []))
     (eq-eqb number number refl)
 put_twice number client before (slot ∷ slots) =
     put_step number client before slot slots (put_client number before slots) (slot.number == number) refl

@@ -29,7 +29,7 @@ module _ (w : World) (link : ℕ) (found changed : Link) (there : slice_get w.li
   relink-step kept current is =
       serves w kept after.links w.clients w.asks w.given w.agents w.entries relink_grows
       (All-set (IsCurrent w.note) w.links link changed
-        (current (all-at (IsCurrent w.note) w.links link found kept.current there)) kept.current)
+      (current (all-at (IsCurrent w.note) w.links link found kept.current there)) kept.current)
       (All-set (IsLink after) w.links link changed is (links_still w after relink_grows w.links kept.links))
       (λ other. client_still w after relink_grows (client_of w other) (kept.clients other))
       kept.asks kept.numbered (given_still w after relink_grows w.given kept.given)

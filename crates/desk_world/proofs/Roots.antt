@@ -37,13 +37,13 @@ nowhere p (x ∷ xs) low = nowhere_step p x xs (position_or_len p xs) (p x) refl
 match_step : {X : Type 0} (p : X → Bool) (xs : List X) (at : ℕ) (test : Bool) → nat_lt at (length xs) ≡ test
     → (at < length xs → IfSome (slice_get xs at) (λ x. p x ≡ true)) → (length xs ≤ at → list_any p xs ≡ false)
     → MatchOption (cond test (Some at) None) (list_any p xs ≡ false)
-      (λ at. (at < length xs) × IfSome (slice_get xs at) (λ x. p x ≡ true))
+    (λ at. (at < length xs) × IfSome (slice_get xs at) (λ x. p x ≡ true))
 match_step p xs at true is here none = (ltb-true at (length xs) is, here (ltb-true at (length xs) is))
 match_step p xs at false is here none = none (ltb-false at (length xs) is)
 
 pub position_tells : {X : Type 0} (p : X → Bool) (xs : List X)
     → MatchOption (position p xs) (list_any p xs ≡ false)
-      (λ at. (at < length xs) × IfSome (slice_get xs at) (λ x. p x ≡ true))
+    (λ at. (at < length xs) × IfSome (slice_get xs at) (λ x. p x ≡ true))
 position_tells p xs =
     let at = position_or_len p xs in match_step p xs at (nat_lt at (length xs)) refl (there p xs) (nowhere p xs)
 
@@ -58,10 +58,10 @@ pub root_there : (database : Database) (at : ℕ)
 root_there database at e =
     let tells = position_tells (λ (heading : Heading). same_text heading.name root) database.buckets in
     let here : (at < length database.buckets)
-      × IfSome (slice_get database.buckets at) (λ (heading : Heading). same_text heading.name root ≡ true) =
+    × IfSome (slice_get database.buckets at) (λ (heading : Heading). same_text heading.name root ≡ true) =
     subst (λ o. MatchOption o (list_any (λ (heading : Heading). same_text heading.name root) database.buckets ≡ false)
-        (λ at. (at < length database.buckets)
-          × IfSome (slice_get database.buckets at) (λ (heading : Heading). same_text heading.name root ≡ true))) e tells in
+    (λ at. (at < length database.buckets)
+    × IfSome (slice_get database.buckets at) (λ (heading : Heading). same_text heading.name root ≡ true))) e tells in
     (here.0, root_name (slice_get database.buckets at) here.1)
 
 pub root_not_none : (database : Database) → list_any (λ (heading : Heading). same_text heading.name root) database.buckets ≡ true
@@ -70,8 +70,8 @@ root_not_none database has e =
     let tells = position_tells (λ (heading : Heading). same_text heading.name root) database.buckets in
     let none : list_any (λ (heading : Heading). same_text heading.name root) database.buckets ≡ false =
     subst (λ o. MatchOption o (list_any (λ (heading : Heading). same_text heading.name root) database.buckets ≡ false)
-        (λ at. (at < length database.buckets)
-          × IfSome (slice_get database.buckets at) (λ (heading : Heading). same_text heading.name root ≡ true))) e tells in
+    (λ at. (at < length database.buckets)
+    × IfSome (slice_get database.buckets at) (λ (heading : Heading). same_text heading.name root ≡ true))) e tells in
     let never : true ≡ false = sym has ∙ none in cc
 
 found_at : (database : Database) (question : Question) (heading : Option Heading) (outcome : Option Outcome)

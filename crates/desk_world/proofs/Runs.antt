@@ -68,7 +68,11 @@ event-steps w next kept (Tell client commit) e = tell-steps w next kept client c
 pub fresh_is : (desk : DeskState) → IsKept (fresh desk)
 fresh_is desk = record {
   ordered = record {
-    first = omega arith; acknowledged = omega arith; note = omega arith; published = omega arith; under_way = omega arith;
+    first = omega arith;
+    acknowledged = omega arith;
+    note = omega arith;
+    published = omega arith;
+    under_way = omega arith;
     candidate = λ candidate e. refl;
   };
   chain = tt;
@@ -76,7 +80,9 @@ fresh_is desk = record {
   current = All-nil (IsCurrent desk.commit);
   links = All-nil (IsLink (fresh desk));
   clients = λ client. record {
-    told = omega arith; asking = λ ask e. absurd (none-some ask e); link = λ place e. absurd (none-some place e);
+    told = omega arith;
+    asking = λ ask e. absurd (none-some ask e);
+    link = λ place e. absurd (none-some place e);
     no_link = λ e. refl;
   };
   asks = All-nil (λ (asked : Asked). asked.floor ≤ desk.commit);
@@ -89,8 +95,8 @@ fresh_is desk = record {
 pub stays : (w : World) → IsKept w → Step w w
 stays w kept = record {
   grows =
-    serving w w.links w.clients w.asks w.given w.agents w.entries (begins_same w.asks) (begins_same w.given)
-    (λ client. omega arith) (links_same w.links) (entries_same w.entries);
+      serving w w.links w.clients w.asks w.given w.agents w.entries (begins_same w.asks) (begins_same w.given)
+      (λ client. omega arith) (links_same w.links) (entries_same w.entries);
   kept = kept;
 }
 

@@ -56,13 +56,13 @@ pub turn_done : (w next : World) (events : List Event) (at : ℕ) (outcome : Res
     → IsTurning next events (at + 1) outcome
 turn_done w next events at outcome event low is turning some = record {
   run =
-    sym (ap (next_of at (run_from (at + 1) (drop (at + 1) events))) some)
-    ∙ (sym (ap (λ events. run_from at events w) (here events at event low is)) ∙ turning.run);
+      sym (ap (next_of at (run_from (at + 1) (drop (at + 1) events))) some)
+      ∙ (sym (ap (λ events. run_from at events w) (here events at event low is)) ∙ turning.run);
   room =
-    let now = length-drop at events in
-    let left = length-drop (at + 1) events in
-    room_after w next (length (drop (at + 1) events)) (length (drop at events)) (omega (arith, now, left, low)) turning.room
-    (subst (AddsIf w) some (event-adds w event));
+      let now = length-drop at events in
+      let left = length-drop (at + 1) events in
+      room_after w next (length (drop (at + 1) events)) (length (drop at events)) (omega (arith, now, left, low)) turning.room
+      (subst (AddsIf w) some (event-adds w event));
 }
 
 -- ---- a test of room
@@ -70,11 +70,12 @@ turn_done w next events at outcome event low is turning some = record {
 pub room_tells : (world : World) (events : ℕ) (links asks run : Bool) → (links ≡ true ↔ length world.links + events < 2 ^ 32)
     → (asks ≡ true ↔ length world.asks + events < 2 ^ 32) → (run ≡ true ↔ world.run + events < 2 ^ 32)
     → (links && (asks && run)) ≡ true ↔ HasRoom events world
-room_tells world events links asks run links_fit asks_fit run_fits =
-    ( (λ all.
-        let both = and_parts links (asks && run) all in
-        let rest = and_parts asks run both.1 in
-        record { links = links_fit.0 both.0; asks = asks_fit.0 rest.0; run = run_fits.0 rest.1 })
-    , (λ room.
-        and_from links (asks && run) (links_fit.1 room.links)
-        (and_from asks run (asks_fit.1 room.asks) (run_fits.1 room.run))) )
+room_tells world events links asks run links_fit asks_fit run_fits = (
+  (λ all.
+      let both = and_parts links (asks && run) all in
+      let rest = and_parts asks run both.1 in
+      record { links = links_fit.0 both.0; asks = asks_fit.0 rest.0; run = run_fits.0 rest.1 }),
+  (λ room.
+      and_from links (asks && run) (links_fit.1 room.links)
+      (and_from asks run (asks_fit.1 room.asks) (run_fits.1 room.run))),
+)

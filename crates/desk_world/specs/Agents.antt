@@ -55,7 +55,12 @@ fits (Some most) world =
 
 abbrev pub new_entry : ℕ → Question → Kind → ℕ → World → AgentEntry
 new_entry ask question kind commit world = record {
-  run = world.run; number = count_of world.run world.entries; ask = ask; question = question; kind = kind; commit = commit;
+  run = world.run;
+  number = count_of world.run world.entries;
+  ask = ask;
+  question = question;
+  kind = kind;
+  commit = commit;
   state = Open;
 }
 
@@ -117,5 +122,6 @@ abbrev pub leave : Kind → World → Option World
 leave kind world =
     when (has_agent kind.0 world)
     (record world {
-      agents = filter (λ other. not (other == kind.0)) world.agents; entries = map (once_left kind.0) world.entries;
+      agents = filter (λ other. not (other == kind.0)) world.agents;
+      entries = map (once_left kind.0) world.entries;
     })

@@ -30,7 +30,14 @@ same_question question other =
 
 abbrev pub new_link : ℕ → ℕ → Link
 new_link client run = record {
-  client = client; run = run; entered = None; seen = 0; up = true; question = None; reading = Nothing; reply = None;
+  client = client;
+  run = run;
+  entered = None;
+  seen = 0;
+  up = true;
+  question = None;
+  reading = Nothing;
+  reply = None;
 }
 
 -- a new link, up and not entered, and an empty cache
@@ -47,7 +54,10 @@ dial client world = when (is_none (client_of world client).link) (dialled client
 -- no reply may be older than what is acknowledged now, nor than what the client was told
 abbrev pub new_ask : ℕ → Question → Bool → World → Asked
 new_ask client question simple world = record {
-  client = client; question = question; simple = simple; floor = max world.acknowledged (client_of world client).told;
+  client = client;
+  question = question;
+  simple = simple;
+  floor = max world.acknowledged (client_of world client).told;
 }
 
 abbrev pub asked : ℕ → Question → Bool → World → World

@@ -41,6 +41,6 @@ Freshness =
     (desk : DeskState) (earlier later : List Event) (client : ℕ) (question : Question) (simple : Bool) (before after : World)
     → run (fresh desk) earlier ≡ Ok before → run (asked client question simple before) later ≡ Ok after
     → All (λ (given : Given).
-        given.ask ≡ length before.asks
-        → IsVerdict after before.acknowledged question given × IsVerdict after (client_of before client).told question given)
-      after.given
+    given.ask ≡ length before.asks
+    → IsVerdict after before.acknowledged question given × IsVerdict after (client_of before client).told question given)
+    after.given

@@ -40,8 +40,19 @@ pub record World : Type 0 where
 
 abbrev pub fresh : DeskState → World
 fresh desk = record {
-  first = desk; later = []; acknowledged = desk.commit; candidate = None; published = desk.commit; note = desk.commit;
-  run = 0; links = []; clients = []; asks = []; given = []; agents = []; entries = [];
+  first = desk;
+  later = [];
+  acknowledged = desk.commit;
+  candidate = None;
+  published = desk.commit;
+  note = desk.commit;
+  run = 0;
+  links = [];
+  clients = [];
+  asks = [];
+  given = [];
+  agents = [];
+  entries = [];
 }
 
 -- ---- the committed states

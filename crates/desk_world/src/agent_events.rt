@@ -180,7 +180,12 @@ fn log_entry(
     requires { count_of run entries.old.items < 2 ^ 32 }
     ensures number { IfOk result (λ number. number ≡ count_of run entries.old.items) }
     ensures entries { IfOk result (λ number. entries.new.items ≡ entries.old.items ++ record {
-      run = run; number = count_of run entries.old.items; ask = ask; question = question; kind = kind; commit = commit;
+      run = run;
+      number = count_of run entries.old.items;
+      ask = ask;
+      question = question;
+      kind = kind;
+      commit = commit;
       state = EntryState.Open;
     } ∷ []) }
 {

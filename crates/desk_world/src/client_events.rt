@@ -35,7 +35,9 @@ pub fn dial(world: &mut Parts, client: u32) -> Result<bool, AllocError>
         return Ok(false);
     }
     let link = world.links.len() as u32;
-    world.links.extend_from_slice(&[new_link(client, world.run)])?;
+    world
+        .links
+        .extend_from_slice(&[new_link(client, world.run)])?;
     let changed = slots::take_out(&mut world.clients, client).linked(Some(link));
     slots::put(&mut world.clients, client, changed)?;
     Ok(true)
@@ -53,9 +55,7 @@ pub fn ask(
         world_of world.new ≡ asked client question.now simple (world_of world.old)) }
 {
     let ask = world.asks.len() as u32;
-    let floor = world
-        .acknowledged
-        .max(slots::told(&world.clients, client));
+    let floor = world.acknowledged.max(slots::told(&world.clients, client));
     let question = question.copy()?;
     world.asks.push(Asked {
         client,
@@ -165,12 +165,7 @@ pub fn deliver(world: &mut Parts, client: u32) -> Result<bool, AllocError>
 }
 
 // The client has this reply to its question, also in its cache if it is a verdict.
-fn receive(
-    world: &mut Parts,
-    client: u32,
-    question: Question,
-    new: Given,
-) -> Result<(), AllocError>
+fn receive(world: &mut Parts, client: u32, question: Question, new: Given) -> Result<(), AllocError>
     ensures { IfOk result (λ done. world_of world.new ≡ received client question new (world_of world.old)) }
 {
     world.given.extend_from_slice(&[new])?;

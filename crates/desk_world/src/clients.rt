@@ -23,7 +23,10 @@ impl Model for Client {
     ghost Value = { Content };
 
     ghost view = { λ client. record {
-      told = client.told; link = client.link; log = client.log.items; asking = client.asking;
+      told = client.told;
+      link = client.link;
+      log = client.log.items;
+      asking = client.asking;
     } };
 }
 
@@ -83,7 +86,10 @@ impl Client {
     // With one more verdict in its cache.
     pub fn keeping(mut self, known: Known) -> Result<Client, AllocError>
         ensures { IfOk result (λ client. client ≡ record {
-          told = self.told; link = self.link; log = self.log ++ known ∷ []; asking = self.asking;
+          told = self.told;
+          link = self.link;
+          log = self.log ++ known ∷ [];
+          asking = self.asking;
         }) }
     {
         self.log.push(known)?;
@@ -93,7 +99,10 @@ impl Client {
     // With the reply in its cache, if it is a verdict.
     pub fn receiving(self, question: Question, reply: &Reply) -> Result<Client, AllocError>
         ensures { IfOk result (λ client. client ≡ record {
-          told = self.told; link = self.link; log = kept question reply.now self.log; asking = self.asking;
+          told = self.told;
+          link = self.link;
+          log = kept question reply.now self.log;
+          asking = self.asking;
         }) }
     {
         match reply {

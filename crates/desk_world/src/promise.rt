@@ -5,5 +5,4 @@ ghost use Rattle.desk_world.specs.Headline.{Freshness};
 /// question was asked, or the agent's reply to that very question. Calling it does nothing.
 pub fn freshness()
     ensures { Freshness }
-{
-}
+{}

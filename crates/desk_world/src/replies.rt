@@ -14,13 +14,26 @@ pub enum Reply {
         allowed: bool,
     },
     /// An agent of the kind would decide, and a simple check asks none.
-    NotResolved { commit: u64, kind: Kind },
+    NotResolved {
+        commit: u64,
+        kind: Kind,
+    },
     /// An agent of the kind would decide, and none is there.
-    NoAgent { commit: u64, kind: Kind },
+    NoAgent {
+        commit: u64,
+        kind: Kind,
+    },
     /// The agent left before it answered the question of this number.
-    AgentGone { commit: u64, number: u32 },
+    AgentGone {
+        commit: u64,
+        number: u32,
+    },
     /// An agent of the kind would decide, and no more than `most` questions are taken.
-    AgentFull { commit: u64, kind: Kind, most: u32 },
+    AgentFull {
+        commit: u64,
+        kind: Kind,
+        most: u32,
+    },
 }
 
 /// A reply that a client was given: for which ask, and in which run of the service its link was dialled.

@@ -4,12 +4,9 @@ ghost use Rattle.desk_world.specs.Commits.{stop};
 ghost use Rattle.desk_world.specs.Events.{connect, after};
 ghost use Rattle.desk_world.specs.parts.Parts.{world_of, Becomes};
 
-use crate::agent_events;
-use crate::client_events;
-use crate::commit_events;
 use crate::events::{Event, Half};
-use crate::link_events;
 use crate::parts::Parts;
+use crate::{agent_events, client_events, commit_events, link_events};
 use desk_state::Command;
 use std::alloc::AllocError;
 

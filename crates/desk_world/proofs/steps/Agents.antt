@@ -67,7 +67,7 @@ module _ (w : World) (kept : IsKept w) (link : ℕ) (found : Link) (ask : ℕ) (
   -- it is refused
   module _ (reply : Reply) (same : commit_of reply ≡ commit)
       (right : (desk : DeskState) → LeavesTo kind desk left.fresh.asked.question
-        → IsRight w found.run ask left.fresh.asked.question desk reply) where
+      → IsRight w found.run ask left.fresh.asked.question desk reply) where
     abbrev refused : Link
     refused = record found { reading = Ready reply }
 
@@ -79,7 +79,7 @@ module _ (w : World) (kept : IsKept w) (link : ℕ) (found : Link) (ask : ℕ) (
         serving w after.links w.clients w.asks w.given w.agents w.entries (begins_same w.asks) (begins_same w.given)
         (told_same w.clients)
         (links_set w.links link found refused there
-          (record { client = refl; run = refl; entered = λ commit e. e; seen = λ commit e. omega arith; closed = λ e. e }))
+        (record { client = refl; run = refl; entered = λ commit e. e; seen = λ commit e. omega arith; closed = λ e. e }))
         (entries_same w.entries)
 
     abbrev still : IsLink after found
@@ -88,7 +88,9 @@ module _ (w : World) (kept : IsKept w) (link : ℕ) (found : Link) (ask : ℕ) (
     sound : IsSound w found.run ask reply
     sound = record {
       fresh = record {
-        asked = left.fresh.asked; desk = left.fresh.desk; asks = left.fresh.asks;
+        asked = left.fresh.asked;
+        desk = left.fresh.desk;
+        asks = left.fresh.asks;
         committed = subst (λ at. desk_at at (history w) ≡ Some left.fresh.desk) (sym same) left.fresh.committed;
         no_older = subst (λ at. left.fresh.asked.floor ≤ at) (sym same) left.fresh.no_older;
       };
@@ -97,13 +99,16 @@ module _ (w : World) (kept : IsKept w) (link : ℕ) (found : Link) (ask : ℕ) (
 
     refused_is : IsLink after refused
     refused_is = record {
-      first = still.first; seen = still.seen; question = still.question;
+      first = still.first;
+      seen = still.seen;
+      question = still.question;
       reading = λ other e.
-        let is : Some ask ≡ Some other = sym asks_it ∙ e in
-        subst (λ ask. IsRead after found.run found.entered ask (Ready reply)) (same_Some ask other is)
-        ( sound_still w after grows found.run ask reply sound
-        , between_still w after grows found.entered (commit_of reply)
-            (subst (IsBetween w found.entered) (sym same) between) );
+          let is : Some ask ≡ Some other = sym asks_it ∙ e in
+          subst (λ ask. IsRead after found.run found.entered ask (Ready reply)) (same_Some ask other is) (
+            sound_still w after grows found.run ask reply sound,
+            between_still w after grows found.entered (commit_of reply)
+                (subst (IsBetween w found.entered) (sym same) between),
+          );
       reply = still.reply;
       unasked = λ e. absurd (none-some ask (sym e ∙ asks_it));
       not_entered = λ e. absurd (entered e);
@@ -113,7 +118,7 @@ module _ (w : World) (kept : IsKept w) (link : ℕ) (found : Link) (ask : ℕ) (
     refuse-step =
         serves w kept after.links w.clients w.asks w.given w.agents w.entries grows
         (All-set (IsCurrent w.note) w.links link refused (all-at (IsCurrent w.note) w.links link found kept.current there)
-          kept.current)
+        kept.current)
         (All-set (IsLink after) w.links link refused refused_is (links_still w after grows w.links kept.links))
         (λ other. client_still w after grows (client_of w other) (kept.clients other))
         kept.asks kept.numbered (given_still w after grows w.given kept.given)
@@ -137,7 +142,7 @@ module _ (w : World) (kept : IsKept w) (link : ℕ) (found : Link) (ask : ℕ) (
         serving w put_world.links w.clients w.asks w.given w.agents put_world.entries (begins_same w.asks)
         (begins_same w.given) (told_same w.clients)
         (links_set w.links link found waits there
-          (record { client = refl; run = refl; entered = λ commit e. e; seen = λ commit e. omega arith; closed = λ e. e }))
+        (record { client = refl; run = refl; entered = λ commit e. e; seen = λ commit e. omega arith; closed = λ e. e }))
         (entries_push w.entries new)
 
     abbrev kept_link : IsLink put_world found
@@ -153,18 +158,24 @@ module _ (w : World) (kept : IsKept w) (link : ℕ) (found : Link) (ask : ℕ) (
 
     waits_is : IsLink put_world waits
     waits_is = record {
-      first = kept_link.first; seen = kept_link.seen; question = kept_link.question;
+      first = kept_link.first;
+      seen = kept_link.seen;
+      question = kept_link.question;
       reading = λ other e.
-        let is : Some ask ≡ Some other = sym asks_it ∙ e in
-        subst (λ ask. IsRead put_world found.run found.entered ask (Waiting commit kind number)) (same_Some ask other is)
-        ( still_left
-        , between_still w put_world put_grows found.entered commit between
-        , record {
-            entry = new; logged = logged; same_ask = refl;
-            same_question =
-              ap (λ (asked : Asked). asked.question) (same_Some asked left.fresh.asked (sym asks ∙ left.fresh.asks));
-            same_kind = refl; same_commit = refl;
-          } );
+          let is : Some ask ≡ Some other = sym asks_it ∙ e in
+          subst (λ ask. IsRead put_world found.run found.entered ask (Waiting commit kind number)) (same_Some ask other is) (
+            still_left,
+            between_still w put_world put_grows found.entered commit between,
+            record {
+              entry = new;
+              logged = logged;
+              same_ask = refl;
+              same_question =
+                  ap (λ (asked : Asked). asked.question) (same_Some asked left.fresh.asked (sym asks ∙ left.fresh.asks));
+              same_kind = refl;
+              same_commit = refl;
+            },
+          );
       reply = kept_link.reply;
       unasked = λ e. absurd (none-some ask (sym e ∙ asks_it));
       not_entered = λ e. absurd (entered e);
@@ -174,7 +185,7 @@ module _ (w : World) (kept : IsKept w) (link : ℕ) (found : Link) (ask : ℕ) (
     put-step =
         serves w kept put_world.links w.clients w.asks w.given w.agents put_world.entries put_grows
         (All-set (IsCurrent w.note) w.links link waits (all-at (IsCurrent w.note) w.links link found kept.current there)
-          kept.current)
+        kept.current)
         (All-set (IsLink put_world) w.links link waits waits_is (links_still w put_world put_grows w.links kept.links))
         (λ other. client_still w put_world put_grows (client_of w other) (kept.clients other))
         kept.asks (numbered_push w.entries new refl kept.numbered) (given_still w put_world put_grows w.given kept.given)
@@ -199,12 +210,12 @@ put_due-steps : (w next : World) → IsKept w → (link : ℕ) (found : Link) (a
 put_due-steps w next kept link found ask asked full (Due commit kind metadata) there asks_it asks is e =
     when-tells (Step w) (found.run == w.run && fits full w) (put_to link found ask asked.question full commit kind w) next e
     (λ tests.
-      let both = and_parts (found.run == w.run) (fits full w) tests in
-      let was = all-at (IsLink w) w.links link found kept.links there in
-      let read = subst (IsRead w found.run found.entered ask) is (was.reading ask asks_it) in
-      put_to-step w kept link found ask asked commit kind there asks_it read.0 read.1
-      (λ e. let nothing : Due commit kind metadata ≡ Nothing = sym is ∙ (was.not_entered e).0 in cc)
-      full asks (eqb-true found.run w.run both.0))
+    let both = and_parts (found.run == w.run) (fits full w) tests in
+    let was = all-at (IsLink w) w.links link found kept.links there in
+    let read = subst (IsRead w found.run found.entered ask) is (was.reading ask asks_it) in
+    put_to-step w kept link found ask asked commit kind there asks_it read.0 read.1
+    (λ e. let nothing : Due commit kind metadata ≡ Nothing = sym is ∙ (was.not_entered e).0 in cc)
+    full asks (eqb-true found.run w.run both.0))
 put_due-steps w next kept link found ask asked full Nothing there asks_it asks is e = absurd (none-some next e)
 put_due-steps w next kept link found ask asked full (Ready reply) there asks_it asks is e = absurd (none-some next e)
 put_due-steps w next kept link found ask asked full (Waiting commit kind number) there asks_it asks is e =
@@ -274,18 +285,21 @@ answered_grows w number allowed open_one there is_it run other entry e =
     cond_both (entry.run == w.run && entry.number == number) (record entry { state = Answered allowed }) entry
     (EntryGrows entry)
     (λ test.
-      let this = and_parts (entry.run == w.run) (entry.number == number) test in
-      let found = and_parts (entry.run == run) (entry.number == other)
-      (find_passes (λ (one : AgentEntry). one.run == run && one.number == other) w.entries entry e) in
-      let same_run = sym (eqb-true entry.run run found.0) ∙ eqb-true entry.run w.run this.0 in
-      let same_number = sym (eqb-true entry.number other found.1) ∙ eqb-true entry.number number this.1 in
-      let here : entry_at run other w.entries ≡ Some open_one =
-      (λ i. entry_at (same_run i) (same_number i) w.entries) ∙ there in
-      let same : entry ≡ open_one = same_Some entry open_one (sym e ∙ here) in
-      record {
-        ask = refl; question = refl; kind = refl; commit = refl;
-        settled = λ shut. absurd (both_ways (is_open entry.state) shut (ap (λ (one : AgentEntry). is_open one.state) same ∙ is_it));
-      })
+    let this = and_parts (entry.run == w.run) (entry.number == number) test in
+    let found = and_parts (entry.run == run) (entry.number == other)
+    (find_passes (λ (one : AgentEntry). one.run == run && one.number == other) w.entries entry e) in
+    let same_run = sym (eqb-true entry.run run found.0) ∙ eqb-true entry.run w.run this.0 in
+    let same_number = sym (eqb-true entry.number other found.1) ∙ eqb-true entry.number number this.1 in
+    let here : entry_at run other w.entries ≡ Some open_one =
+    (λ i. entry_at (same_run i) (same_number i) w.entries) ∙ there in
+    let same : entry ≡ open_one = same_Some entry open_one (sym e ∙ here) in
+    record {
+      ask = refl;
+      question = refl;
+      kind = refl;
+      commit = refl;
+      settled = λ shut. absurd (both_ways (is_open entry.state) shut (ap (λ (one : AgentEntry). is_open one.state) same ∙ is_it));
+    })
     (λ test. entry_same entry)
 
 pub answer-steps : (w next : World) → IsKept w → (number : ℕ) (allowed : Bool) → answer number allowed w ≡ Some next → Step w next
@@ -293,22 +307,23 @@ answer-steps w next kept number allowed e =
     with_some-tells (entry_at w.run number w.entries) _ next e (λ entry there e.
     when-tells (Step w) (is_open entry.state) (record w { entries = map (answered w.run number allowed) w.entries }) next e
     (λ open_still.
-      change-step w kept w.agents (answered w.run number allowed) (answered_run w.run number allowed)
-      (answered_number w.run number allowed) (answered_grows w number allowed entry there open_still)))
+    change-step w kept w.agents (answered w.run number allowed) (answered_run w.run number allowed)
+    (answered_number w.run number allowed) (answered_grows w number allowed entry there open_still)))
 
 pub leave-steps : (w next : World) → IsKept w → (kind : Kind) → leave kind w ≡ Some next → Step w next
 leave-steps w next kept kind e =
     when-tells (Step w) (has_agent kind.0 w)
     (record w {
-      agents = filter (λ other. not (other == kind.0)) w.agents; entries = map (once_left kind.0) w.entries;
+      agents = filter (λ other. not (other == kind.0)) w.agents;
+      entries = map (once_left kind.0) w.entries;
     }) next e
     (λ there.
-      change-step w kept (filter (λ other. not (other == kind.0)) w.agents) (once_left kind.0)
-      (λ entry. cond_each (λ (now : AgentEntry). now.run ≡ entry.run) (entry.kind.0 == kind.0) (once_stopped entry) entry refl refl)
-      (λ entry.
-        cond_each (λ (now : AgentEntry). now.number ≡ entry.number) (entry.kind.0 == kind.0) (once_stopped entry) entry refl
-        refl)
-      (λ run number entry e.
-        cond_each (EntryGrows entry) (entry.kind.0 == kind.0) (once_stopped entry) entry
-        (record { ask = refl; question = refl; kind = refl; commit = refl; settled = gone_stays entry.state })
-        (entry_same entry)))
+    change-step w kept (filter (λ other. not (other == kind.0)) w.agents) (once_left kind.0)
+    (λ entry. cond_each (λ (now : AgentEntry). now.run ≡ entry.run) (entry.kind.0 == kind.0) (once_stopped entry) entry refl refl)
+    (λ entry.
+    cond_each (λ (now : AgentEntry). now.number ≡ entry.number) (entry.kind.0 == kind.0) (once_stopped entry) entry refl
+    refl)
+    (λ run number entry e.
+    cond_each (EntryGrows entry) (entry.kind.0 == kind.0) (once_stopped entry) entry
+    (record { ask = refl; question = refl; kind = refl; commit = refl; settled = gone_stays entry.state })
+    (entry_same entry)))

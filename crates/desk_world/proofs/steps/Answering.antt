@@ -89,10 +89,17 @@ module _ (w : World) (kept : IsKept w) (client ask : ℕ) (asked : Asked) (link 
   sound : IsSound w found.run ask (Judged known.verdict)
   sound = record {
     fresh = record {
-      asked = asked; desk = known_is.desk; asks = asks; committed = known_is.committed;
+      asked = asked;
+      desk = known_is.desk;
+      asks = asks;
+      committed = known_is.committed;
       no_older =
-        omega (arith, low found.entered refl, kept.ordered.acknowledged,
-          all-at (λ (asked : Asked). asked.floor ≤ w.acknowledged) w.asks ask asked kept.asks asks);
+          omega (
+            arith,
+            low found.entered refl,
+            kept.ordered.acknowledged,
+            all-at (λ (asked : Asked). asked.floor ≤ w.acknowledged) w.asks ask asked kept.asks asks,
+          );
     };
     right = known_is.answer ∙ ap (root_answer known_is.desk) same;
   }
@@ -102,10 +109,10 @@ module _ (w : World) (kept : IsKept w) (client ask : ℕ) (asked : Asked) (link 
       serves w kept w.links after.clients w.asks after.given w.agents w.entries grows kept.current
       (links_still w after grows w.links kept.links)
       (clients_with (IsClient after) w.clients client changed changed_is
-        (λ other. client_still w after grows (client_of w other) (kept.clients other)))
+      (λ other. client_still w after grows (client_of w other) (kept.clients other)))
       kept.asks kept.numbered
       (All-push (λ (given : Given). IsSound after given.run given.ask given.reply) w.given new
-        (given_still w after grows w.given kept.given) (sound_still w after grows found.run ask (Judged known.verdict) sound))
+      (given_still w after grows w.given kept.given) (sound_still w after grows found.run ask (Judged known.verdict) sound))
 
 pub hit-steps : (w next : World) → IsKept w → (client entry : ℕ) → hit client entry w ≡ Some next → Step w next
 hit-steps w next kept client entry e =
@@ -117,8 +124,8 @@ hit-steps w next kept client entry e =
     let fits : Bool = same_question known.question asked.question && nat_le (client_of w client).told known.verdict.commit in
     when-tells (Step w) (found.up && fits) (given client ask found.run (Judged known.verdict) w) next e
     (λ tests.
-      let both = and_parts found.up fits tests in
-      let parts = and_parts (same_question known.question asked.question)
-      (nat_le (client_of w client).told known.verdict.commit) both.1 in
-      hit-step w kept client ask asked link found entry known asks holds there stands both.0
-      (same_questions known.question asked.question parts.0)))))))
+    let both = and_parts found.up fits tests in
+    let parts = and_parts (same_question known.question asked.question)
+    (nat_le (client_of w client).told known.verdict.commit) both.1 in
+    hit-step w kept client ask asked link found entry known asks holds there stands both.0
+    (same_questions known.question asked.question parts.0)))))))

@@ -42,8 +42,8 @@ module _ (w : World) (kept : IsKept w) (client : ℕ) (question : Question) (sim
   changed_is = record {
     told = (kept.clients client).told;
     asking = λ ask e.
-      let same : length w.asks ≡ ask = cc in
-      subst (λ ask. (asked : Asked) × (slice_get after.asks ask ≡ Some asked)) same there;
+        let same : length w.asks ≡ ask = cc in
+        subst (λ ask. (asked : Asked) × (slice_get after.asks ask ≡ Some asked)) same there;
     link = still.link;
     no_link = (kept.clients client).no_link;
   }
@@ -53,9 +53,9 @@ module _ (w : World) (kept : IsKept w) (client : ℕ) (question : Question) (sim
       serves w kept w.links after.clients after.asks w.given w.agents w.entries grows kept.current
       (links_still w after grows w.links kept.links)
       (clients_with (IsClient after) w.clients client changed changed_is
-        (λ other. client_still w after grows (client_of w other) (kept.clients other)))
+      (λ other. client_still w after grows (client_of w other) (kept.clients other)))
       (All-push (λ (asked : Asked). asked.floor ≤ w.acknowledged) w.asks new kept.asks
-        (max-le (omega arith) (kept.clients client).told))
+      (max-le (omega arith) (kept.clients client).told))
       kept.numbered (given_still w after grows w.given kept.given)
 
 module _ (w : World) (kept : IsKept w) (client commit : ℕ) (low : commit ≤ w.acknowledged) where
@@ -87,7 +87,7 @@ module _ (w : World) (kept : IsKept w) (client commit : ℕ) (low : commit ≤ w
       serves w kept w.links told_world.clients w.asks w.given w.agents w.entries tell_grows kept.current
       (links_still w told_world tell_grows w.links kept.links)
       (clients_with (IsClient told_world) w.clients client told_client told_is
-        (λ other. client_still w told_world tell_grows (client_of w other) (kept.clients other)))
+      (λ other. client_still w told_world tell_grows (client_of w other) (kept.clients other)))
       kept.asks kept.numbered (given_still w told_world tell_grows w.given kept.given)
 
 pub ask-steps : (w next : World) → IsKept w → (client : ℕ) (question : Question) (simple : Bool)

@@ -46,7 +46,7 @@ module _ (w : World) (kept : IsKept w) (client ask : ℕ) (asked : Asked) (link 
       serving w after.links after.clients w.asks after.given w.agents w.entries (begins_same w.asks) (begins_push w.given new)
       (told_with w.clients client changed (told_same w.clients client))
       (links_set w.links link found freed there
-        (record { client = refl; run = refl; entered = λ commit e. e; seen = λ commit e. omega arith; closed = λ e. e }))
+      (record { client = refl; run = refl; entered = λ commit e. e; seen = λ commit e. omega arith; closed = λ e. e }))
       (entries_same w.entries)
 
   abbrev was : IsLink w found
@@ -57,7 +57,10 @@ module _ (w : World) (kept : IsKept w) (client ask : ℕ) (asked : Asked) (link 
 
   freed_is : IsLink after freed
   freed_is = record {
-    first = still.first; seen = still.seen; question = still.question; reading = still.reading;
+    first = still.first;
+    seen = still.seen;
+    question = still.question;
+    reading = still.reading;
     reply = λ transit e. absurd (none-some transit e);
     unasked = still.unasked;
     not_entered = λ e. ((still.not_entered e).0, refl);
@@ -102,10 +105,11 @@ module _ (w : World) (kept : IsKept w) (client ask : ℕ) (asked : Asked) (link 
 
   has_link : HasLink after log link
   has_link = record {
-    link = freed; there = get-set_same w.links link found freed there;
+    link = freed;
+    there = get-set_same w.links link found freed there;
     known =
-      known_now transit.reply sound arrived.between
-      (λ right. let is : Some right.fresh.asked ≡ Some asked = sym right.fresh.asks ∙ asks in cc);
+        known_now transit.reply sound arrived.between
+        (λ right. let is : Some right.fresh.asked ≡ Some asked = sym right.fresh.asks ∙ asks in cc);
     not_entered = λ e. absurd (has_entered e);
   }
 
@@ -114,8 +118,8 @@ module _ (w : World) (kept : IsKept w) (client ask : ℕ) (asked : Asked) (link 
     told = (kept.clients client).told;
     asking = λ ask e. absurd (none-some ask e);
     link = λ place e.
-      let is : Some link ≡ Some place = sym holds ∙ e in
-      let same : link ≡ place = cc in subst (HasLink after log) same has_link;
+        let is : Some link ≡ Some place = sym holds ∙ e in
+        let same : link ≡ place = cc in subst (HasLink after log) same has_link;
     no_link = λ e. absurd (none-some link (sym e ∙ holds));
   }
 
@@ -123,13 +127,13 @@ module _ (w : World) (kept : IsKept w) (client ask : ℕ) (asked : Asked) (link 
   deliver-step =
       serves w kept after.links after.clients w.asks after.given w.agents w.entries grows
       (All-set (IsCurrent w.note) w.links link freed (all-at (IsCurrent w.note) w.links link found kept.current there)
-        kept.current)
+      kept.current)
       (All-set (IsLink after) w.links link freed freed_is (links_still w after grows w.links kept.links))
       (clients_with (IsClient after) w.clients client changed changed_is
-        (λ other. client_still w after grows (client_of w other) (kept.clients other)))
+      (λ other. client_still w after grows (client_of w other) (kept.clients other)))
       kept.asks kept.numbered
       (All-push (λ (given : Given). IsSound after given.run given.ask given.reply) w.given new
-        (given_still w after grows w.given kept.given) (sound_still w after grows found.run ask transit.reply sound))
+      (given_still w after grows w.given kept.given) (sound_still w after grows found.run ask transit.reply sound))
 
 pub deliver-steps : (w next : World) → IsKept w → (client : ℕ) → deliver client w ≡ Some next → Step w next
 deliver-steps w next kept client e =
@@ -140,7 +144,7 @@ deliver-steps w next kept client e =
     with_some-tells found.reply _ next e (λ transit sent e.
     when-tells (Step w) (transit.ask == ask) (delivered client ask asked.question link found transit.reply w) next e
     (λ mine.
-      deliver-step w kept client ask asked link found transit asks holds there sent (eqb-true transit.ask ask mine)))))))
+    deliver-step w kept client ask asked link found transit asks holds there sent (eqb-true transit.ask ask mine)))))))
 
 module _ (w : World) (kept : IsKept w) (client : ℕ) where
   abbrev unlinked : Client
@@ -159,11 +163,13 @@ module _ (w : World) (kept : IsKept w) (client : ℕ) where
       serves w kept w.links noticed.clients w.asks w.given w.agents w.entries notice_grows kept.current
       (links_still w noticed notice_grows w.links kept.links)
       (clients_with (IsClient noticed) w.clients client unlinked
-        (record {
-          told = (kept.clients client).told; asking = (kept.clients client).asking;
-          link = λ place e. absurd (none-some place e); no_link = λ e. refl;
-        })
-        (λ other. client_still w noticed notice_grows (client_of w other) (kept.clients other)))
+      (record {
+        told = (kept.clients client).told;
+        asking = (kept.clients client).asking;
+        link = λ place e. absurd (none-some place e);
+        no_link = λ e. refl;
+      })
+      (λ other. client_still w noticed notice_grows (client_of w other) (kept.clients other)))
       kept.asks kept.numbered (given_still w noticed notice_grows w.given kept.given)
 
 pub notice-steps : (w next : World) → IsKept w → (client : ℕ) → notice client w ≡ Some next → Step w next

@@ -43,7 +43,10 @@ module _ (w : World) (kept : IsKept w) (client : ℕ) where
 
   has_link : HasLink after [] (length w.links)
   has_link = record {
-    link = new; there = get-end w.links new; known = All-nil (IsKnown after None); not_entered = λ e. refl;
+    link = new;
+    there = get-end w.links new;
+    known = All-nil (IsKnown after None);
+    not_entered = λ e. refl;
   }
 
   changed_is : IsClient after changed
@@ -51,7 +54,7 @@ module _ (w : World) (kept : IsKept w) (client : ℕ) where
     told = (kept.clients client).told;
     asking = (kept.clients client).asking;
     link = λ place e.
-      let same : length w.links ≡ place = cc in subst (λ place. HasLink after [] place) same has_link;
+        let same : length w.links ≡ place = cc in subst (λ place. HasLink after [] place) same has_link;
     no_link = λ e. refl;
   }
 
@@ -61,7 +64,7 @@ module _ (w : World) (kept : IsKept w) (client : ℕ) where
       (All-push (IsCurrent w.note) w.links new kept.current (λ up entered e. absurd (none-some entered e)))
       (All-push (IsLink after) w.links new (links_still w after grows w.links kept.links) new_is)
       (clients_with (IsClient after) w.clients client changed changed_is
-        (λ other. client_still w after grows (client_of w other) (kept.clients other)))
+      (λ other. client_still w after grows (client_of w other) (kept.clients other)))
       kept.asks kept.numbered (given_still w after grows w.given kept.given)
 
 pub dial-steps : (w next : World) → IsKept w → (client : ℕ) → dial client w ≡ Some next → Step w next

@@ -23,8 +23,11 @@ module _ (w : World) (kept : IsKept w) (link : ℕ) (found : Link) (there : slic
 
   abbrev grown : LinkGrows found changed
   grown = record {
-    client = refl; run = refl; entered = λ commit e. absurd (none-some commit (sym free ∙ e));
-    seen = λ commit e. absurd (none-some commit (sym free ∙ e)); closed = λ e. e;
+    client = refl;
+    run = refl;
+    entered = λ commit e. absurd (none-some commit (sym free ∙ e));
+    seen = λ commit e. absurd (none-some commit (sym free ∙ e));
+    closed = λ e. e;
   }
 
   abbrev still : IsLink after found
@@ -33,14 +36,16 @@ module _ (w : World) (kept : IsKept w) (link : ℕ) (found : Link) (there : slic
   changed_is : IsLink after changed
   changed_is = record {
     first = λ commit e.
-      let same : w.note ≡ commit = cc in omega (arith, same, kept.ordered.first, kept.ordered.acknowledged);
+        let same : w.note ≡ commit = cc in omega (arith, same, kept.ordered.first, kept.ordered.acknowledged);
     seen = λ commit e. record { low = omega arith; high = kept.ordered.note };
     question = λ ask e.
-      let carried = still.question ask e in
-      let low = subst (λ entered. carried.asked.floor ≤ unwrap_or entered w.acknowledged) free carried.floor in
-      record {
-        asked = carried.asked; asks = carried.asks; floor = omega (arith, low, kept.ordered.acknowledged);
-      };
+        let carried = still.question ask e in
+        let low = subst (λ entered. carried.asked.floor ≤ unwrap_or entered w.acknowledged) free carried.floor in
+        record {
+          asked = carried.asked;
+          asks = carried.asks;
+          floor = omega (arith, low, kept.ordered.acknowledged);
+        };
     reading = λ ask e. subst (IsRead after found.run (Some w.note) ask) (sym (still.not_entered free).0) tt;
     reply = λ transit e. absurd (none-some transit (sym (still.not_entered free).1 ∙ e));
     unasked = still.unasked;
@@ -58,8 +63,8 @@ enter-steps w next kept link e =
     when-tells (Step w) (found.run == w.run && is_none found.entered)
     (with_link link (record found { entered = Some w.note; seen = w.note }) w) next e
     (λ tests.
-      let both = and_parts (found.run == w.run) (is_none found.entered) tests in
-      enter-step w kept link found there (none_there found.entered both.1)))
+    let both = and_parts (found.run == w.run) (is_none found.entered) tests in
+    enter-step w kept link found there (none_there found.entered both.1)))
 
 module _ (w : World) (kept : IsKept w) (link : ℕ) (found : Link) (there : slice_get w.links link ≡ Some found) where
   abbrev shut : Link
@@ -78,8 +83,13 @@ module _ (w : World) (kept : IsKept w) (link : ℕ) (found : Link) (there : slic
   lose-step =
       relink-step w link found shut there shut_grown kept (λ current up. absurd (false≢true up))
       (record {
-        first = lose_still.first; seen = lose_still.seen; question = lose_still.question; reading = lose_still.reading;
-        reply = lose_still.reply; unasked = lose_still.unasked; not_entered = lose_still.not_entered;
+        first = lose_still.first;
+        seen = lose_still.seen;
+        question = lose_still.question;
+        reading = lose_still.reading;
+        reply = lose_still.reply;
+        unasked = lose_still.unasked;
+        not_entered = lose_still.not_entered;
       })
 
 pub lose-steps : (w next : World) → IsKept w → (link : ℕ) → lose link w ≡ Some next → Step w next

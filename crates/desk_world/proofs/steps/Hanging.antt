@@ -34,7 +34,12 @@ shut_grows link up down =
 
 shut_is : (w : World) (link : Link) (up : Bool) → IsLink w link → IsLink w (record link { up = up })
 shut_is w link up is = record {
-  first = is.first; seen = is.seen; question = is.question; reading = is.reading; reply = is.reply; unasked = is.unasked;
+  first = is.first;
+  seen = is.seen;
+  question = is.question;
+  reading = is.reading;
+  reply = is.reply;
+  unasked = is.unasked;
   not_entered = is.not_entered;
 }
 
@@ -57,8 +62,8 @@ module _ (w : World) (kept : IsKept w) where
       moving w kept w.later w.acknowledged w.candidate w.published w.published w.run (map (hung_up w.published) w.links)
       w.agents w.entries (begins_same w.later) (omega arith) kept.ordered.note (omega arith) (omega arith) (omega arith)
       (links_map (hung_up w.published) w.links
-        (λ link. shut_grows link (link.up && not (entered_before w.published link.entered))
-          (down_stays link.up (not (entered_before w.published link.entered)))))
+      (λ link. shut_grows link (link.up && not (entered_before w.published link.entered))
+      (down_stays link.up (not (entered_before w.published link.entered)))))
       (entries_same w.entries)
 
   -- a link that is still up had not entered before the published commit
@@ -74,16 +79,19 @@ module _ (w : World) (kept : IsKept w) where
       moves w kept w.later w.acknowledged w.candidate w.published w.published w.run (map (hung_up w.published) w.links)
       w.agents w.entries hang_grows
       (record {
-        first = kept.ordered.first; acknowledged = omega (arith, kept.ordered.acknowledged, kept.ordered.note);
-        note = omega arith; published = kept.ordered.published; under_way = kept.ordered.under_way;
+        first = kept.ordered.first;
+        acknowledged = omega (arith, kept.ordered.acknowledged, kept.ordered.note);
+        note = omega arith;
+        published = kept.ordered.published;
+        under_way = kept.ordered.under_way;
         candidate = kept.ordered.candidate;
       })
       kept.chain kept.candidate
       (All-map (IsCurrent w.published) (hung_up w.published) w.links (λ k d low. still_current (get_or w.links k d)))
       (All-map (IsLink hung) (hung_up w.published) w.links
-        (All-weaker (IsLink hung) (λ link. IsLink hung (hung_up w.published link))
-          (λ link. shut_is hung link (link.up && not (entered_before w.published link.entered))) w.links
-          (links_still w hung hang_grows w.links kept.links)))
+      (All-weaker (IsLink hung) (λ link. IsLink hung (hung_up w.published link))
+      (λ link. shut_is hung link (link.up && not (entered_before w.published link.entered))) w.links
+      (links_still w hung hang_grows w.links kept.links)))
       kept.numbered
 
 -- ---- a stop
@@ -100,8 +108,8 @@ module _ (w : World) (kept : IsKept w) where
       (omega (arith, kept.ordered.note, kept.ordered.published)) kept.ordered.published (omega arith) (omega arith)
       (links_map closed w.links (λ link. shut_grows link false (λ e. refl)))
       (entries_map once_stopped w.entries (λ entry. refl) (λ entry. refl)
-        (λ run number entry e.
-          record { ask = refl; question = refl; kind = refl; commit = refl; settled = gone_stays entry.state }))
+      (λ run number entry e.
+      record { ask = refl; question = refl; kind = refl; commit = refl; settled = gone_stays entry.state }))
 
   pub restart-step : Step w again
   restart-step =
@@ -109,15 +117,18 @@ module _ (w : World) (kept : IsKept w) where
       restart_grows
       (record {
         first =
-          omega (arith, kept.ordered.first, kept.ordered.acknowledged, kept.ordered.note, kept.ordered.published);
-        acknowledged = omega arith; note = omega arith; published = omega arith; under_way = omega arith;
+            omega (arith, kept.ordered.first, kept.ordered.acknowledged, kept.ordered.note, kept.ordered.published);
+        acknowledged = omega arith;
+        note = omega arith;
+        published = omega arith;
+        under_way = omega arith;
         candidate = λ desk e. absurd (none-some desk e);
       })
       kept.chain (λ desk e. absurd (none-some desk e))
       (All-map (IsCurrent (last w)) closed w.links (λ k d low up. absurd (false≢true up)))
       (All-map (IsLink again) closed w.links
-        (All-weaker (IsLink again) (λ link. IsLink again (closed link)) (λ link. shut_is again link false) w.links
-          (links_still w again restart_grows w.links kept.links)))
+      (All-weaker (IsLink again) (λ link. IsLink again (closed link)) (λ link. shut_is again link false) w.links
+      (links_still w again restart_grows w.links kept.links)))
       (numbered_map once_stopped w.entries (λ entry. refl) (λ entry. refl) kept.numbered)
 
 -- what was under way is committed, or nothing is

@@ -70,10 +70,10 @@ module _ (w : World) (kept : IsKept w) (link : ℕ) (found : Link) (commit ask :
     seen = λ commit e. between;
     question = still.question;
     reading = λ other e.
-      let is : Some ask ≡ Some other = sym asks_it ∙ e in
-      let same : ask ≡ other = cc in
-      subst (λ ask. IsRead after found.run found.entered ask changed.reading) same
-      (read_is (is_agent (root_outcome desk asked.question).result.kind) asked.simple refl);
+        let is : Some ask ≡ Some other = sym asks_it ∙ e in
+        let same : ask ≡ other = cc in
+        subst (λ ask. IsRead after found.run found.entered ask changed.reading) same
+        (read_is (is_agent (root_outcome desk asked.question).result.kind) asked.simple refl);
     reply = still.reply;
     unasked = λ e. absurd (none-some ask (sym e ∙ asks_it));
     not_entered = λ e. absurd (none-some entered (sym e ∙ at));
@@ -92,11 +92,11 @@ read-steps w next kept link commit e =
     let bounds : Bool = nat_le found.seen commit && nat_le commit w.published in
     when-tells (Step w) (is_some found.entered && (is_nothing found.reading && bounds))
     (with_link link
-      (record found { seen = commit; reading = reading_of commit asked.simple (root_outcome desk asked.question) }) w) next e
+    (record found { seen = commit; reading = reading_of commit asked.simple (root_outcome desk asked.question) }) w) next e
     (λ tests.
-      let both = and_parts (is_some found.entered) (is_nothing found.reading && bounds) tests in
-      let rest = and_parts (is_nothing found.reading) bounds both.1 in
-      let low = and_parts (nat_le found.seen commit) (nat_le commit w.published) rest.1 in
-      let at = some_there found.entered both.0 in
-      read-step w kept link found commit ask asked desk at.0 there asks_it asks committed at.1
-      (leb-true found.seen commit low.0) (leb-true commit w.published low.1))))))
+    let both = and_parts (is_some found.entered) (is_nothing found.reading && bounds) tests in
+    let rest = and_parts (is_nothing found.reading) bounds both.1 in
+    let low = and_parts (nat_le found.seen commit) (nat_le commit w.published) rest.1 in
+    let at = some_there found.entered both.0 in
+    read-step w kept link found commit ask asked desk at.0 there asks_it asks committed at.1
+    (leb-true found.seen commit low.0) (leb-true commit w.published low.1))))))

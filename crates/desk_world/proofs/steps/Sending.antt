@@ -39,10 +39,11 @@ module _ (w : World) (kept : IsKept w) (client ask link : ℕ) (found : Link) (a
       let has = (kept.clients client).asking ask asking in
       let low = all-at (λ (asked : Asked). asked.floor ≤ w.acknowledged) w.asks ask has.0 kept.asks has.1 in
       record {
-        asked = has.0; asks = has.1;
+        asked = has.0;
+        asks = has.1;
         floor =
-          floor_low has.0.floor found.entered low
-          (all-at (IsCurrent w.note) w.links link found kept.current there up);
+            floor_low has.0.floor found.entered low
+            (all-at (IsCurrent w.note) w.links link found kept.current there up);
       }
 
   changed_is : IsLink after changed
@@ -51,7 +52,7 @@ module _ (w : World) (kept : IsKept w) (client ask link : ℕ) (found : Link) (a
     seen = still.seen;
     question = λ other e. let same : ask ≡ other = cc in subst (IsCarried after found.entered) same carried;
     reading = λ other e.
-      subst (IsRead after found.run found.entered other) (sym (still.unasked free)) tt;
+        subst (IsRead after found.run found.entered other) (sym (still.unasked free)) tt;
     reply = still.reply;
     unasked = λ e. absurd (none-some ask (sym e));
     not_entered = still.not_entered;
@@ -69,6 +70,6 @@ send-steps w next kept client e =
     when-tells (Step w) (found.up && (is_none found.question && is_none found.reply))
     (with_link link (record found { question = Some ask }) w) next e
     (λ tests.
-      let both = and_parts found.up (is_none found.question && is_none found.reply) tests in
-      let free = and_parts (is_none found.question) (is_none found.reply) both.1 in
-      send-step w kept client ask link found asking there both.0 (none_there found.question free.0)))))
+    let both = and_parts found.up (is_none found.question && is_none found.reply) tests in
+    let free = and_parts (is_none found.question) (is_none found.reply) both.1 in
+    send-step w kept client ask link found asking there both.0 (none_there found.question free.0)))))

@@ -43,7 +43,9 @@ module _ (w : World) (kept : IsKept w) (desk : DeskState) (follows : Follows (la
   commit-step =
       moves w kept (w.later ++ desk ∷ []) w.acknowledged None w.published w.note w.run w.links w.agents w.entries commit_grows
       (record {
-        first = kept.ordered.first; acknowledged = kept.ordered.acknowledged; note = kept.ordered.note;
+        first = kept.ordered.first;
+        acknowledged = kept.ordered.acknowledged;
+        note = kept.ordered.note;
         published = omega (arith, kept.ordered.published, last_is);
         under_way = omega (arith, last_is, settled);
         candidate = λ desk e. absurd (none-some desk e);
@@ -69,8 +71,12 @@ module _ (w : World) (kept : IsKept w) (candidate : Option DeskState)
   propose-step =
       moves w kept w.later w.acknowledged candidate w.published w.note w.run w.links w.agents w.entries propose_grows
       (record {
-        first = kept.ordered.first; acknowledged = kept.ordered.acknowledged; note = kept.ordered.note;
-        published = kept.ordered.published; under_way = kept.ordered.under_way; candidate = settled;
+        first = kept.ordered.first;
+        acknowledged = kept.ordered.acknowledged;
+        note = kept.ordered.note;
+        published = kept.ordered.published;
+        under_way = kept.ordered.under_way;
+        candidate = settled;
       })
       kept.chain follows kept.current (links_still w proposed propose_grows w.links kept.links) kept.numbered
 
@@ -83,28 +89,29 @@ pub accepted_follows : (w : World) (command : Command) → may_store command w �
     → (w.acknowledged ≡ last w) × (w.candidate ≡ None) × Follows (latest w) (next_state (latest w) command)
 accepted_follows w command e =
     let both = and_parts (w.acknowledged == last w) (is_none w.candidate && is_none (fault (latest w) command)) e in
-    let rest = and_parts (is_none w.candidate) (is_none (fault (latest w) command)) both.1 in
-    ( eqb-true w.acknowledged (last w) both.0
-    , none_there w.candidate rest.0
-    , record { command = command; accepted = none_there (fault (latest w) command) rest.1; next = refl } )
+    let rest = and_parts (is_none w.candidate) (is_none (fault (latest w) command)) both.1 in (
+      eqb-true w.acknowledged (last w) both.0,
+      none_there w.candidate rest.0,
+      record { command = command; accepted = none_there (fault (latest w) command) rest.1; next = refl },
+    )
 
 pub stored-steps : (w next : World) → IsKept w → (command : Command) → stored command w ≡ Some next → Step w next
 stored-steps w next kept command e =
     when-tells (Step w) (may_store command w) (with_commit (next_state (latest w) command) w) next e
     (λ test.
-      let accepted = accepted_follows w command test in
-      let P : Option DeskState → Type 0 =
-        λ candidate. Step w (record w { later = w.later ++ next_state (latest w) command ∷ []; candidate = candidate }) in
-      subst P (sym accepted.1) (commit-step w kept (next_state (latest w) command) accepted.2 accepted.0))
+    let accepted = accepted_follows w command test in
+    let P : Option DeskState → Type 0 =
+    λ candidate. Step w (record w { later = w.later ++ next_state (latest w) command ∷ []; candidate = candidate }) in
+    subst P (sym accepted.1) (commit-step w kept (next_state (latest w) command) accepted.2 accepted.0))
 
 pub undecided-steps : (w next : World) → IsKept w → (command : Command) → undecided command w ≡ Some next → Step w next
 undecided-steps w next kept command e =
     when-tells (Step w) (may_store command w) (record w { candidate = Some (next_state (latest w) command) }) next e
     (λ test.
-      let accepted = accepted_follows w command test in
-      propose-step w kept (Some (next_state (latest w) command))
-      (λ desk e. subst (Follows (latest w)) (same_Some (next_state (latest w) command) desk e) accepted.2)
-      (λ desk e. sym accepted.0))
+    let accepted = accepted_follows w command test in
+    propose-step w kept (Some (next_state (latest w) command))
+    (λ desk e. subst (Follows (latest w)) (same_Some (next_state (latest w) command) desk e) accepted.2)
+    (λ desk e. sym accepted.0))
 
 pub decided-step : (w : World) → IsKept w → (kept_it : Bool) (desk : DeskState) → w.candidate ≡ Some desk
     → Step w (decided kept_it desk w)
@@ -133,9 +140,12 @@ module _ (w : World) (kept : IsKept w) where
   publish-step =
       moves w kept w.later w.acknowledged w.candidate (last w) w.note w.run w.links w.agents w.entries publish_grows
       (record {
-        first = kept.ordered.first; acknowledged = kept.ordered.acknowledged;
+        first = kept.ordered.first;
+        acknowledged = kept.ordered.acknowledged;
         note = omega (arith, kept.ordered.note, kept.ordered.published);
-        published = omega arith; under_way = kept.ordered.under_way; candidate = kept.ordered.candidate;
+        published = omega arith;
+        under_way = kept.ordered.under_way;
+        candidate = kept.ordered.candidate;
       })
       kept.chain kept.candidate kept.current (links_still w published_world publish_grows w.links kept.links) kept.numbered
 
@@ -158,11 +168,13 @@ module _ (w : World) (kept : IsKept w) (behind : w.acknowledged < w.note) where
   acknowledge-step =
       moves w kept w.later w.note w.candidate w.published w.note w.run w.links w.agents w.entries acknowledge_grows
       (record {
-        first = omega (arith, kept.ordered.first, kept.ordered.acknowledged); acknowledged = omega arith;
-        note = kept.ordered.note; published = kept.ordered.published;
+        first = omega (arith, kept.ordered.first, kept.ordered.acknowledged);
+        acknowledged = omega arith;
+        note = kept.ordered.note;
+        published = kept.ordered.published;
         under_way = omega (arith, kept.ordered.under_way, kept.ordered.acknowledged);
         candidate = λ desk e.
-          omega (arith, kept.ordered.candidate desk e, behind, kept.ordered.note, kept.ordered.published);
+            omega (arith, kept.ordered.candidate desk e, behind, kept.ordered.note, kept.ordered.published);
       })
       kept.chain kept.candidate kept.current (links_still w acknowledged_world acknowledge_grows w.links kept.links)
       kept.numbered

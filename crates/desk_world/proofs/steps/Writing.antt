@@ -90,11 +90,12 @@ module _ (w : World) (kept : IsKept w) (link : ℕ) (found : Link) (ask : ℕ) (
 
   changed_is : IsLink after changed
   changed_is = record {
-    first = still.first; seen = still.seen;
+    first = still.first;
+    seen = still.seen;
     question = λ ask e. absurd (none-some ask e);
     reading = λ ask e. absurd (none-some ask e);
     reply = λ other e.
-      let same : transit ≡ other = same_Some transit other e in subst (IsSent after found.run found.entered) same sent;
+        let same : transit ≡ other = same_Some transit other e in subst (IsSent after found.run found.entered) same sent;
     unasked = λ e. refl;
     not_entered = λ e. absurd (nothing_out (still.not_entered e).0);
   }
@@ -110,5 +111,5 @@ write-steps w next kept link e =
     with_some-tells (outgoing found.run w.entries found.reading) _ next e (λ reply out e.
     when-tells (Step w) found.up
     (with_link link
-      (record found { question = None; reading = Nothing; reply = Some (record { ask = ask; reply = reply }) }) w) next e
+    (record found { question = None; reading = Nothing; reply = Some (record { ask = ask; reply = reply }) }) w) next e
     (λ up. write-step w kept link found ask reply there asks_it out))))

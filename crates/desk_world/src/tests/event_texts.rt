@@ -60,7 +60,11 @@ fn key(alloc: Global, privilege: &str) -> Result<Key, Fail> {
 
 fn bare(alloc: Global, kind: Kind) -> Result<PolicyResult, Fail> {
     let metadata = Metadata::read(alloc, b"")?;
-    Ok(PolicyResult::of(kind, metadata).ok().ok_or("a kind that wants metadata")?)
+    Ok(
+        PolicyResult::of(kind, metadata)
+            .ok()
+            .ok_or("a kind that wants metadata")?,
+    )
 }
 
 fn set(alloc: Global, privilege: &str, kind: Kind) -> Result<Command, Fail> {
@@ -76,7 +80,11 @@ fn set(alloc: Global, privilege: &str, kind: Kind) -> Result<Command, Fail> {
 
 fn command(alloc: Global, words: &[&str], at: usize) -> Result<Command, Fail> {
     if word(words, at) == "set" {
-        return set(alloc, word(words, at.saturating_add(1)), kind(words, at.saturating_add(2)));
+        return set(
+            alloc,
+            word(words, at.saturating_add(1)),
+            kind(words, at.saturating_add(2)),
+        );
     }
     Ok(Command::RemoveBucket {
         bucket: BucketName::root(alloc),
@@ -86,7 +94,9 @@ fn command(alloc: Global, words: &[&str], at: usize) -> Result<Command, Fail> {
 fn of_agents(words: &[&str]) -> Option<Event> {
     let first = word(words, 0);
     if first == "join" {
-        return Some(Event::AgentJoin { kind: kind(words, 1) });
+        return Some(Event::AgentJoin {
+            kind: kind(words, 1),
+        });
     }
     if first == "put" {
         let link = number(words, 1);
@@ -100,7 +110,9 @@ fn of_agents(words: &[&str]) -> Option<Event> {
         });
     }
     if first == "leave" {
-        return Some(Event::AgentLeave { kind: kind(words, 1) });
+        return Some(Event::AgentLeave {
+            kind: kind(words, 1),
+        });
     }
     None
 }

@@ -18,37 +18,61 @@ const CACHED_ROWS: [Row<'static>; 11] = [
         "stored set q 65535; publish; ask 1 p; hit 1 0",
         "0 0 judged 0 0; 1 0 judged 0 0; 2 0 judged 0 0; ",
     ),
-    ("stored set q 65535; publish; hang; acknowledge; ask 1 p; hit 1 0", "not enabled 14"),
+    (
+        "stored set q 65535; publish; hang; acknowledge; ask 1 p; hit 1 0",
+        "not enabled 14",
+    ),
     ("acknowledge", "not enabled 9"),
     ("ask 1 q; hit 1 0", "not enabled 10"),
     ("ask 1 p; hit 1 1", "not enabled 10"),
     ("lose 0; ask 1 p; hit 1 0", "not enabled 11"),
-    ("lose 0; notice 1; dial 1; ask 1 p; hit 1 0", "not enabled 13"),
+    (
+        "lose 0; notice 1; dial 1; ask 1 p; hit 1 0",
+        "not enabled 13",
+    ),
     ("stop drop; ask 1 p; hit 1 0", "not enabled 11"),
     (
         "stop drop; ask 1 p; notice 1; dial 1; enter 1; send 1; read 1 0; write 1; deliver 1",
         "0 0 judged 0 0; 1 0 judged 0 0; 2 1 judged 0 0; ",
     ),
-    ("tell 1 0; ask 1 p; hit 1 0", "0 0 judged 0 0; 1 0 judged 0 0; 2 0 judged 0 0; "),
+    (
+        "tell 1 0; ask 1 p; hit 1 0",
+        "0 0 judged 0 0; 1 0 judged 0 0; 2 0 judged 0 0; ",
+    ),
 ];
 
 // Publish, hang up, acknowledge: every other order.
 const ORDERS: [Row<'static>; 18] = [
     ("stored set p 65535; publish; hang; acknowledge", ""),
-    ("undecided set p 65535; decide keep; publish; hang; acknowledge", ""),
+    (
+        "undecided set p 65535; decide keep; publish; hang; acknowledge",
+        "",
+    ),
     ("stored set p 65535; publish; acknowledge", "not enabled 2"),
     ("stored set p 65535; hang; acknowledge", "not enabled 2"),
-    ("stored set p 65535; hang; publish; acknowledge", "not enabled 3"),
+    (
+        "stored set p 65535; hang; publish; acknowledge",
+        "not enabled 3",
+    ),
     ("stored set p 65535; acknowledge", "not enabled 1"),
     ("stored set p 65535; publish; publish", "not enabled 2"),
-    ("stored set p 65535; publish; hang; acknowledge; acknowledge", "not enabled 4"),
-    ("stored set p 65535; publish; hang; stored set p 0", "not enabled 3"),
+    (
+        "stored set p 65535; publish; hang; acknowledge; acknowledge",
+        "not enabled 4",
+    ),
+    (
+        "stored set p 65535; publish; hang; stored set p 0",
+        "not enabled 3",
+    ),
     ("stored set p 65535; stored set p 0", "not enabled 1"),
     ("stored drop-root", "not enabled 0"),
     ("undecided drop-root", "not enabled 0"),
     ("undecided set p 65535; publish", "not enabled 1"),
     ("undecided set p 65535; stored set p 0", "not enabled 1"),
-    ("undecided set p 65535; decide drop; publish", "not enabled 2"),
+    (
+        "undecided set p 65535; decide drop; publish",
+        "not enabled 2",
+    ),
     ("publish", "not enabled 0"),
     ("hang; acknowledge", "not enabled 1"),
     ("decide keep", "not enabled 0"),
@@ -120,20 +144,33 @@ const BARE_ROWS: [Row<'static>; 25] = [
 ];
 
 // A question that an agent is to decide.
-const DUE: &str = "stored set p 10; publish; hang; acknowledge; dial 1; enter 0; ask 1 p; send 1; read 0 1";
+const DUE: &str =
+    "stored set p 10; publish; hang; acknowledge; dial 1; enter 0; ask 1 p; send 1; read 0 1";
 
 const DUE_ROWS: [Row<'static>; 13] = [
     ("put 0; write 0; deliver 1", "0 0 none 1 10; "),
-    ("join 10; put 0; reply 0 allow; write 0; deliver 1", "0 0 from 1 10 0 true; "),
-    ("join 10; put 0; reply 0 deny; write 0; deliver 1", "0 0 from 1 10 0 false; "),
-    ("join 10; put 0; leave 10; write 0; deliver 1", "0 0 gone 1 0; "),
+    (
+        "join 10; put 0; reply 0 allow; write 0; deliver 1",
+        "0 0 from 1 10 0 true; ",
+    ),
+    (
+        "join 10; put 0; reply 0 deny; write 0; deliver 1",
+        "0 0 from 1 10 0 false; ",
+    ),
+    (
+        "join 10; put 0; leave 10; write 0; deliver 1",
+        "0 0 gone 1 0; ",
+    ),
     ("write 0", "not enabled 9"),
     ("put 0 1024", "not enabled 9"),
     ("join 10; put 0; write 0", "not enabled 11"),
     ("join 10; put 0; put 0", "not enabled 11"),
     ("join 10; put 0; reply 1 allow", "not enabled 11"),
     ("join 10; put 0; leave 10; reply 0 allow", "not enabled 12"),
-    ("join 10; put 0; reply 0 deny; reply 0 allow", "not enabled 12"),
+    (
+        "join 10; put 0; reply 0 deny; reply 0 allow",
+        "not enabled 12",
+    ),
     ("join 10; put 0; stop drop; reply 0 allow", "not enabled 12"),
     (
         "put 0; write 0; deliver 1; simple 1 p; send 1; read 0 1; write 0; deliver 1; ask 1 p; hit 1 0",
@@ -141,12 +178,7 @@ const DUE_ROWS: [Row<'static>; 13] = [
     ),
 ];
 
-fn compare(
-    rt: &impl Abort,
-    alloc: Global,
-    start: &str,
-    rows: &[Row<'_>],
-) -> Result<(), Fail> {
+fn compare(rt: &impl Abort, alloc: Global, start: &str, rows: &[Row<'_>]) -> Result<(), Fail> {
     for row in rows {
         let text = outcome(alloc, start, row.0)?;
         assert_eq!(rt; text.as_str(), row.1, "{start}; {}", row.0);
@@ -198,11 +230,19 @@ fn ten_thousand_events_over_a_thousand_states(rt: HostRuntime) -> Result<(), Fai
     let alloc = rt.alloc();
     let mut events = Vec::new(alloc);
     for _ in 0..999 {
-        add_events(alloc, &mut events, "stored set p 65535; publish; hang; acknowledge")?;
+        add_events(
+            alloc,
+            &mut events,
+            "stored set p 65535; publish; hang; acknowledge",
+        )?;
     }
     add_events(alloc, &mut events, "dial 1; enter 0")?;
     for _ in 0..1_200 {
-        add_events(alloc, &mut events, "ask 1 p; send 1; read 0 999; write 0; deliver 1")?;
+        add_events(
+            alloc,
+            &mut events,
+            "ask 1 p; send 1; read 0 999; write 0; deliver 1",
+        )?;
     }
     let world = ran(alloc, &events)?;
     assert_eq!(rt; events.len(), 9_998);

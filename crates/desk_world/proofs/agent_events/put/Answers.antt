@@ -11,5 +11,5 @@ returns c =
     (subst (λ links. slice_get links c.args.link ≡ Some c.in-Some.found.now) c.deref.ensures.value c.in-Some.ensures)
     (search rules)
     (subst (λ asks. slice_get asks c.in-Some-question.ask ≡ Some c.in-Some-ask_at.asked.now) c.deref-2.ensures.value
-      c.in-Some-ask_at.ensures)
+    c.in-Some-ask_at.ensures)
     (search rules) (search rules) (search rules) (search rules)

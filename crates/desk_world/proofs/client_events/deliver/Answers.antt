@@ -10,8 +10,8 @@ returns c =
     c.in-Some-link_at.found.now c.in-Some-reply.transit (world_of c.receive.new.world)
     (search rules)
     (subst (λ asks. slice_get asks c.in-Some.ask ≡ Some c.in-Some-ask_at.asked.now) c.deref-2.ensures.value
-      c.in-Some-ask_at.ensures)
+    c.in-Some-ask_at.ensures)
     (search rules)
     (subst (λ links. slice_get links c.in-Some-link.link ≡ Some c.in-Some-link_at.found.now) c.deref-4.ensures.value
-      c.in-Some-link_at.ensures)
+    c.in-Some-link_at.ensures)
     (search rules) (search rules) (search rules)

@@ -9,11 +9,11 @@ pub unreachable-requires : goal.unreachable-requires
 unreachable-requires c =
     root_not_none c.args.database.now c.requires
     (ap (λ name. position (λ (heading : Heading). same_text heading.name name) c.args.database.now.buckets)
-      (sym c.root-name.ensures) ∙ (sym c.place.ensures ∙ c.in-None.is))
+    (sym c.root-name.ensures) ∙ (sym c.place.ensures ∙ c.in-None.is))
 
 pub returns : goal.returns
 returns c =
     let there = root_there c.args.database.now c.in-Some.place
     (ap (λ name. position (λ (heading : Heading). same_text heading.name name) c.args.database.now.buckets)
-      (sym c.root-name.ensures) ∙ (sym c.place.ensures ∙ c.in-Some.is)) in
+    (sym c.root-name.ensures) ∙ (sym c.place.ensures ∙ c.in-Some.is)) in
     record { in_range = there.0; root = there.1 }

@@ -14,4 +14,4 @@ returns-in_ok-push-in-None c =
     let slot : Slot = record { number = c.args.number; client = c.args.client } in
     c.in_ok-push-in-None.ensures.items
     ∙ subst (λ slots. slots ++ slot ∷ [] ≡ put_client c.args.number c.args.client slots) c.deref.ensures.value
-      (sym (c.in-None.ensures.put c.args.client))
+    (sym (c.in-None.ensures.put c.args.client))
