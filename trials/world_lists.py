@@ -20,7 +20,7 @@ def is_agent(kind):
 
 
 class Off(Exception):
-    """The event is not enabled."""
+    """The event is not enabled. It is raised before anything is changed."""
 
 
 def need(test):
@@ -268,35 +268,43 @@ def outcome(events):
     return " ".join(f"{ask} {run} {' '.join(map(str, reply))};" for ask, run, reply in world.given)
 
 
-def some_event(draw):
-    client, link, commit = draw.randrange(2), draw.randrange(4), draw.randrange(4)
-    privilege, kind = draw.choice("pq"), draw.choice([0, 65535, 10, 11])
+def candidates(draw, world):
+    """Events in a random order, of which the first that is enabled is taken."""
+    client, link = draw.randrange(2), max(0, len(world.links) - 1 - draw.randrange(3))
+    commit = max(0, world.last() + 1 - draw.randrange(4))
+    privilege, kind = draw.choice("pq"), draw.choice([0, 65535, 10, 10, 11])
     command = draw.choice([f"set {privilege} {kind}"] * 5 + ["drop-root"])
     keep = draw.choice(["keep", "drop"])
-    return draw.choice([
-        f"dial {client}", f"enter {link}", f"ask {client} {privilege}", f"ask {client} {privilege}",
-        f"simple {client} {privilege}", f"hit {client} {draw.randrange(3)}", f"hit {client} {draw.randrange(3)}",
-        f"send {client}", f"send {client}", f"read {link} {commit}", f"read {link} {commit}", f"write {link}", f"write {link}",
-        f"deliver {client}", f"deliver {client}", f"notice {client}", f"lose {link}", f"tell {client} {commit}",
-        f"stored {command}", f"undecided {command}", f"decide {keep}", "publish", "publish", "hang", "hang", "acknowledge",
-        f"stop {keep}", f"stop {keep} {command}", f"join {kind}", f"put {link}", f"put {link} 1024",
-        f"reply {draw.randrange(3)} {draw.choice(['allow', 'deny'])}", f"leave {kind}",
-    ])
-
-
-def enabled(events, event):
-    return not outcome(events + [event]).startswith("not enabled")
+    ask = draw.choice([f"ask {client} {privilege}", f"ask {client} {privilege}", f"simple {client} {privilege}"])
+    if draw.randrange(25) == 0:
+        return [draw.choice([
+            f"lose {link}", f"stop {keep}", f"stop {keep} {command}", f"undecided {command}", f"put {link} 1024", ask])]
+    if draw.randrange(6) == 0:
+        return ["hang", f"stored {command}", f"join {kind}", f"leave {kind}", f"tell {client} {commit}"][draw.randrange(5):]
+    often = [
+        f"dial {client}", f"enter {link}", f"hit {client} {draw.randrange(3)}", f"send {client}", f"read {link} {commit}",
+        f"write {link}", f"deliver {client}", f"notice {client}", f"decide {keep}", "publish", "acknowledge", f"put {link}",
+        f"reply {draw.randrange(3)} {draw.choice(['allow', 'deny'])}",
+    ]
+    if client not in world.clients or world.clients[client].asking is None:
+        often.append(ask)
+    draw.shuffle(often)
+    return often
 
 
 def random_list(draw):
-    """Mostly events that are enabled, so that lists get somewhere; and now and then one more that may not be."""
-    events = []
-    for _ in range(draw.randrange(60)):
-        event = some_event(draw)
-        if enabled(events, event):
+    """Events that are enabled, so that lists get somewhere; and now and then one more that may not be."""
+    world, events = World(), []
+    for _ in range(draw.randrange(80)):
+        for event in candidates(draw, world):
+            try:
+                step(world, event)
+            except Off:
+                continue
             events.append(event)
+            break
     if draw.randrange(3) == 0:
-        events.append(some_event(draw))
+        events.append(candidates(draw, world)[0])
     return events
 
 

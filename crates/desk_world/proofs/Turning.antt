@@ -1,6 +1,6 @@
 -- One event more of a list that is being run.
-use Rattle.std.proofs.Common.{◌≡◌, ℕ, ◌<◌, ◌+◌, ◌^◌, ◌&&◌, ◌↔◌, Bool, true, false, List, ◌∷◌, length, get_or, drop, Option, Some, None, Result, Err, refl, sym, ap, subst, ◌∙◌, arith}
-use Rattle.std.proofs.lemmas.Bool.{false≢true, and_parts, and_from}
+use Rattle.std.proofs.Common.{◌≡◌, ℕ, ◌<◌, ◌+◌, Bool, true, List, ◌∷◌, length, get_or, drop, Option, Some, None, Result, sym, ap, subst, ◌∙◌, arith}
+use Rattle.std.proofs.lemmas.Bool.{false≢true}
 use Rattle.std.proofs.lemmas.List.{drop_more, length-drop}
 use Rattle.desk_world.specs.World.{World}
 use Rattle.desk_world.specs.Events.{after, next_of, run_from, HasRoom}
@@ -17,10 +17,6 @@ pub became : (o : Option World) (enabled : Bool) (world : World) → Becomes o e
 became None enabled world becomes is = absurd (false≢true (sym becomes ∙ is))
 became (Some next) enabled world becomes is = ap Some (sym becomes.1)
 
-pub not_became : (o : Option World) (enabled : Bool) (world : World) → Becomes o enabled world → enabled ≡ false → o ≡ None
-not_became None enabled world becomes is = refl
-not_became (Some next) enabled world becomes is = absurd (false≢true (sym is ∙ becomes.0))
-
 room_after : (w next : World) (left now : ℕ) → left + 1 ≡ now → HasRoom now w → Adds w next → HasRoom left next
 room_after w next left now more room adds = record {
   links = omega (arith, more, room.links, adds.links);
@@ -32,24 +28,6 @@ room_after w next left now more room adds = record {
 here : (events : List Event) (at : ℕ) (event : Event) → at < length events → get_or events at event ≡ event
     → drop at events ≡ event ∷ drop (at + 1) events
 here events at event low is = drop_more events at event low ∙ ap (λ event. event ∷ drop (at + 1) events) is
-
-pub has_room_here : (w : World) (events : List Event) (at : ℕ) (outcome : Result World ℕ) → at < length events
-    → IsTurning w events at outcome → HasRoom 1 w
-has_room_here w events at outcome low turning =
-    let left = length-drop at events in
-    record {
-      links = omega (arith, turning.room.links, left, low);
-      asks = omega (arith, turning.room.asks, left, low);
-      run = omega (arith, turning.room.run, left, low);
-    }
-
-pub turn_refused : (w : World) (events : List Event) (at : ℕ) (outcome : Result World ℕ) (event : Event)
-    → at < length events → get_or events at event ≡ event → IsTurning w events at outcome → after event w ≡ None
-    → outcome ≡ Err at
-turn_refused w events at outcome event low is turning none =
-    sym turning.run
-    ∙ (ap (λ events. run_from at events w) (here events at event low is)
-    ∙ ap (next_of at (run_from (at + 1) (drop (at + 1) events))) none)
 
 pub turn_done : (w next : World) (events : List Event) (at : ℕ) (outcome : Result World ℕ) (event : Event)
     → at < length events → get_or events at event ≡ event → IsTurning w events at outcome → after event w ≡ Some next
@@ -64,18 +42,3 @@ turn_done w next events at outcome event low is turning some = record {
       room_after w next (length (drop (at + 1) events)) (length (drop at events)) (omega (arith, now, left, low)) turning.room
       (subst (AddsIf w) some (event-adds w event));
 }
-
--- ---- a test of room
-
-pub room_tells : (world : World) (events : ℕ) (links asks run : Bool) → (links ≡ true ↔ length world.links + events < 2 ^ 32)
-    → (asks ≡ true ↔ length world.asks + events < 2 ^ 32) → (run ≡ true ↔ world.run + events < 2 ^ 32)
-    → (links && (asks && run)) ≡ true ↔ HasRoom events world
-room_tells world events links asks run links_fit asks_fit run_fits = (
-  (λ all.
-      let both = and_parts links (asks && run) all in
-      let rest = and_parts asks run both.1 in
-      record { links = links_fit.0 both.0; asks = asks_fit.0 rest.0; run = run_fits.0 rest.1 }),
-  (λ room.
-      and_from links (asks && run) (links_fit.1 room.links)
-      (and_from asks run (asks_fit.1 room.asks) (run_fits.1 room.run))),
-)

@@ -8,8 +8,8 @@ use Rattle.desk_world.specs.declared.links.Link.{Link}
 abbrev pub BeginsWith : {X : Type 0} → List X → List X → Type 0
 BeginsWith {X} longer shorter = (rest : List X) × (longer ≡ shorter ++ rest)
 
--- a link keeps its client and its run; it enters once, and what its worker has seen doesn't fall from then on; closed, it
--- stays closed
+-- a link keeps its client and its run; it enters once, and what its worker has seen doesn't fall from then on; closed,
+-- it stays closed
 pub record LinkGrows (before after : Link) : Type 0 where
   pub client : after.client ≡ before.client
   pub run : after.run ≡ before.run

@@ -1,6 +1,6 @@
--- The promise in one sentence: over every interleaving of checks, commits, hang-ups and stops each verdict, cached or not, is
--- the bucket evaluation of one committed state no older than any commit acknowledged before its question was asked, or the
--- agent's reply to that very question.
+-- The promise in one sentence: over every interleaving of checks, commits, hang-ups and stops each verdict, cached or
+-- not, is the bucket evaluation of one committed state no older than any commit acknowledged before its question was
+-- asked, or the agent's reply to that very question.
 use Rattle.std.specs.Prelude.{◌≡◌, ◌≤◌, ℕ, Bool, List, length, Some, Ok, All}
 use Rattle.cynara_keys.specs.declared.keys.Question.{Question}
 use Rattle.desk_state.specs.DeskState.{DeskState}
@@ -14,8 +14,8 @@ use Rattle.desk_world.specs.declared.replies.Given.{Given}
 use Rattle.desk_world.specs.declared.replies.Reply.{Reply}
 use Rattle.desk_world.specs.declared.replies.Reply.TheVariants.{Judged, FromAgent, NotResolved, NoAgent, AgentGone, AgentFull}
 
--- the verdict that a reply gives, if it gives one: the evaluation at the committed state, or the agent's own reply to the
--- question that was put for this ask
+-- the verdict that a reply gives, if it gives one: the evaluation at the committed state, or the agent's own reply to
+-- the question that was put for this ask
 abbrev pub IsVerdictAt : World → ℕ → ℕ → Question → DeskState → Reply → Type 0
 IsVerdictAt world run ask question desk (Judged verdict) = verdict.answer ≡ root_answer desk question
 IsVerdictAt world run ask question desk (FromAgent commit kind number allowed) =

@@ -1,4 +1,5 @@
--- What the worker of a link does: enter it in the roll, read the published policies, send the reply; and how a link closes.
+-- What the worker of a link does: enter it in the roll, read the published policies, send the reply; and how a link
+-- closes.
 use Rattle.std.specs.Prelude.{ℕ, Bool, true, false, ◌&&◌, ◌==◌, nat_le, List, Option, Some, None, is_some, is_none, slice_get}
 use Rattle.cynara_keys.specs.PolicyResult.{is_agent}
 use Rattle.bucket_eval.specs.Evaluation.{Outcome}

@@ -23,7 +23,8 @@ pub enum Event {
     Send {
         client: u32,
     },
-    /// The worker of the link takes the published policies with this commit and evaluates the question: its seat's reading.
+    /// The worker of the link takes the published policies with this commit and evaluates the question: its seat's
+    /// reading.
     Read {
         link: u32,
         commit: u64,
@@ -66,7 +67,8 @@ pub enum Event {
     AgentJoin {
         kind: Kind,
     },
-    /// The worker of the link puts its question to the agent, in the agents' table: `full` is the limit that refuses it.
+    /// The worker of the link puts its question to the agent, in the agents' table: `full` is the limit that refuses
+    /// it, if one does.
     AgentPut {
         link: u32,
         full: Option<u32>,
@@ -80,7 +82,8 @@ pub enum Event {
     AgentLeave {
         kind: Kind,
     },
-    /// The service stops at any moment, in the middle of storing a command or not, and starts again from what the disk kept.
+    /// The service stops at any moment, in the middle of storing the command or not, and starts again from what the
+    /// disk kept.
     Stop {
         command: Option<Command>,
         kept: bool,

@@ -1,6 +1,6 @@
-//! The policy service as a pure machine over lists of events, for one theorem: over every interleaving of checks, commits,
-//! hang-ups, agents' replies and stops, each reply that a client is given, from its cache or from the service, is right at
-//! one committed policy state that is no older than any commit acknowledged before the question was asked.
+//! The policy service as a pure machine over lists of events, for one theorem: over every interleaving of checks,
+//! commits, hang-ups, agents' replies and stops, each reply that a client is given, from its cache or from the service,
+//! is right at one committed policy state that is no older than any commit acknowledged before the question was asked.
 //!
 //! Each event is one atomic step of the running service. Nothing here runs in it: its calls are these events, and what
 //! their contracts promise is what makes an event enabled.

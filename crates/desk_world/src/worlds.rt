@@ -15,8 +15,8 @@ use desk_state::Desk;
 use std::alloc::{AllocError, Global};
 use std::marker::Model;
 
-/// The world of the service: its committed policy states, its connections with what is on its way, its clients with their
-/// caches, and its agents' log. Whatever led to it, each reply that a client was given is right.
+/// The world of the service: its committed policy states, its connections with what is on its way, its clients with
+/// their caches, and its agents' log. Whatever led to it, each reply that a client was given is right.
 #[derive(Drop)]
 pub struct World {
     parts: Parts,
@@ -76,8 +76,9 @@ impl World {
     }
 }
 
-/// The world after the events, each of which is enabled in its turn; the world given stays as it is. Refused with the place
-/// of the first event that is not enabled, from 0, and with want of memory, which may come in its place.
+/// The world after the events, each of which is enabled in its turn; the world given stays as it is, and shares its
+/// policy states with the new one. Refused with the place of the first event that is not enabled, from 0, and with want
+/// of memory, which may come in its place.
 pub fn run(world: &World, events: &[Event]) -> Result<World, WorldRefusal>
     requires { HasRoom (length events.now) world.now }
     ensures done { IfOk result (λ after. run world.now events.now ≡ Ok after) }

@@ -5,10 +5,10 @@
 //     stored P     undecided P     decide KEEP     publish     hang     acknowledge     stop KEEP [P]
 //     join K     put L [MOST]     reply N ANSWER     leave K
 //
-// with `; ` between them. C is a client, L a link, E an entry of a cache, N a number, K the number of a kind, KEEP is `keep` or
-// `drop`, ANSWER is `allow` or `deny`. Q is a privilege, which the client `c` asks to use for the user `u`. P is a command:
-// `set PRIVILEGE K` sets a policy for everyone in the root bucket, and `drop-root` is refused by a rule. A word that is no number
-// where one is read stands for the greatest one.
+// with `; ` between them. C is a client, L a link, E an entry of a cache, N a number, K the number of a kind, KEEP is
+// `keep` or `drop`, ANSWER is `allow` or `deny`. Q is a privilege, which the client `c` asks to use for the user `u`.
+// P is a command: `set PRIVILEGE K` sets a policy for everyone in the root bucket, and `drop-root` is refused by a rule.
+// A word that is no number where one is read stands for the greatest one.
 use crate::{Event, Half};
 use bucket_store::{Change, Changes};
 use cynara_keys::{BucketName, Field, Key, Kind, Metadata, Name, PolicyResult, Question};

@@ -215,8 +215,8 @@ fn compare_lines(rt: &impl Abort, alloc: Global, text: &str) -> Result<(), Fail>
     Ok(())
 }
 
-// Lists that stand in a file in the folder that the test runs in, each on a line of its own with ` => ` and what it leads to.
-// Without the file there is nothing to compare.
+// Lists that stand in a file in the folder that the test runs in, each on a line of its own with ` => ` and what it
+// leads to. Without the file there is nothing to compare.
 #[test]
 fn lists_of_a_file(rt: HostRuntime) -> Result<(), Fail> {
     let Ok(text) = fs::read_to_string(&rt, "lists.txt") else {

@@ -1,5 +1,5 @@
-// What a list of events leads to, as a text: `not enabled N` with the place of the first event that is not enabled, or the
-// replies that clients were given, with `; ` behind each:
+// What a list of events leads to, as a text: `not enabled N` with the place of the first event that is not enabled, or
+// the replies that clients were given, with `; ` behind each:
 //
 //     ASK RUN judged COMMIT KIND          ASK RUN from COMMIT KIND NUMBER ALLOWED
 //     ASK RUN simple COMMIT KIND          ASK RUN none COMMIT KIND
