@@ -1,5 +1,5 @@
 -- Growth of links and entries under each kind of change, and of a world whose commits stay.
-use Rattle.std.proofs.Common.{◌≡◌, ℕ, ◌≤◌, ◌+◌, ◌==◌, ◌&&◌, List, [], ◌∷◌, ◌++◌, set, Some, refl, sym, subst, ◌∙◌, arith, map, inl, inr}
+use Rattle.std.proofs.Common.{◌≡◌, ℕ, ◌≤◌, ◌==◌, ◌&&◌, List, [], ◌∷◌, ◌++◌, set, Some, refl, sym, subst, ◌∙◌, arith, map, inl, inr}
 use Rattle.std.specs.Prelude.{slice_get}
 use Rattle.std.proofs.lemmas.Bool.{cases_eq}
 use Rattle.desk_world.specs.World.{World, entry_at, client_of, client_in}

@@ -1,5 +1,5 @@
 -- What agents do: register for a kind, be asked, answer and leave. The log keeps each question that was put to one.
-use Rattle.std.specs.Prelude.{ℕ, Bool, true, false, not, ◌&&◌, ◌||◌, ◌==◌, nat_le, nat_lt, ◌+◌, if◌then◌else◌, List, [], ◌∷◌, ◌++◌, map, filter, Option, Some, None, slice_get}
+use Rattle.std.specs.Prelude.{ℕ, Bool, true, false, not, ◌&&◌, ◌||◌, ◌==◌, nat_le, nat_lt, if◌then◌else◌, List, [], ◌∷◌, ◌++◌, map, filter, Option, Some, None, slice_get}
 use Rattle.std.specs.List.{list_any, count_by}
 use Rattle.cynara_keys.specs.PolicyResult.{is_agent}
 use Rattle.cynara_keys.specs.declared.keys.Question.{Question}

@@ -7,8 +7,7 @@ use Rattle.std.proofs.lemmas.Option.{none-some, same_Some}
 use Rattle.cynara_keys.specs.declared.results.Kind.{Kind}
 use Rattle.desk_state.specs.DeskState.{DeskState}
 use Rattle.desk_world.specs.World.{World, history, desk_at, with_link, entry_at, client_of}
-use Rattle.desk_world.specs.Clients.{same_question, asked, given, kept}
-use Rattle.desk_world.specs.Links.{read, settled}
+use Rattle.desk_world.specs.Clients.{asked, kept}
 use Rattle.desk_world.specs.Sound.{commit_of, LeavesTo, IsRight, IsSound}
 use Rattle.desk_world.specs.Grows.{EntryGrows, Grows}
 use Rattle.desk_world.specs.Kept.{IsCurrent, IsBetween, IsLeft, IsRead, IsLink, IsKept}
@@ -27,7 +26,6 @@ use Rattle.desk_world.proofs.Growing.{links_same, links_set, entries_same, entri
 use Rattle.desk_world.proofs.Monotone.{fresh_still, sound_still, between_still, link_still, links_still, client_still, given_still}
 use Rattle.desk_world.proofs.Keeping.{Step, told_same, serves}
 use Rattle.std.proofs.lemmas.Bool.{cond_both, both_ways}
-use Rattle.desk_world.specs.Commits.{committed, closed}
 use Rattle.desk_world.specs.Agents.{is_open, has_agent, join, count_of, fits, new_entry, put_down, put_with, put_to, put_due, put, gone_if_open, once_stopped, once_left, leave, answered, answer}
 use Rattle.cynara_keys.specs.PolicyResult.{is_agent}
 use Rattle.std.specs.Prelude.{filter}

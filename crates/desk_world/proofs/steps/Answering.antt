@@ -9,7 +9,7 @@ use Rattle.cynara_keys.specs.Text.{same_text}
 use Rattle.cynara_keys.specs.declared.keys.Question.{Question}
 use Rattle.desk_world.specs.Client.{Client}
 use Rattle.desk_world.specs.World.{World, root_answer, client_of}
-use Rattle.desk_world.specs.Clients.{same_question, asked, given, hit, kept}
+use Rattle.desk_world.specs.Clients.{same_question, given, hit, kept}
 use Rattle.desk_world.specs.Sound.{IsSound}
 use Rattle.desk_world.specs.Grows.{Grows}
 use Rattle.desk_world.specs.Kept.{IsCurrent, IsKnown, HasLink, IsClient, IsKept}

@@ -7,7 +7,7 @@ use Rattle.std.proofs.Math.Nat.{le-max_left, max-le}
 use Rattle.cynara_keys.specs.declared.keys.Question.{Question}
 use Rattle.desk_world.specs.Client.{Client}
 use Rattle.desk_world.specs.World.{World, with_client, client_of}
-use Rattle.desk_world.specs.Clients.{new_ask, asked, given, kept, tell}
+use Rattle.desk_world.specs.Clients.{new_ask, asked, kept, tell}
 use Rattle.desk_world.specs.Grows.{Grows}
 use Rattle.desk_world.specs.Kept.{IsClient, IsKept}
 use Rattle.desk_world.specs.declared.links.Asked.{Asked}

@@ -6,7 +6,7 @@ use Rattle.std.proofs.lemmas.List.Elements.{All-push, All-set}
 use Rattle.std.proofs.lemmas.Option.{none-some}
 use Rattle.desk_world.specs.Client.{Client}
 use Rattle.desk_world.specs.World.{World, root_answer, with_client, client_of}
-use Rattle.desk_world.specs.Clients.{asked, given, kept as log_after, delivered, deliver, notice}
+use Rattle.desk_world.specs.Clients.{kept as log_after, delivered, deliver, notice}
 use Rattle.desk_world.specs.Sound.{commit_of, IsSound}
 use Rattle.desk_world.specs.Grows.{Grows}
 use Rattle.desk_world.specs.Kept.{IsCurrent, IsBetween, IsSent, IsLink, IsKnown, HasLink, IsClient, IsKept}

@@ -5,7 +5,7 @@ use Rattle.std.proofs.lemmas.List.Elements.{All-nil, All-push}
 use Rattle.std.proofs.lemmas.Option.{none-some}
 use Rattle.desk_world.specs.Client.{Client}
 use Rattle.desk_world.specs.World.{World, client_of}
-use Rattle.desk_world.specs.Clients.{new_link, dialled, dial, given, kept}
+use Rattle.desk_world.specs.Clients.{new_link, dialled, dial, kept}
 use Rattle.desk_world.specs.Grows.{Grows}
 use Rattle.desk_world.specs.Kept.{IsCurrent, IsLink, IsKnown, HasLink, IsClient, IsKept}
 use Rattle.desk_world.specs.declared.links.Link.{Link}

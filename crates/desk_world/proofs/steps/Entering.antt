@@ -1,10 +1,10 @@
 -- A link is entered in the roll, or lost.
-use Rattle.std.proofs.Common.{◌≡◌, ℕ, ◌≤◌, ◌==◌, true, false, ◌&&◌, Some, None, refl, sym, subst, ◌∙◌, arith}
+use Rattle.std.proofs.Common.{◌≡◌, ℕ, ◌≤◌, ◌==◌, false, ◌&&◌, Some, None, refl, sym, subst, ◌∙◌, arith}
 use Rattle.std.specs.Prelude.{slice_get, unwrap_or, is_none}
 use Rattle.std.proofs.lemmas.Bool.{and_parts, false≢true}
 use Rattle.std.proofs.lemmas.Option.{none-some}
 use Rattle.desk_world.specs.World.{World, with_link}
-use Rattle.desk_world.specs.Clients.{asked, kept}
+use Rattle.desk_world.specs.Clients.{kept}
 use Rattle.desk_world.specs.Links.{enter, lose}
 use Rattle.desk_world.specs.Grows.{LinkGrows}
 use Rattle.desk_world.specs.Kept.{IsRead, IsLink, IsKept}

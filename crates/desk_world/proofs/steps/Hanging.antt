@@ -6,7 +6,6 @@ use Rattle.std.proofs.lemmas.Option.{none-some, same_Some}
 use Rattle.desk_state.specs.DeskState.{DeskState}
 use Rattle.desk_world.specs.World.{World, latest, last, with_commit}
 use Rattle.desk_world.specs.Clients.{kept}
-use Rattle.desk_world.specs.Links.{settled}
 use Rattle.desk_world.specs.Grows.{LinkGrows, Grows}
 use Rattle.desk_world.specs.Kept.{Follows, IsCurrent, IsLink, IsKept}
 use Rattle.desk_world.specs.declared.agent_entries.EntryState.{EntryState}

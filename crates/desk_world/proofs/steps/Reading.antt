@@ -6,7 +6,7 @@ use Rattle.std.proofs.lemmas.Option.{none-some}
 use Rattle.cynara_keys.specs.PolicyResult.{is_agent}
 use Rattle.desk_state.specs.DeskState.{DeskState}
 use Rattle.desk_world.specs.World.{World, history, desk_at, root_outcome, with_link}
-use Rattle.desk_world.specs.Clients.{asked, kept}
+use Rattle.desk_world.specs.Clients.{kept}
 use Rattle.desk_world.specs.Links.{is_nothing, reading_of, read_as, read}
 use Rattle.desk_world.specs.Sound.{IsFresh}
 use Rattle.desk_world.specs.Grows.{LinkGrows}

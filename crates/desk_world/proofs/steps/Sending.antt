@@ -4,7 +4,7 @@ use Rattle.std.specs.Prelude.{slice_get, unwrap_or, is_none}
 use Rattle.std.proofs.lemmas.Bool.{and_parts}
 use Rattle.std.proofs.lemmas.Option.{none-some}
 use Rattle.desk_world.specs.World.{World, with_link, client_of}
-use Rattle.desk_world.specs.Clients.{asked, send, kept}
+use Rattle.desk_world.specs.Clients.{send, kept}
 use Rattle.desk_world.specs.Grows.{LinkGrows}
 use Rattle.desk_world.specs.Kept.{IsCurrent, IsCarried, IsRead, IsLink, IsKept}
 use Rattle.desk_world.specs.declared.links.Asked.{Asked}

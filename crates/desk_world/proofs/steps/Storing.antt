@@ -6,7 +6,6 @@ use Rattle.std.proofs.lemmas.Option.{none-some, same_Some}
 use Rattle.desk_state.specs.DeskState.{DeskState}
 use Rattle.desk_world.specs.World.{World, latest, last, with_commit}
 use Rattle.desk_world.specs.Clients.{kept}
-use Rattle.desk_world.specs.Links.{settled}
 use Rattle.desk_world.specs.Grows.{Grows}
 use Rattle.desk_world.specs.Kept.{Follows, IsKept}
 use Rattle.desk_world.proofs.Options.{with_some-tells, when-tells, some-tells, none_there}
@@ -16,7 +15,7 @@ use Rattle.desk_world.proofs.Keeping.{Step}
 use Rattle.desk_state.specs.Next.{next as next_state}
 use Rattle.desk_state.specs.Rules.{fault}
 use Rattle.desk_state.specs.declared.commands.Command.{Command}
-use Rattle.desk_world.specs.Commits.{may_store, stored, undecided, decided, decide, publish, acknowledge, under_way}
+use Rattle.desk_world.specs.Commits.{may_store, stored, undecided, decided, decide, publish, acknowledge}
 use Rattle.desk_world.proofs.Committing.{latest-push, chain_push, moving, moves}
 use Rattle.desk_world.proofs.Monotone.{links_still}
 

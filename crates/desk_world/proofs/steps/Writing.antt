@@ -4,7 +4,7 @@ use Rattle.std.specs.Prelude.{slice_get}
 use Rattle.std.proofs.lemmas.Option.{none-some, same_Some}
 use Rattle.cynara_keys.specs.declared.results.Kind.{Kind}
 use Rattle.desk_world.specs.World.{World, with_link}
-use Rattle.desk_world.specs.Clients.{asked, kept}
+use Rattle.desk_world.specs.Clients.{kept}
 use Rattle.desk_world.specs.Links.{read, settled, settled_by, outgoing, write}
 use Rattle.desk_world.specs.Sound.{commit_of, IsPutFor, IsSound}
 use Rattle.desk_world.specs.Grows.{LinkGrows, Grows}
