@@ -10,7 +10,6 @@ ghost use Rattle.bucket_store.specs.parts.Naming.{NamesAbsent, NamesCycle};
 
 mod made;
 
-pub use made::has_cycle;
 use crate::batches::{adds_link, changed_buckets, is_over};
 use crate::buckets::Bucket;
 use crate::copies::{admitted, all_buckets, not_admitted};
@@ -21,6 +20,7 @@ use crate::named::all_named;
 use crate::searches::place_of_bucket;
 use crate::{Change, StoreRefusal};
 use cynara_keys::{BucketName, Counted, Filter, Kind, Policy, PolicyResult};
+pub use made::has_cycle;
 use std::alloc::{AllocError, Global};
 use std::marker::Model;
 

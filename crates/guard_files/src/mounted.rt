@@ -1,5 +1,6 @@
 // A mount, before the disk is lent to a vault.
 ghost use Rattle.std.specs.Prelude.{◌≡◌, Ok, IfOk, IfErr};
+ghost use Rattle.std.specs.Option.{option_copied};
 ghost use Rattle.desk_ports.specs.Disk.{WhereTold};
 ghost use Rattle.desk_ports.specs.Moments.{LeavesOnly};
 ghost use Rattle.guard_files.specs.Recovery.{recover};
@@ -53,5 +54,12 @@ impl Mounted {
             Ok(held) => Ok(Mounted { names, held }),
             Err(refusal) => Err(refusal),
         }
+    }
+
+    /// The set that was found, or nothing where there is none.
+    pub fn held(&self) -> Option<&FileSet>
+        ensures { option_copied result ≡ self.now }
+    {
+        self.held.as_ref()
     }
 }

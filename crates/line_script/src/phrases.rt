@@ -26,7 +26,6 @@ pub(crate) fn key_words(alloc: Global, words: &mut Words) -> Result<Key, LineRef
 
 /// `CLIENT USER PRIVILEGE` of a question.
 #[tactic(auto, unfolding(crate::specs::Grammar::question_at))]
-#[inline(always)]
 pub(crate) fn question_words(alloc: Global, words: &mut Words) -> Result<Question, LineRefusal>
     ensures { GivesWord result words.new (question_at words.old) }
 {
