@@ -277,10 +277,11 @@ def candidates(draw, world):
     keep = draw.choice(["keep", "drop"])
     ask = draw.choice([f"ask {client} {privilege}", f"ask {client} {privilege}", f"simple {client} {privilege}"])
     if draw.randrange(25) == 0:
-        return [draw.choice([
-            f"lose {link}", f"stop {keep}", f"stop {keep} {command}", f"undecided {command}", f"put {link} 1024", ask])]
+        return [draw.choice([f"lose {link}", f"stop {keep}", f"stop {keep} {command}", f"undecided {command}",
+                             f"put {link} 1024", ask])]
     if draw.randrange(6) == 0:
-        return ["hang", f"stored {command}", f"join {kind}", f"leave {kind}", f"tell {client} {commit}"][draw.randrange(5):]
+        seldom = ["hang", f"stored {command}", f"join {kind}", f"leave {kind}", f"tell {client} {commit}"]
+        return seldom[draw.randrange(5):]
     often = [
         f"dial {client}", f"enter {link}", f"hit {client} {draw.randrange(3)}", f"send {client}", f"read {link} {commit}",
         f"write {link}", f"deliver {client}", f"notice {client}", f"decide {keep}", "publish", "acknowledge", f"put {link}",
@@ -308,13 +309,15 @@ def random_list(draw):
     return events
 
 
+# the events of which --all makes every list
 SMALL = ["dial 1", "enter 0", "ask 1 p", "send 1", "read 0 0", "write 0", "deliver 1", "hit 1 0", "notice 1", "lose 0",
          "stored set p 10", "publish", "hang", "acknowledge", "stop drop", "join 10", "put 0", "reply 0 allow", "leave 10"]
 
 
 def main():
     if sys.argv[1] == "--all":
-        lists = (list(events) for count in range(int(sys.argv[2]) + 1) for events in itertools.product(SMALL, repeat=count))
+        counts = range(int(sys.argv[2]) + 1)
+        lists = (list(events) for count in counts for events in itertools.product(SMALL, repeat=count))
     else:
         draw = random.Random(int(sys.argv[2]))
         lists = (random_list(draw) for _ in range(int(sys.argv[1])))
