@@ -14,7 +14,8 @@ use Rattle.desk_world.specs.declared.links.Link.{Link}
 use Rattle.desk_world.specs.declared.links.Reading.TheVariants.{Due}
 use Rattle.desk_world.specs.declared.links.Transit.{Transit}
 
-pub some_becomes : {X : Type 0} (o : Option X) (x : X) (event : X → Option World) (enabled : Bool) (after : World) → o ≡ Some x
+pub some_becomes : {X : Type 0} (o : Option X) (x : X) (event : X → Option World) (enabled : Bool) (after : World)
+    → o ≡ Some x
     → Becomes (event x) enabled after → Becomes (with_some o event) enabled after
 some_becomes o x event enabled after e so = subst (λ o. Becomes (with_some o event) enabled after) (sym e) so
 
@@ -26,7 +27,8 @@ when_not test next after e = subst (λ test. Becomes (when test next) false afte
 
 pub put_becomes : (w : World) (link : ℕ) (full : Option ℕ) (found : Link) (ask : ℕ) (asked : Asked) (commit : ℕ) (kind : Kind)
     (metadata : List ℕ) (after : World) → slice_get w.links link ≡ Some found → found.question ≡ Some ask
-    → slice_get w.asks ask ≡ Some asked → found.reading ≡ Due commit kind metadata → found.run ≡ w.run → fits full w ≡ true
+    → slice_get w.asks ask ≡ Some asked → found.reading ≡ Due commit kind metadata → found.run ≡ w.run
+    → fits full w ≡ true
     → after ≡ put_to link found ask asked.question full commit kind w → Becomes (put link full w) true after
 put_becomes w link full found ask asked commit kind metadata after there asks_it asks due run fit so =
     some_becomes (slice_get w.links link) found _ true after there
@@ -50,7 +52,8 @@ deliver_becomes w client ask asked link found transit after asking asks holds th
     (eq-eqb transit.ask ask mine) so)))))
 
 -- what may be stored, and the state that it leads to
-proposed_step : (test : Bool) (state : DeskState) (made : Option DeskState) → made ≡ cond test (Some state) None → made ≡ None
+proposed_step : (test : Bool) (state : DeskState) (made : Option DeskState) → made ≡ cond test (Some state) None
+    → made ≡ None
     → test ≡ false
 proposed_step true state made is none = absurd (none-some state (sym none ∙ is))
 proposed_step false state made is none = refl

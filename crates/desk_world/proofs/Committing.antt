@@ -17,7 +17,8 @@ use Rattle.desk_world.proofs.Keeping.{Step}
 
 -- ---- the history
 
-pub latest-push : (desk : DeskState) (later : List DeskState) (new : DeskState) → latest_of desk (later ++ new ∷ []) ≡ new
+pub latest-push : (desk : DeskState) (later : List DeskState) (new : DeskState)
+    → latest_of desk (later ++ new ∷ []) ≡ new
 latest-push desk [] new = refl
 latest-push desk (next ∷ later) new = latest-push next later new
 
@@ -77,7 +78,8 @@ step_trans a b c first second = record { grows = grows_trans a b c first.grows s
 
 -- ---- a world whose clients, asks and given replies stay
 
-abbrev pub moved : World → List DeskState → ℕ → Option DeskState → ℕ → ℕ → ℕ → List Link → List ℕ → List AgentEntry → World
+abbrev pub moved : World → List DeskState → ℕ → Option DeskState → ℕ → ℕ → ℕ → List Link → List ℕ → List AgentEntry
+    → World
 moved w later acknowledged candidate published note run links agents entries = record w {
   later = later;
   acknowledged = acknowledged;
@@ -113,7 +115,8 @@ module _ (w : World) (kept : IsKept w) (later : List DeskState) (acknowledged : 
   }
 
   pub moves : Grows w after → IsOrdered after → IsChain w.first later
-      → ((desk : DeskState) → candidate ≡ Some desk → Follows (latest_of w.first later) desk) → All (IsCurrent note) links
+      → ((desk : DeskState) → candidate ≡ Some desk → Follows (latest_of w.first later) desk)
+      → All (IsCurrent note) links
       → All (IsLink after) links → All (λ (entry : AgentEntry). entry.number < count_of entry.run entries) entries
       → Step w after
   moves grows ordered chain candidate_follows current all_links numbered = record {

@@ -43,7 +43,8 @@ links_set links at old new there grows place link e =
       | inr other ↦ (link, get-set_other links at place new other ∙ e, link_same link)
     ]
 
-pub links_map : (f : Link → Link) (links : List Link) → ((link : Link) → LinkGrows link (f link)) → LinksGrow links (map f links)
+pub links_map : (f : Link → Link) (links : List Link) → ((link : Link) → LinkGrows link (f link))
+    → LinksGrow links (map f links)
 links_map f links each place link e = (f link, get-map f links place link e, each link)
 
 -- ---- entries
@@ -72,7 +73,8 @@ entry_at-map f runs numbers run number entries entry e =
     find-map (λ (other : AgentEntry). other.run == run && other.number == number) f
     (λ other i. (runs other i == run) && (numbers other i == number)) entries entry e
 
-pub entries_map : (f : AgentEntry → AgentEntry) (entries : List AgentEntry) → ((entry : AgentEntry) → (f entry).run ≡ entry.run)
+pub entries_map : (f : AgentEntry → AgentEntry) (entries : List AgentEntry)
+    → ((entry : AgentEntry) → (f entry).run ≡ entry.run)
     → ((entry : AgentEntry) → (f entry).number ≡ entry.number)
     → ((run number : ℕ) (entry : AgentEntry) → entry_at run number entries ≡ Some entry → EntryGrows entry (f entry))
     → EntriesGrow entries (map f entries)
@@ -83,7 +85,8 @@ entries_map f entries runs numbers each run number entry e =
 
 pub serving : (w : World) (links : List Link) (clients : List Slot) (asks : List Asked) (given : List Given)
     (agents : List ℕ) (entries : List AgentEntry) → BeginsWith asks w.asks → BeginsWith given w.given
-    → ((client : ℕ) → (client_of w client).told ≤ (client_in client clients).told) → LinksGrow w.links links → EntriesGrow w.entries entries
+    → ((client : ℕ) → (client_of w client).told ≤ (client_in client clients).told) → LinksGrow w.links links
+    → EntriesGrow w.entries entries
     → Grows w (record w {
       links = links;
       clients = clients;

@@ -58,7 +58,8 @@ client-put number other changed (slot ∷ slots) =
 
 -- one client has changed
 pub clients_with : (P : Client → Type 0) (clients : List Slot) (client : ℕ) (changed : Client) → P changed
-    → ((other : ℕ) → P (client_in other clients)) → (other : ℕ) → P (client_in other (put_client client changed clients))
+    → ((other : ℕ) → P (client_in other clients)) → (other : ℕ)
+    → P (client_in other (put_client client changed clients))
 clients_with P clients client changed is all other =
     subst P (sym (client-put client other changed clients))
     (cond_each P (client == other) changed (client_in other clients) is (all other))

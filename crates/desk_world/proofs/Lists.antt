@@ -14,7 +14,8 @@ begins_same xs = ([], sym (append-nil xs))
 pub begins_push : {X : Type 0} (xs : List X) (x : X) → BeginsWith (xs ++ x ∷ []) xs
 begins_push xs x = (x ∷ [], refl)
 
-pub get-append : {X : Type 0} (xs ys : List X) (k : ℕ) (x : X) → slice_get xs k ≡ Some x → slice_get (xs ++ ys) k ≡ Some x
+pub get-append : {X : Type 0} (xs ys : List X) (k : ℕ) (x : X) → slice_get xs k ≡ Some x
+    → slice_get (xs ++ ys) k ≡ Some x
 get-append [] ys k x e = absurd (none-some x e)
 get-append (y ∷ xs) ys zero x e = e
 get-append (y ∷ xs) ys (suc k) x e = get-append xs ys k x e
@@ -23,12 +24,14 @@ pub get-end : {X : Type 0} (xs : List X) (y : X) → slice_get (xs ++ y ∷ []) 
 get-end [] y = refl
 get-end (x ∷ xs) y = get-end xs y
 
-pub get-set_same : {X : Type 0} (xs : List X) (k : ℕ) (x y : X) → slice_get xs k ≡ Some x → slice_get (set xs k y) k ≡ Some y
+pub get-set_same : {X : Type 0} (xs : List X) (k : ℕ) (x y : X) → slice_get xs k ≡ Some x
+    → slice_get (set xs k y) k ≡ Some y
 get-set_same [] k x y e = absurd (none-some x e)
 get-set_same (z ∷ xs) zero x y e = refl
 get-set_same (z ∷ xs) (suc k) x y e = get-set_same xs k x y e
 
-pub get-set_other : {X : Type 0} (xs : List X) (k i : ℕ) (y : X) → (i ≡ k → ⊥) → slice_get (set xs k y) i ≡ slice_get xs i
+pub get-set_other : {X : Type 0} (xs : List X) (k i : ℕ) (y : X) → (i ≡ k → ⊥)
+    → slice_get (set xs k y) i ≡ slice_get xs i
 get-set_other [] k i y other = refl
 get-set_other (z ∷ xs) zero zero y other = absurd (other refl)
 get-set_other (z ∷ xs) zero (suc i) y other = refl
@@ -55,7 +58,8 @@ pub all-at : {X : Type 0} (P : X → Type 0) (xs : List X) (k : ℕ) (x : X) →
 all-at P xs k x all e = subst P (get_or_from_slice_get xs k x x e) (all k x (slice_get_within xs k x e))
 
 find-map_step : {X : Type 0} (f : X → X) (test : Bool) (x y : X) (rest mapped : Option X)
-    → (rest ≡ Some y → mapped ≡ Some (f y)) → cond test (Some x) rest ≡ Some y → cond test (Some (f x)) mapped ≡ Some (f y)
+    → (rest ≡ Some y → mapped ≡ Some (f y)) → cond test (Some x) rest ≡ Some y
+    → cond test (Some (f x)) mapped ≡ Some (f y)
 find-map_step f true x y rest mapped next e = ap (option_map f) e
 find-map_step f false x y rest mapped next e = next e
 

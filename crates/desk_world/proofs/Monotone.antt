@@ -81,7 +81,8 @@ module _ (before after : World) (grows : Grows before after) where
 
   -- ---- a link that is as it was
 
-  pub between_still : (entered : Option ℕ) (commit : ℕ) → IsBetween before entered commit → IsBetween after entered commit
+  pub between_still : (entered : Option ℕ) (commit : ℕ) → IsBetween before entered commit
+      → IsBetween after entered commit
   between_still entered commit between = record { low = between.low; high = omega (arith, between.high, grows.published) }
 
   carry : (entered : Option ℕ) (floor : ℕ) → floor ≤ unwrap_or entered before.acknowledged
@@ -148,12 +149,14 @@ module _ (before after : World) (grows : Grows before after) where
   -- a link that had not entered belongs to an empty cache
   log_still : (was now : Option ℕ) (log : List Known) → ((commit : ℕ) → was ≡ Some commit → now ≡ Some commit)
       → (was ≡ None → log ≡ []) → All (IsKnown before was) log → All (IsKnown after now) log
-  log_still None now log kept empty all = subst (λ log. All (IsKnown after now) log) (sym (empty refl)) (All-nil (IsKnown after now))
+  log_still None now log kept empty all =
+      subst (λ log. All (IsKnown after now) log) (sym (empty refl)) (All-nil (IsKnown after now))
   log_still (Some commit) now log kept empty all =
       All-weaker (IsKnown before (Some commit)) (IsKnown after now)
       (λ known. known_still (Some commit) now known (kept commit refl)) log all
 
-  not_entered_before : (was now : Option ℕ) → ((commit : ℕ) → was ≡ Some commit → now ≡ Some commit) → now ≡ None → was ≡ None
+  not_entered_before : (was now : Option ℕ) → ((commit : ℕ) → was ≡ Some commit → now ≡ Some commit) → now ≡ None
+      → was ≡ None
   not_entered_before None now kept is = refl
   not_entered_before (Some commit) now kept is = absurd (none-some commit (sym is ∙ kept commit refl))
 

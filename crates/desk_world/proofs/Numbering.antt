@@ -26,7 +26,8 @@ count_of-map f runs run (entry ∷ entries) =
     let same = ap {B = ℕ} (λ number. cond (number == run) 1 0) (runs entry) in
     omega (arith, mapped, before, same, count_of-map f runs run entries)
 
-pub numbered_map : (f : AgentEntry → AgentEntry) (entries : List AgentEntry) → ((entry : AgentEntry) → (f entry).run ≡ entry.run)
+pub numbered_map : (f : AgentEntry → AgentEntry) (entries : List AgentEntry)
+    → ((entry : AgentEntry) → (f entry).run ≡ entry.run)
     → ((entry : AgentEntry) → (f entry).number ≡ entry.number) → IsNumbered entries → IsNumbered (map f entries)
 numbered_map f entries runs numbers all =
     All-map (λ (entry : AgentEntry). entry.number < count_of entry.run (map f entries)) f entries
@@ -46,7 +47,8 @@ count_push entries new run =
     let whole = sum_by-append (λ (entry : AgentEntry). cond (entry.run == run) 1 0) entries (new ∷ []) in
     omega (arith, whole)
 
-pub numbered_push : (entries : List AgentEntry) (new : AgentEntry) → new.number ≡ count_of new.run entries → IsNumbered entries
+pub numbered_push : (entries : List AgentEntry) (new : AgentEntry) → new.number ≡ count_of new.run entries
+    → IsNumbered entries
     → IsNumbered (entries ++ new ∷ [])
 numbered_push entries new is all =
     All-push (λ (entry : AgentEntry). entry.number < count_of entry.run (entries ++ new ∷ [])) entries new
@@ -65,7 +67,8 @@ none_found p (entry ∷ entries) all =
     rw (All-head (λ entry. p entry ≡ false) entry entries all)
     (none_found p entries (All-tail (λ entry. p entry ≡ false) entry entries all))
 
-next_is_free : (entries : List AgentEntry) (run : ℕ) → IsNumbered entries → entry_at run (count_of run entries) entries ≡ None
+next_is_free : (entries : List AgentEntry) (run : ℕ) → IsNumbered entries
+    → entry_at run (count_of run entries) entries ≡ None
 next_is_free entries run all =
     none_found (λ (entry : AgentEntry). entry.run == run && entry.number == count_of run entries) entries
     (All-weaker (λ (entry : AgentEntry). entry.number < count_of entry.run entries)
@@ -79,7 +82,8 @@ next_is_free entries run all =
     entries all)
 
 -- the new entry is the one of its number
-pub new_is_found : (entries : List AgentEntry) (new : AgentEntry) → new.number ≡ count_of new.run entries → IsNumbered entries
+pub new_is_found : (entries : List AgentEntry) (new : AgentEntry) → new.number ≡ count_of new.run entries
+    → IsNumbered entries
     → entry_at new.run (count_of new.run entries) (entries ++ new ∷ []) ≡ Some new
 new_is_found entries new is all =
     let run = new.run in

@@ -6,7 +6,8 @@ use Rattle.std.proofs.lemmas.Option.{none-some, cond_some}
 use Rattle.desk_world.specs.World.{World}
 use Rattle.desk_world.specs.Clients.{when, with_some}
 
-pub with_some-tells : {X P : Type 0} (o : Option X) (event : X → Option World) (next : World) → with_some o event ≡ Some next
+pub with_some-tells : {X P : Type 0} (o : Option X) (event : X → Option World) (next : World)
+    → with_some o event ≡ Some next
     → ((x : X) → o ≡ Some x → event x ≡ Some next → P) → P
 with_some-tells None event next e so = absurd (none-some next e)
 with_some-tells (Some x) event next e so = so x refl e

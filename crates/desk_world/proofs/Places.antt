@@ -94,7 +94,8 @@ put_twice number client before (slot ∷ slots) =
     (put_twice number client before slots)
 
 -- a client whose place is written anew, to be put back changed
-pub put_after : (number at : ℕ) (slots : List Slot) (client before : Client) (own : ℕ) → own ≡ number → IsPlace slots number at
+pub put_after : (number at : ℕ) (slots : List Slot) (client before : Client) (own : ℕ) → own ≡ number
+    → IsPlace slots number at
     → put_client number client (set slots at (record { number = own; client = before })) ≡ put_client number client slots
 put_after number at slots client before own same place =
     ap (λ own. put_client number client (set slots at (record { number = own; client = before }))) same

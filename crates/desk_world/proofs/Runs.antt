@@ -101,13 +101,15 @@ stays w kept = record {
 }
 
 run_next : (at : ℕ) (event : Event) (w last : World) → IsKept w → (rest : World → Result World ℕ)
-    → ((next : World) → IsKept next → rest next ≡ Ok last → Step next last) → (next : Option World) → after event w ≡ next
+    → ((next : World) → IsKept next → rest next ≡ Ok last → Step next last) → (next : Option World)
+    → after event w ≡ next
     → next_of at rest next ≡ Ok last → Step w last
 run_next at event w last kept rest later None is e = let never : Err at ≡ Ok last = e in cc
 run_next at event w last kept rest later (Some next) is e =
     let step = event-steps w next kept event is in step_trans w next last step (later next step.kept e)
 
-pub run_from-steps : (at : ℕ) (events : List Event) (w last : World) → IsKept w → run_from at events w ≡ Ok last → Step w last
+pub run_from-steps : (at : ℕ) (events : List Event) (w last : World) → IsKept w → run_from at events w ≡ Ok last
+    → Step w last
 run_from-steps at [] w last kept e = let same : w ≡ last = cc in subst (Step w) same (stays w kept)
 run_from-steps at (event ∷ events) w last kept e =
     run_next at event w last kept (run_from (at + 1) events) (λ next. run_from-steps (at + 1) events next last) (after event w)
@@ -117,5 +119,6 @@ pub run-steps : (events : List Event) (w last : World) → IsKept w → run w ev
 run-steps events w last kept e = run_from-steps 0 events w last kept e
 
 -- the same, where a copy of the world was run
-pub copied-steps : (events : List Event) (w copy last : World) → IsKept w → copy ≡ w → run copy events ≡ Ok last → Step w last
+pub copied-steps : (events : List Event) (w copy last : World) → IsKept w → copy ≡ w → run copy events ≡ Ok last
+    → Step w last
 copied-steps events w copy last kept same e = run-steps events w last kept (subst (λ start. run start events ≡ Ok last) same e)

@@ -13,7 +13,8 @@ pub record IsTurning (world : World) (events : List Event) (at : ℕ) (outcome :
   pub run : run_from at (drop at events) world ≡ outcome
   pub room : HasRoom (length (drop at events)) world
 
-pub became : (o : Option World) (enabled : Bool) (world : World) → Becomes o enabled world → enabled ≡ true → o ≡ Some world
+pub became : (o : Option World) (enabled : Bool) (world : World) → Becomes o enabled world → enabled ≡ true
+    → o ≡ Some world
 became None enabled world becomes is = absurd (false≢true (sym becomes ∙ is))
 became (Some next) enabled world becomes is = ap Some (sym becomes.1)
 

@@ -252,7 +252,8 @@ module _ (w : World) (kept : IsKept w) (agents : List ℕ) (f : AgentEntry → A
       (λ client. client_still w changed change_grows (client_of w client) (kept.clients client))
       kept.asks (numbered_map f w.entries runs numbers kept.numbered) (given_still w changed change_grows w.given kept.given)
 
-find_passes_step : (p : AgentEntry → Bool) (first : AgentEntry) (test : Bool) → p first ≡ test → (rest : Option AgentEntry)
+find_passes_step : (p : AgentEntry → Bool) (first : AgentEntry) (test : Bool) → p first ≡ test
+    → (rest : Option AgentEntry)
     (entry : AgentEntry) → (rest ≡ Some entry → p entry ≡ true) → cond test (Some first) rest ≡ Some entry → p entry ≡ true
 find_passes_step p first true is rest entry next e = subst (λ entry. p entry ≡ true) (same_Some first entry e) is
 find_passes_step p first false is rest entry next e = next e
@@ -263,7 +264,8 @@ find_passes p [] entry e = absurd (none-some entry e)
 find_passes p (first ∷ entries) entry e =
     find_passes_step p first (p first) refl (find p entries) entry (find_passes p entries entry) e
 
-answered_run : (run number : ℕ) (allowed : Bool) (entry : AgentEntry) → (answered run number allowed entry).run ≡ entry.run
+answered_run : (run number : ℕ) (allowed : Bool) (entry : AgentEntry)
+    → (answered run number allowed entry).run ≡ entry.run
 answered_run run number allowed entry =
     cond_each (λ (now : AgentEntry). now.run ≡ entry.run) (entry.run == run && entry.number == number)
     (record entry { state = Answered allowed }) entry refl refl
@@ -300,7 +302,8 @@ answered_grows w number allowed open_one there is_it run other entry e =
     })
     (λ test. entry_same entry)
 
-pub answer-steps : (w next : World) → IsKept w → (number : ℕ) (allowed : Bool) → answer number allowed w ≡ Some next → Step w next
+pub answer-steps : (w next : World) → IsKept w → (number : ℕ) (allowed : Bool) → answer number allowed w ≡ Some next
+    → Step w next
 answer-steps w next kept number allowed e =
     with_some-tells (entry_at w.run number w.entries) _ next e (λ entry there e.
     when-tells (Step w) (is_open entry.state) (record w { entries = map (answered w.run number allowed) w.entries }) next e

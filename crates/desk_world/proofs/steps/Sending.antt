@@ -29,7 +29,8 @@ module _ (w : World) (kept : IsKept w) (client ask link : ℕ) (found : Link) (a
   still = link_was w link found changed there grown kept
 
   -- the link entered at the note or later, or will do so
-  floor_low : (floor : ℕ) (entered : Option ℕ) → floor ≤ w.acknowledged → ((commit : ℕ) → entered ≡ Some commit → w.note ≤ commit)
+  floor_low : (floor : ℕ) (entered : Option ℕ) → floor ≤ w.acknowledged
+      → ((commit : ℕ) → entered ≡ Some commit → w.note ≤ commit)
       → floor ≤ unwrap_or entered w.acknowledged
   floor_low floor None low current = low
   floor_low floor (Some commit) low current = omega (arith, current commit refl, kept.ordered.acknowledged)
