@@ -1,13 +1,14 @@
 #!/usr/bin/env python3
-"""Random lists of events for the world of `desk_world`, with what a model of the table of events says that they lead to.
+"""Random lists of events for the world of `desk_world`, with what a model of the table of events says they lead to.
 
-Writes lines `events => outcome` in the text form of `crates/desk_world/src/tests/event_texts.rt`, which a test compares:
+Writes lines `events => outcome` in the text form of `crates/desk_world/src/tests/event_texts.rt`; a test compares them:
 
     python3 trials/world_lists.py 10000 1 > /tmp/lists.txt
     cd crates/desk_world && rt try --test --data lists.txt=/tmp/lists.txt
     python3 trials/world_lists.py --all 3 > /tmp/lists.txt        every list of up to three events of a small set
 
-The model shares no code with the crate: states are dictionaries from a privilege to a kind, and events are methods."""
+Some 1,500 random lists are compared within a minute; `--seconds N` gives the test more time. The model shares no code with
+the crate: states are dictionaries from a privilege to a kind, and events are methods."""
 import itertools
 import random
 import sys
@@ -283,9 +284,9 @@ def candidates(draw, world):
         seldom = ["hang", f"stored {command}", f"join {kind}", f"leave {kind}", f"tell {client} {commit}"]
         return seldom[draw.randrange(5):]
     often = [
-        f"dial {client}", f"enter {link}", f"hit {client} {draw.randrange(3)}", f"send {client}", f"read {link} {commit}",
-        f"write {link}", f"deliver {client}", f"notice {client}", f"decide {keep}", "publish", "acknowledge", f"put {link}",
-        f"reply {draw.randrange(3)} {draw.choice(['allow', 'deny'])}",
+        f"dial {client}", f"enter {link}", f"hit {client} {draw.randrange(3)}", f"send {client}",
+        f"read {link} {commit}", f"write {link}", f"deliver {client}", f"notice {client}", f"decide {keep}", "publish",
+        "acknowledge", f"put {link}", f"reply {draw.randrange(3)} {draw.choice(['allow', 'deny'])}",
     ]
     if client not in world.clients or world.clients[client].asking is None:
         often.append(ask)
@@ -311,7 +312,8 @@ def random_list(draw):
 
 # the events of which --all makes every list
 SMALL = ["dial 1", "enter 0", "ask 1 p", "send 1", "read 0 0", "write 0", "deliver 1", "hit 1 0", "notice 1", "lose 0",
-         "stored set p 10", "publish", "hang", "acknowledge", "stop drop", "join 10", "put 0", "reply 0 allow", "leave 10"]
+         "stored set p 10", "publish", "hang", "acknowledge", "stop drop", "join 10", "put 0", "reply 0 allow",
+         "leave 10"]
 
 
 def main():
