@@ -1,9 +1,11 @@
 -- What a run of the program has read and written by the time that it ends.
-use Rattle.std.specs.Prelude.{◌≡◌, ℕ, List, [], Option, Some, None}
+use Rattle.std.specs.Prelude.{◌≡◌, ◌⊎◌, ℕ, String, List, [], Option, Some, None}
+use Rattle.std.specs.declared.alloc.Global.{Global}
 use Rattle.privilege_cli.specs.declared.command_words.Command.{Command}
 use Rattle.privilege_cli.specs.declared.command_words.Command.TheVariants.{Local, SmackAccess}
 use Rattle.privilege_cli.specs.declared.ending.Ending.{Ending}
 use Rattle.privilege_cli.specs.declared.ending.Ending.TheVariants.{Words}
+use Rattle.privilege_cli.specs.Commands.{command_of}
 use Rattle.privilege_cli.specs.Outside.{Outside, Had}
 use Rattle.privilege_cli.specs.Ending.{status_of, CountsFaults, Writes}
 use Rattle.desk_state.specs.DeskState.{fresh}
@@ -39,3 +41,9 @@ pub record Ends (command : Option Command) (number : ℕ) (before after : Outsid
   pub status : number ≡ status_of ending
   pub counts : CountsFaults ending before after
   pub does : Does command ending before after
+
+-- A run with the words of a host: some words were read and run; or there was no memory for them, and nothing was read or
+-- written.
+abbrev pub RunsOn : ℕ → Outside → Outside → Type 0
+RunsOn number before after =
+    ((words : List (String Global)) × Ends (command_of words) number before after) ⊎ ((number ≡ 1) × (after ≡ before))

@@ -16,9 +16,17 @@ mod standard_streams;
 mod tests;
 mod zeros;
 
+use standard_streams::{InputSource, OutputSink, run_on};
 use std::process::ExitCode;
 
 fn main(rt: HostRuntime) -> ExitCode {
-    let status = standard_streams::run_on(&rt, rt.alloc(), rt.stdin(), rt.stdout());
-    ExitCode::from(status)
+    let mut source = InputSource {
+        reader: rt.stdin(),
+        faults: 0,
+    };
+    let mut sink = OutputSink {
+        writer: rt.stdout(),
+        faults: 0,
+    };
+    ExitCode::from(run_on(&rt, rt.alloc(), &mut source, &mut sink))
 }

@@ -1,14 +1,19 @@
 //! Readers and writers of std as sources and sinks. They tell their content where the reader or the writer does: those in
 //! memory do, standard input and output do not.
 
+ghost use Rattle.privilege_cli.specs.Program.{RunsOn};
+
 use crate::host_words::host_words;
 use crate::program::run;
 use desk_ports::{Failed, Sink, Source};
 use std::alloc::Global;
 use std::env::Env;
-use std::io::{Read, Write};
+use std::io::{ErrorKind, Read, Write};
 
-/// A source over a reader. It counts each error of the reader.
+/// How often an interrupted call is tried again before it counts as failed.
+const MOST_TRIES: u32 = 4_294_967_295;
+
+/// A source over a reader. A call that was interrupted is tried again; each other error of the reader is counted.
 #[derive(Drop)]
 pub struct InputSource<R: Read + Drop> {
     pub reader: R,
@@ -22,17 +27,20 @@ impl<R: Read + Drop> Source for InputSource<R> {
 
     fn read(&mut self, into: &mut [u8]) -> Result<usize, Failed> {
         let faults = self.faults;
-        match self.reader.read(into) {
-            Ok(count) => Ok(count),
-            Err(_) => {
-                self.faults = faults.saturating_add(1);
-                Err(Failed)
+        for _ in 0..MOST_TRIES {
+            match self.reader.read(into) {
+                Ok(count) => return Ok(count),
+                Err(error) if error.kind() == ErrorKind::Interrupted => {}
+                Err(_) => break,
             }
         }
+        self.faults = faults.saturating_add(1);
+        Err(Failed)
     }
 }
 
-/// A sink over a writer. It counts each error of the writer, and each call in which it took nothing.
+/// A sink over a writer. A call that was interrupted is tried again; each other error of the writer is counted, and each
+/// call in which it took nothing.
 #[derive(Drop)]
 pub struct OutputSink<W: Write + Drop> {
     pub writer: W,
@@ -46,28 +54,32 @@ impl<W: Write + Drop> Sink for OutputSink<W> {
 
     fn write(&mut self, from: &[u8]) -> Result<usize, Failed> {
         let faults = self.faults;
-        match self.writer.write(from) {
-            Ok(count) if count > 0 || from.is_empty() => Ok(count),
-            _ => {
-                self.faults = faults.saturating_add(1);
-                Err(Failed)
+        for _ in 0..MOST_TRIES {
+            match self.writer.write(from) {
+                Ok(count) if count > 0 || from.is_empty() => return Ok(count),
+                Err(error) if error.kind() == ErrorKind::Interrupted => {}
+                _ => break,
             }
         }
+        self.faults = faults.saturating_add(1);
+        Err(Failed)
     }
 }
 
-/// Runs the program with the words of a host, over a reader and a writer, and answers the status. Where there is no memory
-/// for the words it is 1, and nothing is read or written.
-pub fn run_on<E: Env, R: Read + Drop, W: Write + Drop>(
+/// Runs the program with the words of a host, and answers the status. Where there is no memory for the words it is 1, and
+/// nothing is read or written.
+pub fn run_on<E: Env, S: Source, K: Sink>(
     host: &E,
     alloc: Global,
-    reader: R,
-    writer: W,
-) -> u8 {
-    let mut source = InputSource { reader, faults: 0 };
-    let mut sink = OutputSink { writer, faults: 0 };
+    source: &mut S,
+    sink: &mut K,
+) -> u8
+    ensures { RunsOn result
+        (record { left = S.left source.old; source_faults = S.faults source.old; taken = K.taken sink.old; sink_faults = K.faults sink.old })
+        (record { left = S.left source.new; source_faults = S.faults source.new; taken = K.taken sink.new; sink_faults = K.faults sink.new }) }
+{
     match host_words(host, alloc) {
-        Ok(words) => run(host, alloc, &words, &mut source, &mut sink),
+        Ok(words) => run(host, alloc, &words, source, sink),
         Err(_) => 1,
     }
 }

@@ -1,8 +1,9 @@
 //! `local` over readers and writers of std in memory.
 
 use super::runs::status_of;
-use crate::standard_streams::{InputSource, OutputSink};
-use std::io::{self, ErrorKind, Read};
+use crate::standard_streams::{InputSource, OutputSink, run_on};
+use std::env::{Env, FillError};
+use std::io::{self, ErrorKind, Read, Write};
 use std::test::Fail;
 
 /// A reader whose every call fails.
@@ -70,5 +71,132 @@ fn failing_calls_are_counted(rt: HostRuntime) -> Result<(), Fail> {
     );
     assert_eq!(rt; (source.faults, full.faults), (0, 1));
     assert_eq!(rt; room, *b"ok ");
+    Ok(())
+}
+
+/// A reader and a writer whose every other call is interrupted.
+#[derive(Drop)]
+struct Halting<T> {
+    stream: T,
+    halts: bool,
+}
+
+impl<T: Read> Read for Halting<T> {
+    fn read(&mut self, buf: &mut [u8]) -> io::Result<usize> {
+        self.halts = !self.halts;
+        if self.halts {
+            return Err(io::Error::from(ErrorKind::Interrupted));
+        }
+        self.stream.read(buf)
+    }
+}
+
+impl<T: Write> Write for Halting<T> {
+    fn write(&mut self, buf: &[u8]) -> io::Result<usize> {
+        self.halts = !self.halts;
+        if self.halts {
+            return Err(io::Error::from(ErrorKind::Interrupted));
+        }
+        self.stream.write(buf)
+    }
+
+    fn flush(&mut self) -> io::Result<()> {
+        self.stream.flush()
+    }
+}
+
+#[test]
+fn interrupted_calls_are_tried_again(rt: HostRuntime) -> Result<(), Fail> {
+    let mut source = InputSource {
+        reader: Halting {
+            stream: b"status\n".as_slice(),
+            halts: false,
+        },
+        faults: 0,
+    };
+    let mut sink = OutputSink {
+        writer: Halting {
+            stream: Vec::new(rt.alloc()),
+            halts: false,
+        },
+        faults: 0,
+    };
+    assert_eq!(rt;
+        status_of(rt.alloc(), &["local"], &mut source, &mut sink)?,
+        0
+    );
+    assert_eq!(rt; sink.writer.stream.as_slice(), b"commit 0\n".as_slice());
+    assert_eq!(rt; (source.faults, sink.faults), (0, 0));
+    Ok(())
+}
+
+/// A host with these words, the program's name among them.
+#[derive(Drop)]
+struct Words(&'static [&'static [u8]]);
+
+impl Env for Words {
+    fn arg(&self, i: usize, buf: &mut [u8]) -> Result<usize, FillError> {
+        let Some(word) = self.0.get(i) else {
+            return Err(FillError::NotPresent);
+        };
+        if word.len() > buf.len() {
+            return Err(FillError::TooLong);
+        }
+        buf[..word.len()].copy_from_slice(word);
+        Ok(word.len())
+    }
+
+    fn var(&self, _name: &str, _buf: &mut [u8]) -> Result<usize, FillError> {
+        Err(FillError::NotPresent)
+    }
+
+    fn var_at(&self, _i: usize, _buf: &mut [u8]) -> Result<usize, FillError> {
+        Err(FillError::NotPresent)
+    }
+}
+
+/// The words of a host, and the status and output of the program on them, over the one rule `A B r`.
+const HOSTS: &[(&[&[u8]], u8, &str)] = &[
+    (
+        &[b"privilege", b"smack-access", b"A", b"B", b"r"],
+        0,
+        "access allow 6\n",
+    ),
+    (
+        &[b"privilege", b"smack-access", b"a", b"B", b"r"],
+        0,
+        "access deny 7\n",
+    ),
+    (
+        &[b"privilege", b"smack-access", b"A", b"B", b"r", b"w"],
+        2,
+        "fault command line\n",
+    ),
+    (
+        &[b"privilege", b"smack-access", b"A", b"\xff", b"r"],
+        2,
+        "fault command line\n",
+    ),
+    (&[b"privilege", b"Local"], 2, "fault command line\n"),
+    (&[b"local"], 2, "fault command line\n"),
+];
+
+#[test]
+fn the_words_of_a_host_are_handed_on(rt: HostRuntime) -> Result<(), Fail> {
+    for (words, status, output) in HOSTS {
+        let mut source = InputSource {
+            reader: b"A B r\n".as_slice(),
+            faults: 0,
+        };
+        let mut sink = OutputSink {
+            writer: Vec::new(rt.alloc()),
+            faults: 0,
+        };
+        assert_eq!(rt;
+            run_on(&Words(words), rt.alloc(), &mut source, &mut sink),
+            *status
+        );
+        assert_eq!(rt; sink.writer.as_slice(), output.as_bytes());
+    }
     Ok(())
 }
