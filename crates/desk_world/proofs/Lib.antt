@@ -1,0 +1,16 @@
+pub mod Options
+pub mod Lists
+pub mod Growing
+pub mod Monotone
+pub mod Keeping
+pub mod Relinking
+pub mod Committing
+pub mod Numbering
+pub mod steps
+pub mod Runs
+pub mod Headlines
+pub mod Places
+pub mod Roots
+pub mod Becoming
+pub mod Adding
+pub mod Turning

@@ -1,0 +1,12 @@
+pub mod Client
+pub mod World
+pub mod Clients
+pub mod Links
+pub mod Commits
+pub mod Agents
+pub mod Events
+pub mod Sound
+pub mod Grows
+pub mod Kept
+pub mod Headline
+pub mod parts

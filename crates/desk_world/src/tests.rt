@@ -1,0 +1,3 @@
+mod event_texts;
+mod lists;
+mod outcomes;
