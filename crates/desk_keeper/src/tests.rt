@@ -79,10 +79,42 @@ fn command(alloc: Global, text: &str) -> Result<Command, Fail> {
 /// Applies the command and commits it: its number, or none where it was refused or a call of the disk failed.
 fn commit(alloc: Global, keeper: &mut Keeper<MemDisk>, text: &str) -> Result<Option<u64>, Fail> {
     let command = command(alloc, text)?;
+    if !keeper.is_decided() {
+        return Err(Fail::from("a keeper that is not decided commits nothing"));
+    }
     match keeper.prepare(&command) {
         Ok(prepared) => Ok(keeper.commit(prepared).ok()),
         Err(Refusal::Memory(error)) => Err(Fail::from(error)),
         Err(_) => Ok(None),
+    }
+}
+
+/// Commits these commands in turn, up to the first that is refused or fails: how many were committed.
+fn commit_each(alloc: Global, keeper: &mut Keeper<MemDisk>, texts: &[&str]) -> Result<usize, Fail> {
+    for (at, text) in texts.iter().enumerate() {
+        if commit(alloc, keeper, text)?.is_none() {
+            return Ok(at);
+        }
+    }
+    Ok(texts.len())
+}
+
+/// Mounts the disk, and commits these commands as `commit_each` does: the commit that the keeper then gives.
+fn commit_all(alloc: Global, disk: &mut MemDisk, texts: &[&str]) -> Result<u64, Fail> {
+    let mut keeper = Keeper::mount(alloc, disk)?;
+    commit_each(alloc, &mut keeper, texts)?;
+    Ok(keeper.desk().commit())
+}
+
+fn put_refusal(text: &mut String, refusal: KeeperRefusal) -> Result<(), Fail> {
+    match refusal {
+        KeeperRefusal::Damaged { file, line } => {
+            let name = str::from_utf8(file.as_slice())
+                .ok()
+                .ok_or("a name beyond ASCII")?;
+            Ok(write!(text, "damaged {name} {line}")?)
+        }
+        refusal => Err(Fail::from(refusal)),
     }
 }
 
@@ -91,13 +123,7 @@ fn found(alloc: Global, disk: &mut MemDisk) -> Result<String, Fail> {
     let mut text = String::new(alloc);
     match Keeper::mount(alloc, disk) {
         Ok(keeper) => write!(text, "commit {}", keeper.desk().commit())?,
-        Err(KeeperRefusal::Damaged { file, line }) => {
-            let name = str::from_utf8(file.as_slice())
-                .ok()
-                .ok_or("a name beyond ASCII")?;
-            write!(text, "damaged {name} {line}")?
-        }
-        Err(refusal) => return Err(Fail::from(refusal)),
+        Err(refusal) => put_refusal(&mut text, refusal)?,
     }
     Ok(text)
 }

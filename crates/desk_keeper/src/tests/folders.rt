@@ -1,6 +1,6 @@
 //! A folder from nothing, through commits, and folders typed by hand.
 
-use super::{FIRST, Files, SECOND, THIRD, command, commit, disk_with, found};
+use super::{FIRST, Files, SECOND, THIRD, command, commit_all, disk_with, found};
 use crate::Keeper;
 use desk_ports::{Disk, FileName, MemDisk};
 use std::alloc::Global;
@@ -13,24 +13,26 @@ fn has(disk: &mut MemDisk, alloc: Global, name: &str) -> Result<bool, Fail> {
     )
 }
 
+/// What is prepared for erasing all policies of the root: the commit before, how many go, and the commit after. The keeper is
+/// remounted then, and gives the commit before.
+fn prepared_erasing(alloc: Global, disk: &mut MemDisk) -> Result<(u64, u32, u64), Fail> {
+    let mut keeper = Keeper::mount(alloc, disk)?;
+    let prepared = keeper.prepare(&command(alloc, "erase")?)?;
+    keeper.remount()?;
+    if keeper.desk().commit() != prepared.base() {
+        return Err(Fail::from("what was only prepared was kept"));
+    }
+    Ok((prepared.base(), prepared.erased(), prepared.desk().commit()))
+}
+
 #[test]
 fn commits_are_found_again(rt: HostRuntime) -> Result<(), Fail> {
     let mut disk = disk_with(rt.alloc(), &[("notes", "n")], &[])?;
-    let mut keeper = Keeper::mount(rt.alloc(), &mut disk)?;
-    assert_eq!(rt; keeper.desk().commit(), 0);
-    assert_eq!(rt; commit(rt.alloc(), &mut keeper, "user 7")?, None);
-    assert_eq!(rt; commit(rt.alloc(), &mut keeper, FIRST)?, Some(1));
-    assert_eq!(rt; commit(rt.alloc(), &mut keeper, SECOND)?, Some(2));
-    let prepared = keeper.prepare(&command(rt.alloc(), "erase")?)?;
-    assert_eq!(rt;
-        (prepared.base(), prepared.erased(), prepared.desk().commit()),
-        (2, 1, 3)
-    );
-    keeper.remount()?;
-    assert_eq!(rt; (keeper.is_decided(), keeper.desk().commit()), (true, 2));
+    assert_eq!(rt; commit_all(rt.alloc(), &mut disk, &["user 7"])?, 0);
+    assert_eq!(rt; commit_all(rt.alloc(), &mut disk, &[FIRST, SECOND])?, 2);
     assert!(rt; has(&mut disk, rt.alloc(), "r.pk")?);
-    let mut again = Keeper::mount(rt.alloc(), &mut disk)?;
-    assert_eq!(rt; commit(rt.alloc(), &mut again, THIRD)?, Some(3));
+    assert_eq!(rt; prepared_erasing(rt.alloc(), &mut disk)?, (2, 1, 3));
+    assert_eq!(rt; commit_all(rt.alloc(), &mut disk, &[THIRD])?, 3);
     assert!(rt; !has(&mut disk, rt.alloc(), "r.pk")?);
     assert!(rt; has(&mut disk, rt.alloc(), "notes")?);
     assert_eq!(rt; found(rt.alloc(), &mut disk)?.as_str(), "commit 3");

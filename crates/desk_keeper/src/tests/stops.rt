@@ -1,31 +1,40 @@
 //! A stop after each call of the disk: the folder stands for the state before the commit or for the one after it, and
 //! after its answer for the one after it alone.
 
-use super::{FIRST, SECOND, commit, disk_with, found};
-use crate::Keeper;
+use super::{FIRST, SECOND, commit_all, disk_with, found};
+use desk_ports::MemDisk;
+use std::alloc::Global;
 use std::test::Fail;
 
 /// What a stop leaves of touched files, by pick.
 const PICKS: [u32; 6] = [0, 1, 2, 77, 255, 4_294_967_295];
 
+/// Whether a stop after so many calls leaves the first commit, or the second one.
+fn is_second(alloc: Global, disk: &MemDisk, after: usize, pick: u32) -> Result<bool, Fail> {
+    let mut left = disk.stopped(after, pick)?;
+    let text = found(alloc, &mut left)?;
+    if text.as_str() == "commit 2" {
+        return Ok(true);
+    }
+    if text.as_str() == "commit 1" {
+        return Ok(false);
+    }
+    Err(Fail::from("a stop left neither commit"))
+}
+
 #[test]
 fn a_stop_leaves_one_of_two_states(rt: HostRuntime) -> Result<(), Fail> {
     let mut disk = disk_with(rt.alloc(), &[], &[])?;
-    let mut keeper = Keeper::mount(rt.alloc(), &mut disk)?;
-    commit(rt.alloc(), &mut keeper, FIRST)?;
-    let first = disk.calls().len();
-    let mut keeper = Keeper::mount(rt.alloc(), &mut disk)?;
+    commit_all(rt.alloc(), &mut disk, &[FIRST])?;
+    commit_all(rt.alloc(), &mut disk, &[])?;
     let mounted = disk.calls().len();
-    let mut keeper = Keeper::mount(rt.alloc(), &mut disk)?;
-    commit(rt.alloc(), &mut keeper, SECOND)?;
+    commit_all(rt.alloc(), &mut disk, &[SECOND])?;
     let last = disk.calls().len();
-    for after in first..=last {
-        for pick in PICKS {
-            let mut left = disk.stopped(after, pick)?;
-            let text = found(rt.alloc(), &mut left)?;
-            let is_next = text.as_str() == "commit 2";
-            assert!(rt; is_next || (text.as_str() == "commit 1" && after < last));
-            assert!(rt; !is_next || after > mounted);
+    for pick in PICKS {
+        assert!(rt; !is_second(rt.alloc(), &disk, mounted, pick)?);
+        assert!(rt; is_second(rt.alloc(), &disk, last, pick)?);
+        for after in mounted..last {
+            is_second(rt.alloc(), &disk, after, pick)?;
         }
     }
     Ok(())
