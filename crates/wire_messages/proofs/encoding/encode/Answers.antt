@@ -1,0 +1,5 @@
+use Rattle.wire_messages.proofs.FrameLaws.{is_read_again}
+use Rattle.wire_messages.proofs.encoding.encode.Goals as goal
+
+pub returns-clause-again : goal.returns-clause-again
+returns-clause-again c = is_read_again c.args.framed.now c.spell.result c.spell.ensures.spelled

@@ -1,0 +1,52 @@
+ghost use Rattle.std.specs.Prelude.{◌≡◌, ◌≤◌, ◌++◌, ◌∷◌, [], length, IfOk, OnOk, IfErr};
+ghost use Rattle.wire_messages.specs.Frame.{body, spelling, frame_of, IsTooLong};
+ghost use Rattle.wire_messages.specs.Hearing.{IsHeard};
+ghost use Rattle.wire_messages.specs.declared.operations.Heard.{Heard};
+
+use crate::limits::MOST_LENGTH;
+use crate::message_writers::{operation, put_fields};
+use crate::writers::{put1, put2};
+use crate::{EncodeRefusal, Framed};
+use byteorder::{BigEndian, ByteOrder};
+use desk_ports::Bytes;
+use std::alloc::{AllocError, Global};
+
+/// Spells a message with its sequence number, as a frame. Refuses `TooLong` where the frame's length would be above
+/// 1,048,576, and gives that length.
+pub fn encode(alloc: Global, framed: &Framed) -> Result<Bytes, EncodeRefusal>
+    ensures spelled { IfOk result (λ frame. frame ≡ spelling framed.now) }
+    // What is spelled is read again, by the side that knows the operation.
+    ensures again { IfOk result (λ frame. (heard : Heard) → IsHeard heard framed.now → frame_of heard frame ≡ Ok framed.now) }
+    ensures fits { OnOk result (length (body framed.now) ≤ MOST_LENGTH) }
+    ensures refused { IfErr result (IsTooLong framed.now) }
+{
+    spell(alloc, framed)
+}
+
+fn spell(alloc: Global, framed: &Framed) -> Result<Bytes, EncodeRefusal>
+    ensures spelled { IfOk result (λ frame. frame ≡ spelling framed.now) }
+    ensures fits { OnOk result (length (body framed.now) ≤ MOST_LENGTH) }
+    ensures refused { IfErr result (IsTooLong framed.now) }
+{
+    let mut frame = Vec::new(alloc);
+    if let Err(error) = put_frame(&mut frame, framed) {
+        return Err(EncodeRefusal::Memory(error));
+    }
+    let length = frame.len() - 4;
+    if length > MOST_LENGTH as usize {
+        return Err(EncodeRefusal::TooLong(length as u64));
+    }
+    BigEndian::write_u32(&mut frame, length as u32);
+    Ok(Bytes::of(frame))
+}
+
+// a length of 0 and what follows it
+fn put_frame(out: &mut Vec<u8>, framed: &Framed) -> Result<(), AllocError>
+    requires { out.old.items ≡ [] }
+    ensures { OnOk result (out.new.items ≡ (0 ∷ 0 ∷ 0 ∷ 0 ∷ []) ++ body framed.now) }
+{
+    out.extend_from_slice(&[0; 4])?;
+    put2(out, framed.sequence)?;
+    put1(out, operation(&framed.message).number())?;
+    put_fields(out, &framed.message)
+}
