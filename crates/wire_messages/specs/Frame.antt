@@ -1,12 +1,12 @@
 -- Frames: a length, which counts what follows it, a sequence number, the number of an operation, and its fields.
-use Rattle.std.specs.Prelude.{◌≡◌, ℕ, ◌<◌, ◌==◌, nat_lt, if◌then◌else◌, List, ◌∷◌, ◌++◌, length, take, drop, Option, Some, None, Result, Ok, Err}
+use Rattle.std.specs.Prelude.{◌≡◌, ℕ, ◌<◌, ◌==◌, nat_lt, if◌then◌else◌, List, ◌∷◌, ◌++◌, length, take, drop, Option, Some, None, is_some, true, slice_index, Result, Ok, Err}
 use Rattle.std.specs.Int.{w8, w16, w32, to_be_bytes, from_be_bytes}
 use Rattle.wire_messages.specs.declared.messages.Framed.{Framed}
 use Rattle.wire_messages.specs.declared.messages.Message.{Message}
 use Rattle.wire_messages.specs.declared.operations.Heard.{Heard}
 use Rattle.wire_messages.specs.declared.operations.Operation.{Operation}
 use Rattle.wire_messages.specs.declared.refusals.WireRefusal.{WireRefusal}
-use Rattle.wire_messages.specs.declared.refusals.WireRefusal.TheVariants.{TooShort, TooLong, BadOperation, Trailing}
+use Rattle.wire_messages.specs.declared.refusals.WireRefusal.TheVariants.{TooShort, TooLong, BadOperation, Trailing, Memory}
 use Rattle.wire_messages.specs.declared.refusals.EncodeRefusal.{EncodeRefusal}
 use Rattle.wire_messages.specs.declared.refusals.EncodeRefusal.TheVariants.{TooLong as TooLongFor, Memory as NoMemory}
 use Rattle.wire_messages.specs.declared.limits.TheConstants.{LEAST_LENGTH, MOST_LENGTH}
@@ -67,3 +67,16 @@ IsTooLong framed (NoMemory error) = Unit {0}
 abbrev pub Answers : {X : Type 0} → Result X WireRefusal → Result X WireRefusal → Type 0
 Answers (Ok x) reading = reading ≡ Ok x
 Answers (Err refusal) reading = Refuses refusal reading
+
+-- A call lacks memory only where this holds.
+abbrev pub OnMemory : {X : Type 0} → Result X WireRefusal → Type 0 → Type 0
+OnMemory (Err (Memory error)) holds = holds
+OnMemory result holds = Unit {0}
+
+-- the side knows the operation whose number stands behind a sequence number
+abbrev pub IsKnown : Heard → List ℕ → Type 0
+IsKnown heard bytes = is_some (operation_of heard (slice_index bytes 2)) ≡ true
+
+-- the length has no fault, and the side knows the operation
+abbrev pub BeginsRight : Heard → List ℕ → Type 0
+BeginsRight heard frame = (length_fault (length_of frame) ≡ None) × IsKnown heard (drop 4 frame)

@@ -1,5 +1,5 @@
-ghost use Rattle.std.specs.Prelude.{◌≡◌, ◌+◌, ◌≤◌, Some, None, Ok, length, IfOk};
-ghost use Rattle.wire_messages.specs.Frame.{length_of, length_fault, body_of, frame_of, spelling, Answers};
+ghost use Rattle.std.specs.Prelude.{◌≡◌, ◌+◌, ◌≤◌, Ok, length, IfOk};
+ghost use Rattle.wire_messages.specs.Frame.{length_of, length_fault, body_of, frame_of, spelling, Answers, OnMemory, BeginsRight, IsKnown};
 ghost use Rattle.wire_messages.specs.Hearing.{IsHeard};
 ghost use Rattle.wire_messages.specs.declared.messages.Framed.{Framed};
 
@@ -10,7 +10,8 @@ use crate::{Framed, Heard, Operation, WireRefusal};
 use std::alloc::Global;
 
 /// Reads a frame, whose length is the number of the bytes behind it. Refuses at its first fault: `TooShort` and
-/// `TooLong` by the length, then `BadOperation`, `BadField` or `Trailing`, whichever comes first.
+/// `TooLong` by the length, then `BadOperation`, `BadField` or `Trailing`, whichever comes first. Fields are kept as they
+/// are read, so `Memory` may come where a field that is not yet read is wrong.
 pub fn decode(alloc: Global, heard: Heard, frame: &[u8]) -> Result<Framed, WireRefusal>
     requires { length frame.now ≡ length_of frame.now + 4 }
     // Which message it is, or which fault.
@@ -18,14 +19,18 @@ pub fn decode(alloc: Global, heard: Heard, frame: &[u8]) -> Result<Framed, WireR
     // What is read is spelled so.
     ensures found { IfOk result (λ framed. IsHeard heard framed × (frame.now ≡ spelling framed)) }
     // What is spelled so is read, unless memory runs out.
-    ensures only { (framed : Framed) → IsHeard heard framed → frame.now ≡ spelling framed → Answers result (Ok framed) }
+    ensures only { (framed : Framed) → IsHeard heard framed → frame.now ≡ spelling framed
+        → Answers result (Ok framed) }
+    // Memory runs out only behind a right length and a known operation; a later field may then be wrong.
+    ensures memory { OnMemory result (BeginsRight heard frame.now) }
 {
     read(alloc, heard, frame)
 }
 
 fn read(alloc: Global, heard: Heard, frame: &[u8]) -> Result<Framed, WireRefusal>
     requires { length frame.now ≡ length_of frame.now + 4 }
-    ensures { Answers result (frame_of heard frame.now) }
+    ensures answer { Answers result (frame_of heard frame.now) }
+    ensures memory { OnMemory result (BeginsRight heard frame.now) }
 {
     if let Some(fault) = length_fault(length_of(frame)) {
         return Err(fault);
@@ -59,7 +64,8 @@ pub fn length_fault(length: u32) -> Option<WireRefusal>
 // what follows the length
 #[tactic(auto, unfolding(crate::specs::Frame::body_of))]
 fn body(alloc: Global, heard: Heard, fields: &mut Fields) -> Result<Framed, WireRefusal>
-    ensures { Answers result (body_of heard fields.old) }
+    ensures answer { Answers result (body_of heard fields.old) }
+    ensures memory { OnMemory result (IsKnown heard fields.old.rest) }
 {
     let sequence = fields.number2()?;
     let number = fields.number1()?;

@@ -1,4 +1,4 @@
-ghost use Rattle.std.specs.Prelude.{◌≡◌, ◌≤◌, ◌++◌, ◌∷◌, [], length, IfOk, OnOk, IfErr};
+ghost use Rattle.std.specs.Prelude.{◌≡◌, ◌≤◌, ◌++◌, ◌∷◌, [], length, IfOk, OnOk, IfErr, OnErr};
 ghost use Rattle.wire_messages.specs.Frame.{body, spelling, frame_of, IsTooLong};
 ghost use Rattle.wire_messages.specs.Hearing.{IsHeard};
 ghost use Rattle.wire_messages.specs.declared.operations.Heard.{Heard};
@@ -16,28 +16,36 @@ use std::alloc::{AllocError, Global};
 pub fn encode(alloc: Global, framed: &Framed) -> Result<Bytes, EncodeRefusal>
     ensures spelled { IfOk result (λ frame. frame ≡ spelling framed.now) }
     // What is spelled is read again, by the side that knows the operation.
-    ensures again { IfOk result (λ frame. (heard : Heard) → IsHeard heard framed.now → frame_of heard frame ≡ Ok framed.now) }
-    ensures fits { OnOk result (length (body framed.now) ≤ MOST_LENGTH) }
-    ensures refused { IfErr result (IsTooLong framed.now) }
-{
-    spell(alloc, framed)
-}
-
-fn spell(alloc: Global, framed: &Framed) -> Result<Bytes, EncodeRefusal>
-    ensures spelled { IfOk result (λ frame. frame ≡ spelling framed.now) }
+    ensures again { IfOk result
+        (λ frame. (heard : Heard) → IsHeard heard framed.now → frame_of heard frame ≡ Ok framed.now) }
     ensures fits { OnOk result (length (body framed.now) ≤ MOST_LENGTH) }
     ensures refused { IfErr result (IsTooLong framed.now) }
 {
     let mut frame = Vec::new(alloc);
-    if let Err(error) = put_frame(&mut frame, framed) {
+    encode_into(&mut frame, framed)?;
+    Ok(Bytes::of(frame))
+}
+
+/// Spells a message as `encode` does, into a buffer in place of what it held. The buffer keeps its memory, so that one
+/// serves many messages without asking for more. It is empty after a refusal.
+pub fn encode_into(frame: &mut Vec<u8>, framed: &Framed) -> Result<(), EncodeRefusal>
+    ensures spelled { OnOk result (frame.new.items ≡ spelling framed.now) }
+    ensures emptied { OnErr result (frame.new.items ≡ []) }
+    ensures fits { OnOk result (length (body framed.now) ≤ MOST_LENGTH) }
+    ensures refused { IfErr result (IsTooLong framed.now) }
+{
+    frame.clear();
+    if let Err(error) = put_frame(frame, framed) {
+        frame.clear();
         return Err(EncodeRefusal::Memory(error));
     }
     let length = frame.len() - 4;
     if length > MOST_LENGTH as usize {
+        frame.clear();
         return Err(EncodeRefusal::TooLong(length as u64));
     }
-    BigEndian::write_u32(&mut frame, length as u32);
-    Ok(Bytes::of(frame))
+    BigEndian::write_u32(frame, length as u32);
+    Ok(())
 }
 
 // a length of 0 and what follows it

@@ -1,4 +1,5 @@
-ghost use Rattle.std.specs.Prelude.{◌≡◌, ◌≤◌, ◌<◌, ◌+◌, ◌++◌, ◌∷◌, [], List, Some, None, length, IfOk, IfErr, OnOk, OnErr, MatchOption, Ok, Err};
+ghost use Rattle.std.specs.Prelude.{◌≡◌, ◌≤◌, ◌<◌, ◌+◌, ◌∷◌, [], Some, None, length};
+ghost use Rattle.std.specs.Prelude.{Err, IfOk, IfErr, OnOk, MatchOption};
 ghost use Rattle.wire_messages.specs.Frame.{length_of, length_fault};
 ghost use Rattle.wire_messages.specs.Stream.{Fed, Failed, unfed, IsOpen};
 ghost use Rattle.wire_messages.specs.parts.Feeding.{IsUpTo, Settled, Unsettled, Stepped, Unstepped};
@@ -54,8 +55,10 @@ impl Feeder {
     /// piece; the messages before it can still be taken.
     pub fn feed(&mut self, piece: &[u8]) -> Result<(), WireRefusal>
         ensures fed { OnOk result (Fed self.old self.new piece.now) }
-        ensures refused { IfErr result (λ refusal. self.old.failed ≡ None → Failed self.old self.new piece.now refusal) }
-        ensures again { (refusal : _) → self.old.failed ≡ Some refusal → (result ≡ Err refusal) × (self.new ≡ self.old) }
+        ensures refused { IfErr result
+            (λ refusal. self.old.failed ≡ None → Failed self.old self.new piece.now refusal) }
+        ensures again { (refusal : _) → self.old.failed ≡ Some refusal
+            → (result ≡ Err refusal) × (self.new ≡ self.old) }
     {
         if let Some(refusal) = self.failed {
             return Err(refusal);
@@ -72,7 +75,8 @@ impl Feeder {
 
     /// Takes the first message that waits. `None` exactly where none waits.
     pub fn take(&mut self) -> Option<Framed>
-        ensures taken { MatchOption result (self.old.waiting ≡ []) (λ framed. self.old.waiting ≡ framed ∷ self.new.waiting) }
+        ensures taken { MatchOption result (self.old.waiting ≡ [])
+            (λ framed. self.old.waiting ≡ framed ∷ self.new.waiting) }
         ensures rest { self.new ≡ record self.old { waiting = self.new.waiting } }
         ensures empty { self.old.waiting ≡ [] → self.new ≡ self.old }
     {
@@ -123,7 +127,8 @@ impl Feeder {
     fn wanted(&self) -> usize
         ensures some { 0 < result }
         ensures up_to { length self.now.partial < 4 → result + length self.now.partial ≡ 4 }
-        ensures whole { 4 ≤ length self.now.partial → result + length self.now.partial ≡ length_of self.now.partial + 4 }
+        ensures whole { 4 ≤ length self.now.partial
+            → result + length self.now.partial ≡ length_of self.now.partial + 4 }
     {
         let there = self.partial.len();
         if there < 4 {

@@ -24,8 +24,8 @@ pub fn what_is_heard_is_spelled()
 
 /// Messages that are spelled one after the other are heard, whatever is behind them.
 pub fn what_is_spelled_is_heard()
-    ensures { (heard : heard_type.Heard) (messages : List Framed) (behind : List ℕ) → AllByRecursion (IsHeard heard) messages
-        → Hears heard (flat_map spelling messages ++ behind) messages behind }
+    ensures { (heard : heard_type.Heard) (messages : List Framed) (behind : List ℕ)
+        → AllByRecursion (IsHeard heard) messages → Hears heard (flat_map spelling messages ++ behind) messages behind }
 {}
 
 /// Bytes have one reading: no other messages are heard in them, up to a rest that is no whole frame.
@@ -37,6 +37,6 @@ pub fn one_reading()
 /// What was heard of some bytes is heard however they go on, and what is heard of the rest comes behind it: it does not
 /// matter how bytes are cut into pieces.
 pub fn pieces_do_not_matter()
-    ensures { (heard : heard_type.Heard) (bytes more : List ℕ) (ms ns : List Framed) (x y : List ℕ) → Hears heard bytes ms x
-        → Hears heard (x ++ more) ns y → Hears heard (bytes ++ more) (ms ++ ns) y }
+    ensures { (heard : heard_type.Heard) (bytes more : List ℕ) (ms ns : List Framed) (x y : List ℕ)
+        → Hears heard bytes ms x → Hears heard (x ++ more) ns y → Hears heard (bytes ++ more) (ms ++ ns) y }
 {}

@@ -1,8 +1,8 @@
 //! Frames: how launchers, installers and agents speak to the service.
 //!
-//! A frame is a length, a sequence number, the number of an operation and the operation's fields; all numbers have their
-//! highest byte first. Each message has one spelling, which is read back as the message, in whatever pieces it comes.
-//! The frames are this project's profile.
+//! A frame is a length, a sequence number, the number of an operation and the operation's fields; all numbers have
+//! their highest byte first. Each message has one spelling, which is read back as the message, in whatever pieces it
+//! comes. The frames are this project's profile.
 #![tactic(auto)]
 
 mod commands;
@@ -26,7 +26,7 @@ mod writers;
 
 pub use commands::{command_of, message_of, refused_of};
 pub use decoding::decode;
-pub use encoding::encode;
+pub use encoding::{encode, encode_into};
 pub use feeding::Feeder;
 pub use laws::{
     one_reading, one_spelling, pieces_do_not_matter, what_is_heard_is_spelled,

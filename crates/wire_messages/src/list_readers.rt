@@ -1,5 +1,5 @@
 // Lists of fields, verdicts and installs, read from the front of what is left of a frame.
-ghost use Rattle.std.specs.Prelude.{◌≡◌, Option, Some, None, option_map};
+ghost use Rattle.std.specs.Prelude.{None};
 ghost use Rattle.wire_messages.specs.Left.{Gives};
 ghost use Rattle.wire_messages.specs.Format as format;
 ghost use Rattle.wire_messages.specs.Field as field;
@@ -59,7 +59,8 @@ pub fn rising_names(alloc: Global, count: u32, fields: &mut Fields) -> Result<Na
 
 // A name behind another, if there is one.
 fn name_behind(alloc: Global, last: Option<&Name>, fields: &mut Fields) -> Result<Name, WireRefusal>
-    ensures { Gives result fields.new ((format.tested (field.comes_after (option_copied last.entry)) field.name).read fields.old) }
+    ensures { Gives result fields.new
+        ((format.tested (field.comes_after (option_copied last.entry)) field.name).read fields.old) }
 {
     let place = fields.place();
     let name = name(alloc, fields)?;

@@ -1,6 +1,5 @@
 // Lists of fields, verdicts, installs and refusals, appended to a frame.
-ghost use Rattle.std.specs.Prelude.{◌≡◌, ◌≢◌, ◌<◌, ◌≤◌, ◌^◌, ◌∷◌, [], length};
-ghost use Rattle.std.specs.List.{flat_map};
+ghost use Rattle.std.specs.Prelude.{◌∷◌, []};
 ghost use Rattle.wire_messages.specs.Format as format;
 ghost use Rattle.wire_messages.specs.Field as field;
 ghost use Rattle.wire_messages.specs.Refused as refused;

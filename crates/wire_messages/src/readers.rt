@@ -1,6 +1,4 @@
 // The fields of messages, read from the front of what is left of a frame.
-ghost use Rattle.std.specs.Prelude.{◌≡◌, Option, IfOk};
-ghost use Rattle.std.specs.Int.{w32};
 ghost use Rattle.wire_messages.specs.Left.{Gives};
 ghost use Rattle.wire_messages.specs.Format as format;
 ghost use Rattle.wire_messages.specs.Field as field;
@@ -148,7 +146,8 @@ pub fn most(fields: &mut Fields) -> Result<u32, WireRefusal>
 // the metadata that a result of this kind may have, and the result
 fn ruling_of(alloc: Global, kind: Kind, fields: &mut Fields) -> Result<PolicyResult, WireRefusal>
     ensures { Gives result fields.new
-        ((format.seen (λ metadata. record { kind = kind.0; metadata = metadata }) (λ ruling. ruling.metadata) (field.metadata_of kind.0)).read fields.old) }
+        ((format.seen (λ metadata. record { kind = kind.0; metadata = metadata }) (λ ruling. ruling.metadata)
+            (field.metadata_of kind.0)).read fields.old) }
 {
     let place = fields.place();
     let text = fields.text()?;

@@ -1,10 +1,9 @@
 // The refusal of a command, read from the front of what is left of a frame.
-ghost use Rattle.std.specs.Int.{w64};
+ghost use Rattle.std.specs.Prelude.{◌≡◌};
 ghost use Rattle.wire_messages.specs.Left.{Gives};
-ghost use Rattle.wire_messages.specs.Refused.{no_text, zero_value, value_below, which, read_rule, refused, plain};
-ghost use Rattle.std.specs.Prelude.{◌<◌, ◌≤◌, ◌^◌};
-ghost use Rattle.wire_messages.specs.Format.{made, ◌⊗◌};
-ghost use Rattle.wire_messages.specs.Field as field;
+ghost use Rattle.wire_messages.specs.Format.{made};
+ghost use Rattle.wire_messages.specs.Refused.{no_text, zero_value, value_below, which, counted_of, read_rule};
+ghost use Rattle.wire_messages.specs.Refused.{refused, plain};
 
 use crate::WireRefusal;
 use crate::fields::Fields;
@@ -149,11 +148,8 @@ fn counted(fields: &mut Fields) -> Result<Counted, WireRefusal>
     }
 }
 
-ghost use Rattle.std.specs.Prelude.{◌≡◌};
-ghost use Rattle.wire_messages.specs.Refused as refused_words;
-
 fn counted_of(text: &[u8]) -> Option<Counted>
-    ensures { result ≡ refused_words.counted_of text.now }
+    ensures { result ≡ counted_of text.now }
 {
     if text == b"commits".as_slice() {
         Some(Counted::Commits)

@@ -4,8 +4,8 @@ ghost use Rattle.wire_messages.specs.declared.refusals.WireRefusal.TheVariants.{
 use std::alloc::{AllocError, AllocFailed};
 use thiserror::Error;
 
-/// Why bytes are no frame of the side that hears them: the first fault from left to right. Places count from the frame's
-/// first byte, from 0, and name the first byte of a field.
+/// Why bytes are no frame of the side that hears them: the first fault from left to right. Places count from the
+/// frame's first byte, from 0, and name the first byte of a field.
 #[derive(Clone, Copy, Debug, PartialEq, Eq, Error)]
 pub enum WireRefusal {
     /// The length of the frame, which is below 3.

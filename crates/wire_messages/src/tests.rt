@@ -1,560 +1,55 @@
+// Frames that were written by hand, read and spelled, whole and in pieces, and what makes each of them wrong.
+mod questions;
+mod replies;
+mod wrong;
+
 use super::*;
 use crate::decoding::length_of;
 use crate::message_writers::operation;
+use crate::writers::put_count;
 use bucket_store::{Change, Changes};
 use cynara_keys::{BucketName, Field, Key, Name};
 use desk_state::Refusal;
+use questions::QUESTIONS;
+use replies::REPLIES;
 use std::alloc::Global;
 use std::process::Abort;
 use std::test::Fail;
+use wrong::WRONG;
 
-const FRAMES: &[(Heard, Operation, &[u8])] = &[
-    (
-        Heard::AtClient,
-        Operation::Check,
-        b"\0\0\0\x0c\0\x01\x01\0\x01c\0\x01u\0\x01p",
-    ),
-    (
-        Heard::AtClient,
-        Operation::SimpleCheck,
-        b"\0\0\0\x0c\xff\xff\x02\0\x01c\0\x01u\0\x01p",
-    ),
-    (
-        Heard::AtAdmin,
-        Operation::SetBucket,
-        b"\0\0\0\x0a\0\x07\x10\0\x01B\0\x01\0\0",
-    ),
-    (
-        Heard::AtAdmin,
-        Operation::SetBucket,
-        b"\0\0\0\x0b\0\x07\x10\0\x01B\xff\xfe\0\x01C",
-    ),
-    (
-        Heard::AtAdmin,
-        Operation::RemoveBucket,
-        b"\0\0\0\x06\0\x02\x11\0\x01B",
-    ),
-    (
-        Heard::AtAdmin,
-        Operation::SetPolicies,
-        b"\0\0\0'\0\x02\x12\0\0\0\x02\x01\0\0\0\x01*\0\x01u\0\x01p\0\x0a\0\x03ask\0\0\x01B\0\x01c\0\x01u\0\x01p",
-    ),
-    (
-        Heard::AtAdmin,
-        Operation::SetPolicies,
-        b"\0\0\0\x07\0\x02\x12\0\0\0\0",
-    ),
-    (
-        Heard::AtAdmin,
-        Operation::Erase,
-        b"\0\0\0\x0e\0\x03\x13\0\0\0\x01#\0\x01*\0\x01p",
-    ),
-    (Heard::AtAdmin, Operation::Layout, b"\0\0\0\x03\0\x04\x14"),
-    (
-        Heard::AtAdmin,
-        Operation::SetTemplate,
-        b"\0\0\0-\0\x05\x15\0(~PROCESS~\x20_\x20rx\x0aSystem\x20~PATH_RW~\x20rwxat\x20l\x0a",
-    ),
-    (
-        Heard::AtAdmin,
-        Operation::SetTemplate,
-        b"\0\0\0\x05\0\x05\x15\0\0",
-    ),
-    (
-        Heard::AtAdmin,
-        Operation::UserSet,
-        b"\0\0\0\x08\0\x06\x16\0\0\x13\x89\x01",
-    ),
-    (
-        Heard::AtAdmin,
-        Operation::UserSet,
-        b"\0\0\0\x08\0\x06\x16\xff\xff\xff\xff\x03",
-    ),
-    (
-        Heard::AtAdmin,
-        Operation::UserRemove,
-        b"\0\0\0\x07\0\x06\x17\0\0\0\0",
-    ),
-    (
-        Heard::AtAdmin,
-        Operation::Install,
-        b"\0\0\0\x18\0\x08\x18\0\x02pk\0\0\0\x02a1\0\0\0\0\x02\0\x01p\0\x01q",
-    ),
-    (
-        Heard::AtAdmin,
-        Operation::Install,
-        b"\0\0\0\x18\0\x08\x18\0\x02pk\0\x02au\0\x02a1\x01\0\0\x13\x89\0\0\0\0",
-    ),
-    (
-        Heard::AtAdmin,
-        Operation::Uninstall,
-        b"\0\0\0\x08\0\x09\x19\0\x02a1\0",
-    ),
-    (
-        Heard::AtAdmin,
-        Operation::Uninstall,
-        b"\0\0\0\x0c\0\x09\x19\0\x02a1\x01\0\0\0\x07",
-    ),
-    (
-        Heard::AtAdmin,
-        Operation::Listing,
-        b"\0\0\0\x12\0\x0a\x1a\0\x04MAIN\0\x01#\0\x01#\0\x01#",
-    ),
-    (
-        Heard::AtAdmin,
-        Operation::AdminCheck,
-        b"\0\0\0\x0f\0\x0b\x1b\0\0\x01\0\x01c\0\x01u\0\x01p",
-    ),
-    (
-        Heard::AtAdmin,
-        Operation::AdminCheck,
-        b"\0\0\0\x10\0\x0b\x1b\0\x01B\0\0\x01c\0\x01u\0\x01p",
-    ),
-    (Heard::AtAdmin, Operation::Stop, b"\0\0\0\x03\0\x0c\x1c"),
-    (
-        Heard::AtAgent,
-        Operation::Register,
-        b"\0\0\0\x05\0\0\x20\0\x02",
-    ),
-    (
-        Heard::AtAgent,
-        Operation::Register,
-        b"\0\0\0\x05\0\0\x20\xff\xfd",
-    ),
-    (
-        Heard::AtAgent,
-        Operation::AgentAnswer,
-        b"\0\0\0\x08\0\x09!\0\0\0\x09\x01",
-    ),
-    (
-        Heard::Replies,
-        Operation::Judged,
-        b"\0\0\0\x1b\0\x01\x81\0\0\0\0\0\0\0\x02\0\0\0\0\0\0\x01\0\x01c\0\x01*\0\x01p",
-    ),
-    (
-        Heard::Replies,
-        Operation::Judged,
-        b"\0\0\0\x14\0\x01\x81\0\0\0\0\0\0\0\x02\0\x07\0\x01x\0\x01B\0",
-    ),
-    (
-        Heard::Replies,
-        Operation::FromAgent,
-        b"\0\0\0\x12\0\x01\x82\0\0\0\0\0\0\0\x01\0\x0a\0\0\0\0\x01",
-    ),
-    (
-        Heard::Replies,
-        Operation::NotResolved,
-        b"\0\0\0\x0d\0\x01\x83\0\0\0\0\0\0\0\x01\0\x0a",
-    ),
-    (
-        Heard::Replies,
-        Operation::NoAgent,
-        b"\0\0\0\x0d\0\x01\x84\0\0\0\0\0\0\0\x01\0\x0a",
-    ),
-    (
-        Heard::Replies,
-        Operation::AgentGone,
-        b"\0\0\0\x0f\0\x01\x85\0\0\0\0\0\0\0\x01\0\0\0\x01",
-    ),
-    (
-        Heard::Replies,
-        Operation::AgentFull,
-        b"\0\0\0\x11\0\x01\x86\0\0\0\0\0\0\0\x01\0\x0a\0\0\x04\0",
-    ),
-    (
-        Heard::Replies,
-        Operation::AgentFull,
-        b"\0\0\0\x11\0\x01\x86\0\0\0\0\0\0\0\x01\0\x0a\xff\xff\xff\xff",
-    ),
-    (
-        Heard::Replies,
-        Operation::Done,
-        b"\0\0\0\x0f\0\x01\x90\xff\xff\xff\xff\xff\xff\xff\xff\0\0\0\x03",
-    ),
-    (
-        Heard::Replies,
-        Operation::Refused,
-        b"\0\0\0\x12\0\x01\x91\x01\0\x04MAIN\0\0\0\0\0\0\0\0",
-    ),
-    (
-        Heard::Replies,
-        Operation::Refused,
-        b"\0\0\0\x0e\0\x01\x91\x02\0\0\0\0\0\0\0\0\0\0",
-    ),
-    (
-        Heard::Replies,
-        Operation::Refused,
-        b"\0\0\0\x0e\0\x01\x91\x03\0\0\0\0\0\0\0\0\0\0",
-    ),
-    (
-        Heard::Replies,
-        Operation::Refused,
-        b"\0\0\0\x0f\0\x01\x91\x04\0\x01X\0\0\0\0\0\0\0\0",
-    ),
-    (
-        Heard::Replies,
-        Operation::Refused,
-        b"\0\0\0\x0e\0\x01\x91\x05\0\0\0\0\0\0\0\0\0\0",
-    ),
-    (
-        Heard::Replies,
-        Operation::Refused,
-        b"\0\0\0\x0e\0\x01\x91\x06\0\0\0\0\0\0\0\0\xff\xfe",
-    ),
-    (
-        Heard::Replies,
-        Operation::Refused,
-        b"\0\0\0\x0e\0\x01\x91\x07\0\0\0\0\0\0\xff\xff\xff\xff",
-    ),
-    (
-        Heard::Replies,
-        Operation::Refused,
-        b"\0\0\0\x0f\0\x01\x91\x08\0\x01x\0\0\0\0\0\0\0\0",
-    ),
-    (
-        Heard::Replies,
-        Operation::Refused,
-        b"\0\0\0\x0e\0\x01\x91\x09\0\0\0\0\0\0\0\0\0\0",
-    ),
-    (
-        Heard::Replies,
-        Operation::Refused,
-        b"\0\0\0\x10\0\x01\x91\x09\0\x02au\0\0\0\0\0\0\0\0",
-    ),
-    (
-        Heard::Replies,
-        Operation::Refused,
-        b"\0\0\0\x0e\0\x01\x91\x0a\0\0\0\0\0\0\0\0\0\0",
-    ),
-    (
-        Heard::Replies,
-        Operation::Refused,
-        b"\0\0\0\x15\0\x01\x91\x0b\0\x07buckets\0\0\0\0\0\0\x01\0",
-    ),
-    (
-        Heard::Replies,
-        Operation::Refused,
-        b"\0\0\0\x0f\0\x01\x91\x0c\0\x01B\0\0\0\0\0\0\0\0",
-    ),
-    (
-        Heard::Replies,
-        Operation::ListRow,
-        b"\0\0\0\x10\0\x01\x92\0\x01*\0\x01u\0\x01p\xff\xff\0\0",
-    ),
-    (
-        Heard::Replies,
-        Operation::ListEnd,
-        b"\0\0\0\x07\0\x01\x93\0\0\0\x02",
-    ),
-    (
-        Heard::Replies,
-        Operation::StoreFault,
-        b"\0\0\0\x03\0\x01\x95",
-    ),
-    (
-        Heard::Replies,
-        Operation::StoreDamaged,
-        b"\0\0\0\x13\0\x01\x96\0\x0a_MANIFESTS\0\0\0\x03",
-    ),
-    (
-        Heard::AgentReplies,
-        Operation::Registered,
-        b"\0\0\0\x05\0\0\xa0\0\x0a",
-    ),
-    (
-        Heard::AgentReplies,
-        Operation::KindTaken,
-        b"\0\0\0\x05\0\0\xa1\0\x0a",
-    ),
-    (
-        Heard::AgentReplies,
-        Operation::AgentQuestion,
-        b"\0\0\0\x17\0\x05\xa2\0\0\0\x05\0\x01c\0\x01u\0\x01p\0\x0a\0\x03ask",
-    ),
-    (
-        Heard::AgentReplies,
-        Operation::UnknownNumber,
-        b"\0\0\0\x07\0\0\xa3\0\0\0\x09",
-    ),
-];
+// A frame that is right, and what makes it wrong.
+#[derive(Clone, Copy)]
+pub struct Right<'a> {
+    heard: Heard,
+    operation: Operation,
+    frame: &'a [u8],
+    // where its fields begin
+    fields: &'a [u32],
+    // a place, the byte that is put there, and the place of the field that is wrong then
+    slips: &'a [(usize, u8, u32)],
+}
 
-const WRONG: &[(Heard, &[u8], WireRefusal)] = &[
-    (
-        Heard::AtClient,
-        b"\0\0\0\x0d\0\x01\x01\0\x01c\0\x01u\0\x01p\0",
-        WireRefusal::Trailing(16),
-    ),
-    (
-        Heard::AtClient,
-        b"\0\0\0\x0b\0\x01\x01\0\0\0\x01u\0\x01p",
-        WireRefusal::BadField(7),
-    ),
-    (
-        Heard::AtClient,
-        b"\0\0\0\x03\0\x01\x7f",
-        WireRefusal::BadOperation(127),
-    ),
-    (Heard::AtClient, b"\0\0\0\x02", WireRefusal::TooShort(2)),
-    (Heard::AtClient, b"\0\0\0\x01", WireRefusal::TooShort(1)),
-    (Heard::AtClient, b"\0\0\0\0", WireRefusal::TooShort(0)),
-    (
-        Heard::AtClient,
-        b"\0\x10\0\x01",
-        WireRefusal::TooLong(1_048_577),
-    ),
-    (
-        Heard::AtClient,
-        b"\xff\xff\xff\xff",
-        WireRefusal::TooLong(4_294_967_295),
-    ),
-    (
-        Heard::AtAdmin,
-        b"\0\0\0\x07\0\x01\x12\0\0\xff\xff",
-        WireRefusal::BadField(11),
-    ),
-    (
-        Heard::AtAgent,
-        b"\0\0\0\x08\0\x01!\0\0\0\0\x02",
-        WireRefusal::BadField(11),
-    ),
-    (
-        Heard::AtClient,
-        b"\0\0\0\x0a\0\x01\x10\0\x01B\0\x01\0\0",
-        WireRefusal::BadOperation(16),
-    ),
-    (
-        Heard::AtAdmin,
-        b"\0\0\0\x0c\0\x01\x01\0\x01c\0\x01u\0\x01p",
-        WireRefusal::BadOperation(1),
-    ),
-    (
-        Heard::AtAdmin,
-        b"\0\0\0\x03\0\x01\x1d",
-        WireRefusal::BadOperation(29),
-    ),
-    (
-        Heard::AgentReplies,
-        b"\0\0\0\x03\0\x01\x81",
-        WireRefusal::BadOperation(129),
-    ),
-    (
-        Heard::AtClient,
-        b"\0\0\0\x0c\0\x01\x01\0\x01c\0\x01u\0\x01*",
-        WireRefusal::BadField(13),
-    ),
-    (
-        Heard::AtClient,
-        b"\0\0\0\x0c\0\x01\x01\0\x01c\0\x01#\0\x01p",
-        WireRefusal::BadField(10),
-    ),
-    (
-        Heard::AtClient,
-        b"\0\0\0\x0e\0\x01\x01\0\x01c\0\x03u\x20u\0\x01p",
-        WireRefusal::BadField(10),
-    ),
-    (
-        Heard::AtClient,
-        b"\0\0\0\x0c\0\x01\x01\0\x01c\0\x01u\0\x02p",
-        WireRefusal::BadField(13),
-    ),
-    (
-        Heard::AtClient,
-        b"\0\0\0\x0a\0\x01\x01\0\x01c\0\x01u\0",
-        WireRefusal::BadField(13),
-    ),
-    (
-        Heard::AtClient,
-        b"\0\0\0\x09\0\x01\x01\0\x01c\0\x01u",
-        WireRefusal::BadField(13),
-    ),
-    (
-        Heard::AtAdmin,
-        b"\0\0\0\x0c\0\x01\x10\0\x03a.b\0\x01\0\0",
-        WireRefusal::BadField(7),
-    ),
-    (
-        Heard::AtAdmin,
-        b"\0\0\0\x0b\0\x01\x10\0\x01B\0\0\0\x01x",
-        WireRefusal::BadField(12),
-    ),
-    (
-        Heard::AtAdmin,
-        b"\0\0\0\x0d\0\x01\x10\0\x01B\xff\xfe\0\x03a.b",
-        WireRefusal::BadField(12),
-    ),
-    (
-        Heard::AtAdmin,
-        b"\0\0\0\x0d\0\x01\x10\0\x01B\0\x0a\0\x03a;b",
-        WireRefusal::BadField(12),
-    ),
-    (
-        Heard::AtAdmin,
-        b"\0\0\0\x07\0\x01\x10\0\x01B\0",
-        WireRefusal::BadField(10),
-    ),
-    (
-        Heard::AtAdmin,
-        b"\0\0\0\x13\0\x01\x12\0\0\0\x01\x02\0\0\0\x01c\0\x01u\0\x01p",
-        WireRefusal::BadField(11),
-    ),
-    (
-        Heard::AtAdmin,
-        b"\0\0\0\x13\0\x01\x12\0\0\0\x01\0\0\0\0\x01#\0\x01u\0\x01p",
-        WireRefusal::BadField(14),
-    ),
-    (
-        Heard::AtAdmin,
-        b"\0\0\0\x13\0\x01\x12\0\0\0\x02\0\0\0\0\x01c\0\x01u\0\x01p",
-        WireRefusal::BadField(23),
-    ),
-    (
-        Heard::AtAdmin,
-        b"\0\0\0\x14\0\x01\x12\0\0\0\x01\0\0\0\0\x01c\0\x01u\0\x01p\0",
-        WireRefusal::Trailing(23),
-    ),
-    (
-        Heard::AtAdmin,
-        b"\0\0\0\x0c\0\x01\x15\0\x07A\x20\x20B\x20r\x0a",
-        WireRefusal::BadField(7),
-    ),
-    (
-        Heard::AtAdmin,
-        b"\0\0\0\x0c\0\x01\x15\0\x07A\x20B\x20wr\x0a",
-        WireRefusal::BadField(7),
-    ),
-    (
-        Heard::AtAdmin,
-        b"\0\0\0\x0a\0\x01\x15\0\x05A\x20B\x20r",
-        WireRefusal::BadField(7),
-    ),
-    (
-        Heard::AtAdmin,
-        b"\0\0\0\x0b\0\x01\x15\0\x06A\x20B\x20z\x0a",
-        WireRefusal::BadField(7),
-    ),
-    (
-        Heard::AtAdmin,
-        b"\0\0\0\x08\0\x01\x16\0\0\0\x01\x04",
-        WireRefusal::BadField(11),
-    ),
-    (
-        Heard::AtAdmin,
-        b"\0\0\0\x18\0\x01\x18\0\x02pk\0\0\0\x02a1\0\0\0\0\x02\0\x01q\0\x01p",
-        WireRefusal::BadField(25),
-    ),
-    (
-        Heard::AtAdmin,
-        b"\0\0\0\x18\0\x01\x18\0\x02pk\0\0\0\x02a1\0\0\0\0\x02\0\x01p\0\x01p",
-        WireRefusal::BadField(25),
-    ),
-    (
-        Heard::AtAdmin,
-        b"\0\0\0\x10\0\x01\x18\0\0\0\0\0\x02a1\0\0\0\0\0",
-        WireRefusal::BadField(7),
-    ),
-    (
-        Heard::AtAdmin,
-        b"\0\0\0\x14\0\x01\x18\0\x02pk\0\x02.a\0\x02a1\0\0\0\0\0",
-        WireRefusal::BadField(11),
-    ),
-    (
-        Heard::AtAdmin,
-        b"\0\0\0\x08\0\x01\x19\0\x02a1\x02",
-        WireRefusal::BadField(11),
-    ),
-    (
-        Heard::AtAdmin,
-        b"\0\0\0\x0a\0\x01\x19\0\x02a1\x01\0\x07",
-        WireRefusal::BadField(12),
-    ),
-    (
-        Heard::AtAdmin,
-        b"\0\0\0\x0f\0\x01\x1b\0\0\x02\0\x01c\0\x01u\0\x01p",
-        WireRefusal::BadField(9),
-    ),
-    (
-        Heard::AtAdmin,
-        b"\0\0\0\x04\0\x01\x14\0",
-        WireRefusal::Trailing(7),
-    ),
-    (
-        Heard::AtAgent,
-        b"\0\0\0\x05\0\x01\x20\0\x01",
-        WireRefusal::BadField(7),
-    ),
-    (
-        Heard::AtAgent,
-        b"\0\0\0\x05\0\x01\x20\xff\xfe",
-        WireRefusal::BadField(7),
-    ),
-    (
-        Heard::Replies,
-        b"\0\0\0\x11\0\x01\x86\0\0\0\0\0\0\0\x01\0\x0a\0\0\x03\xff",
-        WireRefusal::BadField(17),
-    ),
-    (
-        Heard::Replies,
-        b"\0\0\0\x0e\0\x01\x91\0\0\0\0\0\0\0\0\0\0\0",
-        WireRefusal::BadField(7),
-    ),
-    (
-        Heard::Replies,
-        b"\0\0\0\x0e\0\x01\x91\x0d\0\0\0\0\0\0\0\0\0\0",
-        WireRefusal::BadField(7),
-    ),
-    (
-        Heard::Replies,
-        b"\0\0\0\x0f\0\x01\x91\x02\0\x01x\0\0\0\0\0\0\0\0",
-        WireRefusal::BadField(8),
-    ),
-    (
-        Heard::Replies,
-        b"\0\0\0\x0e\0\x01\x91\x02\0\0\0\0\0\0\0\0\0\x01",
-        WireRefusal::BadField(10),
-    ),
-    (
-        Heard::Replies,
-        b"\0\0\0\x0e\0\x01\x91\x06\0\0\0\0\0\0\0\x01\0\0",
-        WireRefusal::BadField(10),
-    ),
-    (
-        Heard::Replies,
-        b"\0\0\0\x0e\0\x01\x91\x07\0\0\0\0\0\x01\0\0\0\0",
-        WireRefusal::BadField(10),
-    ),
-    (
-        Heard::Replies,
-        b"\0\0\0\x14\0\x01\x91\x0b\0\x06bucket\0\0\0\0\0\0\0\x01",
-        WireRefusal::BadField(8),
-    ),
-    (
-        Heard::Replies,
-        b"\0\0\0\x0c\0\x01\x96\0\x03a/b\0\0\0\x03",
-        WireRefusal::BadField(7),
-    ),
-    (
-        Heard::Replies,
-        b"\0\0\0\x1b\0\x01\x81\0\0\0\0\0\0\0\x02\0\0\0\0\0\0\x01\0\x01c\0\x01#\0\x01p",
-        WireRefusal::BadField(25),
-    ),
-];
+// the frame is decoded as a message of the operation, which is spelled as the frame
+fn decodes(rt: &impl Abort, alloc: Global, row: &Right<'_>) -> Result<(), Fail> {
+    let frame = row.frame;
+    assert!(rt; frame.len() >= 4);
+    assert!(rt; frame.len() == length_of(frame) as usize + 4);
+    let framed = decode(alloc, row.heard, frame)?;
+    assert!(rt; operation(&framed.message) == row.operation);
+    assert!(rt; encode(alloc, &framed)?.as_slice() == frame);
+    Ok(())
+}
 
-// each frame is decoded, alone and byte by byte, as a message of the operation, which is spelled as the frame
-fn reads_and_writes(
+// the frame comes byte by byte, and its message is spelled in place of another one
+fn comes_in_bytes(
     rt: &impl Abort,
     alloc: Global,
-    heard: Heard,
-    wanted: Operation,
-    frame: &[u8],
+    row: &Right<'_>,
+    spelled: &mut Vec<u8>,
 ) -> Result<(), Fail> {
-    assert!(rt; frame.len() >= 4);
-    let length = length_of(frame) as usize;
-    assert!(rt; frame.len() == length + 4);
-    let framed = decode(alloc, heard, frame)?;
-    assert!(rt; operation(&framed.message) == wanted);
-    assert!(rt; encode(alloc, &framed)?.as_slice() == frame);
-    let mut feeder = Feeder::new(alloc, heard);
-    for byte in frame {
+    let mut feeder = Feeder::new(alloc, row.heard);
+    for (count, byte) in row.frame.iter().enumerate() {
+        assert!(rt; feeder.rest() == count);
         assert!(rt; feeder.take().is_none());
         feeder.feed(&[*byte])?;
     }
@@ -562,37 +57,160 @@ fn reads_and_writes(
     let Some(framed) = feeder.take() else {
         panic!(rt; "the frame is whole");
     };
-    assert!(rt; encode(alloc, &framed)?.as_slice() == frame);
+    encode_into(spelled, &framed)?;
+    assert!(rt; spelled.as_slice() == row.frame);
     Ok(())
 }
 
 #[test]
 fn each_operation_both_ways(rt: HostRuntime) -> Result<(), Fail> {
-    for (heard, wanted, frame) in FRAMES {
-        reads_and_writes(&rt, rt.alloc(), *heard, *wanted, frame)?;
+    let mut spelled = Vec::new(rt.alloc());
+    for row in QUESTIONS.iter().chain(REPLIES.iter()) {
+        decodes(&rt, rt.alloc(), row)?;
+        comes_in_bytes(&rt, rt.alloc(), row, &mut spelled)?;
     }
     Ok(())
 }
 
-// the frame is refused, whole and byte by byte, and so is each piece that comes later
-fn refuses(rt: &impl Abort, alloc: Global, heard: Heard, frame: &[u8], refusal: WireRefusal) {
-    let mut feeder = Feeder::new(alloc, heard);
-    assert!(rt; feeder.feed(frame) == Err(refusal));
-    assert!(rt; feeder.rest() == 0);
-    assert!(rt; feeder.feed(b"") == Err(refusal));
-    let mut feeder = Feeder::new(alloc, heard);
-    let mut answer = Ok(());
-    for byte in frame {
-        answer = feeder.feed(&[*byte]);
+// what a feeder answers to these bytes, whole and byte by byte, and to every later piece where it refuses them
+fn answer(
+    rt: &impl Abort,
+    alloc: Global,
+    heard: Heard,
+    bytes: &[u8],
+) -> Result<(), WireRefusal> {
+    let mut whole = Feeder::new(alloc, heard);
+    let answer = whole.feed(bytes);
+    assert!(rt; whole.feed(b"") == answer);
+    let mut in_bytes = Feeder::new(alloc, heard);
+    let mut last = Ok(());
+    for byte in bytes {
+        last = in_bytes.feed(&[*byte]);
     }
-    assert!(rt; answer == Err(refusal));
-    assert!(rt; feeder.take().is_none());
+    assert!(rt; last == answer);
+    assert!(rt; in_bytes.rest() == whole.rest());
+    answer
+}
+
+// a frame of a length that counts what follows it
+fn with_length(alloc: Global, rest: &[u8]) -> Result<Vec<u8>, Fail> {
+    let mut frame = Vec::new(alloc);
+    put_count(&mut frame, rest.len())?;
+    frame.extend_from_slice(rest)?;
+    Ok(frame)
+}
+
+// the place of the last field that begins before so many bytes or there
+fn last_begun(fields: &[u32], count: usize) -> u32 {
+    let mut last = 0;
+    for field in fields {
+        if *field as usize <= count {
+            last = *field;
+        }
+    }
+    last
+}
+
+// whatever the frame is cut to, the field that it cuts or lacks runs past it
+fn runs_past(rt: &impl Abort, alloc: Global, row: &Right<'_>) -> Result<(), Fail> {
+    assert!(rt; row.frame.len() >= 7);
+    for count in 7..row.frame.len() {
+        let cut = with_length(alloc, &row.frame[4..count])?;
+        let wanted = Err(WireRefusal::BadField(last_begun(row.fields, count)));
+        assert!(rt; answer(rt, alloc, row.heard, &cut) == wanted, "{count} bytes");
+    }
+    Ok(())
+}
+
+#[test]
+fn a_field_runs_past_the_frame(rt: HostRuntime) -> Result<(), Fail> {
+    for row in QUESTIONS.iter().chain(REPLIES.iter()) {
+        runs_past(&rt, rt.alloc(), row)?;
+    }
+    Ok(())
+}
+
+// a byte behind the last field is refused by its place
+fn goes_on(rt: &impl Abort, alloc: Global, row: &Right<'_>) -> Result<(), Fail> {
+    assert!(rt; row.frame.len() >= 7);
+    let mut longer = with_length(alloc, &row.frame[4..])?;
+    longer.push(0)?;
+    let longer = with_length(alloc, &longer.as_slice()[4..])?;
+    let wanted = row.frame.len() as u32;
+    assert!(rt; answer(rt, alloc, row.heard, &longer) == Err(WireRefusal::Trailing(wanted)));
+    Ok(())
+}
+
+#[test]
+fn a_byte_behind_the_last_field(rt: HostRuntime) -> Result<(), Fail> {
+    for row in QUESTIONS.iter().chain(REPLIES.iter()) {
+        goes_on(&rt, rt.alloc(), row)?;
+    }
+    Ok(())
+}
+
+// the frame with another byte at the place
+fn with_byte(alloc: Global, frame: &[u8], at: usize, byte: u8) -> Result<Vec<u8>, Fail> {
+    let mut changed = Vec::new(alloc);
+    for (place, old) in frame.iter().enumerate() {
+        changed.push(if place == at { byte } else { *old })?;
+    }
+    Ok(changed)
+}
+
+// each slip makes the field wrong in which it stands, or one behind it
+fn slips(rt: &impl Abort, alloc: Global, row: &Right<'_>) -> Result<(), Fail> {
+    for (at, byte, place) in row.slips {
+        let changed = with_byte(alloc, row.frame, *at, *byte)?;
+        let wanted = Err(WireRefusal::BadField(*place));
+        assert!(rt; answer(rt, alloc, row.heard, &changed) == wanted, "{byte} at {at}");
+    }
+    Ok(())
+}
+
+#[test]
+fn a_field_is_not_of_its_type(rt: HostRuntime) -> Result<(), Fail> {
+    for row in QUESTIONS.iter().chain(REPLIES.iter()) {
+        slips(&rt, rt.alloc(), row)?;
+    }
+    Ok(())
 }
 
 #[test]
 fn the_first_fault_by_its_place(rt: HostRuntime) {
-    for (heard, frame, refusal) in WRONG {
-        refuses(&rt, rt.alloc(), *heard, frame, *refusal);
+    for (heard, bytes, refusal) in WRONG {
+        assert!(rt; answer(&rt, rt.alloc(), *heard, bytes) == Err(*refusal), "{refusal}");
+    }
+}
+
+// the numbers of the operations that each side knows
+const KNOWN: &[(Heard, &[u8])] = &[
+    (Heard::AtClient, b"\x01\x02"),
+    (
+        Heard::AtAdmin,
+        b"\x10\x11\x12\x13\x14\x15\x16\x17\x18\x19\x1a\x1b\x1c",
+    ),
+    (Heard::AtAgent, b"\x20\x21"),
+    (
+        Heard::Replies,
+        b"\x81\x82\x83\x84\x85\x86\x90\x91\x92\x93\x95\x96",
+    ),
+    (Heard::AgentReplies, b"\xa0\xa1\xa2\xa3"),
+];
+
+// the side refuses the number of every other operation
+fn knows_no_other(rt: &impl Abort, alloc: Global, heard: Heard, known: &[u8]) {
+    for number in 0..=255u8 {
+        let answer = answer(rt, alloc, heard, &[0, 0, 0, 3, 0, 1, number]);
+        let refused = answer == Err(WireRefusal::BadOperation(number));
+        assert!(rt; refused != known.contains(&number), "{number}");
+    }
+}
+
+#[test]
+fn each_side_knows_its_operations(rt: HostRuntime) {
+    for (heard, known) in KNOWN {
+        knows_no_other(&rt, rt.alloc(), *heard, known);
     }
 }
 
@@ -676,23 +294,29 @@ fn the_longest_frame_is_heard(rt: HostRuntime) -> Result<(), Fail> {
 #[test]
 fn commands_are_carried(rt: HostRuntime) -> Result<(), Fail> {
     let alloc = rt.alloc();
-    for (heard, _, frame) in FRAMES {
-        let mut feeder = Feeder::new(alloc, *heard);
-        feeder.feed(frame)?;
+    for row in QUESTIONS.iter().chain(REPLIES.iter()) {
+        let mut feeder = Feeder::new(alloc, row.heard);
+        feeder.feed(row.frame)?;
         let Some(framed) = feeder.take() else {
             panic!(rt; "the frame is whole");
         };
-        let number = operation(&framed.message).number();
-        let carried = command_of(alloc, &framed.message)?;
-        assert!(rt; carried.is_some() == ((0x10..0x1A).contains(&number)));
-        if let Some(command) = carried {
-            let again = Framed {
-                sequence: framed.sequence,
-                message: message_of(alloc, &command)?,
-            };
-            assert!(rt; encode(alloc, &again)?.as_slice() == *frame);
-        }
-        tells_again(&rt, alloc, &framed, frame)?;
+        carries(&rt, alloc, &framed, row.frame)?;
+        tells_again(&rt, alloc, &framed, row.frame)?;
+    }
+    Ok(())
+}
+
+// a command is carried by the message that it was made of, and by no other
+fn carries(rt: &impl Abort, alloc: Global, framed: &Framed, frame: &[u8]) -> Result<(), Fail> {
+    let number = operation(&framed.message).number();
+    let carried = command_of(alloc, &framed.message)?;
+    assert!(rt; carried.is_some() == ((0x10..0x1A).contains(&number)));
+    if let Some(command) = carried {
+        let again = Framed {
+            sequence: framed.sequence,
+            message: message_of(alloc, &command)?,
+        };
+        assert!(rt; encode(alloc, &again)?.as_slice() == frame);
     }
     Ok(())
 }

@@ -1,5 +1,5 @@
 // The fields of messages, appended to a frame in their one spelling.
-ghost use Rattle.std.specs.Prelude.{◌≡◌, ◌<◌, ◌^◌, ◌∷◌, [], length};
+ghost use Rattle.std.specs.Prelude.{◌∷◌, []};
 ghost use Rattle.std.specs.Int.{w16, w32, w64, to_be_bytes};
 ghost use Rattle.wire_messages.specs.Format as format;
 ghost use Rattle.wire_messages.specs.Field as field;
@@ -160,7 +160,8 @@ pub fn put_kind_and_metadata(
     kind: Kind,
     metadata: &[u8],
 ) -> Result<(), AllocError>
-    ensures { Appended result out.old.items out.new.items (field.ruling.spelled (record { kind = kind.0; metadata = metadata.now })) }
+    ensures { Appended result out.old.items out.new.items
+        (field.ruling.spelled (record { kind = kind.0; metadata = metadata.now })) }
 {
     put_kind(out, kind)?;
     put_text(out, metadata)
