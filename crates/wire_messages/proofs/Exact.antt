@@ -1,17 +1,22 @@
 -- Formats that are read exactly as they are spelled, and how they are built of one another.
-use Rattle.std.proofs.Common.{◌≡◌, ℕ, zero, suc, ◌+◌, ◌^◌, ◌<◌, ◌≤◌, Bool, true, false, cond, ltb, eqb, List, [], ◌∷◌, ◌++◌, length, get_or, take, drop, Result, Ok, Err, refl, sym, ap, subst, ◌∙◌, append_assoc, arith, inl, inr}
+use Rattle.std.proofs.Common.{◌≡◌, ℕ, zero, suc, ◌+◌, ◌^◌, ◌<◌, ◌≤◌, Bool, true, false, cond, ltb, eqb, List, [], ◌∷◌}
+use Rattle.std.proofs.Common.{◌++◌, length, get_or, take, drop, Result, Ok, Err, refl, sym, ap, subst, ◌∙◌}
+use Rattle.std.proofs.Common.{append_assoc, arith, inl, inr}
 use Rattle.std.specs.Prelude.{◌⊎◌}
 use Rattle.std.specs.List.{flat_map, AllByRecursion}
 use Rattle.std.specs.Int.{Width, w8, w16, w32, w64, byte_len, from_be_bytes, to_be_bytes}
 use Rattle.std.proofs.Math.Nat.{mod-eq_of_lt}
 use Rattle.std.proofs.lemmas.Bool.{cases_lt, ltb-false, ltb-true, le-ltb}
-use Rattle.std.proofs.lemmas.List.{take_at, drop_at, take-append-drop, length-append, length-take, get_or-drop, get_or-take, get_or_past}
+use Rattle.std.proofs.lemmas.List.{take_at, drop_at, take-append-drop, length-append, length-take, get_or-drop}
+use Rattle.std.proofs.lemmas.List.{get_or-take, get_or_past}
 use Rattle.std.proofs.lemmas.List.Concat.{flat_map-cons}
-use Rattle.std.proofs.lemmas.Nat.{be_bytes_2, be_bytes_4, be_bytes_8, from_be_bytes-to_be_bytes_2, from_be_bytes-to_be_bytes_4, from_be_bytes-to_be_bytes_8}
+use Rattle.std.proofs.lemmas.Nat.{be_bytes_2, be_bytes_4, be_bytes_8, from_be_bytes-to_be_bytes_2}
+use Rattle.std.proofs.lemmas.Nat.{from_be_bytes-to_be_bytes_4, from_be_bytes-to_be_bytes_8}
 use Rattle.wire_messages.specs.declared.refusals.WireRefusal.{WireRefusal}
 use Rattle.wire_messages.specs.declared.refusals.WireRefusal.TheVariants.{BadField}
 use Rattle.wire_messages.specs.Left.{Left, place, wrong, ◌>>=◌}
-use Rattle.wire_messages.specs.Format.{Format, behind, number, text, tested, seen, ◌⊗◌, leading, nothing, flag, flagged, behind_flag, either, each, counted}
+use Rattle.wire_messages.specs.Format.{Format, behind, number, text, tested, seen, ◌⊗◌, leading, nothing, flag, flagged}
+use Rattle.wire_messages.specs.Format.{behind_flag, either, each, counted}
 
 abbrev pub IsBytes : List ℕ → Type 0
 IsBytes bytes = (i : ℕ) → get_or bytes i 0 < 256
@@ -56,7 +61,8 @@ pub record Takes (before : Left) (text : List ℕ) (after : Left) : Type 0 where
   pub same_end : after.end ≡ before.end
   pub bytes : IsBytes after.rest
 
-pub Takes-then : (a : Left) (x : List ℕ) (b : Left) (y : List ℕ) (c : Left) → Takes a x b → Takes b y c → Takes a (x ++ y) c
+pub Takes-then : (a : Left) (x : List ℕ) (b : Left) (y : List ℕ) (c : Left) → Takes a x b → Takes b y c
+    → Takes a (x ++ y) c
 Takes-then a x b y c p q = record {
   parts = p.parts ∙ ap (λ (t : List ℕ). x ++ t) q.parts ∙ sym (append_assoc x y c.rest);
   same_end = q.same_end ∙ p.same_end;
@@ -74,7 +80,8 @@ pub record IsExact {X : Type 0} (format : Format X) (Right : X → Type 0) : Typ
 
 pub record IsWide (w : Width) (limit : ℕ) : Type 0 where
   pub len : (n : ℕ) → length (to_be_bytes w n) ≡ byte_len w
-  pub back : (bytes : List ℕ) → length bytes ≡ byte_len w → IsBytes bytes → to_be_bytes w (from_be_bytes w bytes) ≡ bytes
+  pub back : (bytes : List ℕ) → length bytes ≡ byte_len w → IsBytes bytes
+      → to_be_bytes w (from_be_bytes w bytes) ≡ bytes
   pub again : (n : ℕ) → n < limit → from_be_bytes w (to_be_bytes w n) ≡ n
   pub below : (bytes : List ℕ) → IsBytes bytes → from_be_bytes w bytes < limit
 
@@ -139,7 +146,8 @@ number_again w limit wide end n rest lt =
     let len = wide.len n in
     let long : ltb (length (to_be_bytes w n ++ rest)) (byte_len w) ≡ false =
     le-ltb _ _ (omega (arith, length-append (to_be_bytes w n) rest)) in
-    rw (long, take_at (to_be_bytes w n) rest (byte_len w) len, drop_at (to_be_bytes w n) rest (byte_len w) len, wide.again n lt) refl
+    rw (long, take_at (to_be_bytes w n) rest (byte_len w) len, drop_at (to_be_bytes w n) rest (byte_len w) len,
+    wide.again n lt) refl
 
 pub number_exact : (w : Width) (limit : ℕ) → IsWide w limit → IsExact (number w) (λ n. n < limit)
 number_exact w limit wide = record { takes = number_takes w limit wide; again = number_again w limit wide }
@@ -150,7 +158,8 @@ text_takes : (left : Left) (x : List ℕ × Left) → IsBytes left.rest → text
     → Takes left (text.spelled x.0) x.1 × (length x.0 < 2 ^ 16)
 text_takes left x fits e =
     let b = bind_ok ((number w16).read left)
-    (λ count. cond (ltb (length count.1.rest) count.0) (wrong left) (Ok (take count.0 count.1.rest, behind count.0 count.1))) x e in
+    (λ count. cond (ltb (length count.1.rest) count.0) (wrong left)
+    (Ok (take count.0 count.1.rest, behind count.0 count.1))) x e in
     let n = b.0.0 in
     let next = b.0.1 in
     let t = number_takes w16 (2 ^ 16) wide16 left b.0 fits b.1 in
@@ -166,16 +175,20 @@ text_takes left x fits e =
     let both = Takes-then left (to_be_bytes w16 n) next (take n next.rest) (behind n next) t.0 second in
     let whole : Takes left (text.spelled (take n next.rest)) (behind n next) =
     subst (λ (k : ℕ). Takes left (to_be_bytes w16 k ++ take n next.rest) (behind n next)) (sym len) both in
-    subst (λ (x : List ℕ × Left). Takes left (text.spelled x.0) x.1 × (length x.0 < 2 ^ 16)) g.1 (whole, omega (arith, t.1))
+    subst (λ (x : List ℕ × Left). Takes left (text.spelled x.0) x.1 × (length x.0 < 2 ^ 16)) g.1
+    (whole, omega (arith, t.1))
 
 text_again : (end : ℕ) (bytes rest : List ℕ) → length bytes < 2 ^ 16
-    → text.read (record { end = end; rest = text.spelled bytes ++ rest }) ≡ Ok (bytes, record { end = end; rest = rest })
+    → text.read (record { end = end; rest = text.spelled bytes ++ rest })
+    ≡ Ok (bytes, record { end = end; rest = rest })
 text_again end bytes rest lt =
     let regrouped : text.spelled bytes ++ rest ≡ to_be_bytes w16 (length bytes) ++ (bytes ++ rest) =
     append_assoc (to_be_bytes w16 (length bytes)) bytes rest in
-    let long : ltb (length (bytes ++ rest)) (length bytes) ≡ false = le-ltb _ _ (omega (arith, length-append bytes rest)) in
+    let long : ltb (length (bytes ++ rest)) (length bytes) ≡ false =
+    le-ltb _ _ (omega (arith, length-append bytes rest)) in
     ap (λ (r : List ℕ). text.read (record { end = end; rest = r })) regrouped
-    ∙ rw (number_again w16 (2 ^ 16) wide16 end (length bytes) (bytes ++ rest) lt, long, take_at bytes rest (length bytes) refl, drop_at bytes rest (length bytes) refl) refl
+    ∙ rw (number_again w16 (2 ^ 16) wide16 end (length bytes) (bytes ++ rest) lt, long, take_at bytes rest
+    (length bytes) refl, drop_at bytes rest (length bytes) refl) refl
 
 pub text_exact : IsExact text (λ bytes. length bytes < 2 ^ 16)
 text_exact = record { takes = text_takes; again = text_again }
@@ -195,13 +208,15 @@ module _ {X : Type 0} (passes : X → Bool) (format : Format X) {Right : X → T
       subst (λ (x : X × Left). Takes left (format.spelled x.0) x.1 × Passes x.0) g.1 (t.0, (t.1, g.0))
 
   tested_again : (end : ℕ) (x : X) (rest : List ℕ) → Passes x
-      → (tested passes format).read (record { end = end; rest = format.spelled x ++ rest }) ≡ Ok (x, record { end = end; rest = rest })
+      → (tested passes format).read (record { end = end; rest = format.spelled x ++ rest })
+      ≡ Ok (x, record { end = end; rest = rest })
   tested_again end x rest right = rw (exact.again end x rest right.0, right.1) refl
 
   pub tested_exact : IsExact (tested passes format) (λ x. Right x × (passes x ≡ true))
   tested_exact = record { takes = tested_takes; again = tested_again }
 
-module _ {X Y : Type 0} (of : X → Y) (plain : Y → X) (format : Format X) {Right : X → Type 0} (exact : IsExact format Right)
+module _ {X Y : Type 0} (of : X → Y) (plain : Y → X) (format : Format X) {Right : X → Type 0}
+    (exact : IsExact format Right)
     {Good : Y → Type 0} (there : (x : X) → Right x → (plain (of x) ≡ x) × Good (of x))
     (back : (y : Y) → Good y → Right (plain y) × (of (plain y) ≡ y)) where
   seen_takes : (left : Left) (y : Y × Left) → IsBytes left.rest → (seen of plain format).read left ≡ Ok y
@@ -213,7 +228,8 @@ module _ {X Y : Type 0} (of : X → Y) (plain : Y → X) (format : Format X) {Ri
       let taken : Takes left (format.spelled (plain (of b.0.0))) b.0.1 =
       subst (λ (x : X). Takes left (format.spelled x) b.0.1) (sym good.0) t.0 in
       let read : Y × Left = (of b.0.0, b.0.1) in
-      subst (λ (y : Y × Left). Takes left (format.spelled (plain y.0)) y.1 × Good y.0) (ok_is read y b.2) (taken, good.1)
+      subst (λ (y : Y × Left). Takes left (format.spelled (plain y.0)) y.1 × Good y.0) (ok_is read y b.2)
+      (taken, good.1)
 
   seen_again : (end : ℕ) (y : Y) (rest : List ℕ) → Good y
       → (seen of plain format).read (record { end = end; rest = format.spelled (plain y) ++ rest })
@@ -238,17 +254,20 @@ module _ {X Y : Type 0} (first : Format X) (second : X → Format Y) {P : X → 
       let t = (exact_then a.0.0 s.1).takes a.0.1 b.0 s.0.bytes b.1 in
       let both = Takes-then left (first.spelled a.0.0) a.0.1 ((second a.0.0).spelled b.0.0) b.0.1 s.0 t.0 in
       let read : (X × Y) × Left = ((a.0.0, b.0.0), b.0.1) in
-      subst (λ (x : (X × Y) × Left). Takes left ((leading first second).spelled x.0) x.1 × (P x.0.0 × Q x.0.0 x.0.1)) (ok_is read x b.2)
+      subst (λ (x : (X × Y) × Left). Takes left ((leading first second).spelled x.0) x.1 × (P x.0.0 × Q x.0.0 x.0.1))
+      (ok_is read x b.2)
       (both, (s.1, t.1))
 
   leading_again : (end : ℕ) (x : X × Y) (rest : List ℕ) → P x.0 × Q x.0 x.1
       → (leading first second).read (record { end = end; rest = (leading first second).spelled x ++ rest })
       ≡ Ok (x, record { end = end; rest = rest })
   leading_again end x rest right =
-      let regrouped : (leading first second).spelled x ++ rest ≡ first.spelled x.0 ++ ((second x.0).spelled x.1 ++ rest) =
+      let regrouped : (leading first second).spelled x ++ rest ≡ first.spelled x.0
+      ++ ((second x.0).spelled x.1 ++ rest) =
       append_assoc (first.spelled x.0) ((second x.0).spelled x.1) rest in
       ap (λ (r : List ℕ). (leading first second).read (record { end = end; rest = r })) regrouped
-      ∙ rw (exact.again end x.0 ((second x.0).spelled x.1 ++ rest) right.0, (exact_then x.0 right.0).again end x.1 rest right.1) refl
+      ∙ rw (exact.again end x.0 ((second x.0).spelled x.1 ++ rest) right.0, (exact_then x.0 right.0).again end x.1 rest
+      right.1) refl
 
   pub leading_exact : IsExact (leading first second) (λ x. P x.0 × Q x.0 x.1)
   leading_exact = record { takes = leading_takes; again = leading_again }
@@ -285,19 +304,22 @@ OneOf P Q (inr y) = Q y
 
 module _ {X Y : Type 0} (one : Format X) (other : Format Y) {P : X → Type 0} {Q : Y → Type 0} (exact : IsExact one P)
     (exact_other : IsExact other Q) where
-  branch_takes : (sign : Bool) (left : Left) (x : (X ⊎ Y) × Left) → IsBytes left.rest → behind_flag one other sign left ≡ Ok x
+  branch_takes : (sign : Bool) (left : Left) (x : (X ⊎ Y) × Left) → IsBytes left.rest → behind_flag one other sign left
+  ≡ Ok x
       → (rest : List ℕ) × (flagged one other x.0 ≡ flag.spelled sign ++ rest) × Takes left rest x.1 × OneOf P Q x.0
   branch_takes true left x fits e =
       let a = bind_ok (one.read left) (λ x. Ok (inl x.0, x.1)) x e in
       let t = exact.takes left a.0 fits a.1 in
       let read : (X ⊎ Y) × Left = (inl a.0.0, a.0.1) in
-      subst (λ (x : (X ⊎ Y) × Left). (rest : List ℕ) × (flagged one other x.0 ≡ flag.spelled true ++ rest) × Takes left rest x.1 × OneOf P Q x.0)
+      subst (λ (x : (X ⊎ Y) × Left). (rest : List ℕ) × (flagged one other x.0 ≡ flag.spelled true ++ rest)
+      × Takes left rest x.1 × OneOf P Q x.0)
       (ok_is read x a.2) (one.spelled a.0.0, refl, t.0, t.1)
   branch_takes false left x fits e =
       let a = bind_ok (other.read left) (λ x. Ok (inr x.0, x.1)) x e in
       let t = exact_other.takes left a.0 fits a.1 in
       let read : (X ⊎ Y) × Left = (inr a.0.0, a.0.1) in
-      subst (λ (x : (X ⊎ Y) × Left). (rest : List ℕ) × (flagged one other x.0 ≡ flag.spelled false ++ rest) × Takes left rest x.1 × OneOf P Q x.0)
+      subst (λ (x : (X ⊎ Y) × Left). (rest : List ℕ) × (flagged one other x.0 ≡ flag.spelled false ++ rest)
+      × Takes left rest x.1 × OneOf P Q x.0)
       (ok_is read x a.2) (other.spelled a.0.0, refl, t.0, t.1)
 
   either_takes : (left : Left) (x : (X ⊎ Y) × Left) → IsBytes left.rest → (either one other).read left ≡ Ok x
@@ -310,7 +332,8 @@ module _ {X Y : Type 0} (one : Format X) (other : Format Y) {P : X → Type 0} {
       (subst (λ (bytes : List ℕ). Takes left bytes x.1) (sym t.1) both, t.3)
 
   either_again : (end : ℕ) (x : X ⊎ Y) (rest : List ℕ) → OneOf P Q x
-      → (either one other).read (record { end = end; rest = flagged one other x ++ rest }) ≡ Ok (x, record { end = end; rest = rest })
+      → (either one other).read (record { end = end; rest = flagged one other x ++ rest })
+      ≡ Ok (x, record { end = end; rest = rest })
   either_again end (inl x) rest right =
       rw (flag_exact.again end true (one.spelled x ++ rest) tt, exact.again end x rest right) refl
   either_again end (inr y) rest right =
@@ -326,24 +349,30 @@ module _ {X : Type 0} (format : Format X) {P : X → Type 0} (exact : IsExact fo
       → Takes left (flat_map format.spelled x.0) x.1 × (length x.0 ≡ count) × AllByRecursion P x.0
   unfolding each
   each_takes zero left x fits e =
-      subst (λ (x : List X × Left). Takes left (flat_map format.spelled x.0) x.1 × (length x.0 ≡ 0) × AllByRecursion P x.0)
+      subst (λ (x : List X × Left). Takes left (flat_map format.spelled x.0) x.1 × (length x.0 ≡ 0)
+      × AllByRecursion P x.0)
       (ok_is ([], left) x e) (record { parts = refl; same_end = refl; bytes = fits }, refl, tt)
   each_takes (suc count) left x fits e =
-      let a = bind_ok (format.read left) (λ first. each format count first.1 >>= λ others. Ok (first.0 ∷ others.0, others.1)) x e in
+      let a =
+      bind_ok (format.read left) (λ first. each format count first.1 >>= λ others. Ok (first.0 ∷ others.0, others.1)) x
+      e in
       let b = bind_ok (each format count a.0.1) (λ others. Ok (a.0.0 ∷ others.0, others.1)) x a.2 in
       let s = exact.takes left a.0 fits a.1 in
       let t = each_takes count a.0.1 b.0 s.0.bytes b.1 in
       let both = Takes-then left (format.spelled a.0.0) a.0.1 (flat_map format.spelled b.0.0) b.0.1 s.0 t.0 in
       let read : List X × Left = (a.0.0 ∷ b.0.0, b.0.1) in
-      subst (λ (x : List X × Left). Takes left (flat_map format.spelled x.0) x.1 × (length x.0 ≡ suc count) × AllByRecursion P x.0)
+      subst (λ (x : List X × Left). Takes left (flat_map format.spelled x.0) x.1 × (length x.0 ≡ suc count)
+      × AllByRecursion P x.0)
       (ok_is read x b.2) (rw flat_map-cons both, ap suc t.1, (s.1, t.2))
 
   each_again : (end : ℕ) (xs : List X) (rest : List ℕ) → AllByRecursion P xs
-      → each format (length xs) (record { end = end; rest = flat_map format.spelled xs ++ rest }) ≡ Ok (xs, record { end = end; rest = rest })
+      → each format (length xs) (record { end = end; rest = flat_map format.spelled xs ++ rest })
+      ≡ Ok (xs, record { end = end; rest = rest })
   unfolding each
   each_again end [] rest right = refl
   each_again end (x ∷ xs) rest right =
-      let regrouped : flat_map format.spelled (x ∷ xs) ++ rest ≡ format.spelled x ++ (flat_map format.spelled xs ++ rest) =
+      let regrouped : flat_map format.spelled (x ∷ xs) ++ rest ≡ format.spelled x
+      ++ (flat_map format.spelled xs ++ rest) =
       ap (λ (t : List ℕ). t ++ rest) (flat_map-cons format.spelled x xs)
       ∙ append_assoc (format.spelled x) (flat_map format.spelled xs) rest in
       ap (λ (r : List ℕ). each format (suc (length xs)) (record { end = end; rest = r })) regrouped
@@ -364,12 +393,15 @@ module _ {X : Type 0} (format : Format X) {P : X → Type 0} (exact : IsExact fo
       )
 
   counted_again : (end : ℕ) (xs : List X) (rest : List ℕ) → FewOf xs
-      → (counted format).read (record { end = end; rest = (counted format).spelled xs ++ rest }) ≡ Ok (xs, record { end = end; rest = rest })
+      → (counted format).read (record { end = end; rest = (counted format).spelled xs ++ rest })
+      ≡ Ok (xs, record { end = end; rest = rest })
   counted_again end xs rest right =
-      let regrouped : (counted format).spelled xs ++ rest ≡ to_be_bytes w32 (length xs) ++ (flat_map format.spelled xs ++ rest) =
+      let regrouped : (counted format).spelled xs ++ rest ≡ to_be_bytes w32 (length xs)
+      ++ (flat_map format.spelled xs ++ rest) =
       append_assoc (to_be_bytes w32 (length xs)) (flat_map format.spelled xs) rest in
       ap (λ (r : List ℕ). (counted format).read (record { end = end; rest = r })) regrouped
-      ∙ rw ((number_exact w32 (2 ^ 32) wide32).again end (length xs) (flat_map format.spelled xs ++ rest) right.0) (each_again end xs rest right.1)
+      ∙ rw ((number_exact w32 (2 ^ 32) wide32).again end (length xs) (flat_map format.spelled xs ++ rest) right.0)
+      (each_again end xs rest right.1)
 
   pub counted_exact : IsExact (counted format) (λ xs. (length xs < 2 ^ 32) × AllByRecursion P xs)
   counted_exact = record { takes = counted_takes; again = counted_again }

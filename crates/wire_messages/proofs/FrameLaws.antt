@@ -1,10 +1,13 @@
 -- Each frame is read exactly as it is spelled, and no spelling begins another.
-use Rattle.std.proofs.Common.{◌≡◌, ℕ, ◌+◌, ◌^◌, ◌<◌, ◌≤◌, Bool, true, false, cond, ltb, eqb, List, [], ◌∷◌, ◌++◌, length, take, drop, Option, Some, None, Result, Ok, Err, refl, sym, ap, subst, ◌∙◌, append_assoc, arith}
+use Rattle.std.proofs.Common.{◌≡◌, ℕ, ◌+◌, ◌^◌, ◌<◌, ◌≤◌, Bool, true, false, cond, ltb, eqb, List, [], ◌∷◌, ◌++◌}
+use Rattle.std.proofs.Common.{length, take, drop, Option, Some, None, Result, Ok, Err, refl, sym, ap, subst, ◌∙◌}
+use Rattle.std.proofs.Common.{append_assoc, arith}
 use Rattle.std.specs.Int.{w8, w16, w32, to_be_bytes, from_be_bytes}
-use Rattle.std.specs.Prelude.{IfOk}
+use Rattle.std.specs.Prelude.{IfOk, is_some, slice_index}
 use Rattle.std.proofs.Math.Nat.{mod-eq_of_lt}
 use Rattle.std.proofs.lemmas.Bool.{ltb-false, le-ltb, eqb-true}
-use Rattle.std.proofs.lemmas.List.{take_at, drop_at, take-append-drop, length-append, length-take, length-drop, append-nil, nil_from_length}
+use Rattle.std.proofs.lemmas.List.{take_at, drop_at, take-append-drop, length-append, length-take, length-drop}
+use Rattle.std.proofs.lemmas.List.{append-nil, nil_from_length}
 use Rattle.wire_messages.specs.declared.messages.Framed.{Framed}
 use Rattle.wire_messages.specs.declared.messages.Message.{Message}
 use Rattle.wire_messages.specs.declared.operations.Heard.{Heard}
@@ -17,10 +20,12 @@ use Rattle.wire_messages.specs.Left.{Left, place, ◌>>=◌}
 use Rattle.wire_messages.specs.Format.{number}
 use Rattle.wire_messages.specs.Operation.{number_of, operation_of, known_at}
 use Rattle.wire_messages.specs.Message.{operation, fields, read}
-use Rattle.wire_messages.specs.Frame.{body, spelling, length_of, length_fault, message_of, whole, body_of, unless_fault, frame_of, Answers}
+use Rattle.wire_messages.specs.Frame.{body, spelling, length_of, length_fault, message_of, whole, body_of, unless_fault}
+use Rattle.wire_messages.specs.Frame.{frame_of, Answers, IsKnown}
 use Rattle.wire_messages.specs.Hearing.{IsHeard}
 use Rattle.wire_messages.specs.Right.{IsRight}
-use Rattle.wire_messages.proofs.Exact.{IsBytes, IsBytes-drop, IsBytes-take, bind_ok, pass_ok, ok_is, number_exact, wide8, wide16, wide32}
+use Rattle.wire_messages.proofs.Exact.{IsBytes, IsBytes-drop, IsBytes-take, bind_ok, pass_ok, ok_is, number_exact}
+use Rattle.wire_messages.proofs.Exact.{wide8, wide16, wide32}
 use Rattle.wire_messages.proofs.RefusalLaws.{find_passes, byte_read}
 use Rattle.wire_messages.proofs.MessageLaws.{Says, message_takes, message_again}
 
@@ -33,7 +38,8 @@ record Told (heard : Heard) (n : ℕ) (left : Left) (y : Message × Left) : Type
   numbered : number_of (operation y.0) ≡ n
   known : operation_of heard (number_of (operation y.0)) ≡ Some (operation y.0)
 
-message_told : (heard : Heard) (n : ℕ) (found : Option Operation) → operation_of heard n ≡ found → (left : Left) (y : Message × Left)
+message_told : (heard : Heard) (n : ℕ) (found : Option Operation) → operation_of heard n ≡ found
+    → (left : Left) (y : Message × Left)
     → IsBytes left.rest → message_of found n left ≡ Ok y → Told heard n left y
 message_told heard n (Some o) is left y fits e =
     let s = message_takes o left y fits e in
@@ -52,12 +58,15 @@ record Bodied (heard : Heard) (left : Left) (framed : Framed) : Type 0 where
   right : IsRight framed.message
   known : operation_of heard (number_of (operation framed.message)) ≡ Some (operation framed.message)
 
-body_takes : (heard : Heard) (left : Left) (framed : Framed) → IsBytes left.rest → body_of heard left ≡ Ok framed → Bodied heard left framed
+body_takes : (heard : Heard) (left : Left) (framed : Framed) → IsBytes left.rest → body_of heard left ≡ Ok framed
+    → Bodied heard left framed
 unfolding body_of
 body_takes heard left framed fits e =
     let a = bind_ok ((number w16).read left)
     (λ s. (number w8).read s.1 >>= λ o. message_of (operation_of heard o.0) o.0 o.1 >>= λ m. whole s.0 m) framed e in
-    let b = bind_ok ((number w8).read a.0.1) (λ o. message_of (operation_of heard o.0) o.0 o.1 >>= λ m. whole a.0.0 m) framed a.2 in
+    let b =
+    bind_ok ((number w8).read a.0.1) (λ o. message_of (operation_of heard o.0) o.0 o.1 >>= λ m. whole a.0.0 m) framed
+    a.2 in
     let m = bind_ok (message_of (operation_of heard b.0.0) b.0.0 b.0.1) (λ m. whole a.0.0 m) framed b.2 in
     let s = (number_exact w16 (2 ^ 16) wide16).takes left a.0 fits a.1 in
     let o = (number_exact w8 256 wide8).takes a.0.1 b.0 s.0.bytes b.1 in
@@ -77,18 +86,21 @@ body_takes heard left framed fits e =
       known = t.known;
     })
 
-fault_free : (fault : Option WireRefusal) (r : Result Framed WireRefusal) (framed : Framed) → unless_fault fault r ≡ Ok framed
+fault_free : (fault : Option WireRefusal) (r : Result Framed WireRefusal) (framed : Framed)
+    → unless_fault fault r ≡ Ok framed
     → (fault ≡ None) × (r ≡ Ok framed)
 fault_free None r framed e = (refl, e)
 fault_free (Some fault) r framed e = absurd cc
 
-short_of : (a b : Bool) (n : ℕ) → ltb n 3 ≡ a → ltb 1048576 n ≡ b → cond a (Some (TooShort n)) (cond b (Some (TooLong n)) None) ≡ None
+short_of : (a b : Bool) (n : ℕ) → ltb n 3 ≡ a → ltb 1048576 n ≡ b
+    → cond a (Some (TooShort n)) (cond b (Some (TooLong n)) None) ≡ None
     → n ≤ 1048576
 short_of true b n first second none = absurd cc
 short_of false true n first second none = absurd cc
 short_of false false n first second none = ltb-false 1048576 n second
 
-pub frame_takes : (heard : Heard) (frame : List ℕ) (framed : Framed) → IsBytes frame → length frame ≡ length_of frame + 4
+pub frame_takes : (heard : Heard) (frame : List ℕ) (framed : Framed) → IsBytes frame
+    → length frame ≡ length_of frame + 4
     → frame_of heard frame ≡ Ok framed → IsHeard heard framed × (frame ≡ spelling framed)
 frame_takes heard frame framed fits len e =
     let n = length_of frame in
@@ -144,7 +156,8 @@ unfolding body_of
 body_again heard framed end is =
     let m = framed.message in
     let all : fields m ≡ fields m ++ [] = sym (append-nil (fields m)) in
-    let read_all : read (operation m) (record { end = end; rest = fields m }) ≡ Ok (m, record { end = end; rest = [] }) =
+    let read_all : read (operation m) (record { end = end; rest = fields m })
+    ≡ Ok (m, record { end = end; rest = [] }) =
     ap (λ (r : List ℕ). read (operation m) (record { end = end; rest = r })) all ∙ message_again m end [] is.right in
     let small : number_of (operation m) < 256 = number_small (operation m) in
     rw (
@@ -155,27 +168,37 @@ body_again heard framed end is =
     ) refl
 
 body_size : (framed : Framed) → 3 ≤ length (body framed)
-body_size framed = omega (arith, length-append (to_be_bytes w16 framed.sequence) (number_of (operation framed.message) ∷ fields framed.message))
+body_size framed =
+    omega (
+      arith,
+      length-append (to_be_bytes w16 framed.sequence)
+          (number_of (operation framed.message) ∷ fields framed.message),
+    )
 
 -- the length in front of a spelling, and that it has no fault
-pub spelled_length : (heard : Heard) (framed : Framed) → IsHeard heard framed → length_of (spelling framed) ≡ length (body framed)
+pub spelled_length : (heard : Heard) (framed : Framed) → IsHeard heard framed
+    → length_of (spelling framed) ≡ length (body framed)
 spelled_length heard framed is =
     let n = length (body framed) in
     let front : take 4 (spelling framed) ≡ to_be_bytes w32 n = take_at (to_be_bytes w32 n) (body framed) 4 refl in
     let small : n < 2 ^ 32 = omega (arith, is.short) in
     ap (from_be_bytes w32) front ∙ wide32.again n small
 
-pub spelled_right : (heard : Heard) (framed : Framed) → IsHeard heard framed → length_fault (length_of (spelling framed)) ≡ None
+pub spelled_right : (heard : Heard) (framed : Framed) → IsHeard heard framed
+    → length_fault (length_of (spelling framed)) ≡ None
 spelled_right heard framed is =
     let n = length (body framed) in
     let not_short : ltb n 3 ≡ false = le-ltb _ _ (body_size framed) in
     let not_long : ltb 1048576 n ≡ false = le-ltb _ _ is.short in
     ap length_fault (spelled_length heard framed is) ∙ rw (not_short, not_long) refl
 
-pub frame_again : (heard : Heard) (framed : Framed) → IsHeard heard framed → frame_of heard (spelling framed) ≡ Ok framed
+pub frame_again : (heard : Heard) (framed : Framed) → IsHeard heard framed
+    → frame_of heard (spelling framed) ≡ Ok framed
 frame_again heard framed is =
-    let behind : drop 4 (spelling framed) ≡ body framed = drop_at (to_be_bytes w32 (length (body framed))) (body framed) 4 refl in
-    ap (λ (fault : Option WireRefusal). unless_fault fault (body_of heard (record { end = length (spelling framed); rest = drop 4 (spelling framed) })))
+    let behind : drop 4 (spelling framed) ≡ body framed =
+    drop_at (to_be_bytes w32 (length (body framed))) (body framed) 4 refl in
+    ap (λ (fault : Option WireRefusal). unless_fault fault
+    (body_of heard (record { end = length (spelling framed); rest = drop 4 (spelling framed) })))
     (spelled_right heard framed is)
     ∙ ap (λ (r : List ℕ). body_of heard (record { end = length (spelling framed); rest = r })) behind
     ∙ body_again heard framed (length (spelling framed)) is
@@ -185,37 +208,68 @@ frame_again heard framed is =
 pub spelling_size : (framed : Framed) → length (spelling framed) ≡ 4 + length (body framed)
 spelling_size framed = length-append (to_be_bytes w32 (length (body framed))) (body framed)
 
-same_size : (a b : Framed) (x y : List ℕ) → length (body a) < 2 ^ 32 → length (body b) < 2 ^ 32 → spelling a ++ x ≡ spelling b ++ y
+same_size : (a b : Framed) (x y : List ℕ) → length (body a) < 2 ^ 32 → length (body b) < 2 ^ 32
+    → spelling a ++ x ≡ spelling b ++ y
     → length (body a) ≡ length (body b)
 same_size a b x y small_a small_b e =
     let front : (f : Framed) (z : List ℕ) → take 4 (spelling f ++ z) ≡ to_be_bytes w32 (length (body f)) = λ f z.
-    ap (take 4) (append_assoc (to_be_bytes w32 (length (body f))) (body f) z) ∙ take_at (to_be_bytes w32 (length (body f))) (body f ++ z) 4 refl in
-    let same : to_be_bytes w32 (length (body a)) ≡ to_be_bytes w32 (length (body b)) = sym (front a x) ∙ ap (take 4) e ∙ front b y in
+    ap (take 4) (append_assoc (to_be_bytes w32 (length (body f))) (body f) z)
+    ∙ take_at (to_be_bytes w32 (length (body f))) (body f ++ z) 4 refl in
+    let same : to_be_bytes w32 (length (body a)) ≡ to_be_bytes w32 (length (body b)) =
+    sym (front a x) ∙ ap (take 4) e ∙ front b y in
     sym (wide32.again (length (body a)) small_a) ∙ ap (from_be_bytes w32) same ∙ wide32.again (length (body b)) small_b
 
-pub one_spelling : (heard : Heard) (a b : Framed) (x y : List ℕ) → IsHeard heard a → IsHeard heard b → spelling a ++ x ≡ spelling b ++ y
+pub one_spelling : (heard : Heard) (a b : Framed) (x y : List ℕ) → IsHeard heard a → IsHeard heard b
+    → spelling a ++ x ≡ spelling b ++ y
     → (a ≡ b) × (x ≡ y)
 one_spelling heard a b x y is_a is_b e =
     let size = same_size a b x y (omega (arith, is_a.short)) (omega (arith, is_b.short)) e in
     let n = length (spelling a) in
     let len : length (spelling b) ≡ n = spelling_size b ∙ ap (λ (k : ℕ). 4 + k) (sym size) ∙ sym (spelling_size a) in
-    let same : spelling a ≡ spelling b = sym (take_at (spelling a) x n refl) ∙ ap (take n) e ∙ take_at (spelling b) y n len in
+    let same : spelling a ≡ spelling b =
+    sym (take_at (spelling a) x n refl) ∙ ap (take n) e ∙ take_at (spelling b) y n len in
     let rest : x ≡ y = sym (drop_at (spelling a) x n refl) ∙ ap (drop n) e ∙ drop_at (spelling b) y n len in
     (ok_is a b (sym (frame_again heard a is_a) ∙ ap (frame_of heard) same ∙ frame_again heard b is_b), rest)
 
 -- ---- what a call answers that gives what is read
 
-pub is_found : (heard : Heard) (frame : List ℕ) (answer : Result Framed WireRefusal) → IsBytes frame → length frame ≡ length_of frame + 4
+pub is_found : (heard : Heard) (frame : List ℕ) (answer : Result Framed WireRefusal) → IsBytes frame
+    → length frame ≡ length_of frame + 4
     → Answers answer (frame_of heard frame) → IfOk answer (λ framed. IsHeard heard framed × (frame ≡ spelling framed))
 is_found heard frame (Ok framed) fits len given = frame_takes heard frame framed fits len given
 is_found heard frame (Err refusal) fits len given = tt
 
-pub is_read : (heard : Heard) (frame : List ℕ) (answer : Result Framed WireRefusal) (framed : Framed) → IsHeard heard framed
+pub is_read : (heard : Heard) (frame : List ℕ) (answer : Result Framed WireRefusal) (framed : Framed)
+    → IsHeard heard framed
     → frame ≡ spelling framed → Answers answer (frame_of heard frame) → Answers answer (Ok framed)
 is_read heard frame answer framed is same given =
     subst (Answers answer) (ap (frame_of heard) same ∙ frame_again heard framed is) given
 
-pub is_read_again : (framed : Framed) (answer : Result (List ℕ) EncodeRefusal) → IfOk answer (λ frame. frame ≡ spelling framed)
+pub is_read_again : (framed : Framed) (answer : Result (List ℕ) EncodeRefusal)
+    → IfOk answer (λ frame. frame ≡ spelling framed)
     → IfOk answer (λ frame. (heard : Heard) → IsHeard heard framed → frame_of heard frame ≡ Ok framed)
 is_read_again framed (Ok frame) spelled = λ heard is. ap (frame_of heard) spelled ∙ frame_again heard framed is
 is_read_again framed (Err refusal) spelled = tt
+
+-- ---- the number of the operation, behind the sequence number
+
+number_stands : (end : ℕ) (rest : List ℕ) (s n : ℕ × Left)
+    → (number w16).read (record { end = end; rest = rest }) ≡ Ok s → (number w8).read s.1 ≡ Ok n → slice_index rest 2 ≡ n.0
+number_stands end [] s n first second = absurd cc
+number_stands end (a ∷ []) s n first second = absurd cc
+number_stands end (a ∷ b ∷ []) s n first second =
+    let same = ok_is (from_be_bytes w16 (a ∷ b ∷ []), record { end = end; rest = [] }) s first in
+    let read : (number w8).read (record { end = end; rest = [] }) ≡ Ok n =
+    subst (λ (s : ℕ × Left). (number w8).read s.1 ≡ Ok n) (sym same) second in
+    absurd cc
+number_stands end (a ∷ b ∷ c ∷ rest) s n first second =
+    let same = ok_is (from_be_bytes w16 (a ∷ b ∷ []), record { end = end; rest = c ∷ rest }) s first in
+    let read : (number w8).read (record { end = end; rest = c ∷ rest }) ≡ Ok n =
+    subst (λ (s : ℕ × Left). (number w8).read s.1 ≡ Ok n) (sym same) second in
+    ap (λ (x : ℕ × Left). x.0) (ok_is (c, record { end = end; rest = rest }) n read)
+
+pub known_at_front : (heard : Heard) (left : Left) (s n : ℕ × Left) (operation : Operation)
+    → (number w16).read left ≡ Ok s → (number w8).read s.1 ≡ Ok n → operation_of heard n.0 ≡ Some operation
+    → IsKnown heard left.rest
+known_at_front heard left s n operation first second is =
+    ap is_some (ap (operation_of heard) (number_stands left.end left.rest s n first second) ∙ is)

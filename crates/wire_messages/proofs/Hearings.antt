@@ -1,5 +1,6 @@
 -- The messages that are heard are those that are spelled, and no others.
-use Rattle.std.proofs.Common.{◌≡◌, ℕ, ◌+◌, ◌≤◌, Bool, true, false, cond, ltb, List, [], ◌∷◌, ◌++◌, length, take, drop, Option, Some, None, Result, Ok, Err, refl, sym, ap, subst, ◌∙◌, append_assoc, arith}
+use Rattle.std.proofs.Common.{◌≡◌, ℕ, ◌+◌, ◌≤◌, Bool, true, false, cond, ltb, List, [], ◌∷◌, ◌++◌, length, take, drop}
+use Rattle.std.proofs.Common.{Option, Some, None, Result, Ok, Err, refl, sym, ap, subst, ◌∙◌, append_assoc, arith}
 use Rattle.std.specs.Int.{w32, from_be_bytes}
 use Rattle.std.specs.List.{flat_map, AllByRecursion}
 use Rattle.std.proofs.lemmas.Bool.{ltb-false}
@@ -22,13 +23,16 @@ record Spelt (heard : Heard) (bytes : List ℕ) (framed : Framed) (rest : List �
   right : IsHeard heard framed
   fits : IsBytes rest
 
-framed_spelt : (heard : Heard) (bytes : List ℕ) (read : Result Framed WireRefusal) (behind : List ℕ) (framed : Framed) (rest : List ℕ)
+framed_spelt : (heard : Heard) (bytes : List ℕ) (read : Result Framed WireRefusal) (behind : List ℕ) (framed : Framed)
+    (rest : List ℕ)
     → front_of read behind ≡ Whole framed rest → (read ≡ Ok framed) × (behind ≡ rest)
 framed_spelt heard bytes (Ok read) behind framed rest e = (cc, cc)
 framed_spelt heard bytes (Err refusal) behind framed rest e = absurd cc
 
-with_length_spelt : (heard : Heard) (bytes : List ℕ) (fault : Option WireRefusal) (framed : Framed) (rest : List ℕ) → IsBytes bytes
-    → 4 ≤ length bytes → with_length heard bytes (length_of bytes + 4) fault ≡ Whole framed rest → Spelt heard bytes framed rest
+with_length_spelt : (heard : Heard) (bytes : List ℕ) (fault : Option WireRefusal) (framed : Framed) (rest : List ℕ)
+    → IsBytes bytes
+    → 4 ≤ length bytes → with_length heard bytes (length_of bytes + 4) fault ≡ Whole framed rest
+    → Spelt heard bytes framed rest
 with_length_spelt heard bytes (Some fault) framed rest fits long e = absurd cc
 with_length_spelt heard bytes None framed rest fits long e = spelt (ltb (length bytes) size) refl e
   where
@@ -36,7 +40,8 @@ with_length_spelt heard bytes None framed rest fits long e = spelt (ltb (length 
     size = length_of bytes + 4
 
     spelt : (b : Bool) → ltb (length bytes) (length_of bytes + 4) ≡ b
-        → cond b Partial (front_of (frame_of heard (take (length_of bytes + 4) bytes)) (drop (length_of bytes + 4) bytes)) ≡ Whole framed rest
+        → cond b Partial (front_of (frame_of heard (take (length_of bytes + 4) bytes))
+        (drop (length_of bytes + 4) bytes)) ≡ Whole framed rest
         → Spelt heard bytes framed rest
     spelt true is e = absurd cc
     spelt false is e =
@@ -56,20 +61,24 @@ with_length_spelt heard bytes None framed rest fits long e = spelt (ltb (length 
           fits = subst IsBytes whole.1 (IsBytes-drop n bytes fits);
         }
 
-first_spelt : (heard : Heard) (bytes : List ℕ) (framed : Framed) (rest : List ℕ) → IsBytes bytes → first_of heard bytes ≡ Whole framed rest
+first_spelt : (heard : Heard) (bytes : List ℕ) (framed : Framed) (rest : List ℕ) → IsBytes bytes
+    → first_of heard bytes ≡ Whole framed rest
     → Spelt heard bytes framed rest
 unfolding first_of
 first_spelt heard bytes framed rest fits e = spelt (ltb (length bytes) 4) refl e
   where
     spelt : (b : Bool) → ltb (length bytes) 4 ≡ b
-        → cond b Partial (with_length heard bytes (length_of bytes + 4) (length_fault (length_of bytes))) ≡ Whole framed rest
+        → cond b Partial (with_length heard bytes (length_of bytes + 4) (length_fault (length_of bytes)))
+        ≡ Whole framed rest
         → Spelt heard bytes framed rest
     spelt true is e = absurd cc
-    spelt false is e = with_length_spelt heard bytes (length_fault (length_of bytes)) framed rest fits (ltb-false _ _ is) e
+    spelt false is e = with_length_spelt heard bytes (length_fault (length_of bytes)) framed rest fits
+        (ltb-false _ _ is) e
 
 -- what was heard is spelled in the bytes
 pub heard_spelled : (heard : Heard) (bytes : List ℕ) (messages : List Framed) (behind : List ℕ) → IsBytes bytes
-    → Hears heard bytes messages behind → (bytes ≡ flat_map spelling messages ++ behind) × AllByRecursion (IsHeard heard) messages
+    → Hears heard bytes messages behind
+    → (bytes ≡ flat_map spelling messages ++ behind) × AllByRecursion (IsHeard heard) messages
 heard_spelled heard bytes [] behind fits is = (is, tt)
 heard_spelled heard bytes (framed ∷ messages) behind fits is =
     let one = first_spelt heard bytes framed is.0 fits is.1 in
@@ -109,7 +118,8 @@ same_whole : (front : Front) (a b : Framed) (x y : List ℕ) → front ≡ Whole
 same_whole front a b x y first second = (cc, cc)
 
 -- no other messages are heard in the same bytes
-pub heard_once : (heard : Heard) (bytes : List ℕ) (ms ns : List Framed) (x y : List ℕ) → Hears heard bytes ms x → IsOpen heard x
+pub heard_once : (heard : Heard) (bytes : List ℕ) (ms ns : List Framed) (x y : List ℕ) → Hears heard bytes ms x
+    → IsOpen heard x
     → Hears heard bytes ns y → IsOpen heard y → (ms ≡ ns) × (x ≡ y)
 heard_once heard bytes [] [] x y first last second end = (refl, sym first ∙ second)
 heard_once heard bytes [] (n ∷ ns) x y first last second end =

@@ -1,5 +1,6 @@
 -- The texts of names and keys are short enough for a field.
-use Rattle.std.proofs.Common.{◌≡◌, ℕ, ◌^◌, ◌<◌, Bool, true, false, cond, ltb, eqb, List, length, Option, Some, None, refl, arith}
+use Rattle.std.proofs.Common.{◌≡◌, ℕ, ◌^◌, ◌<◌, Bool, true, false, cond, ltb, eqb, List, length, Option, Some, None}
+use Rattle.std.proofs.Common.{refl, arith}
 use Rattle.std.proofs.lemmas.Bool.{ltb-false}
 use Rattle.cynara_keys.specs.Name.{name_fault}
 use Rattle.cynara_keys.specs.BucketName.{bucket_name_fault}

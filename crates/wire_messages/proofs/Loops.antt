@@ -1,8 +1,10 @@
 -- Reading so many of one form one after the other, as a loop does.
-use Rattle.std.proofs.Common.{◌≡◌, ℕ, suc, ◌-◌, ◌+◌, ◌≤◌, ◌<◌, List, [], ◌∷◌, ◌++◌, length, slice_get, Option, Some, Result, Ok, Err, refl, sym, ap, ◌∙◌, append_assoc, arith}
+use Rattle.std.proofs.Common.{◌≡◌, ℕ, suc, ◌-◌, ◌+◌, ◌≤◌, ◌<◌, List, [], ◌∷◌, ◌++◌, length, slice_get, Option, Some}
+use Rattle.std.proofs.Common.{Result, Ok, Err, refl, sym, ap, ◌∙◌, append_assoc, arith}
 use Rattle.std.proofs.lemmas.List.{append-nil, length_push}
 use Rattle.wire_messages.specs.declared.refusals.WireRefusal.{WireRefusal}
-use Rattle.wire_messages.specs.declared.refusals.WireRefusal.TheVariants.{TooShort, TooLong, BadOperation, BadField, Trailing, Memory}
+use Rattle.wire_messages.specs.declared.refusals.WireRefusal.TheVariants.{TooShort, TooLong, BadOperation, BadField}
+use Rattle.wire_messages.specs.declared.refusals.WireRefusal.TheVariants.{Trailing, Memory}
 use Rattle.wire_messages.specs.Left.{Left, Reading, ◌>>=◌, Refuses}
 use Rattle.wire_messages.specs.Format.{Format, each, tested}
 use Rattle.wire_messages.specs.Field.{rising_names, comes_after, name}
@@ -18,7 +20,8 @@ regroup front x (Err refusal) = refl
 
 -- a refusal of the next one is a refusal of all
 pub refused_all : {X Y : Type 0} (refusal : WireRefusal) (part : Result X WireRefusal) (total : Result Y WireRefusal)
-    → Refuses refusal part → ((refusal : WireRefusal) → part ≡ Err refusal → total ≡ Err refusal) → Refuses refusal total
+    → Refuses refusal part → ((refusal : WireRefusal) → part ≡ Err refusal → total ≡ Err refusal)
+    → Refuses refusal total
 refused_all (TooShort n) part total refused whole = whole (TooShort n) refused
 refused_all (TooLong n) part total refused whole = whole (TooLong n) refused
 refused_all (BadOperation n) part total refused whole = whole (BadOperation n) refused
@@ -33,7 +36,8 @@ pub goes_on : {X : Type 0} (format : Format X) (front : List X) (count i : ℕ) 
 unfolding each
 goes_on format front count i left x after total lt read so_far =
     let k : count - i ≡ suc (count - (i + 1)) = omega arith in
-    let one : with_front front (each format (count - i) left) ≡ with_front (front ++ x ∷ []) (each format (count - (i + 1)) after) =
+    let one : with_front front (each format (count - i) left)
+    ≡ with_front (front ++ x ∷ []) (each format (count - (i + 1)) after) =
     rw (k, read) (regroup front x (each format (count - (i + 1)) after)) in
     sym one ∙ so_far
 
@@ -71,7 +75,8 @@ last_pushed front x =
     rw at (slice_get_push front x)
 
 pub rising_goes_on : (front : List (List ℕ)) (count i : ℕ) (left : Left) (x : List ℕ) (after : Left)
-    (total : Reading (List (List ℕ))) → i < count → (tested (comes_after (last_of front)) name).read left ≡ Ok (x, after)
+    (total : Reading (List (List ℕ))) → i < count → (tested (comes_after (last_of front)) name).read left
+    ≡ Ok (x, after)
     → with_front front (rising_names (last_of front) (count - i) left) ≡ total
     → with_front (front ++ x ∷ []) (rising_names (last_of (front ++ x ∷ [])) (count - (i + 1)) after) ≡ total
 unfolding rising_names
@@ -83,7 +88,8 @@ rising_goes_on front count i left x after total lt read so_far =
     rw (last_pushed front x) (sym one ∙ so_far)
 
 pub rising_ends : (refusal : WireRefusal) (front : List (List ℕ)) (count i : ℕ) (left : Left)
-    (total : Reading (List (List ℕ))) → i < count → Refuses refusal ((tested (comes_after (last_of front)) name).read left)
+    (total : Reading (List (List ℕ))) → i < count
+    → Refuses refusal ((tested (comes_after (last_of front)) name).read left)
     → with_front front (rising_names (last_of front) (count - i) left) ≡ total → Refuses refusal total
 unfolding rising_names
 rising_ends refusal front count i left total lt refused so_far =

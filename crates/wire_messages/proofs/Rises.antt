@@ -1,5 +1,6 @@
 -- Names that rise, as a list in order and as they are read one behind the other.
-use Rattle.std.proofs.Common.{◌≡◌, ℕ, zero, suc, true, cond, List, [], ◌∷◌, ◌++◌, Option, Some, None, Ok, refl, ap, subst, ◌∙◌}
+use Rattle.std.proofs.Common.{◌≡◌, ℕ, zero, suc, true, cond, List, [], ◌∷◌, ◌++◌, Option, Some, None, Ok, refl, ap}
+use Rattle.std.proofs.Common.{subst, ◌∙◌}
 use Rattle.std.specs.declared.cmp.Ordering.{Ordering}
 use Rattle.std.specs.declared.cmp.Ordering.TheVariants.{Less, Equal, Greater}
 use Rattle.std.specs.List.{AllByRecursion, filter}
@@ -24,12 +25,14 @@ less_from Less below = refl
 less_from Equal below = absurd cc
 less_from Greater below = absurd cc
 
-weaker : (P Q : List ℕ → Type 0) → ((x : List ℕ) → P x → Q x) → (xs : List (List ℕ)) → AllByRecursion P xs → AllByRecursion Q xs
+weaker : (P Q : List ℕ → Type 0) → ((x : List ℕ) → P x → Q x) → (xs : List (List ℕ)) → AllByRecursion P xs
+    → AllByRecursion Q xs
 weaker P Q f [] all = tt
 weaker P Q f (x ∷ xs) all = (f x all.0, weaker P Q f xs all.1)
 
 -- what rises behind a name is behind it
-behind : (last : List ℕ) (names : List (List ℕ)) → AreRising (Some last) names → AllByRecursion (λ other. text_cmp last other ≡ Less) names
+behind : (last : List ℕ) (names : List (List ℕ)) → AreRising (Some last) names
+    → AllByRecursion (λ other. text_cmp last other ≡ Less) names
 behind last [] rise = tt
 behind last (name ∷ names) rise =
     let less = less_from (text_cmp last name) rise.0 in (
@@ -38,21 +41,11 @@ behind last (name ∷ names) rise =
           (λ other below. total.trans last name other less below) names (behind name names rise.1),
     )
 
-pub sorted_from_rising : (last : Option (List ℕ)) (names : List (List ℕ)) → AreRising last names → IsStrictlySortedBy text_cmp names
+pub sorted_from_rising : (last : Option (List ℕ)) (names : List (List ℕ)) → AreRising last names
+    → IsStrictlySortedBy text_cmp names
 unfolding IsStrictlySortedBy
 sorted_from_rising last [] rise = tt
 sorted_from_rising last (name ∷ names) rise = (behind name names rise.1, sorted_from_rising (Some name) names rise.1)
-
-rising_behind : (last : List ℕ) (names : List (List ℕ)) → AllByRecursion (λ other. text_cmp last other ≡ Less) names
-    → IsStrictlySortedBy text_cmp names → AreRising (Some last) names
-unfolding IsStrictlySortedBy
-rising_behind last [] all sorted = tt
-rising_behind last (name ∷ names) all sorted = (ap is_lt all.0, rising_behind name names sorted.0 sorted.1)
-
-pub rising_from_sorted : (names : List (List ℕ)) → IsStrictlySortedBy text_cmp names → AreRising None names
-unfolding IsStrictlySortedBy
-rising_from_sorted [] sorted = tt
-rising_from_sorted (name ∷ names) sorted = (refl, rising_behind name names sorted.0 sorted.1)
 
 -- ---- the set of names that rise is the list of them
 
@@ -69,14 +62,16 @@ all_behind : (x : List ℕ) (ys : List (List ℕ)) → AllByRecursion (λ other.
 all_behind x [] all = refl
 all_behind x (y ∷ ys) all =
     let rest = filter (λ other. is_lt (text_cmp x other)) ys in
-    ap (λ (o : Ordering). cond (is_lt o) (y ∷ rest) rest) all.0 ∙ ap (λ (zs : List (List ℕ)). y ∷ zs) (all_behind x ys all.1)
+    ap (λ (o : Ordering). cond (is_lt o) (y ∷ rest) rest) all.0
+    ∙ ap (λ (zs : List (List ℕ)). y ∷ zs) (all_behind x ys all.1)
 
 pub rising_same : (names : List (List ℕ)) → IsStrictlySortedBy text_cmp names → rising text_cmp names ≡ names
 unfolding IsStrictlySortedBy
 rising_same [] sorted = refl
 rising_same (name ∷ names) sorted =
     let same = rising_same names sorted.1 in
-    ap (λ (ys : List (List ℕ)). filter (λ other. is_lt (text_cmp other name)) ys ++ name ∷ filter (λ other. is_lt (text_cmp name other)) ys) same
+    ap (λ (ys : List (List ℕ)). filter (λ other. is_lt (text_cmp other name)) ys ++ name
+    ∷ filter (λ other. is_lt (text_cmp name other)) ys) same
     ∙ λ i. none_before name names sorted.0 i ++ name ∷ all_behind name names sorted.0 i
 
 -- ---- what is read rises
@@ -93,4 +88,5 @@ names_rise last (suc count) left x e =
     let g = pass_ok (comes_after last n.0.0) (BadField (place left)) n.0 a.0 n.2 in
     let after : comes_after last a.0.0 ≡ true = subst (λ (x : List ℕ × Left). comes_after last x.0 ≡ true) g.1 g.0 in
     let read : List (List ℕ) × Left = (a.0.0 ∷ b.0.0, b.0.1) in
-    subst (λ (x : List (List ℕ) × Left). AreRising last x.0) (ok_is read x b.2) (after, names_rise (Some a.0.0) count a.0.1 b.0 b.1)
+    subst (λ (x : List (List ℕ) × Left). AreRising last x.0) (ok_is read x b.2)
+    (after, names_rise (Some a.0.0) count a.0.1 b.0 b.1)

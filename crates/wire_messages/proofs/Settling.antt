@@ -1,15 +1,18 @@
 -- What the bytes of a frame are while it comes, and once it is whole.
-use Rattle.std.proofs.Common.{◌≡◌, ℕ, ◌+◌, ◌<◌, ◌≤◌, Bool, true, false, cond, ltb, List, [], ◌∷◌, ◌++◌, length, take, drop, Option, Some, None, Result, Ok, Err, refl, sym, ap, subst, ◌∙◌, arith}
+use Rattle.std.proofs.Common.{◌≡◌, ℕ, ◌+◌, ◌<◌, ◌≤◌, Bool, true, false, cond, ltb, List, [], ◌∷◌, ◌++◌, length, take}
+use Rattle.std.proofs.Common.{drop, Option, Some, None, Result, Ok, Err, refl, sym, ap, subst, ◌∙◌, arith}
 use Rattle.std.specs.Int.{w32, from_be_bytes}
 use Rattle.std.proofs.lemmas.Bool.{ltb-false, ltb-true, le-ltb, lt-ltb}
 use Rattle.std.proofs.lemmas.List.{take-append-le, length-append, append-nil, append_assoc, take_all, drop_all}
 use Rattle.wire_messages.specs.declared.messages.Framed.{Framed}
 use Rattle.wire_messages.specs.declared.operations.Heard.{Heard}
 use Rattle.wire_messages.specs.declared.refusals.WireRefusal.{WireRefusal}
-use Rattle.wire_messages.specs.declared.refusals.WireRefusal.TheVariants.{TooShort, TooLong, BadOperation, BadField, Trailing, Memory}
+use Rattle.wire_messages.specs.declared.refusals.WireRefusal.TheVariants.{TooShort, TooLong, BadOperation, BadField}
+use Rattle.wire_messages.specs.declared.refusals.WireRefusal.TheVariants.{Trailing, Memory}
 use Rattle.wire_messages.specs.Left.{Refuses}
 use Rattle.wire_messages.specs.Frame.{length_of, length_fault, frame_of}
-use Rattle.wire_messages.specs.Stream.{Feeding, Partial, Wrong, Whole, front_of, with_length, first_of, Hears, BeginsWrong, IsOpen, Fed, Failed}
+use Rattle.wire_messages.specs.Stream.{Feeding, Partial, Wrong, Whole, front_of, with_length, first_of, Hears}
+use Rattle.wire_messages.specs.Stream.{BeginsWrong, IsOpen}
 use Rattle.wire_messages.specs.parts.Feeding.{IsUpTo, Settled, Unsettled, Stepped, Unstepped}
 use Rattle.wire_messages.proofs.Streams.{hears_more, hears_then, wrong_more}
 
@@ -30,21 +33,24 @@ pub length_wrong : (heard : Heard) (bytes : List ℕ) (fault : WireRefusal) → 
     → length_fault (length_of bytes) ≡ Some fault → first_of heard bytes ≡ Wrong fault
 unfolding first_of
 length_wrong heard bytes fault long is =
-    ap (λ (b : Bool). cond b Partial (with_length heard bytes (length_of bytes + 4) (length_fault (length_of bytes)))) (le-ltb (length bytes) 4 long)
+    ap (λ (b : Bool). cond b Partial (with_length heard bytes (length_of bytes + 4) (length_fault (length_of bytes))))
+    (le-ltb (length bytes) 4 long)
     ∙ ap (with_length heard bytes (length_of bytes + 4)) is
 
 with_no_fault : (heard : Heard) (bytes : List ℕ) → 4 ≤ length bytes → length_fault (length_of bytes) ≡ None
     → first_of heard bytes ≡ with_length heard bytes (length_of bytes + 4) None
 unfolding first_of
 with_no_fault heard bytes long none =
-    ap (λ (b : Bool). cond b Partial (with_length heard bytes (length_of bytes + 4) (length_fault (length_of bytes)))) (le-ltb (length bytes) 4 long)
+    ap (λ (b : Bool). cond b Partial (with_length heard bytes (length_of bytes + 4) (length_fault (length_of bytes))))
+    (le-ltb (length bytes) 4 long)
     ∙ ap (with_length heard bytes (length_of bytes + 4)) none
 
 pub not_finished : (heard : Heard) (bytes : List ℕ) → 4 ≤ length bytes → length_fault (length_of bytes) ≡ None
     → length bytes < length_of bytes + 4 → IsOpen heard bytes
 not_finished heard bytes long none less =
     with_no_fault heard bytes long none
-    ∙ ap (λ (b : Bool). cond b Partial (front_of (frame_of heard (take (length_of bytes + 4) bytes)) (drop (length_of bytes + 4) bytes)))
+    ∙ ap (λ (b : Bool). cond b Partial (front_of (frame_of heard (take (length_of bytes + 4) bytes))
+    (drop (length_of bytes + 4) bytes)))
     (lt-ltb (length bytes) (length_of bytes + 4) less)
 
 pub finished : (heard : Heard) (bytes : List ℕ) → 4 ≤ length bytes → length_fault (length_of bytes) ≡ None
@@ -53,7 +59,8 @@ finished heard bytes long none same =
     let all : take (length_of bytes + 4) bytes ≡ bytes = take_all (length_of bytes + 4) bytes (omega arith) in
     let nothing : drop (length_of bytes + 4) bytes ≡ [] = drop_all (length_of bytes + 4) bytes (omega arith) in
     with_no_fault heard bytes long none
-    ∙ ap (λ (b : Bool). cond b Partial (front_of (frame_of heard (take (length_of bytes + 4) bytes)) (drop (length_of bytes + 4) bytes)))
+    ∙ ap (λ (b : Bool). cond b Partial (front_of (frame_of heard (take (length_of bytes + 4) bytes))
+    (drop (length_of bytes + 4) bytes)))
     (le-ltb (length bytes) (length_of bytes + 4) (omega arith))
     ∙ (λ i. front_of (frame_of heard (all i)) (nothing i))
 
@@ -63,12 +70,14 @@ pub record Bound (bytes : List ℕ) : Type 0 where
   pub less : 4 ≤ length bytes → length bytes < length_of bytes + 4
   pub most : length bytes ≤ 1048579
 
-no_fault : (a b : Bool) (n : ℕ) → ltb 1048576 n ≡ b → cond a (Some (TooShort n)) (cond b (Some (TooLong n)) None) ≡ None → n ≤ 1048576
+no_fault : (a b : Bool) (n : ℕ) → ltb 1048576 n ≡ b
+    → cond a (Some (TooShort n)) (cond b (Some (TooLong n)) None) ≡ None → n ≤ 1048576
 no_fault true b n second none = absurd cc
 no_fault false true n second none = absurd cc
 no_fault false false n second none = ltb-false 1048576 n second
 
-with_length_bound : (heard : Heard) (bytes : List ℕ) (fault : Option WireRefusal) → length_fault (length_of bytes) ≡ fault
+with_length_bound : (heard : Heard) (bytes : List ℕ) (fault : Option WireRefusal)
+    → length_fault (length_of bytes) ≡ fault
     → with_length heard bytes (length_of bytes + 4) fault ≡ Partial → Bound bytes
 with_length_bound heard bytes (Some fault) is e = absurd cc
 with_length_bound heard bytes None is e =
@@ -77,7 +86,8 @@ with_length_bound heard bytes None is e =
     less : (b : Bool) → ltb (length bytes) (length_of bytes + 4) ≡ b → (read : Result Framed WireRefusal)
         → cond b Partial (front_of read (drop (length_of bytes + 4) bytes)) ≡ Partial → Bound bytes
     less true is_less read e =
-        let small : length_of bytes ≤ 1048576 = no_fault (ltb (length_of bytes) 3) (ltb 1048576 (length_of bytes)) (length_of bytes) refl is in
+        let small : length_of bytes ≤ 1048576 =
+        no_fault (ltb (length_of bytes) 3) (ltb 1048576 (length_of bytes)) (length_of bytes) refl is in
         let under : length bytes < length_of bytes + 4 = ltb-true _ _ is_less in
         record { less = λ long. under; most = omega (arith, small, under) }
     less false is_less (Ok framed) e = absurd cc
@@ -88,7 +98,8 @@ unfolding first_of
 open_bound heard bytes e = bounded (ltb (length bytes) 4) refl e
   where
     bounded : (b : Bool) → ltb (length bytes) 4 ≡ b
-        → cond b Partial (with_length heard bytes (length_of bytes + 4) (length_fault (length_of bytes))) ≡ Partial → Bound bytes
+        → cond b Partial (with_length heard bytes (length_of bytes + 4) (length_fault (length_of bytes))) ≡ Partial
+        → Bound bytes
     bounded true short e =
         let less : length bytes < 4 = ltb-true _ _ short in
         record { less = λ long. absurd (omega arith); most = omega (arith, less) }
@@ -107,15 +118,19 @@ up_to old front wanted few short long = up (ltb (length old) 4) refl
     up false is =
         let more : 4 ≤ length old = ltb-false _ _ is in
         let all = long more in
-        let same : length_of (old ++ front) ≡ length_of old = ap (from_be_bytes w32) (take-append-le 4 old front more) in
+        let same : length_of (old ++ front) ≡ length_of old =
+        ap (from_be_bytes w32) (take-append-le 4 old front more) in
         omega (arith, length-append old front, all, few, same)
 
 -- ---- what became of the bytes
 
-pub kept : (heard : Heard) (bytes : List ℕ) (waiting : List Framed) → IsOpen heard bytes → Settled heard bytes bytes waiting waiting
-kept heard bytes waiting is = record { messages = []; waiting = sym (append-nil waiting); hears = refl; unfinished = is }
+pub kept : (heard : Heard) (bytes : List ℕ) (waiting : List Framed) → IsOpen heard bytes
+    → Settled heard bytes bytes waiting waiting
+kept heard bytes waiting is =
+    record { messages = []; waiting = sym (append-nil waiting); hears = refl; unfinished = is }
 
-pub heard_whole : (heard : Heard) (bytes : List ℕ) (framed : Framed) (waiting : List Framed) → first_of heard bytes ≡ Whole framed []
+pub heard_whole : (heard : Heard) (bytes : List ℕ) (framed : Framed) (waiting : List Framed)
+    → first_of heard bytes ≡ Whole framed []
     → Settled heard bytes [] waiting (waiting ++ framed ∷ [])
 heard_whole heard bytes framed waiting is = record {
   messages = framed ∷ [];
@@ -124,11 +139,13 @@ heard_whole heard bytes framed waiting is = record {
   unfinished = short_open heard [] (omega arith);
 }
 
-pub refused_whole : (heard : Heard) (bytes : List ℕ) (refusal : WireRefusal) → first_of heard bytes ≡ front_of (frame_of heard bytes) []
+pub refused_whole : (heard : Heard) (bytes : List ℕ) (refusal : WireRefusal)
+    → first_of heard bytes ≡ front_of (frame_of heard bytes) []
     → Refuses refusal (frame_of heard bytes) → BeginsWrong heard bytes refusal
 refused_whole heard bytes (TooShort n) is refused = is ∙ ap (λ (r : Result Framed WireRefusal). front_of r []) refused
 refused_whole heard bytes (TooLong n) is refused = is ∙ ap (λ (r : Result Framed WireRefusal). front_of r []) refused
-refused_whole heard bytes (BadOperation n) is refused = is ∙ ap (λ (r : Result Framed WireRefusal). front_of r []) refused
+refused_whole heard bytes (BadOperation n) is refused =
+    is ∙ ap (λ (r : Result Framed WireRefusal). front_of r []) refused
 refused_whole heard bytes (BadField n) is refused = is ∙ ap (λ (r : Result Framed WireRefusal). front_of r []) refused
 refused_whole heard bytes (Trailing n) is refused = is ∙ ap (λ (r : Result Framed WireRefusal). front_of r []) refused
 refused_whole heard bytes (Memory error) is refused = tt
@@ -183,8 +200,10 @@ step_then a b c p q r first second = record {
   messages = first.messages ++ second.messages;
   waiting = second.waiting ∙ ap (λ (w : List Framed). w ++ second.messages) first.waiting
       ∙ append_assoc a.waiting first.messages second.messages;
-  hears = hears_then a.heard (a.partial ++ p) first.messages (b.partial ++ q) second.messages (c.partial ++ r) first.hears
-      (subst (λ (heard : Heard). Hears heard (b.partial ++ q) second.messages (c.partial ++ r)) first.side second.hears);
+  hears = hears_then a.heard (a.partial ++ p) first.messages (b.partial ++ q) second.messages (c.partial ++ r)
+      first.hears
+      (subst (λ (heard : Heard). Hears heard (b.partial ++ q) second.messages (c.partial ++ r)) first.side
+      second.hears);
   unfinished = subst (λ (heard : Heard). IsOpen heard c.partial) first.side second.unfinished;
   side = second.side ∙ first.side;
   failed = second.failed ∙ first.failed;
@@ -202,28 +221,4 @@ step_wrong a b c p q refusal first second = record {
   wrong = subst (λ (heard : Heard). BeginsWrong heard second.behind refusal) first.side second.wrong;
   side = second.side ∙ first.side;
   failed = second.failed ∙ first.failed;
-}
-
-pub all_fed : (old new : Feeding) (piece left : List ℕ) → left ≡ [] → old.failed ≡ None → Stepped old new piece left → Fed old new piece
-all_fed old new piece left none free stepped = record {
-  messages = stepped.messages;
-  waiting = stepped.waiting;
-  heard = subst (λ (b : List ℕ). Hears old.heard (old.partial ++ piece) stepped.messages b)
-      (ap (λ (b : List ℕ). new.partial ++ b) none ∙ append-nil new.partial) stepped.hears;
-  unfinished = stepped.unfinished;
-  side = stepped.side;
-  failed = stepped.failed ∙ free;
-}
-
-pub has_failed : (old new : Feeding) (piece : List ℕ) (refusal : WireRefusal) → Unstepped old new piece refusal
-    → Failed old (feeding new.heard new.waiting [] (Some refusal)) piece refusal
-has_failed old new piece refusal wrong = record {
-  messages = wrong.messages;
-  behind = wrong.behind;
-  waiting = wrong.waiting;
-  heard = wrong.hears;
-  wrong = wrong.wrong;
-  side = wrong.side;
-  partial = refl;
-  failed = refl;
 }

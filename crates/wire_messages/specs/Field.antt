@@ -1,5 +1,6 @@
 -- The fields of messages: how each is spelled and read.
-use Rattle.std.specs.Prelude.{ℕ, zero, suc, Bool, true, false, ◌&&◌, ◌||◌, nat_lt, ◌==◌, if◌then◌else◌, List, [], ◌∷◌, ◌++◌, length, Option, Some, None, is_none, Result, Ok, Err, ◌⊎◌}
+use Rattle.std.specs.Prelude.{ℕ, zero, suc, Bool, true, false, ◌&&◌, ◌||◌, nat_lt, ◌==◌, if◌then◌else◌, List, [], ◌∷◌}
+use Rattle.std.specs.Prelude.{◌++◌, length, Option, Some, None, is_none, Result, Ok, Err, ◌⊎◌}
 use Rattle.std.specs.List.{flat_map}
 use Rattle.std.specs.Result.{result_unwrap_or}
 use Rattle.std.specs.Int.{w8, w16, w32, w64, to_be_bytes}
@@ -68,7 +69,9 @@ question = seen (λ x. record { client = x.0; user = x.1.0; privilege = x.1.1 })
     (name ⊗ (name ⊗ name))
 
 abbrev pub key : Format Key
-key = seen (λ x. record { client = x.0; user = x.1.0; privilege = x.1.1 }) (λ key. (key.client, (key.user, key.privilege)))
+key =
+    seen (λ x. record { client = x.0; user = x.1.0; privilege = x.1.1 })
+    (λ key. (key.client, (key.user, key.privilege)))
     (field ⊗ (field ⊗ field))
 
 abbrev pub filter : Format Filter
@@ -113,7 +116,9 @@ change = seen change_of of_change (either ((bucket ⊗ key) ⊗ ruling) (bucket 
 
 -- the texts of a policy's key
 abbrev pub row : Format Row
-row = seen (λ x. record { client = x.0; user = x.1.0; privilege = x.1.1 }) (λ row. (row.client, (row.user, row.privilege)))
+row =
+    seen (λ x. record { client = x.0; user = x.1.0; privilege = x.1.1 })
+    (λ row. (row.client, (row.user, row.privilege)))
     (field_text ⊗ (field_text ⊗ field_text))
 
 abbrev pub some_or : {X : Type 0} → X ⊎ Unit {0} → Option X

@@ -1,12 +1,14 @@
 -- Frames: a length, which counts what follows it, a sequence number, the number of an operation, and its fields.
-use Rattle.std.specs.Prelude.{◌≡◌, ℕ, ◌<◌, ◌==◌, nat_lt, if◌then◌else◌, List, ◌∷◌, ◌++◌, length, take, drop, Option, Some, None, is_some, true, slice_index, Result, Ok, Err}
+use Rattle.std.specs.Prelude.{◌≡◌, ℕ, ◌<◌, ◌==◌, nat_lt, if◌then◌else◌, List, ◌∷◌, ◌++◌, length, take, drop, Option}
+use Rattle.std.specs.Prelude.{Some, None, is_some, true, slice_index, Result, Ok, Err}
 use Rattle.std.specs.Int.{w8, w16, w32, to_be_bytes, from_be_bytes}
 use Rattle.wire_messages.specs.declared.messages.Framed.{Framed}
 use Rattle.wire_messages.specs.declared.messages.Message.{Message}
 use Rattle.wire_messages.specs.declared.operations.Heard.{Heard}
 use Rattle.wire_messages.specs.declared.operations.Operation.{Operation}
 use Rattle.wire_messages.specs.declared.refusals.WireRefusal.{WireRefusal}
-use Rattle.wire_messages.specs.declared.refusals.WireRefusal.TheVariants.{TooShort, TooLong, BadOperation, Trailing, Memory}
+use Rattle.wire_messages.specs.declared.refusals.WireRefusal.TheVariants.{TooShort, TooLong, BadOperation, Trailing}
+use Rattle.wire_messages.specs.declared.refusals.WireRefusal.TheVariants.{Memory}
 use Rattle.wire_messages.specs.declared.refusals.EncodeRefusal.{EncodeRefusal}
 use Rattle.wire_messages.specs.declared.refusals.EncodeRefusal.TheVariants.{TooLong as TooLongFor, Memory as NoMemory}
 use Rattle.wire_messages.specs.declared.limits.TheConstants.{LEAST_LENGTH, MOST_LENGTH}
@@ -29,7 +31,8 @@ length_of bytes = from_be_bytes w32 (take 4 bytes)
 
 -- the fault of a length
 abbrev pub length_fault : ℕ → Option WireRefusal
-length_fault n = if nat_lt n LEAST_LENGTH then Some (TooShort n) else (if nat_lt MOST_LENGTH n then Some (TooLong n) else None)
+length_fault n =
+    if nat_lt n LEAST_LENGTH then Some (TooShort n) else (if nat_lt MOST_LENGTH n then Some (TooLong n) else None)
 
 -- the message of an operation, if the side knows it
 abbrev pub message_of : Option Operation → ℕ → Left → Reading Message
@@ -39,7 +42,8 @@ message_of None n left = Err (BadOperation n)
 -- no byte is left
 abbrev pub whole : ℕ → Message × Left → Result Framed WireRefusal
 whole sequence last =
-    if length last.1.rest == 0 then Ok (record { sequence = sequence; message = last.0 }) else Err (Trailing (place last.1))
+    if length last.1.rest == 0 then Ok (record { sequence = sequence; message = last.0 })
+    else Err (Trailing (place last.1))
 
 -- what follows a length that has no fault
 unfoldable pub body_of : Heard → Left → Result Framed WireRefusal

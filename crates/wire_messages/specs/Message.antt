@@ -2,7 +2,14 @@
 use Rattle.std.specs.Prelude.{ℕ, List}
 use Rattle.std.specs.Int.{w32, w64}
 use Rattle.wire_messages.specs.declared.messages.Message.{Message}
-use Rattle.wire_messages.specs.declared.messages.Message.TheVariants.{Check, SimpleCheck, SetBucket, RemoveBucket, SetPolicies, Erase, Layout, SetTemplate, UserSet, UserRemove, Install, Uninstall, Listing, AdminCheck, Stop, Register, AgentAnswer, Judged, FromAgent, NotResolved, NoAgent, AgentGone, AgentFull, Done, Refused, ListRow, ListEnd, StoreFault, StoreDamaged, Registered, KindTaken, AgentQuestion, UnknownNumber}
+use Rattle.wire_messages.specs.declared.messages.Message.TheVariants.{Check, SimpleCheck, SetBucket, RemoveBucket}
+use Rattle.wire_messages.specs.declared.messages.Message.TheVariants.{SetPolicies, Erase, Layout, SetTemplate, UserSet}
+use Rattle.wire_messages.specs.declared.messages.Message.TheVariants.{UserRemove, Install, Uninstall, Listing}
+use Rattle.wire_messages.specs.declared.messages.Message.TheVariants.{AdminCheck, Stop, Register, AgentAnswer, Judged}
+use Rattle.wire_messages.specs.declared.messages.Message.TheVariants.{FromAgent, NotResolved, NoAgent, AgentGone}
+use Rattle.wire_messages.specs.declared.messages.Message.TheVariants.{AgentFull, Done, Refused, ListRow, ListEnd}
+use Rattle.wire_messages.specs.declared.messages.Message.TheVariants.{StoreFault, StoreDamaged, Registered, KindTaken}
+use Rattle.wire_messages.specs.declared.messages.Message.TheVariants.{AgentQuestion, UnknownNumber}
 use Rattle.wire_messages.specs.declared.operations.Operation.{Operation}
 use Rattle.wire_messages.specs.declared.operations.Operation.TheVariants as op
 use Rattle.wire_messages.specs.Left.{Left, Reading}
@@ -60,12 +67,14 @@ fields (UserRemove uid) = (number w32).spelled uid
 fields (Install install) = field.install.spelled install
 fields (Uninstall app scope) = (field.ident ⊗ field.scope).spelled (app, scope)
 fields (Listing bucket filter) = (field.bucket ⊗ field.filter).spelled (bucket, filter)
-fields (AdminCheck bucket recursive question) = (field.bucket ⊗ (flag ⊗ field.question)).spelled (bucket, (recursive, question))
+fields (AdminCheck bucket recursive question) =
+    (field.bucket ⊗ (flag ⊗ field.question)).spelled (bucket, (recursive, question))
 fields Stop = nothing.spelled tt
 fields (Register kind) = field.agent_kind.spelled kind
 fields (AgentAnswer asked allowed) = (number w32 ⊗ flag).spelled (asked, allowed)
 fields (Judged verdict) = field.verdict.spelled verdict
-fields (FromAgent commit kind asked allowed) = (number w64 ⊗ (field.kind ⊗ (number w32 ⊗ flag))).spelled (commit, (kind, (asked, allowed)))
+fields (FromAgent commit kind asked allowed) =
+    (number w64 ⊗ (field.kind ⊗ (number w32 ⊗ flag))).spelled (commit, (kind, (asked, allowed)))
 fields (NotResolved commit kind) = (number w64 ⊗ field.kind).spelled (commit, kind)
 fields (NoAgent commit kind) = (number w64 ⊗ field.kind).spelled (commit, kind)
 fields (AgentGone commit asked) = (number w64 ⊗ number w32).spelled (commit, asked)
@@ -78,7 +87,8 @@ fields StoreFault = nothing.spelled tt
 fields (StoreDamaged file line) = (field.file_name ⊗ number w32).spelled (file, line)
 fields (Registered kind) = field.kind.spelled kind
 fields (KindTaken kind) = field.kind.spelled kind
-fields (AgentQuestion asked question result) = (number w32 ⊗ (field.question ⊗ field.ruling)).spelled (asked, (question, result))
+fields (AgentQuestion asked question result) =
+    (number w32 ⊗ (field.question ⊗ field.ruling)).spelled (asked, (question, result))
 fields (UnknownNumber asked) = (number w32).spelled asked
 
 -- what is read as a message of an operation

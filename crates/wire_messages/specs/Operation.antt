@@ -3,7 +3,15 @@ use Rattle.std.specs.Prelude.{ℕ, ◌==◌, List, [], ◌∷◌, Option, find}
 use Rattle.wire_messages.specs.declared.operations.Heard.{Heard}
 use Rattle.wire_messages.specs.declared.operations.Heard.TheVariants.{AtClient, AtAdmin, AtAgent, Replies, AgentReplies}
 use Rattle.wire_messages.specs.declared.operations.Operation.{Operation}
-use Rattle.wire_messages.specs.declared.operations.Operation.TheVariants.{Check, SimpleCheck, SetBucket, RemoveBucket, SetPolicies, Erase, Layout, SetTemplate, UserSet, UserRemove, Install, Uninstall, Listing, AdminCheck, Stop, Register, AgentAnswer, Judged, FromAgent, NotResolved, NoAgent, AgentGone, AgentFull, Done, Refused, ListRow, ListEnd, StoreFault, StoreDamaged, Registered, KindTaken, AgentQuestion, UnknownNumber}
+use Rattle.wire_messages.specs.declared.operations.Operation.TheVariants.{Check, SimpleCheck, SetBucket, RemoveBucket}
+use Rattle.wire_messages.specs.declared.operations.Operation.TheVariants.{SetPolicies, Erase, Layout, SetTemplate}
+use Rattle.wire_messages.specs.declared.operations.Operation.TheVariants.{UserSet, UserRemove, Install, Uninstall}
+use Rattle.wire_messages.specs.declared.operations.Operation.TheVariants.{Listing, AdminCheck, Stop, Register}
+use Rattle.wire_messages.specs.declared.operations.Operation.TheVariants.{AgentAnswer, Judged, FromAgent, NotResolved}
+use Rattle.wire_messages.specs.declared.operations.Operation.TheVariants.{NoAgent, AgentGone, AgentFull, Done, Refused}
+use Rattle.wire_messages.specs.declared.operations.Operation.TheVariants.{ListRow, ListEnd, StoreFault, StoreDamaged}
+use Rattle.wire_messages.specs.declared.operations.Operation.TheVariants.{Registered, KindTaken, AgentQuestion}
+use Rattle.wire_messages.specs.declared.operations.Operation.TheVariants.{UnknownNumber}
 
 abbrev pub number_of : Operation → ℕ
 number_of Check = 0x01
@@ -43,9 +51,13 @@ number_of UnknownNumber = 0xA3
 -- the operations that a side knows
 abbrev pub known_at : Heard → List Operation
 known_at AtClient = Check ∷ SimpleCheck ∷ []
-known_at AtAdmin = SetBucket ∷ RemoveBucket ∷ SetPolicies ∷ Erase ∷ Layout ∷ SetTemplate ∷ UserSet ∷ UserRemove ∷ Install ∷ Uninstall ∷ Listing ∷ AdminCheck ∷ Stop ∷ []
+known_at AtAdmin =
+    SetBucket ∷ RemoveBucket ∷ SetPolicies ∷ Erase ∷ Layout ∷ SetTemplate ∷ UserSet ∷ UserRemove ∷ Install ∷ Uninstall
+    ∷ Listing ∷ AdminCheck ∷ Stop ∷ []
 known_at AtAgent = Register ∷ AgentAnswer ∷ []
-known_at Replies = Judged ∷ FromAgent ∷ NotResolved ∷ NoAgent ∷ AgentGone ∷ AgentFull ∷ Done ∷ Refused ∷ ListRow ∷ ListEnd ∷ StoreFault ∷ StoreDamaged ∷ []
+known_at Replies =
+    Judged ∷ FromAgent ∷ NotResolved ∷ NoAgent ∷ AgentGone ∷ AgentFull ∷ Done ∷ Refused ∷ ListRow ∷ ListEnd ∷ StoreFault
+    ∷ StoreDamaged ∷ []
 known_at AgentReplies = Registered ∷ KindTaken ∷ AgentQuestion ∷ UnknownNumber ∷ []
 
 -- the operation of a number at a side, if the side knows it

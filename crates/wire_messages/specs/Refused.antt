@@ -1,13 +1,17 @@
--- The refusal of a command in a frame: the number of the rule, a text and a value, each of which only some rules have.
-use Rattle.std.specs.Prelude.{ℕ, nat_lt, ◌==◌, List, [], ◌∷◌, length, Option, Some, None, is_some, codes, find, unwrap_or}
+-- The refusal of a command in a frame: the number of the rule, a text and a value, each of which some rules have.
+use Rattle.std.specs.Prelude.{ℕ, nat_lt, ◌==◌, List, [], ◌∷◌, length, Option, Some, None, is_some, codes, find}
+use Rattle.std.specs.Prelude.{unwrap_or}
 use Rattle.std.specs.Int.{w8, w64}
 use Rattle.cynara_keys.specs.Text.{same_text}
 use Rattle.cynara_keys.specs.declared.limits.Counted.{Counted}
-use Rattle.cynara_keys.specs.declared.limits.Counted.TheVariants.{Commits, Users, Packages, Installs, Grants, Buckets, Policies}
+use Rattle.cynara_keys.specs.declared.limits.Counted.TheVariants.{Commits, Users, Packages, Installs, Grants, Buckets}
+use Rattle.cynara_keys.specs.declared.limits.Counted.TheVariants.{Policies}
 use Rattle.desk_state.specs.declared.refusals.Refusal.{Refusal}
 use Rattle.desk_state.specs.declared.refusals.Refusal.TheVariants as refusal
 use Rattle.wire_messages.specs.declared.rules.Rule.{Rule}
-use Rattle.wire_messages.specs.declared.rules.Rule.TheVariants.{Reserved, LayoutThere, NoLayout, NoBucket, RootBucket, BadKind, UnknownUser, OtherPackage, OtherAuthor, NotInstalled, Limit, Cycle}
+use Rattle.wire_messages.specs.declared.rules.Rule.TheVariants.{Reserved, LayoutThere, NoLayout, NoBucket, RootBucket}
+use Rattle.wire_messages.specs.declared.rules.Rule.TheVariants.{BadKind, UnknownUser, OtherPackage, OtherAuthor}
+use Rattle.wire_messages.specs.declared.rules.Rule.TheVariants.{NotInstalled, Limit, Cycle}
 use Rattle.wire_messages.specs.Left.{Left, Reading, wrong, ◌>>=◌}
 use Rattle.wire_messages.specs.Format.{Format, number, text, tested, seen, made, ◌⊗◌}
 use Rattle.wire_messages.specs.Field.{bucket, ident, author}
@@ -40,7 +44,9 @@ abbrev pub counted_of : List ℕ → Option Counted
 counted_of bytes = find (λ which. same_text bytes (counted_text which)) all_counted
 
 abbrev pub which : Format Counted
-which = seen (λ bytes. unwrap_or (counted_of bytes) Commits) counted_text (tested (λ bytes. is_some (counted_of bytes)) text)
+which =
+    seen (λ bytes. unwrap_or (counted_of bytes) Commits) counted_text
+    (tested (λ bytes. is_some (counted_of bytes)) text)
 
 -- ---- the rules
 

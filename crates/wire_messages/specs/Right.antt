@@ -26,7 +26,14 @@ use Rattle.desk_state.specs.declared.refusals.Refusal.TheVariants as refusal
 use Rattle.rule_templates.specs.declared.lines.TemplateLine.{TemplateLine}
 use Rattle.rule_templates.specs.Template.{template_of, template_text}
 use Rattle.wire_messages.specs.declared.messages.Message.{Message}
-use Rattle.wire_messages.specs.declared.messages.Message.TheVariants.{Check, SimpleCheck, SetBucket, RemoveBucket, SetPolicies, Erase, Layout, SetTemplate, UserSet, UserRemove, Install, Uninstall, Listing, AdminCheck, Stop, Register, AgentAnswer, Judged, FromAgent, NotResolved, NoAgent, AgentGone, AgentFull, Done, Refused, ListRow, ListEnd, StoreFault, StoreDamaged, Registered, KindTaken, AgentQuestion, UnknownNumber}
+use Rattle.wire_messages.specs.declared.messages.Message.TheVariants.{Check, SimpleCheck, SetBucket, RemoveBucket}
+use Rattle.wire_messages.specs.declared.messages.Message.TheVariants.{SetPolicies, Erase, Layout, SetTemplate, UserSet}
+use Rattle.wire_messages.specs.declared.messages.Message.TheVariants.{UserRemove, Install, Uninstall, Listing}
+use Rattle.wire_messages.specs.declared.messages.Message.TheVariants.{AdminCheck, Stop, Register, AgentAnswer, Judged}
+use Rattle.wire_messages.specs.declared.messages.Message.TheVariants.{FromAgent, NotResolved, NoAgent, AgentGone}
+use Rattle.wire_messages.specs.declared.messages.Message.TheVariants.{AgentFull, Done, Refused, ListRow, ListEnd}
+use Rattle.wire_messages.specs.declared.messages.Message.TheVariants.{StoreFault, StoreDamaged, Registered, KindTaken}
+use Rattle.wire_messages.specs.declared.messages.Message.TheVariants.{AgentQuestion, UnknownNumber}
 use Rattle.wire_messages.specs.Field.{is_field_text, is_ident, is_file_text, is_most, comes_after}
 
 -- ---- numbers
@@ -83,7 +90,8 @@ abbrev pub IsFilter : Filter → Type 0
 IsFilter filter = IsFilterField filter.client × (IsFilterField filter.user × IsFilterField filter.privilege)
 
 abbrev pub IsRuling : Ruling → Type 0
-IsRuling ruling = (ruling.kind < 2 ^ 16) × ((is_metadata ruling.metadata && may_carry ruling.kind ruling.metadata) ≡ true)
+IsRuling ruling =
+    (ruling.kind < 2 ^ 16) × ((is_metadata ruling.metadata && may_carry ruling.kind ruling.metadata) ≡ true)
 
 abbrev pub IsPolicy : Policy → Type 0
 IsPolicy policy = IsKey policy.key × IsRuling policy.result

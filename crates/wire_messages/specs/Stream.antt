@@ -1,5 +1,6 @@
 -- Streams of frames: what bytes begin with, the messages that were heard one after the other, and the feeder's state.
-use Rattle.std.specs.Prelude.{◌≡◌, ℕ, ◌+◌, nat_lt, if◌then◌else◌, List, [], ◌∷◌, ◌++◌, length, take, drop, Option, Some, None, Result, Ok, Err}
+use Rattle.std.specs.Prelude.{◌≡◌, ℕ, ◌+◌, nat_lt, if◌then◌else◌, List, [], ◌∷◌, ◌++◌, length, take, drop, Option, Some}
+use Rattle.std.specs.Prelude.{None, Result, Ok, Err}
 use Rattle.wire_messages.specs.declared.messages.Framed.{Framed}
 use Rattle.wire_messages.specs.declared.operations.Heard.{Heard}
 use Rattle.wire_messages.specs.declared.refusals.WireRefusal.{WireRefusal}
@@ -53,7 +54,8 @@ unfed heard = record { heard = heard; waiting = []; partial = []; failed = None 
 abbrev pub IsOpen : Heard → List ℕ → Type 0
 IsOpen heard bytes = first_of heard bytes ≡ Partial
 
--- the state after a piece, without a refusal: the messages heard wait behind those before, and the rest is no whole frame
+-- the state after a piece, without a refusal: the messages heard wait behind those before, and the rest is no whole
+-- frame
 pub record Fed (old new : Feeding) (piece : List ℕ) : Type 0 where
   pub messages : List Framed
   pub waiting : new.waiting ≡ old.waiting ++ messages

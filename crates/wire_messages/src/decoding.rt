@@ -1,5 +1,6 @@
 ghost use Rattle.std.specs.Prelude.{◌≡◌, ◌+◌, ◌≤◌, Ok, length, IfOk};
-ghost use Rattle.wire_messages.specs.Frame.{length_of, length_fault, body_of, frame_of, spelling, Answers, OnMemory, BeginsRight, IsKnown};
+ghost use Rattle.wire_messages.specs.Frame.{length_of, length_fault, body_of, frame_of, spelling};
+ghost use Rattle.wire_messages.specs.Frame.{Answers, OnMemory, BeginsRight, IsKnown};
 ghost use Rattle.wire_messages.specs.Hearing.{IsHeard};
 ghost use Rattle.wire_messages.specs.declared.messages.Framed.{Framed};
 
@@ -10,8 +11,8 @@ use crate::{Framed, Heard, Operation, WireRefusal};
 use std::alloc::Global;
 
 /// Reads a frame, whose length is the number of the bytes behind it. Refuses at its first fault: `TooShort` and
-/// `TooLong` by the length, then `BadOperation`, `BadField` or `Trailing`, whichever comes first. Fields are kept as they
-/// are read, so `Memory` may come where a field that is not yet read is wrong.
+/// `TooLong` by the length, then `BadOperation`, `BadField` or `Trailing`, whichever comes first. Fields are kept as
+/// they are read, so `Memory` may come where a field that is not yet read is wrong.
 pub fn decode(alloc: Global, heard: Heard, frame: &[u8]) -> Result<Framed, WireRefusal>
     requires { length frame.now ≡ length_of frame.now + 4 }
     // Which message it is, or which fault.

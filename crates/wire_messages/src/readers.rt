@@ -147,7 +147,7 @@ pub fn most(fields: &mut Fields) -> Result<u32, WireRefusal>
 fn ruling_of(alloc: Global, kind: Kind, fields: &mut Fields) -> Result<PolicyResult, WireRefusal>
     ensures { Gives result fields.new
         ((format.seen (λ metadata. record { kind = kind.0; metadata = metadata }) (λ ruling. ruling.metadata)
-            (field.metadata_of kind.0)).read fields.old) }
+        (field.metadata_of kind.0)).read fields.old) }
 {
     let place = fields.place();
     let text = fields.text()?;

@@ -73,12 +73,7 @@ fn each_operation_both_ways(rt: HostRuntime) -> Result<(), Fail> {
 }
 
 // what a feeder answers to these bytes, whole and byte by byte, and to every later piece where it refuses them
-fn answer(
-    rt: &impl Abort,
-    alloc: Global,
-    heard: Heard,
-    bytes: &[u8],
-) -> Result<(), WireRefusal> {
+fn answer(rt: &impl Abort, alloc: Global, heard: Heard, bytes: &[u8]) -> Result<(), WireRefusal> {
     let mut whole = Feeder::new(alloc, heard);
     let answer = whole.feed(bytes);
     assert!(rt; whole.feed(b"") == answer);
@@ -117,7 +112,10 @@ fn runs_past(rt: &impl Abort, alloc: Global, row: &Right<'_>) -> Result<(), Fail
     for count in 7..row.frame.len() {
         let cut = with_length(alloc, &row.frame[4..count])?;
         let wanted = Err(WireRefusal::BadField(last_begun(row.fields, count)));
-        assert!(rt; answer(rt, alloc, row.heard, &cut) == wanted, "{count} bytes");
+        assert!(rt;
+            answer(rt, alloc, row.heard, &cut) == wanted,
+            "{count} bytes"
+        );
     }
     Ok(())
 }
@@ -163,7 +161,10 @@ fn slips(rt: &impl Abort, alloc: Global, row: &Right<'_>) -> Result<(), Fail> {
     for (at, byte, place) in row.slips {
         let changed = with_byte(alloc, row.frame, *at, *byte)?;
         let wanted = Err(WireRefusal::BadField(*place));
-        assert!(rt; answer(rt, alloc, row.heard, &changed) == wanted, "{byte} at {at}");
+        assert!(rt;
+            answer(rt, alloc, row.heard, &changed) == wanted,
+            "{byte} at {at}"
+        );
     }
     Ok(())
 }
@@ -179,7 +180,10 @@ fn a_field_is_not_of_its_type(rt: HostRuntime) -> Result<(), Fail> {
 #[test]
 fn the_first_fault_by_its_place(rt: HostRuntime) {
     for (heard, bytes, refusal) in WRONG {
-        assert!(rt; answer(&rt, rt.alloc(), *heard, bytes) == Err(*refusal), "{refusal}");
+        assert!(rt;
+            answer(&rt, rt.alloc(), *heard, bytes) == Err(*refusal),
+            "{refusal}"
+        );
     }
 }
 

@@ -15,7 +15,13 @@ pub const REPLIES: &[Right<'static>] = &[
         operation: Operation::Judged,
         frame: b"\0\0\0\x14\0\x01\x81\0\0\0\0\0\0\0\x02\0\x07\0\x01x\0\x01B\0",
         fields: &[7, 15, 17, 20, 23],
-        slips: &[(16, 0, 17), (16, 1, 17), (19, b';', 17), (22, b'.', 20), (23, 2, 23)],
+        slips: &[
+            (16, 0, 17),
+            (16, 1, 17),
+            (19, b';', 17),
+            (22, b'.', 20),
+            (23, 2, 23),
+        ],
     },
     Right {
         heard: Heard::Replies,
@@ -211,7 +217,13 @@ pub const REPLIES: &[Right<'static>] = &[
         operation: Operation::AgentQuestion,
         frame: b"\0\0\0\x17\0\x05\xa2\0\0\0\x05\0\x01c\0\x01u\0\x01p\0\x0a\0\x03ask",
         fields: &[7, 11, 14, 17, 20, 22],
-        slips: &[(13, b'*', 11), (16, b'*', 14), (19, b'*', 17), (24, b';', 22), (21, 1, 22)],
+        slips: &[
+            (13, b'*', 11),
+            (16, b'*', 14),
+            (19, b'*', 17),
+            (24, b';', 22),
+            (21, 1, 22),
+        ],
     },
     Right {
         heard: Heard::AgentReplies,

@@ -17,21 +17,9 @@ pub const WRONG: &[(Heard, &[u8], WireRefusal)] = &[
         b"\0\0\0\x03\0\x01\x7f",
         WireRefusal::BadOperation(127),
     ),
-    (
-        Heard::AtClient,
-        b"\0\0\0\x02",
-        WireRefusal::TooShort(2),
-    ),
-    (
-        Heard::AtClient,
-        b"\0\0\0\x01",
-        WireRefusal::TooShort(1),
-    ),
-    (
-        Heard::AtClient,
-        b"\0\0\0\0",
-        WireRefusal::TooShort(0),
-    ),
+    (Heard::AtClient, b"\0\0\0\x02", WireRefusal::TooShort(2)),
+    (Heard::AtClient, b"\0\0\0\x01", WireRefusal::TooShort(1)),
+    (Heard::AtClient, b"\0\0\0\0", WireRefusal::TooShort(0)),
     (
         Heard::AtClient,
         b"\0\x10\0\x01",

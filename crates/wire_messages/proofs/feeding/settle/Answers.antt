@@ -1,10 +1,12 @@
-use Rattle.std.proofs.Common.{rules, arith, ◌≡◌, ◌≤◌, ◌<◌, ◌+◌, ◌++◌, ◌∷◌, [], length, Some, None, Result, Ok, refl, ap, ◌∙◌}
+use Rattle.std.proofs.Common.{rules, arith, ◌≡◌, ◌≤◌, ◌<◌, ◌+◌, ◌++◌, ◌∷◌, [], length, Some, None, Result, Ok, refl, ap}
+use Rattle.std.proofs.Common.{◌∙◌}
 use Rattle.wire_messages.specs.declared.messages.Framed.{Framed}
 use Rattle.wire_messages.specs.declared.refusals.WireRefusal.{WireRefusal}
 use Rattle.wire_messages.specs.Left.{Refuses}
 use Rattle.wire_messages.specs.Frame.{length_of, length_fault, frame_of}
 use Rattle.wire_messages.specs.Stream.{Whole, first_of, front_of}
-use Rattle.wire_messages.proofs.Settling.{kept, short_open, begins_wrong, length_wrong, not_finished, finished, heard_whole, refused_whole}
+use Rattle.wire_messages.proofs.Settling.{kept, short_open, begins_wrong, length_wrong, not_finished, finished}
+use Rattle.wire_messages.proofs.Settling.{heard_whole, refused_whole}
 use Rattle.wire_messages.proofs.feeding.settle.Goals as goal
 
 pub returns-then-len-lt4-clause-settled : goal.returns-then-len-lt4-clause-settled
@@ -20,7 +22,8 @@ returns-in-Some-clause-refused c =
     let fault : length_fault (length_of bytes) ≡ Some c.in-Some.fault = search rules in
     record {
       waiting = refl;
-      wrong = begins_wrong c.args.heard bytes c.in-Some.fault (length_wrong c.args.heard bytes c.in-Some.fault long fault);
+      wrong = begins_wrong c.args.heard bytes c.in-Some.fault
+          (length_wrong c.args.heard bytes c.in-Some.fault long fault);
       emptied = c.clear.ensures;
     }
 

@@ -14,15 +14,18 @@ pub returns-in_err-name : goal.returns-in_err-name
 returns-in_err-name c =
     let exit = err_from_is_err_and c.from_residual.result c.from_residual.ensures.1 in
     let last : option_copied c.last.result ≡ last_of c.loop.names.items = search rules in
-    let refused : Refuses c.in_err-name.field-0.0 ((tested (comes_after (last_of c.loop.names.items)) name).read c.loop.fields) =
+    let refused : Refuses c.in_err-name.field-0.0
+    ((tested (comes_after (last_of c.loop.names.items)) name).read c.loop.fields) =
     rw last at c.in_err-name.ensures in
-    rw (exit.1, exit.2) (rising_ends c.in_err-name.field-0.0 c.loop.names.items c.args.count c.loop.counter c.loop.fields
+    rw (exit.1, exit.2) (rising_ends c.in_err-name.field-0.0 c.loop.names.items c.args.count c.loop.counter
+    c.loop.fields
     (rising_names None c.args.count c.args.fields.now) c.loop-test.true refused c.loop.invariant)
 
 pub loop-preserved : goal.loop-preserved
 loop-preserved c =
     let last : option_copied c.last.result ≡ last_of c.loop.names.items = search rules in
-    let read : (tested (comes_after (last_of c.loop.names.items)) name).read c.loop.fields ≡ Ok (c.in_ok-name.name, c.name_behind.new.fields) =
+    let read : (tested (comes_after (last_of c.loop.names.items)) name).read c.loop.fields
+    ≡ Ok (c.in_ok-name.name, c.name_behind.new.fields) =
     rw last at c.in_ok-name.ensures in
     let pushed : c.push.new.self.items ≡ c.loop.names.items ++ c.in_ok-name.name ∷ [] = search rules in
     rw pushed (rising_goes_on c.loop.names.items c.args.count c.loop.counter c.loop.fields c.in_ok-name.name
@@ -31,7 +34,8 @@ loop-preserved c =
 pub returns : goal.returns
 returns c =
     let read : rising_names None c.args.count c.args.fields.now ≡ Ok (c.loop.names.items, c.loop.fields) =
-    rising_done c.loop.names.items c.args.count c.loop.counter c.loop.fields (rising_names None c.args.count c.args.fields.now)
+    rising_done c.loop.names.items c.args.count c.loop.counter c.loop.fields
+    (rising_names None c.args.count c.args.fields.now)
     c.loop-test.false c.loop.invariant in
     let rises = names_rise None c.args.count c.args.fields.now (c.loop.names.items, c.loop.fields) read in
     let same : rising text_cmp c.loop.names.items ≡ c.loop.names.items =

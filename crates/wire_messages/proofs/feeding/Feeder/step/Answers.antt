@@ -14,13 +14,16 @@ returns-in-Err-settle-clause-refused c =
     let inside = c.self.inside in
     let front = c.split_at.result.0.now in
     let left = c.split_at.result.1.now in
-    let parts : take c.min-count.result c.args.bytes.now ++ drop c.min-count.result c.args.bytes.now ≡ c.args.bytes.now =
+    let parts : take c.min-count.result c.args.bytes.now ++ drop c.min-count.result c.args.bytes.now
+    ≡ c.args.bytes.now =
     take-append-drop c.min-count.result c.args.bytes.now in
     let whole : c.args.bytes.now ≡ front ++ left = rw (c.split_at.ensures.front, c.split_at.ensures.back) (sym parts) in
     let grown : c.append.new.self ≡ inside.partial ++ front = search rules in
-    let wrong : Unsettled inside.heard (inside.partial ++ front) c.settle.new.partial inside.waiting.items c.settle.new.waiting.items c.in-Err-settle.refusal =
+    let wrong : Unsettled inside.heard (inside.partial ++ front) c.settle.new.partial inside.waiting.items
+    c.settle.new.waiting.items c.in-Err-settle.refusal =
     rw grown at c.in-Err-settle.ensures.refused in
-    let view : c.args.self.now ≡ feeding inside.heard inside.waiting.items inside.partial inside.failed = search rules in
+    let view : c.args.self.now ≡ feeding inside.heard inside.waiting.items inside.partial inside.failed =
+    search rules in
     rw view (step_err inside.heard inside.partial front left c.args.bytes.now c.settle.new.partial inside.waiting.items
     c.settle.new.waiting.items inside.failed c.in-Err-settle.refusal whole wrong)
 
@@ -29,12 +32,15 @@ returns-clause-stepped c =
     let inside = c.self.inside in
     let front = c.split_at.result.0.now in
     let left = c.split_at.result.1.now in
-    let parts : take c.min-count.result c.args.bytes.now ++ drop c.min-count.result c.args.bytes.now ≡ c.args.bytes.now =
+    let parts : take c.min-count.result c.args.bytes.now ++ drop c.min-count.result c.args.bytes.now
+    ≡ c.args.bytes.now =
     take-append-drop c.min-count.result c.args.bytes.now in
     let whole : c.args.bytes.now ≡ front ++ left = rw (c.split_at.ensures.front, c.split_at.ensures.back) (sym parts) in
     let grown : c.append.new.self ≡ inside.partial ++ front = search rules in
-    let settled : Settled inside.heard (inside.partial ++ front) c.settle.new.partial inside.waiting.items c.settle.new.waiting.items =
+    let settled : Settled inside.heard (inside.partial ++ front) c.settle.new.partial inside.waiting.items
+    c.settle.new.waiting.items =
     rw grown at c.in_default-settle.ensures.settled in
-    let view : c.args.self.now ≡ feeding inside.heard inside.waiting.items inside.partial inside.failed = search rules in
+    let view : c.args.self.now ≡ feeding inside.heard inside.waiting.items inside.partial inside.failed =
+    search rules in
     rw view (step_ok inside.heard inside.partial front left c.args.bytes.now c.settle.new.partial inside.waiting.items
     c.settle.new.waiting.items inside.failed whole settled)
