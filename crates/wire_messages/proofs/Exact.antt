@@ -146,8 +146,12 @@ number_again w limit wide end n rest lt =
     let len = wide.len n in
     let long : ltb (length (to_be_bytes w n ++ rest)) (byte_len w) ≡ false =
     le-ltb _ _ (omega (arith, length-append (to_be_bytes w n) rest)) in
-    rw (long, take_at (to_be_bytes w n) rest (byte_len w) len, drop_at (to_be_bytes w n) rest (byte_len w) len,
-    wide.again n lt) refl
+    rw (
+      long,
+      take_at (to_be_bytes w n) rest (byte_len w) len,
+      drop_at (to_be_bytes w n) rest (byte_len w) len,
+      wide.again n lt,
+    ) refl
 
 pub number_exact : (w : Width) (limit : ℕ) → IsWide w limit → IsExact (number w) (λ n. n < limit)
 number_exact w limit wide = record { takes = number_takes w limit wide; again = number_again w limit wide }
@@ -187,8 +191,12 @@ text_again end bytes rest lt =
     let long : ltb (length (bytes ++ rest)) (length bytes) ≡ false =
     le-ltb _ _ (omega (arith, length-append bytes rest)) in
     ap (λ (r : List ℕ). text.read (record { end = end; rest = r })) regrouped
-    ∙ rw (number_again w16 (2 ^ 16) wide16 end (length bytes) (bytes ++ rest) lt, long, take_at bytes rest
-    (length bytes) refl, drop_at bytes rest (length bytes) refl) refl
+    ∙ rw (
+      number_again w16 (2 ^ 16) wide16 end (length bytes) (bytes ++ rest) lt,
+      long,
+      take_at bytes rest (length bytes) refl,
+      drop_at bytes rest (length bytes) refl,
+    ) refl
 
 pub text_exact : IsExact text (λ bytes. length bytes < 2 ^ 16)
 text_exact = record { takes = text_takes; again = text_again }
@@ -266,8 +274,10 @@ module _ {X Y : Type 0} (first : Format X) (second : X → Format Y) {P : X → 
       ++ ((second x.0).spelled x.1 ++ rest) =
       append_assoc (first.spelled x.0) ((second x.0).spelled x.1) rest in
       ap (λ (r : List ℕ). (leading first second).read (record { end = end; rest = r })) regrouped
-      ∙ rw (exact.again end x.0 ((second x.0).spelled x.1 ++ rest) right.0, (exact_then x.0 right.0).again end x.1 rest
-      right.1) refl
+      ∙ rw (
+        exact.again end x.0 ((second x.0).spelled x.1 ++ rest) right.0,
+        (exact_then x.0 right.0).again end x.1 rest right.1,
+      ) refl
 
   pub leading_exact : IsExact (leading first second) (λ x. P x.0 × Q x.0 x.1)
   leading_exact = record { takes = leading_takes; again = leading_again }
@@ -304,8 +314,8 @@ OneOf P Q (inr y) = Q y
 
 module _ {X Y : Type 0} (one : Format X) (other : Format Y) {P : X → Type 0} {Q : Y → Type 0} (exact : IsExact one P)
     (exact_other : IsExact other Q) where
-  branch_takes : (sign : Bool) (left : Left) (x : (X ⊎ Y) × Left) → IsBytes left.rest → behind_flag one other sign left
-  ≡ Ok x
+  branch_takes : (sign : Bool) (left : Left) (x : (X ⊎ Y) × Left) → IsBytes left.rest
+      → behind_flag one other sign left ≡ Ok x
       → (rest : List ℕ) × (flagged one other x.0 ≡ flag.spelled sign ++ rest) × Takes left rest x.1 × OneOf P Q x.0
   branch_takes true left x fits e =
       let a = bind_ok (one.read left) (λ x. Ok (inl x.0, x.1)) x e in

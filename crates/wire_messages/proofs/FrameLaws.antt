@@ -254,7 +254,8 @@ is_read_again framed (Err refusal) spelled = tt
 -- ---- the number of the operation, behind the sequence number
 
 number_stands : (end : ℕ) (rest : List ℕ) (s n : ℕ × Left)
-    → (number w16).read (record { end = end; rest = rest }) ≡ Ok s → (number w8).read s.1 ≡ Ok n → slice_index rest 2 ≡ n.0
+    → (number w16).read (record { end = end; rest = rest }) ≡ Ok s → (number w8).read s.1 ≡ Ok n
+    → slice_index rest 2 ≡ n.0
 number_stands end [] s n first second = absurd cc
 number_stands end (a ∷ []) s n first second = absurd cc
 number_stands end (a ∷ b ∷ []) s n first second =
