@@ -141,16 +141,14 @@ rule_takes BadKind =
     (pair_exact no_text (value_below 65536) no_text_exact (below_exact 65536 (omega arith)))
     (λ x good. (
       ap (λ (t : List ℕ). 6 ∷ (no_text ⊗ value_below 65536).spelled (t, x.1)) (sym good.0),
-      omega
-          (arith, good.1),
+      omega (arith, good.1),
     ))
 rule_takes UnknownUser =
     rule_taken UnknownUser (λ x. refusal.UnknownUser x.1) (no_text ⊗ value_below 4294967296)
     (pair_exact no_text (value_below 4294967296) no_text_exact (below_exact 4294967296 (omega arith)))
     (λ x good. (
       ap (λ (t : List ℕ). 7 ∷ (no_text ⊗ value_below 4294967296).spelled (t, x.1)) (sym good.0),
-      omega
-          (arith, good.1),
+      omega (arith, good.1),
     ))
 rule_takes OtherPackage =
     rule_taken OtherPackage (λ x. refusal.OtherPackage x.0) (field.ident ⊗ zero_value)
