@@ -5,6 +5,7 @@
 //! comes. The frames are this project's profile.
 #![tactic(auto)]
 
+mod boxed_verdicts;
 mod commands;
 mod decoding;
 mod encoding;
@@ -24,6 +25,7 @@ mod refusals;
 mod rules;
 mod writers;
 
+pub use boxed_verdicts::BoxedVerdict;
 pub use commands::{command_of, message_of, refused_of};
 pub use decoding::decode;
 pub use encoding::{encode, encode_into};

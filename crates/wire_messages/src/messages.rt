@@ -1,5 +1,5 @@
+use crate::BoxedVerdict;
 use app_registry::{Ident, Install, Scope, UserType};
-use bucket_eval::Verdict;
 use bucket_store::Changes;
 use cynara_keys::{BucketName, Filter, Kind, Policy, PolicyResult, Question};
 use desk_ports::FileName;
@@ -72,7 +72,7 @@ pub enum Message {
     },
     /// The policies decide.
     Judged {
-        verdict: Verdict,
+        verdict: BoxedVerdict,
     },
     /// An agent decided.
     FromAgent {
