@@ -3,7 +3,7 @@ use Rattle.std.proofs.Common.{◌≡◌, ℕ, ◌+◌, ◌^◌, ◌<◌, ◌≤�
 use Rattle.std.proofs.Common.{length, take, drop, Option, Some, None, Result, Ok, Err, refl, sym, ap, subst, ◌∙◌}
 use Rattle.std.proofs.Common.{append_assoc, arith}
 use Rattle.std.specs.Int.{w8, w16, w32, to_be_bytes, from_be_bytes}
-use Rattle.std.specs.Prelude.{IfOk, is_some, slice_index}
+use Rattle.std.specs.Prelude.{IfOk}
 use Rattle.std.proofs.Math.Nat.{mod-eq_of_lt}
 use Rattle.std.proofs.lemmas.Bool.{ltb-false, le-ltb, eqb-true}
 use Rattle.std.proofs.lemmas.List.{take_at, drop_at, take-append-drop, length-append, length-take, length-drop}
@@ -21,7 +21,7 @@ use Rattle.wire_messages.specs.Format.{number}
 use Rattle.wire_messages.specs.Operation.{number_of, operation_of, known_at}
 use Rattle.wire_messages.specs.Message.{operation, fields, read}
 use Rattle.wire_messages.specs.Frame.{body, spelling, length_of, length_fault, message_of, whole, body_of, unless_fault}
-use Rattle.wire_messages.specs.Frame.{frame_of, Answers, IsKnown}
+use Rattle.wire_messages.specs.Frame.{frame_of, Answers}
 use Rattle.wire_messages.specs.Hearing.{IsHeard}
 use Rattle.wire_messages.specs.Right.{IsRight}
 use Rattle.wire_messages.proofs.Exact.{IsBytes, IsBytes-drop, IsBytes-take, bind_ok, pass_ok, ok_is, number_exact}
@@ -250,27 +250,3 @@ pub is_read_again : (framed : Framed) (answer : Result (List ℕ) EncodeRefusal)
     → IfOk answer (λ frame. (heard : Heard) → IsHeard heard framed → frame_of heard frame ≡ Ok framed)
 is_read_again framed (Ok frame) spelled = λ heard is. ap (frame_of heard) spelled ∙ frame_again heard framed is
 is_read_again framed (Err refusal) spelled = tt
-
--- ---- the number of the operation, behind the sequence number
-
-number_stands : (end : ℕ) (rest : List ℕ) (s n : ℕ × Left)
-    → (number w16).read (record { end = end; rest = rest }) ≡ Ok s → (number w8).read s.1 ≡ Ok n
-    → slice_index rest 2 ≡ n.0
-number_stands end [] s n first second = absurd cc
-number_stands end (a ∷ []) s n first second = absurd cc
-number_stands end (a ∷ b ∷ []) s n first second =
-    let same = ok_is (from_be_bytes w16 (a ∷ b ∷ []), record { end = end; rest = [] }) s first in
-    let read : (number w8).read (record { end = end; rest = [] }) ≡ Ok n =
-    subst (λ (s : ℕ × Left). (number w8).read s.1 ≡ Ok n) (sym same) second in
-    absurd cc
-number_stands end (a ∷ b ∷ c ∷ rest) s n first second =
-    let same = ok_is (from_be_bytes w16 (a ∷ b ∷ []), record { end = end; rest = c ∷ rest }) s first in
-    let read : (number w8).read (record { end = end; rest = c ∷ rest }) ≡ Ok n =
-    subst (λ (s : ℕ × Left). (number w8).read s.1 ≡ Ok n) (sym same) second in
-    ap (λ (x : ℕ × Left). x.0) (ok_is (c, record { end = end; rest = rest }) n read)
-
-pub known_at_front : (heard : Heard) (left : Left) (s n : ℕ × Left) (operation : Operation)
-    → (number w16).read left ≡ Ok s → (number w8).read s.1 ≡ Ok n → operation_of heard n.0 ≡ Some operation
-    → IsKnown heard left.rest
-known_at_front heard left s n operation first second is =
-    ap is_some (ap (operation_of heard) (number_stands left.end left.rest s n first second) ∙ is)

@@ -8,7 +8,6 @@ use Rattle.wire_messages.specs.declared.operations.Heard.{Heard}
 use Rattle.wire_messages.specs.declared.operations.Operation.{Operation}
 use Rattle.wire_messages.specs.declared.refusals.WireRefusal.{WireRefusal}
 use Rattle.wire_messages.specs.declared.refusals.WireRefusal.TheVariants.{TooShort, TooLong, BadOperation, Trailing}
-use Rattle.wire_messages.specs.declared.refusals.WireRefusal.TheVariants.{Memory}
 use Rattle.wire_messages.specs.declared.refusals.EncodeRefusal.{EncodeRefusal}
 use Rattle.wire_messages.specs.declared.refusals.EncodeRefusal.TheVariants.{TooLong as TooLongFor, Memory as NoMemory}
 use Rattle.wire_messages.specs.declared.limits.TheConstants.{LEAST_LENGTH, MOST_LENGTH}
@@ -71,11 +70,6 @@ IsTooLong framed (NoMemory error) = Unit {0}
 abbrev pub Answers : {X : Type 0} → Result X WireRefusal → Result X WireRefusal → Type 0
 Answers (Ok x) reading = reading ≡ Ok x
 Answers (Err refusal) reading = Refuses refusal reading
-
--- A call lacks memory only where this holds.
-abbrev pub OnMemory : {X : Type 0} → Result X WireRefusal → Type 0 → Type 0
-OnMemory (Err (Memory error)) holds = holds
-OnMemory result holds = Unit {0}
 
 -- the side knows the operation whose number stands behind a sequence number
 abbrev pub IsKnown : Heard → List ℕ → Type 0

@@ -43,3 +43,8 @@ Gives (Err refusal) left reading = Refuses refusal reading
 abbrev pub GivesText : Result (Bor (List ℕ)) WireRefusal → Left → Reading (List ℕ) → Type 0
 GivesText (Ok value) left reading = reading ≡ Ok (value.now, left)
 GivesText (Err refusal) left reading = Refuses refusal reading
+
+-- A call lacks memory only where this holds.
+abbrev pub OnMemory : {X : Type 0} → Result X WireRefusal → Type 0 → Type 0
+OnMemory (Err (Memory error)) holds = holds
+OnMemory result holds = Unit {0}

@@ -1,6 +1,7 @@
 ghost use Rattle.std.specs.Prelude.{◌≡◌, ◌+◌, ◌≤◌, Ok, length, IfOk};
 ghost use Rattle.wire_messages.specs.Frame.{length_of, length_fault, body_of, frame_of, spelling};
-ghost use Rattle.wire_messages.specs.Frame.{Answers, OnMemory, BeginsRight, IsKnown};
+ghost use Rattle.wire_messages.specs.Frame.{Answers, BeginsRight, IsKnown};
+ghost use Rattle.wire_messages.specs.Left.{OnMemory};
 ghost use Rattle.wire_messages.specs.Hearing.{IsHeard};
 ghost use Rattle.wire_messages.specs.declared.messages.Framed.{Framed};
 

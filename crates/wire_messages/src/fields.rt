@@ -1,7 +1,7 @@
 // What is left of a frame, and the plain fields at its front.
 ghost use Rattle.std.specs.Prelude.{◌≡◌, ◌≤◌, ◌==◌, length};
 ghost use Rattle.std.specs.Int.{w8, w16, w32, w64};
-ghost use Rattle.wire_messages.specs.Left.{Gives, GivesText, place};
+ghost use Rattle.wire_messages.specs.Left.{Gives, GivesText, OnMemory, place};
 ghost use Rattle.wire_messages.specs.Format.{number, text, behind};
 
 use crate::WireRefusal;
@@ -59,7 +59,8 @@ impl<'a> Fields<'a> {
     }
 
     pub fn number1(&mut self) -> Result<u8, WireRefusal>
-        ensures { Gives result self.new ((number w8).read self.old) }
+        ensures read { Gives result self.new ((number w8).read self.old) }
+        ensures memory { OnMemory result ⊥ }
     {
         let Some((first, rest)) = self.rest.split_first() else {
             return Err(WireRefusal::BadField(self.place()));
@@ -69,7 +70,8 @@ impl<'a> Fields<'a> {
     }
 
     pub fn number2(&mut self) -> Result<u16, WireRefusal>
-        ensures { Gives result self.new ((number w16).read self.old) }
+        ensures read { Gives result self.new ((number w16).read self.old) }
+        ensures memory { OnMemory result ⊥ }
     {
         if self.rest.len() < 2 {
             return Err(WireRefusal::BadField(self.place()));

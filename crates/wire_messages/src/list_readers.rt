@@ -5,9 +5,9 @@ ghost use Rattle.wire_messages.specs.Format as format;
 ghost use Rattle.wire_messages.specs.Field as field;
 ghost use Rattle.std.specs.Option.{option_copied};
 
-use crate::WireRefusal;
 use crate::fields::Fields;
 use crate::readers::{author, bucket, flag, ident, key, name, ruling, scope};
+use crate::{BoxedVerdict, WireRefusal};
 use app_registry::{Install, NameSet};
 use bucket_eval::{Answer, Cause, Row, Verdict};
 use bucket_store::{Change, Changes};
@@ -90,24 +90,25 @@ pub fn install(alloc: Global, fields: &mut Fields) -> Result<Install, WireRefusa
     })
 }
 
-pub fn verdict(alloc: Global, fields: &mut Fields) -> Result<Verdict, WireRefusal>
+pub fn verdict(alloc: Global, fields: &mut Fields) -> Result<BoxedVerdict, WireRefusal>
     ensures { Gives result fields.new (field.verdict.read fields.old) }
 {
     let commit = fields.number8()?;
     let ruling = ruling(alloc, fields)?;
     let bucket = bucket(alloc, fields)?;
     let row = optional_row(alloc, fields)?;
-    Ok(Verdict {
-        commit,
-        answer: Answer {
-            kind: ruling.kind(),
-            metadata: Short::of(ruling.metadata().as_slice()),
-            cause: Cause {
-                bucket: Short::of(bucket.as_slice()),
-                row,
-            },
+    let answer = Answer {
+        kind: ruling.kind(),
+        metadata: Short::of(ruling.metadata().as_slice()),
+        cause: Cause {
+            bucket: Short::of(bucket.as_slice()),
+            row,
         },
-    })
+    };
+    match BoxedVerdict::of(alloc, Verdict { commit, answer }) {
+        Ok(verdict) => Ok(verdict),
+        Err(error) => Err(WireRefusal::Memory(error)),
+    }
 }
 
 fn optional_row(alloc: Global, fields: &mut Fields) -> Result<Option<Row>, WireRefusal>

@@ -9,7 +9,7 @@ use crate::readers::{
     scope, template, user_type,
 };
 use crate::refusal_readers::refusal;
-use crate::{BoxedVerdict, Message, Operation, WireRefusal};
+use crate::{Message, Operation, WireRefusal};
 use std::alloc::Global;
 
 /// The message of an operation, from all that is left of the frame.
@@ -179,7 +179,6 @@ fn judged(alloc: Global, fields: &mut Fields) -> Result<Message, WireRefusal>
     ensures { Gives result fields.new (message.read Operation.Judged fields.old) }
 {
     let verdict = verdict(alloc, fields)?;
-    let verdict = BoxedVerdict::of(alloc, verdict)?;
     Ok(Message::Judged { verdict })
 }
 
