@@ -9,7 +9,7 @@ use crate::message_writers::operation;
 use crate::writers::put_count;
 use bucket_store::{Change, Changes};
 use cynara_keys::{BucketName, Field, Key, Name};
-use desk_state::Refusal;
+use desk_state::{Command, Refusal};
 use questions::QUESTIONS;
 use replies::REPLIES;
 use std::alloc::Global;
@@ -36,27 +36,53 @@ fn decodes(rt: &impl Abort, alloc: Global, row: &Right<'_>) -> Result<(), Fail> 
     assert!(rt; frame.len() == length_of(frame) as usize + 4);
     let framed = decode(alloc, row.heard, frame)?;
     assert!(rt; operation(&framed.message) == row.operation);
-    assert!(rt; encode(alloc, &framed)?.as_slice() == frame);
+    is_spelled_as(rt, alloc, &framed, frame)
+}
+
+fn is_spelled_as(
+    rt: &impl Abort,
+    alloc: Global,
+    framed: &Framed,
+    frame: &[u8],
+) -> Result<(), Fail> {
+    let spelled = encode(alloc, framed)?;
+    assert!(rt; spelled.as_slice() == frame);
     Ok(())
 }
 
-// the frame comes byte by byte, and its message is spelled in place of another one
+// whether no message waits
+fn hears_nothing(feeder: &mut Feeder) -> bool {
+    feeder.take().is_none()
+}
+
+// no byte before the last makes the frame whole
+fn feed_bytes(rt: &impl Abort, feeder: &mut Feeder, frame: &[u8]) -> Result<(), Fail> {
+    for (count, byte) in frame.iter().enumerate() {
+        assert!(rt; feeder.rest() == count);
+        assert!(rt; hears_nothing(feeder));
+        feeder.feed(&[*byte])?;
+    }
+    Ok(())
+}
+
+// the message of the frame, which comes byte by byte
+fn heard_in_bytes(rt: &impl Abort, alloc: Global, row: &Right<'_>) -> Result<Framed, Fail> {
+    let mut feeder = Feeder::new(alloc, row.heard);
+    feed_bytes(rt, &mut feeder, row.frame)?;
+    match feeder.take() {
+        Some(framed) => Ok(framed),
+        None => panic!(rt; "the frame is whole"),
+    }
+}
+
+// what comes byte by byte is spelled in place of another frame
 fn comes_in_bytes(
     rt: &impl Abort,
     alloc: Global,
     row: &Right<'_>,
     spelled: &mut Vec<u8>,
 ) -> Result<(), Fail> {
-    let mut feeder = Feeder::new(alloc, row.heard);
-    for (count, byte) in row.frame.iter().enumerate() {
-        assert!(rt; feeder.rest() == count);
-        assert!(rt; feeder.take().is_none());
-        feeder.feed(&[*byte])?;
-    }
-    assert!(rt; feeder.rest() == 0);
-    let Some(framed) = feeder.take() else {
-        panic!(rt; "the frame is whole");
-    };
+    let framed = heard_in_bytes(rt, alloc, row)?;
     encode_into(spelled, &framed)?;
     assert!(rt; spelled.as_slice() == row.frame);
     Ok(())
@@ -297,45 +323,53 @@ fn the_longest_frame_is_heard(rt: HostRuntime) -> Result<(), Fail> {
 
 #[test]
 fn commands_are_carried(rt: HostRuntime) -> Result<(), Fail> {
-    let alloc = rt.alloc();
     for row in QUESTIONS.iter().chain(REPLIES.iter()) {
-        let mut feeder = Feeder::new(alloc, row.heard);
-        feeder.feed(row.frame)?;
-        let Some(framed) = feeder.take() else {
-            panic!(rt; "the frame is whole");
-        };
-        carries(&rt, alloc, &framed, row.frame)?;
-        tells_again(&rt, alloc, &framed, row.frame)?;
+        carried_or_told(&rt, rt.alloc(), row)?;
     }
     Ok(())
+}
+
+fn carried_or_told(rt: &impl Abort, alloc: Global, row: &Right<'_>) -> Result<(), Fail> {
+    let framed = heard_in_bytes(rt, alloc, row)?;
+    carries(rt, alloc, &framed, row.frame)?;
+    tells_again(rt, alloc, &framed, row.frame)
 }
 
 // a command is carried by the message that it was made of, and by no other
 fn carries(rt: &impl Abort, alloc: Global, framed: &Framed, frame: &[u8]) -> Result<(), Fail> {
     let number = operation(&framed.message).number();
-    let carried = command_of(alloc, &framed.message)?;
-    assert!(rt; carried.is_some() == ((0x10..0x1A).contains(&number)));
-    if let Some(command) = carried {
-        let again = Framed {
-            sequence: framed.sequence,
-            message: message_of(alloc, &command)?,
-        };
-        assert!(rt; encode(alloc, &again)?.as_slice() == frame);
+    match command_of(alloc, &framed.message)? {
+        Some(command) => {
+            assert!(rt; (0x10..0x1A).contains(&number));
+            carries_back(rt, alloc, framed.sequence, &command, frame)
+        }
+        None => {
+            assert!(rt; !(0x10..0x1A).contains(&number));
+            Ok(())
+        }
     }
-    Ok(())
+}
+
+fn carries_back(
+    rt: &impl Abort,
+    alloc: Global,
+    sequence: u16,
+    command: &Command,
+    frame: &[u8],
+) -> Result<(), Fail> {
+    let message = message_of(alloc, command)?;
+    is_spelled_as(rt, alloc, &Framed { sequence, message }, frame)
 }
 
 // a refusal that was told is told again in the same words
 fn tells_again(rt: &impl Abort, alloc: Global, framed: &Framed, frame: &[u8]) -> Result<(), Fail> {
-    if let Message::Refused { refusal } = &framed.message {
-        if let Refusal::Memory(_) = refusal {
-            panic!(rt; "no frame tells want of memory");
-        }
-        let again = Framed {
-            sequence: framed.sequence,
-            message: refused_of(refusal)?,
-        };
-        assert!(rt; encode(alloc, &again)?.as_slice() == frame);
+    let Message::Refused { refusal } = &framed.message else {
+        return Ok(());
+    };
+    if let Refusal::Memory(_) = refusal {
+        panic!(rt; "no frame tells want of memory");
     }
-    Ok(())
+    let message = refused_of(refusal)?;
+    let sequence = framed.sequence;
+    is_spelled_as(rt, alloc, &Framed { sequence, message }, frame)
 }
