@@ -157,11 +157,14 @@ fn a_field_runs_past_the_frame(rt: HostRuntime) -> Result<(), Fail> {
 // a byte behind the last field is refused by its place
 fn goes_on(rt: &impl Abort, alloc: Global, row: &Right<'_>) -> Result<(), Fail> {
     assert!(rt; row.frame.len() >= 7);
-    let mut longer = with_length(alloc, &row.frame[4..])?;
-    longer.push(0)?;
-    let longer = with_length(alloc, &longer.as_slice()[4..])?;
-    let wanted = row.frame.len() as u32;
-    assert!(rt; answer(rt, alloc, row.heard, &longer) == Err(WireRefusal::Trailing(wanted)));
+    let mut rest = Vec::new(alloc);
+    rest.extend_from_slice(&row.frame[4..])?;
+    rest.push(0)?;
+    let longer = with_length(alloc, &rest)?;
+    let Err(WireRefusal::Trailing(place)) = answer(rt, alloc, row.heard, &longer) else {
+        panic!(rt; "a byte is left");
+    };
+    assert!(rt; place as usize == row.frame.len());
     Ok(())
 }
 
@@ -251,12 +254,18 @@ fn messages_before_a_wrong_frame_wait(rt: HostRuntime) -> Result<(), Fail> {
     assert!(rt; feeder.rest() == 4);
     assert!(rt; feeder.feed(b"\0\x03\x14") == Ok(()));
     assert!(rt; feeder.rest() == 7);
-    let first = feeder.take().map(|framed| framed.sequence);
-    assert!(rt; first == Some(1));
-    let second = feeder.take().map(|framed| framed.sequence);
-    assert!(rt; second == Some(2));
-    assert!(rt; feeder.take().is_none());
+    assert!(rt; next_number(&mut feeder) == Some(1));
+    assert!(rt; next_number(&mut feeder) == Some(2));
+    assert!(rt; next_number(&mut feeder).is_none());
     Ok(())
+}
+
+// the sequence number of the next message
+fn next_number(feeder: &mut Feeder) -> Option<u16> {
+    match feeder.take() {
+        Some(framed) => Some(framed.sequence),
+        None => None,
+    }
 }
 
 // so many deletions of one key in a bucket of this name
@@ -285,40 +294,65 @@ fn deletion(alloc: Global, bucket: &[u8]) -> Result<Change, Fail> {
     })
 }
 
-// the length of the frame, and how long it is read again
-fn spelled(
+// how many bytes the frame has
+fn frame_size(alloc: Global, framed: &Framed) -> Result<usize, EncodeRefusal> {
+    match encode(alloc, framed) {
+        Ok(frame) => Ok(frame.len()),
+        Err(refusal) => Err(refusal),
+    }
+}
+
+// so many deletions, and one in the bucket, give a frame of so many bytes, or are refused
+fn gives(
+    rt: &impl Abort,
     alloc: Global,
     count: usize,
     bucket: &[u8],
-) -> Result<Result<usize, EncodeRefusal>, Fail> {
+    wanted: Result<usize, EncodeRefusal>,
+) -> Result<(), Fail> {
     let framed = deletions(alloc, count, bucket)?;
-    match encode(alloc, &framed) {
-        Ok(frame) => Ok(Ok(frame.len())),
-        Err(refusal) => Ok(Err(refusal)),
-    }
+    assert!(rt; frame_size(alloc, &framed) == wanted);
+    Ok(())
 }
 
 #[test]
 fn the_longest_frame(rt: HostRuntime) -> Result<(), Fail> {
     let alloc = rt.alloc();
-    assert!(rt; spelled(alloc, 69_999, b"")? == Ok(840_011));
-    assert!(rt; spelled(alloc, 89_999, b"")? == Err(EncodeRefusal::TooLong(1_080_007)));
-    assert!(rt; spelled(alloc, 87_379, b"123456789")? == Ok(1_048_580));
-    assert!(rt; spelled(alloc, 87_379, b"123456789a")? == Err(EncodeRefusal::TooLong(1_048_577)));
-    Ok(())
+    gives(&rt, alloc, 69_999, b"", Ok(840_011))?;
+    gives(
+        &rt,
+        alloc,
+        89_999,
+        b"",
+        Err(EncodeRefusal::TooLong(1_080_007)),
+    )?;
+    gives(&rt, alloc, 87_379, b"123456789", Ok(1_048_580))?;
+    gives(
+        &rt,
+        alloc,
+        87_379,
+        b"123456789a",
+        Err(EncodeRefusal::TooLong(1_048_577)),
+    )
 }
 
 #[test]
 fn the_longest_frame_is_heard(rt: HostRuntime) -> Result<(), Fail> {
     let alloc = rt.alloc();
-    let frame = encode(alloc, &deletions(alloc, 87_379, b"123456789")?)?;
+    let framed = deletions(alloc, 87_379, b"123456789")?;
+    let frame = encode(alloc, &framed)?;
+    let again = heard_whole(&rt, alloc, frame.as_slice())?;
+    is_spelled_as(&rt, alloc, &again, frame.as_slice())
+}
+
+// an administrator's message that comes in one piece
+fn heard_whole(rt: &impl Abort, alloc: Global, frame: &[u8]) -> Result<Framed, Fail> {
     let mut feeder = Feeder::new(alloc, Heard::AtAdmin);
-    feeder.feed(frame.as_slice())?;
-    let Some(framed) = feeder.take() else {
-        panic!(rt; "the frame is whole");
-    };
-    assert!(rt; encode(alloc, &framed)?.as_slice() == frame.as_slice());
-    Ok(())
+    feeder.feed(frame)?;
+    match feeder.take() {
+        Some(framed) => Ok(framed),
+        None => panic!(rt; "the frame is whole"),
+    }
 }
 
 #[test]
