@@ -57,6 +57,13 @@ impl KeptDesk {
             Err(refusal) => Err(refusal),
         }
     }
+
+    /// The policy state that was found.
+    pub fn desk(&self) -> &Desk
+        ensures { result.now ≡ self.now.desk }
+    {
+        &self.desk
+    }
 }
 
 /// The state that a set of files, or none, stands for.

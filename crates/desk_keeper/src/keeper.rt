@@ -112,6 +112,14 @@ impl<'d, D: Disk> Keeper<'d, D> {
         self.read && self.vault.is_decided()
     }
 
+    /// Gives the disk back, as it stands. A caller that lent it knows it again by this alone.
+    pub fn into_disk(self) -> &'d mut D
+        ensures disk { result.now ≡ self.entry.vault.disk.now }
+        ensures same_disk { result.ghost_name ≡ self.entry.vault.disk.ghost_name }
+    {
+        self.vault.into_disk()
+    }
+
     /// The last state that was known to be kept.
     pub fn desk(&self) -> &Desk
         ensures { result.now ≡ self.now.desk }

@@ -113,6 +113,14 @@ impl<'d, D: Disk> Vault<'d, D> {
         self.decided
     }
 
+    /// Gives the disk back, as it stands. A caller that lent it knows it again by this alone.
+    pub fn into_disk(self) -> &'d mut D
+        ensures disk { result.now ≡ self.entry.disk.now }
+        ensures same_disk { result.ghost_name ≡ self.entry.disk.ghost_name }
+    {
+        self.disk
+    }
+
     /// The set that the store holds, or nothing where it holds none.
     pub fn held(&self) -> Option<&FileSet>
         requires { self.now.decided ≡ true }

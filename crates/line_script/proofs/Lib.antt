@@ -1,5 +1,6 @@
 pub mod Appends
 pub mod NameWords
 pub mod Numerals
+pub mod Outcomes
 pub mod Parts
 pub mod Refusing

@@ -7,7 +7,7 @@ mod answers;
 mod changes;
 mod commands;
 mod installs;
-mod line_fault;
+mod last_lines;
 mod line_words;
 mod lines;
 mod numbers;
@@ -26,7 +26,7 @@ mod verbs;
 mod word_forms;
 
 pub use answers::{LineAnswer, command_line_fault, print};
-pub use line_fault::write_line_fault;
+pub use last_lines::{write_damage, write_line_fault};
 pub use reader::Reader;
 pub use rules_broken::RuleBroken;
 pub use steps::{LineRefusal, Step};

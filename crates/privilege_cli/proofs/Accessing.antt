@@ -12,10 +12,12 @@ use Rattle.privilege_cli.specs.AccessRun.{rules_read, IsDecided, IsReadThrough, 
 use Rattle.privilege_cli.specs.Reply.{decided_text}
 use Rattle.privilege_cli.specs.parts.Access.{IsRead, AreLoaded, StopsAtText, AreRead, ReadsRules, WritesAnswer}
 use Rattle.privilege_cli.specs.parts.Local.{counts_source, counts_sink}
-use Rattle.privilege_cli.specs.parts.Runs.{RunsBefore}
+use Rattle.privilege_cli.specs.parts.Runs.{WritesBefore}
+use Rattle.privilege_cli.specs.Program.{Reads}
+use Rattle.desk_ports.specs.Disk.{DiskState}
 use Rattle.privilege_cli.specs.declared.limits.TheConstants.{MOST_RULES_BYTES}
 use Rattle.privilege_cli.specs.declared.ending.Ending.{Ending}
-use Rattle.privilege_cli.specs.declared.ending.Ending.TheVariants.{Done, Memory, Words, Line, Source, Sink}
+use Rattle.privilege_cli.specs.declared.ending.Ending.TheVariants.{Done, Memory, Words, Line, Source, Sink, Disk, Damaged}
 use Rattle.privilege_cli.proofs.Hads.{Took-Had}
 use Rattle.privilege_cli.proofs.Trying.{IsCut-take}
 
@@ -39,6 +41,8 @@ module _ (left left_after : Option (List ℕ)) (text : List ℕ) (read : IsRead 
   stopped Words stops = absurd stops
   stopped Source stops = absurd stops
   stopped Sink stops = absurd stops
+  stopped Disk stops = absurd stops
+  stopped (Damaged file line) stops = absurd stops
   stopped (Line number) stops =
       let had = Took-Had left left_after text read.took in
       let through = either (nat_lt MOST_RULES_BYTES (length text)) refl had.0 had.2 in
@@ -62,20 +66,38 @@ module _ (left left_after : Option (List ℕ)) (text : List ℕ) (read : IsRead 
   ReadsRules-text (Err ending) stops = stopped ending stops
 
 module _ (left left_after taken taken_after : Option (List ℕ)) (reads reads_after faults faults_after : ℕ)
-    (subject object : List ℕ) (asked : Modes) where
+    (disk : Option DiskState) (moment disk_faults : ℕ) (subject object : List ℕ) (asked : Modes) where
   abbrev Run : Ending → Type 0
   Run ending =
-      RunsBefore (AccessAnswers subject object asked) ending
-      (record { left = left; source_faults = reads; taken = taken; sink_faults = faults })
-      (record { left = left_after; source_faults = reads_after; taken = taken_after; sink_faults = faults_after })
+      Reads WritesBefore (AccessAnswers subject object asked) ending
+      (record {
+        left = left;
+        source_faults = reads;
+        taken = taken;
+        sink_faults = faults;
+        disk = disk;
+        moment = moment;
+        disk_faults = disk_faults;
+      })
+      (record {
+        left = left_after;
+        source_faults = reads_after;
+        taken = taken_after;
+        sink_faults = faults_after;
+        disk = disk;
+        moment = moment;
+        disk_faults = disk_faults;
+      })
 
   -- the rules were not read, and nothing was written
-  pub RunsBefore-unread : (ending : Ending) → ReadsRules left left_after (Err ending)
+  pub Reads-unread : (ending : Ending) → ReadsRules left left_after (Err ending)
       → reads_after ≡ counts_source {A = List PairModes} (Err ending) reads → taken_after ≡ taken → faults_after ≡ faults → Run ending
-  RunsBefore-unread Done rules source same count = absurd rules
-  RunsBefore-unread Words rules source same count = absurd rules
-  RunsBefore-unread Sink rules source same count = absurd rules
-  RunsBefore-unread (Line number) rules source same count =
+  Reads-unread Done rules source same count = absurd rules
+  Reads-unread Words rules source same count = absurd rules
+  Reads-unread Sink rules source same count = absurd rules
+  Reads-unread Disk rules source same count = absurd rules
+  Reads-unread (Damaged file line) rules source same count = absurd rules
+  Reads-unread (Line number) rules source same count =
       record {
         input = rules.input;
         left = rules.rest;
@@ -83,11 +105,14 @@ module _ (left left_after taken taken_after : Option (List ℕ)) (reads reads_af
         written = [];
         had = rules.had;
         answered = (rules.through, rules.wrong, refl);
-        taken = subst (Appended taken []) (sym same) (Appended-none taken);
-        is_written = (count, refl);
-        source = source;
+        writes = record {
+          taken = subst (Appended taken []) (sym same) (Appended-none taken);
+          is_written = (count, refl);
+          source = source;
+          disk = refl;
+        };
       }
-  RunsBefore-unread Memory rules source same count =
+  Reads-unread Memory rules source same count =
       let had = Took-Had left left_after rules.0 rules.1 in
       record {
         input = rules.0 ++ had.0;
@@ -96,11 +121,14 @@ module _ (left left_after taken taken_after : Option (List ℕ)) (reads reads_af
         written = [];
         had = had.1;
         answered = refl;
-        taken = subst (Appended taken []) (sym same) (Appended-none taken);
-        is_written = inl (count, refl);
-        source = source;
+        writes = record {
+          taken = subst (Appended taken []) (sym same) (Appended-none taken);
+          is_written = inl (count, refl);
+          source = source;
+          disk = refl;
+        };
       }
-  RunsBefore-unread Source rules source same count =
+  Reads-unread Source rules source same count =
       let had = Took-Had left left_after rules.0 rules.1 in
       record {
         input = rules.0 ++ had.0;
@@ -109,9 +137,12 @@ module _ (left left_after taken taken_after : Option (List ℕ)) (reads reads_af
         written = [];
         had = had.1;
         answered = refl;
-        taken = subst (Appended taken []) (sym same) (Appended-none taken);
-        is_written = (count, refl);
-        source = source;
+        writes = record {
+          taken = subst (Appended taken []) (sym same) (Appended-none taken);
+          is_written = (count, refl);
+          source = source;
+          disk = refl;
+        };
       }
 
   module _ (table : List PairModes) (read : AreRead left left_after table) (text : List ℕ)
@@ -126,8 +157,8 @@ module _ (left left_after taken taken_after : Option (List ℕ)) (reads reads_af
           answered = decided ∙ ap (λ granted. decided_text (decision subject object asked granted)) (read.grants subject object);
         }
 
-    pub RunsBefore-written : Appended taken text taken_after → faults_after ≡ faults → Run Done
-    RunsBefore-written all count =
+    pub Reads-written : Appended taken text taken_after → faults_after ≡ faults → Run Done
+    Reads-written all count =
         record {
           input = read.input;
           left = [];
@@ -135,18 +166,23 @@ module _ (left left_after taken taken_after : Option (List ℕ)) (reads reads_af
           written = text;
           had = read.had;
           answered = is_decided;
-          taken = all;
-          is_written = (count, refl);
-          source = source;
+          writes = record {
+            taken = all;
+            is_written = (count, refl);
+            source = source;
+            disk = refl;
+          };
         }
 
-    pub RunsBefore-unwritten : (ending : Ending) → WritesAnswer taken taken_after text (Err ending)
+    pub Reads-unwritten : (ending : Ending) → WritesAnswer taken taken_after text (Err ending)
         → faults_after ≡ counts_sink {A = Unit {0}} (Err ending) faults → Run ending
-    RunsBefore-unwritten Done writes count = absurd writes
-    RunsBefore-unwritten Words writes count = absurd writes
-    RunsBefore-unwritten Source writes count = absurd writes
-    RunsBefore-unwritten (Line number) writes count = absurd writes
-    RunsBefore-unwritten Memory writes count =
+    Reads-unwritten Done writes count = absurd writes
+    Reads-unwritten Words writes count = absurd writes
+    Reads-unwritten Source writes count = absurd writes
+    Reads-unwritten (Line number) writes count = absurd writes
+    Reads-unwritten Disk writes count = absurd writes
+    Reads-unwritten (Damaged file line) writes count = absurd writes
+    Reads-unwritten Memory writes count =
         record {
           input = read.input;
           left = [];
@@ -154,11 +190,14 @@ module _ (left left_after taken taken_after : Option (List ℕ)) (reads reads_af
           written = [];
           had = read.had;
           answered = refl;
-          taken = subst (Appended taken []) (sym writes) (Appended-none taken);
-          is_written = inl (count, refl);
-          source = source;
+          writes = record {
+            taken = subst (Appended taken []) (sym writes) (Appended-none taken);
+            is_written = inl (count, refl);
+            source = source;
+            disk = refl;
+          };
         }
-    RunsBefore-unwritten Sink writes count =
+    Reads-unwritten Sink writes count =
         record {
           input = read.input;
           left = [];
@@ -166,7 +205,10 @@ module _ (left left_after taken taken_after : Option (List ℕ)) (reads reads_af
           written = take writes.0 text;
           had = read.had;
           answered = is_decided;
-          taken = writes.2;
-          is_written = (count, IsCut-take writes.0 text writes.1);
-          source = source;
+          writes = record {
+            taken = writes.2;
+            is_written = (count, IsCut-take writes.0 text writes.1);
+            source = source;
+            disk = refl;
+          };
         }

@@ -1,12 +1,17 @@
 pub mod Trying
+pub mod Steps
 pub mod Finding
 pub mod Listing
+pub mod Obeying
 pub mod Turning
 pub mod Lines
 pub mod Hads
 pub mod Progressing
+pub mod Keeping
 pub mod Answering
+pub mod Stopping
 pub mod Finishing
+pub mod Mounting
 pub mod RuleTexts
 pub mod Accessing
 pub mod LastLine

@@ -9,7 +9,7 @@ use Rattle.smack_rules.specs.Effective.{effective}
 use Rattle.smack_rules.specs.Decision.{decision}
 use Rattle.privilege_cli.specs.Reply.{decided_text}
 use Rattle.privilege_cli.specs.declared.ending.Ending.{Ending}
-use Rattle.privilege_cli.specs.declared.ending.Ending.TheVariants.{Done, Memory, Words, Line, Source, Sink}
+use Rattle.privilege_cli.specs.declared.ending.Ending.TheVariants.{Done, Memory, Words, Line, Source, Sink, Disk, Damaged}
 use Rattle.privilege_cli.specs.declared.limits.TheConstants.{MOST_RULES_BYTES}
 
 -- the rules of these lines, the first of which has this number, or the number of the first that is no rule
@@ -41,4 +41,4 @@ AccessAnswers subject object asked (Line number) input left answer =
     IsReadThrough input left × (rules_read input ≡ Err number) × (answer ≡ [])
 AccessAnswers subject object asked Memory input left answer = answer ≡ []
 AccessAnswers subject object asked Source input left answer = answer ≡ []
-AccessAnswers subject object asked Words input left answer = ⊥
+AccessAnswers subject object asked ending input left answer = ⊥

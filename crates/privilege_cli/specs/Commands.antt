@@ -1,5 +1,5 @@
 -- The words of the command line.
-use Rattle.std.specs.Prelude.{◌≡◌, Bool, String, ◌&&◌, if◌then◌else◌, ℕ, List, [], ◌∷◌, Option, Some, None, IsTrue, Result, Ok, Err, codes}
+use Rattle.std.specs.Prelude.{◌≡◌, Bool, true, false, String, ◌&&◌, if◌then◌else◌, ℕ, List, [], ◌∷◌, Option, Some, None, IsTrue, Result, Ok, Err, codes}
 use Rattle.std.specs.List.{list_any}
 use Rattle.std.specs.String.{string_bytes}
 use Rattle.std.specs.declared.alloc.Global.{Global}
@@ -9,7 +9,7 @@ use Rattle.smack_rules.specs.Rule.{is_label}
 use Rattle.smack_rules.specs.Modes.{modes_of, is_request}
 use Rattle.smack_rules.specs.declared.modes.Modes.{Modes}
 use Rattle.privilege_cli.specs.declared.command_words.Command.{Command}
-use Rattle.privilege_cli.specs.declared.command_words.Command.TheVariants.{Local, SmackAccess}
+use Rattle.privilege_cli.specs.declared.command_words.Command.TheVariants.{Local, SmackAccess, SmackLoad}
 use Rattle.privilege_cli.specs.declared.command_words.CommandRefusal.{CommandRefusal}
 use Rattle.privilege_cli.specs.declared.command_words.CommandRefusal.TheVariants.{Unknown, Memory}
 
@@ -23,9 +23,11 @@ abbrev pub access_of : List ℕ → List ℕ → List ℕ → Option Command
 access_of subject object modes =
     if is_label subject && is_label object then access_asked subject object (modes_of modes) else None
 
--- the one word `local`
-abbrev pub local_of : List ℕ → Option Command
-local_of word = if same_text word (codes "local") then Some Local else None
+-- the one word `local` or `smack-load`
+abbrev pub single_of : List ℕ → Option Command
+single_of word =
+    if same_text word (codes "local") then Some Local
+    else (if same_text word (codes "smack-load") then Some SmackLoad else None)
 
 -- four words, the first of which is `smack-access`
 abbrev pub smack_access_of : List ℕ → List ℕ → List ℕ → List ℕ → Option Command
@@ -34,7 +36,7 @@ smack_access_of word subject object modes = if same_text word (codes "smack-acce
 -- the command that words name
 abbrev pub named : List (String Global) → Option Command
 named [] = None
-named (word ∷ []) = local_of (string_bytes word)
+named (word ∷ []) = single_of (string_bytes word)
 named (word ∷ subject ∷ []) = None
 named (word ∷ subject ∷ object ∷ []) = None
 named (word ∷ subject ∷ object ∷ modes ∷ []) =
@@ -58,5 +60,16 @@ Reads (Err (Memory error)) expected =
 
 -- a command asks for a decision only where the modes are a request
 abbrev pub AsksRequest : Command → Type 0
-AsksRequest Local = Unit {0}
 AsksRequest (SmackAccess subject object asked) = IsTrue (is_request asked)
+AsksRequest command = Unit {0}
+
+-- whether a run of these words reads the source, and whether it mounts the folder
+abbrev pub reads_source : Option Command → Bool
+reads_source (Some Local) = true
+reads_source (Some (SmackAccess subject object asked)) = true
+reads_source command = false
+
+abbrev pub mounts_folder : Option Command → Bool
+mounts_folder (Some Local) = true
+mounts_folder (Some SmackLoad) = true
+mounts_folder command = false

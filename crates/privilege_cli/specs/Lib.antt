@@ -4,7 +4,9 @@ pub mod Outside
 pub mod Commands
 pub mod Script
 pub mod Reply
+pub mod Folder
 pub mod LocalRun
+pub mod LoadRun
 pub mod AccessRun
-pub mod LocalDesk
+pub mod HostFolder
 pub mod parts

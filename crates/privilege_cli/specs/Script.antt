@@ -55,3 +55,8 @@ wrong_line script = wrong_at script.stands
 abbrev pub replies : DeskState → List Step → List ℕ
 replies desk [] = []
 replies desk (step ∷ steps) = reply desk step ++ replies (after desk step) steps
+
+-- the state behind steps
+abbrev pub state_after : DeskState → List Step → DeskState
+state_after desk [] = desk
+state_after desk (step ∷ steps) = state_after (after desk step) steps

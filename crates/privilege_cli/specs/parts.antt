@@ -3,5 +3,6 @@ pub mod Local
 pub mod Progress
 pub mod Runs
 pub mod Access
-pub mod Words
+pub mod Keeping
 pub mod Questions
+pub mod Load

@@ -1,5 +1,5 @@
 // `smack-access`: reads the rules of the source, and has the sink take the decision on one request.
-ghost use Rattle.std.specs.Prelude.{◌≡◌, ◌≤◌, ◌<◌, ◌+◌, ◌⊎◌, ℕ, List, length, MatchResult, IfOk, IfErr, IsTrue};
+ghost use Rattle.std.specs.Prelude.{◌≡◌, ◌≤◌, ◌<◌, ◌+◌, ◌⊎◌, ℕ, List, Option, length, MatchResult, IfOk, IfErr, IsTrue};
 ghost use Rattle.desk_ports.specs.Faults.{CountsFailure};
 ghost use Rattle.desk_ports.specs.Content.{Took};
 ghost use Rattle.line_script.specs.Answers.{answer_text};
@@ -7,7 +7,9 @@ ghost use Rattle.smack_rules.specs.Modes.{is_request};
 ghost use Rattle.privilege_cli.specs.AccessRun.{AccessAnswers};
 ghost use Rattle.privilege_cli.specs.parts.Access.{IsRead, ReadsMore, AreLinesOf, AreLoaded, StopsAtText, ReadsRules, WritesAnswer};
 ghost use Rattle.privilege_cli.specs.parts.Local.{counts_source, counts_sink};
-ghost use Rattle.privilege_cli.specs.parts.Runs.{RunsBefore};
+ghost use Rattle.privilege_cli.specs.parts.Runs.{WritesBefore};
+ghost use Rattle.privilege_cli.specs.Program.{Reads};
+ghost use Rattle.desk_ports.specs.Disk.{DiskState};
 
 use crate::ending::Ending;
 use crate::zeros::zeros;
@@ -31,9 +33,12 @@ pub fn run_access<S: Source, K: Sink>(
     sink: &mut K,
 ) -> Ending
     requires { IsTrue (is_request asked) }
-    ensures { RunsBefore (AccessAnswers subject.now object.now asked) result
-        (record { left = S.left source.old; source_faults = S.faults source.old; taken = K.taken sink.old; sink_faults = K.faults sink.old })
-        (record { left = S.left source.new; source_faults = S.faults source.new; taken = K.taken sink.new; sink_faults = K.faults sink.new }) }
+    ensures { (disk : Option DiskState) → (moment disk_faults : ℕ)
+        → Reads WritesBefore (AccessAnswers subject.now object.now asked) result
+        (record { left = S.left source.old; source_faults = S.faults source.old; taken = K.taken sink.old; sink_faults = K.faults sink.old;
+            disk = disk; moment = moment; disk_faults = disk_faults })
+        (record { left = S.left source.new; source_faults = S.faults source.new; taken = K.taken sink.new; sink_faults = K.faults sink.new;
+            disk = disk; moment = moment; disk_faults = disk_faults }) }
 {
     let table = match read_rules(alloc, source) {
         Ok(table) => table,

@@ -3,7 +3,7 @@ ghost use Rattle.std.specs.Prelude.{◌≡◌, None, IfOk};
 ghost use Rattle.std.specs.List.{list_any};
 ghost use Rattle.std.specs.String.{string_bytes};
 ghost use Rattle.smack_rules.specs.Label.{label_fault};
-ghost use Rattle.privilege_cli.specs.Commands.{is_option, local_of, access_of, smack_access_of, command_of};
+ghost use Rattle.privilege_cli.specs.Commands.{is_option, single_of, access_of, smack_access_of, command_of};
 ghost use Rattle.privilege_cli.specs.Commands.{Reads, AsksRequest};
 
 use smack_rules::{Label, Modes, label_fault};
@@ -12,8 +12,10 @@ use std::alloc::{AllocError, Global};
 /// What the words of the command line ask for.
 #[derive(Debug, Drop)]
 pub enum Command {
-    /// `local`: answers the script of the source.
+    /// `local`: answers the script of the source over the folder.
     Local,
+    /// `smack-load`: writes the Smack rules of all packages of the folder.
+    SmackLoad,
     /// `smack-access SUBJECT OBJECT MODES`: decides under the rules of the source.
     SmackAccess {
         subject: Label,
@@ -39,7 +41,7 @@ impl Command {
             return Err(CommandRefusal::Unknown);
         }
         match words {
-            [word] => read_local(word.as_bytes()),
+            [word] => read_single(word.as_bytes()),
             [word, subject, object, modes] => read_smack_access(
                 alloc,
                 word.as_bytes(),
@@ -65,15 +67,18 @@ fn is_option(word: &String) -> bool
     word.as_bytes().first() == Some(&b'-')
 }
 
-// The one word `local`.
-fn read_local(word: &[u8]) -> Result<Command, CommandRefusal>
-    ensures command { Reads result (local_of word.now) }
+// The one word `local` or `smack-load`.
+fn read_single(word: &[u8]) -> Result<Command, CommandRefusal>
+    ensures command { Reads result (single_of word.now) }
     ensures asked { IfOk result AsksRequest }
 {
-    if word != b"local".as_slice() {
-        return Err(CommandRefusal::Unknown);
+    if word == b"local".as_slice() {
+        return Ok(Command::Local);
     }
-    Ok(Command::Local)
+    if word == b"smack-load".as_slice() {
+        return Ok(Command::SmackLoad);
+    }
+    Err(CommandRefusal::Unknown)
 }
 
 // Four words, the first of which is `smack-access`.

@@ -1,51 +1,94 @@
-// `local`: reads a script from the source, and has the sink take its answers.
-ghost use Rattle.std.specs.Prelude.{◌≡◌, []};
+// `local`: mounts the folder, reads a script from the source, and has the sink take its answers.
+ghost use Rattle.std.specs.Prelude.{◌≡◌, ◌&&◌, true, [], None};
 ghost use Rattle.line_script.specs.Block.{outside};
-ghost use Rattle.desk_state.specs.DeskState.{fresh};
-ghost use Rattle.privilege_cli.specs.LocalRun.{LocalAnswers};
-ghost use Rattle.privilege_cli.specs.parts.Local.{counts_source, counts_sink};
+ghost use Rattle.privilege_cli.specs.Ending.{disk_faults_after};
+ghost use Rattle.privilege_cli.specs.LocalRun.{AnswersScript, RunsLocal};
+ghost use Rattle.privilege_cli.specs.parts.Local.{AreFolded, counts_source, counts_sink};
+ghost use Rattle.privilege_cli.specs.parts.Keeping.{counts_disk, KeepsSteps};
 ghost use Rattle.privilege_cli.specs.parts.Progress.{Answers, ending_of};
-ghost use Rattle.privilege_cli.specs.parts.Runs.{RunsBefore, Finishes};
+ghost use Rattle.privilege_cli.specs.parts.Runs.{WritesBefore, Finishes};
 
 use crate::ending::Ending;
 use crate::limits::{MOST_LINE_BYTES, MOST_SCRIPT_BYTES};
 use crate::local_script::LocalScript;
-use desk_ports::{Sink, Source};
+use desk_keeper::{Keeper, KeptDesk};
+use desk_ports::{Disk, Sink, Source};
 use std::alloc::Global;
 use text_lines::LineReader;
 
-/// Answers the script of the source. What is answered when memory runs out, or at a wrong line, is still written.
-pub fn run_local<S: Source, K: Sink>(alloc: Global, source: &mut S, sink: &mut K) -> Ending
-    ensures { RunsBefore (LocalAnswers fresh) result
-        (record { left = S.left source.old; source_faults = S.faults source.old; taken = K.taken sink.old; sink_faults = K.faults sink.old })
-        (record { left = S.left source.new; source_faults = S.faults source.new; taken = K.taken sink.new; sink_faults = K.faults sink.new }) }
+/// Mounts the folder, and answers the script of the source over it. What is answered when memory runs out, or at a wrong
+/// line, is still written.
+pub fn run_local<S: Source, K: Sink, D: Disk>(
+    alloc: Global,
+    source: &mut S,
+    sink: &mut K,
+    disk: &mut D,
+) -> Ending
+    ensures { RunsLocal WritesBefore (D.left_since disk.new) result
+        (record { left = S.left source.old; source_faults = S.faults source.old; taken = K.taken sink.old; sink_faults = K.faults sink.old;
+            disk = D.state disk.old; moment = D.moment disk.old; disk_faults = D.faults disk.old })
+        (record { left = S.left source.new; source_faults = S.faults source.new; taken = K.taken sink.new; sink_faults = K.faults sink.new;
+            disk = D.state disk.new; moment = D.moment disk.new; disk_faults = D.faults disk.new }) }
 {
-    let Ok(mut script) = LocalScript::new(alloc) else {
-        return Ending::Memory;
+    let found = match KeptDesk::find(alloc, disk) {
+        Ok(found) => found,
+        Err(refusal) => return Ending::from(refusal),
     };
-    match answer_script(&mut script, alloc, source, sink) {
+    let mut keeper = Keeper::of(alloc, disk, found);
+    let ending = answer_over(&mut keeper, alloc, source, sink);
+    let _ = keeper.into_disk();
+    ending
+}
+
+// Answers the script of the source over a folder that is mounted.
+fn answer_over<S: Source, K: Sink, D: Disk>(
+    keeper: &mut Keeper<'_, D>,
+    alloc: Global,
+    source: &mut S,
+    sink: &mut K,
+) -> Ending
+    requires decided { (keeper.old.read && keeper.old.vault.decided) ≡ true }
+    ensures script { (script : AnswersScript WritesBefore keeper.old.desk result
+        (record { left = S.left source.old; source_faults = S.faults source.old; taken = K.taken sink.old; sink_faults = K.faults sink.old;
+            disk = D.state keeper.old.vault.disk.now; moment = D.moment keeper.old.vault.disk.now;
+            disk_faults = D.faults keeper.old.vault.disk.now })
+        (record { left = S.left source.new; source_faults = S.faults source.new; taken = K.taken sink.new; sink_faults = K.faults sink.new;
+            disk = D.state keeper.new.vault.disk.now; moment = D.moment keeper.new.vault.disk.now;
+            disk_faults = D.faults keeper.new.vault.disk.now }))
+        × KeepsSteps D.state D.moment D.left_since keeper.old.vault.disk.now keeper.new.vault.disk.now
+        keeper.old.desk keeper.old.vault.held result script.answered script.steps }
+    ensures same_disk { keeper.new.vault.disk.ghost_name ≡ keeper.old.vault.disk.ghost_name }
+{
+    let mut script = LocalScript::new(alloc);
+    match answer_script(&mut script, keeper, alloc, source, sink) {
         Ok(()) => Ending::Done,
         Err(ending) => finish(&mut script, ending, sink),
     }
 }
 
 // Answers the whole script of the source.
-fn answer_script<S: Source, K: Sink>(
+fn answer_script<S: Source, K: Sink, D: Disk>(
     script: &mut LocalScript,
+    keeper: &mut Keeper<'_, D>,
     alloc: Global,
     source: &mut S,
     sink: &mut K,
 ) -> Result<(), Ending>
     requires reader { script.old.reader ≡ outside }
-    requires state { script.old.desk ≡ fresh }
+    requires rules { script.old.rules.table ≡ None }
     requires answers { script.old.answers ≡ [] }
-    ensures answered { Answers (ending_of result) script.new.answers
-        (S.left source.old) (S.left source.new) (K.taken sink.old) (K.taken sink.new) }
+    requires decided { (keeper.old.read && keeper.old.vault.decided) ≡ true }
+    ensures answered { (answers : Answers keeper.old.desk (ending_of result) script.new.answers
+        (S.left source.old) (S.left source.new) (K.taken sink.old) (K.taken sink.new))
+        × KeepsSteps D.state D.moment D.left_since keeper.old.vault.disk.now keeper.new.vault.disk.now
+        keeper.old.desk keeper.old.vault.held (ending_of result) answers.answered answers.steps }
     ensures source { S.faults source.new ≡ counts_source result (S.faults source.old) }
     ensures sink { K.faults sink.new ≡ counts_sink result (K.faults sink.old) }
+    ensures disk { D.faults keeper.new.vault.disk.now ≡ counts_disk result (D.faults keeper.old.vault.disk.now) }
+    ensures same_disk { keeper.new.vault.disk.ghost_name ≡ keeper.old.vault.disk.ghost_name }
 {
     let mut lines = LineReader::new(alloc, MOST_LINE_BYTES, MOST_SCRIPT_BYTES)?;
-    'lines: while script.answer_next(&mut lines, source, sink)? {}
+    'lines: while script.answer_next(&mut lines, keeper, source, sink)? {}
     if script.reader.in_block() {
         // The line behind the last one should have ended the block.
         return Err(Ending::Line(lines.number() + 1));
@@ -60,12 +103,12 @@ fn finish<K: Sink>(script: &mut LocalScript, ending: Ending, sink: &mut K) -> En
     match ending {
         Ending::Memory => {
             let _ = script.flush(sink);
-            ending
+            Ending::Memory
         }
-        Ending::Line(_) => match script.flush(sink) {
-            Ok(()) => ending,
+        Ending::Line(number) => match script.flush(sink) {
+            Ok(()) => Ending::Line(number),
             Err(failed) => failed,
         },
-        _ => ending,
+        ending => ending,
     }
 }

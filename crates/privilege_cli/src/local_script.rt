@@ -1,57 +1,83 @@
-// A script that is being answered, line by line.
-ghost use Rattle.std.specs.Prelude.{◌≡◌, [], IfOk, MatchResult};
+// A script that is being answered over a folder, line by line.
+ghost use Rattle.std.specs.Prelude.{◌≡◌, ◌&&◌, ◌++◌, true, [], None, IsTrue, OnOk, OnErr, MatchResult};
+ghost use Rattle.smack_rules.specs.Modes.{is_request};
+ghost use Rattle.desk_state.specs.Next.{next};
 ghost use Rattle.line_script.specs.Block.{outside};
-ghost use Rattle.desk_state.specs.DeskState.{fresh};
+ghost use Rattle.line_script.specs.Grammar.{step_at};
+ghost use Rattle.line_script.specs.Turn.{AsksRequest};
+ghost use Rattle.line_script.specs.declared.steps.Step.TheVariants as step;
+ghost use Rattle.privilege_cli.specs.Reply.{reply, after, access_reply};
 
 use crate::ending::Ending;
-use crate::local_desk::LocalDesk;
-use desk_ports::{Bytes, Sink, Source, write_all};
-use line_script::{LineRefusal, Reader};
+use crate::folded_rules::FoldedRules;
+use crate::questions::{print_decision, print_done, print_from, print_list, print_refusal};
+use cynara_keys::BucketName;
+use desk_keeper::Keeper;
+use desk_ports::{Bytes, Disk, Sink, Source, write_all};
+use desk_state::{Command, Desk};
+use line_script::{LineAnswer, LineRefusal, Reader, Step, print};
 use std::alloc::{AllocError, Global};
 use text_lines::LineReader;
 
-/// What a script has made of the policy state, and the answers that the sink hasn't taken yet.
+/// Where the reading of a script stands, the answers that the sink hasn't taken yet, and the rules of the policy state.
 #[derive(Drop)]
 pub struct LocalScript {
+    alloc: Global,
     pub reader: Reader,
-    pub desk: LocalDesk,
+    rules: FoldedRules,
     pub answers: Bytes,
 }
 
 impl LocalScript {
-    ghost use Rattle.privilege_cli.specs.parts.Local.{AnswersLine, RefusesLine, Turns, Flushes, HandsOver, counts_source, counts_sink};
+    ghost use Rattle.privilege_cli.specs.parts.Local.{AreFolded, IsQuestion, IsSameScript, step_of, Turns, Flushes};
+    ghost use Rattle.privilege_cli.specs.parts.Local.{HandsOver, AnswersStep, RefusesStep, AnswersLine, RefusesLine};
+    ghost use Rattle.privilege_cli.specs.parts.Local.{counts_source, counts_sink};
+    ghost use Rattle.privilege_cli.specs.parts.Keeping.{counts_disk, UnlessDisk, Moves};
 
-    /// A script before its first line.
-    pub fn new(alloc: Global) -> Result<LocalScript, AllocError>
-        ensures reader { IfOk result (λ script. script.reader ≡ outside) }
-        ensures state { IfOk result (λ script. script.desk ≡ fresh) }
-        ensures answers { IfOk result (λ script. script.answers ≡ []) }
+    /// A script before its first line. Takes no memory.
+    pub fn new(alloc: Global) -> LocalScript
+        ensures reader { result.reader ≡ outside }
+        ensures rules { result.rules.table ≡ None }
+        ensures answers { result.answers ≡ [] }
     {
-        Ok(LocalScript {
+        LocalScript {
+            alloc,
             reader: Reader::new(alloc),
-            desk: LocalDesk::fresh(alloc)?,
+            rules: FoldedRules::unasked(),
             answers: Bytes::new(alloc),
-        })
+        }
     }
 
     /// Answers the next line of the script, if one is left. The sink takes the answers that wait before the source is
     /// read, and where no line is left.
-    pub fn answer_next<S: Source, K: Sink>(
+    pub fn answer_next<S: Source, K: Sink, D: Disk>(
         &mut self,
         lines: &mut LineReader,
+        keeper: &mut Keeper<'_, D>,
         source: &mut S,
         sink: &mut K,
     ) -> Result<bool, Ending>
+        requires decided { (keeper.old.read && keeper.old.vault.decided) ≡ true }
+        requires folded { AreFolded self.old.rules.table keeper.old.desk }
+
         ensures turn { Turns (S.left source.old) (S.left source.new) (K.taken sink.old) (K.taken sink.new)
-            self.old self.new lines.old lines.new result }
+            self.old self.new keeper.old.desk keeper.new.desk lines.old lines.new result }
         ensures source { S.faults source.new ≡ counts_source result (S.faults source.old) }
         ensures sink { K.faults sink.new ≡ counts_sink result (K.faults sink.old) }
+        ensures folded { AreFolded self.new.rules.table keeper.new.desk }
+
+        ensures keeper { Moves D.state D.moment D.left_since keeper.old.vault.disk.now keeper.new.vault.disk.now
+            keeper.old.desk keeper.old.vault.held keeper.new.desk keeper.new.vault.held
+            (after keeper.old.desk (step_of (step_at self.old.reader lines.new.line))) result }
+        ensures decided { UnlessDisk result ((keeper.new.read && keeper.new.vault.decided) ≡ true) }
+        ensures disk { D.faults keeper.new.vault.disk.now ≡ counts_disk result (D.faults keeper.old.vault.disk.now) }
+        ensures same_disk { keeper.new.vault.disk.ghost_name ≡ keeper.old.vault.disk.ghost_name }
     {
         self.hand_over(lines, sink)?;
         if !lines.next(source)? {
             return Ok(false);
         }
-        self.answer_line(lines.line(), lines.number())?;
+        self.answer_line(lines.line(), lines.number(), keeper, sink)?;
         Ok(true)
     }
 
@@ -68,16 +94,156 @@ impl LocalScript {
     }
 
     // Answers the line with this number.
-    fn answer_line(&mut self, line: &[u8], number: u32) -> Result<(), Ending>
-        ensures { MatchResult result (λ _. AnswersLine self.old self.new line.now) (RefusesLine self.old self.new line.now number) }
+    fn answer_line<K: Sink, D: Disk>(
+        &mut self,
+        line: &[u8],
+        number: u32,
+        keeper: &mut Keeper<'_, D>,
+        sink: &mut K,
+    ) -> Result<(), Ending>
+        requires decided { (keeper.old.read && keeper.old.vault.decided) ≡ true }
+        requires folded { AreFolded self.old.rules.table keeper.old.desk }
+
+        ensures line { MatchResult result
+            (λ _. AnswersLine (K.taken sink.old) (K.taken sink.new) self.old self.new keeper.old.desk keeper.new.desk line.now)
+            (RefusesLine (K.taken sink.old) (K.taken sink.new) self.old self.new keeper.old.desk keeper.new.desk line.now number) }
+        ensures sink { K.faults sink.new ≡ counts_sink result (K.faults sink.old) }
+        ensures folded { AreFolded self.new.rules.table keeper.new.desk }
+
+        ensures keeper { Moves D.state D.moment D.left_since keeper.old.vault.disk.now keeper.new.vault.disk.now
+            keeper.old.desk keeper.old.vault.held keeper.new.desk keeper.new.vault.held
+            (after keeper.old.desk (step_of (step_at self.old.reader line.now))) result }
+        ensures decided { UnlessDisk result ((keeper.new.read && keeper.new.vault.decided) ≡ true) }
+        ensures disk { D.faults keeper.new.vault.disk.now ≡ counts_disk result (D.faults keeper.old.vault.disk.now) }
+        ensures same_disk { keeper.new.vault.disk.ghost_name ≡ keeper.old.vault.disk.ghost_name }
     {
-        let step = match self.reader.line(line) {
-            Ok(step) => step,
-            Err(LineRefusal::Syntax) => return Err(Ending::Line(number)),
-            Err(LineRefusal::Memory(_)) => return Err(Ending::Memory),
-        };
-        self.desk.answer(&step, &mut self.answers)?;
+        match self.reader.line(line) {
+            Ok(step) => self.answer_step(&step, keeper, sink),
+            Err(LineRefusal::Syntax) => Err(Ending::Line(number)),
+            Err(LineRefusal::Memory(_)) => Err(Ending::Memory),
+        }
+    }
+
+    // Does what the step asks for, and adds its answer to those that wait.
+    fn answer_step<K: Sink, D: Disk>(
+        &mut self,
+        step: &Step,
+        keeper: &mut Keeper<'_, D>,
+        sink: &mut K,
+    ) -> Result<(), Ending>
+        requires asked { AsksRequest step.now }
+        requires decided { (keeper.old.read && keeper.old.vault.decided) ≡ true }
+        requires folded { AreFolded self.old.rules.table keeper.old.desk }
+
+        ensures step { MatchResult result
+            (λ _. AnswersStep (K.taken sink.old) (K.taken sink.new) self.old.answers self.new.answers
+            keeper.old.desk keeper.new.desk step.now)
+            (RefusesStep (K.taken sink.old) (K.taken sink.new) self.old.answers self.new.answers
+            keeper.old.desk keeper.new.desk step.now) }
+        ensures sink { K.faults sink.new ≡ counts_sink result (K.faults sink.old) }
+        ensures reader { self.new.reader ≡ self.old.reader }
+        ensures folded { AreFolded self.new.rules.table keeper.new.desk }
+
+        ensures keeper { Moves D.state D.moment D.left_since keeper.old.vault.disk.now keeper.new.vault.disk.now
+            keeper.old.desk keeper.old.vault.held keeper.new.desk keeper.new.vault.held
+            (after keeper.old.desk step.now) result }
+        ensures decided { UnlessDisk result ((keeper.new.read && keeper.new.vault.decided) ≡ true) }
+        ensures disk { D.faults keeper.new.vault.disk.now ≡ counts_disk result (D.faults keeper.old.vault.disk.now) }
+        ensures same_disk { keeper.new.vault.disk.ghost_name ≡ keeper.old.vault.disk.ghost_name }
+    {
+        if let Step::Command(command) = step {
+            return self.obey(command, keeper, sink);
+        }
+        self.ask(keeper.desk(), step)?;
         Ok(())
+    }
+
+    // Applies a command. What is accepted is committed before its answer waits, and all earlier answers are taken before it
+    // is committed.
+    fn obey<K: Sink, D: Disk>(
+        &mut self,
+        command: &Command,
+        keeper: &mut Keeper<'_, D>,
+        sink: &mut K,
+    ) -> Result<(), Ending>
+        requires decided { (keeper.old.read && keeper.old.vault.decided) ≡ true }
+        requires folded { AreFolded self.old.rules.table keeper.old.desk }
+
+        ensures step { MatchResult result
+            (λ _. AnswersStep (K.taken sink.old) (K.taken sink.new) self.old.answers self.new.answers
+            keeper.old.desk keeper.new.desk (step.Command command.now))
+            (RefusesStep (K.taken sink.old) (K.taken sink.new) self.old.answers self.new.answers
+            keeper.old.desk keeper.new.desk (step.Command command.now)) }
+        ensures sink { K.faults sink.new ≡ counts_sink result (K.faults sink.old) }
+        ensures reader { self.new.reader ≡ self.old.reader }
+        ensures folded { AreFolded self.new.rules.table keeper.new.desk }
+
+        ensures keeper { Moves D.state D.moment D.left_since keeper.old.vault.disk.now keeper.new.vault.disk.now
+            keeper.old.desk keeper.old.vault.held keeper.new.desk keeper.new.vault.held
+            (after keeper.old.desk (step.Command command.now)) result }
+        ensures decided { UnlessDisk result ((keeper.new.read && keeper.new.vault.decided) ≡ true) }
+        ensures disk { D.faults keeper.new.vault.disk.now ≡ counts_disk result (D.faults keeper.old.vault.disk.now) }
+        ensures same_disk { keeper.new.vault.disk.ghost_name ≡ keeper.old.vault.disk.ghost_name }
+    {
+        let prepared = match keeper.prepare(command) {
+            Ok(prepared) => prepared,
+            Err(refusal) => {
+                print_refusal(&refusal, &mut self.answers)?;
+                return Ok(());
+            }
+        };
+        self.flush(sink)?;
+        print_done(command, prepared.desk().commit(), prepared.erased(), &mut self.answers)?;
+        match keeper.commit(prepared) {
+            Ok(_) => {
+                self.rules = FoldedRules::unasked();
+                Ok(())
+            }
+            Err(_) => {
+                self.answers.clear();
+                Err(Ending::Disk)
+            }
+        }
+    }
+
+    // Adds the answer to a question about the policy state to those that wait.
+    fn ask(&mut self, desk: &Desk, question: &Step) -> Result<(), AllocError>
+        requires asked { AsksRequest question.now }
+        requires question { IsQuestion question.now }
+        requires folded { AreFolded self.old.rules.table desk.now }
+        ensures answer { OnOk result (self.new.answers ≡ self.old.answers ++ reply desk.now question.now) }
+        ensures err { OnErr result (self.new.answers ≡ self.old.answers) }
+        ensures reader { self.new.reader ≡ self.old.reader }
+        ensures folded { AreFolded self.new.rules.table desk.now }
+    {
+        match question {
+            Step::Nothing => Ok(()),
+            Step::Command(_) => unreachable!(),
+            Step::List { bucket, filter } => print_list(desk, bucket, filter, &mut self.answers),
+            Step::Check(question) => {
+                let root = BucketName::root(self.alloc);
+                print_from(desk, &root, true, question, &mut self.answers)
+            }
+            Step::From {
+                bucket,
+                deep,
+                question,
+            } => print_from(desk, bucket, *deep, question, &mut self.answers),
+            Step::Access {
+                subject,
+                object,
+                asked,
+            } => {
+                let decision = self.rules.decide(desk, subject, object, *asked)?;
+                print_decision(&decision, &mut self.answers)
+            }
+            Step::Status => print(
+                &LineAnswer::Status {
+                    commit: desk.commit(),
+                },
+                &mut self.answers,
+            ),
+        }
     }
 
     /// Has the sink take the answers that wait.

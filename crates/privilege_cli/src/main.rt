@@ -1,12 +1,14 @@
-//! The program: the words of the command line, and standard input and output.
+//! The program: the words of the command line, standard input and output, and the folder.
 #![tactic(auto)]
 
 mod access_run;
 mod command_words;
 mod ending;
+mod folded_rules;
+mod host_folder;
 mod host_words;
 mod limits;
-mod local_desk;
+mod load_run;
 mod local_run;
 mod local_script;
 mod program;
@@ -16,10 +18,23 @@ mod standard_streams;
 mod tests;
 mod zeros;
 
+use folder_disk::FolderDisk;
+use host_folder::folder_path;
 use standard_streams::{InputSource, OutputSink, run_on};
+use std::alloc::AllocError;
 use std::process::ExitCode;
 
 fn main(rt: HostRuntime) -> ExitCode {
+    match run_on_host(&rt) {
+        Ok(status) => ExitCode::from(status),
+        Err(_) => ExitCode::from(1),
+    }
+}
+
+// Runs the program on standard input and output and on its folder. How it ends.
+fn run_on_host(rt: &HostRuntime) -> Result<u8, AllocError> {
+    let folder = folder_path(rt, rt.alloc())?;
+    let mut disk = FolderDisk::open(rt.clone()?, folder.as_str())?;
     let mut source = InputSource {
         reader: rt.stdin(),
         faults: 0,
@@ -28,5 +43,5 @@ fn main(rt: HostRuntime) -> ExitCode {
         writer: rt.stdout(),
         faults: 0,
     };
-    ExitCode::from(run_on(&rt, rt.alloc(), &mut source, &mut sink))
+    Ok(run_on(rt, rt.alloc(), &mut source, &mut sink, &mut disk))
 }

@@ -1,4 +1,4 @@
-// The answers to questions at a policy state.
+// The answers to commands and to questions at a policy state.
 ghost use Rattle.std.specs.Prelude.{◌≡◌, ◌<◌, ◌≤◌, ◌++◌, true, length, slice_get, List, ℕ, IfSome, IsSome, Some, None, OnOk, OnErr};
 ghost use Rattle.std.specs.List.{flat_map};
 ghost use Rattle.bucket_store.specs.Database.{root};
@@ -10,15 +10,16 @@ ghost use Rattle.line_script.specs.Refusals.{names_a_rule};
 ghost use Rattle.line_script.specs.parts.Appending.{Lengthens};
 ghost use Rattle.desk_state.specs.IsDesk.{IsDesk};
 ghost use Rattle.desk_state.specs.declared.refusals.Refusal.TheVariants.{NoBucket};
-ghost use Rattle.privilege_cli.specs.Reply.{about, verdict_text, policy_text, list_text};
+ghost use Rattle.privilege_cli.specs.Reply.{about, verdict_text, policy_text, list_text, done_text, decided_text};
 ghost use Rattle.privilege_cli.specs.parts.Questions.{WantsMemory};
 
 use bucket_eval::{Found, plain};
 use bucket_store::{Bucket, Database, StoreRefusal};
 use cynara_keys::{BucketName, Filter, Policy, Question};
 use desk_ports::Bytes;
-use desk_state::{Desk, Refusal};
+use desk_state::{Command, Desk, Refusal};
 use line_script::{LineAnswer, RuleBroken, print};
+use smack_rules::Decision;
 use std::alloc::AllocError;
 
 /// Prints the verdict of a bucket on a question, or that the bucket is not there.
@@ -207,4 +208,38 @@ pub fn print_refusal(refusal: &Refusal, out: &mut Bytes) -> Result<(), AllocErro
 {
     let broken = RuleBroken::of(refusal)?;
     print(&LineAnswer::Refused(broken), out)
+}
+
+/// Prints what an accepted command is answered, with the commit number that it leaves and the policies that it erased.
+pub fn print_done(
+    command: &Command,
+    commit: u64,
+    erased: u32,
+    out: &mut Bytes,
+) -> Result<(), AllocError>
+    ensures ok { OnOk result (out.new ≡ out.old ++ done_text command.now commit erased) }
+    ensures err { OnErr result (out.new ≡ out.old) }
+{
+    match command {
+        Command::Erase { .. } => print(
+            &LineAnswer::Erased {
+                commit,
+                count: erased,
+            },
+            out,
+        ),
+        _ => print(&LineAnswer::Accepted { commit }, out),
+    }
+}
+
+/// Prints a decision of Smack.
+pub fn print_decision(decision: &Decision, out: &mut Bytes) -> Result<(), AllocError>
+    ensures ok { OnOk result (out.new ≡ out.old ++ decided_text decision.now) }
+    ensures err { OnErr result (out.new ≡ out.old) }
+{
+    let answer = LineAnswer::Access {
+        allowed: decision.allowed,
+        rule: decision.rule,
+    };
+    print(&answer, out)
 }

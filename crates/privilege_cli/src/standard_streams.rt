@@ -5,7 +5,7 @@ ghost use Rattle.privilege_cli.specs.Program.{RunsOn};
 
 use crate::host_words::host_words;
 use crate::program::run;
-use desk_ports::{Failed, Sink, Source};
+use desk_ports::{Disk, Failed, Sink, Source};
 use std::alloc::Global;
 use std::env::Env;
 use std::io::{ErrorKind, Read, Write};
@@ -67,19 +67,22 @@ impl<W: Write + Drop> Sink for OutputSink<W> {
 }
 
 /// Runs the program with the words of a host, and answers the status. Where there is no memory for the words it is 1, and
-/// nothing is read or written.
-pub fn run_on<E: Env, S: Source, K: Sink>(
+/// nothing is read, written or mounted.
+pub fn run_on<E: Env, S: Source, K: Sink, D: Disk>(
     host: &E,
     alloc: Global,
     source: &mut S,
     sink: &mut K,
+    disk: &mut D,
 ) -> u8
-    ensures { RunsOn result
-        (record { left = S.left source.old; source_faults = S.faults source.old; taken = K.taken sink.old; sink_faults = K.faults sink.old })
-        (record { left = S.left source.new; source_faults = S.faults source.new; taken = K.taken sink.new; sink_faults = K.faults sink.new }) }
+    ensures { RunsOn (D.left_since disk.new) result
+        (record { left = S.left source.old; source_faults = S.faults source.old; taken = K.taken sink.old; sink_faults = K.faults sink.old;
+            disk = D.state disk.old; moment = D.moment disk.old; disk_faults = D.faults disk.old })
+        (record { left = S.left source.new; source_faults = S.faults source.new; taken = K.taken sink.new; sink_faults = K.faults sink.new;
+            disk = D.state disk.new; moment = D.moment disk.new; disk_faults = D.faults disk.new }) }
 {
     match host_words(host, alloc) {
-        Ok(words) => run(host, alloc, &words, source, sink),
+        Ok(words) => run(host, alloc, &words, source, sink, disk),
         Err(_) => 1,
     }
 }

@@ -31,4 +31,4 @@ pub use laws::{
 };
 pub use reading::read;
 pub use refusals::TextRefusal;
-pub use writing::write;
+pub use writing::{write, write_loads};

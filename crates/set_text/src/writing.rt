@@ -38,6 +38,15 @@ pub fn write(alloc: Global, desk: &Desk) -> Result<FileSet, AllocError>
     Ok(FileSet::of(files))
 }
 
+/// The load files of all packages, in the order of their names: the Smack rules of each package, one a line.
+pub fn write_loads(alloc: Global, desk: &Desk) -> Result<Vec<SetFile>, AllocError>
+    ensures { IfOk result (λ files. files.items ≡ word.load_files desk.now) }
+{
+    let mut files = Vec::new(alloc);
+    push_load_files(alloc, desk, &mut files)?;
+    Ok(files)
+}
+
 // All files, in the order of their names. Writing each name and number shows that it is spelt as its type keeps it.
 fn all_files(alloc: Global, desk: &Desk) -> Result<Vec<SetFile>, AllocError>
     ensures files { IfOk result (λ files. files.items ≡ word.files desk.now) }

@@ -4,14 +4,14 @@ use Rattle.desk_ports.specs.Content.{Took, ReadToEnd, Appended}
 use Rattle.text_lines.specs.Lines.{pieces_of, lines_within, AreWholeLines}
 use Rattle.text_lines.specs.LineReader.{LineReading}
 use Rattle.line_script.specs.declared.steps.Step.{Step}
-use Rattle.desk_state.specs.DeskState.{fresh}
-use Rattle.privilege_cli.specs.Script.{Script, read_lines, read_script, replies}
+use Rattle.desk_state.specs.DeskState.{DeskState}
+use Rattle.privilege_cli.specs.Script.{Script, read_lines, read_script, replies, state_after}
 use Rattle.privilege_cli.specs.Outside.{Had}
 use Rattle.privilege_cli.specs.Ending.{IsCut}
-use Rattle.privilege_cli.specs.LocalRun.{LocalAnswers, AnswersLines}
+use Rattle.privilege_cli.specs.LocalRun.{ReadsLines, HasRead, AreAnswered, AreInTurn}
 use Rattle.privilege_cli.specs.declared.limits.TheConstants.{MOST_LINE_BYTES, MOST_SCRIPT_BYTES}
 use Rattle.privilege_cli.specs.declared.ending.Ending.{Ending}
-use Rattle.privilege_cli.specs.declared.ending.Ending.TheVariants.{Done, Line, Source, Sink}
+use Rattle.privilege_cli.specs.declared.ending.Ending.TheVariants.{Done, Line, Source, Sink, Disk}
 use Rattle.privilege_cli.specs.declared.local_script.LocalScript.{LocalScript}
 
 -- a script with these steps before its other ones
@@ -22,8 +22,9 @@ with_steps steps script = record script { steps = steps ++ script.steps }
 abbrev pub IsOver : LineReading → Type 0
 IsOver reading = (reading.is_ended ≡ true) × (reading.waiting ≡ [])
 
--- These lines were read and answered; what is written and what waits are the answers, whatever follows.
-pub record Progress (left left_now taken taken_now : Option (List ℕ)) (now : LocalScript) (reading : LineReading) : Type 0 where
+-- These lines were read, and their steps answered; what is written and what waits are the answers.
+pub record Progress (start : DeskState) (left left_now taken taken_now : Option (List ℕ)) (now : LocalScript) (desk : DeskState)
+    (reading : LineReading) : Type 0 where
   pub lines : List ℕ
   pub written : List ℕ
   pub steps : List Step
@@ -33,10 +34,18 @@ pub record Progress (left left_now taken taken_now : Option (List ℕ)) (now : L
   pub read : (more : List ℕ) → (IsOver reading → more ≡ [])
       → read_script (lines ++ more)
       ≡ with_steps steps (read_lines (reading.number + 1) now.reader (lines_within reading.room (pieces_of more)))
-  pub answered : (later : List Step) → replies fresh (steps ++ later) ≡ (written ++ now.answers) ++ replies now.desk later
+  pub answered : replies start steps ≡ written ++ now.answers
+  pub state : state_after start steps ≡ desk
+  pub in_turn : AreInTurn start steps written
   pub ended : reading.is_ended ≡ true → ReadToEnd left left_now
   pub longest : reading.longest ≡ MOST_LINE_BYTES
   pub within : reading.number + reading.room ≤ MOST_SCRIPT_BYTES
+
+-- the same, with what the steps keep: of the folder, say
+abbrev pub Goes : (List Step → Type 0) → DeskState → Option (List ℕ) → Option (List ℕ) → Option (List ℕ) → Option (List ℕ)
+    → LocalScript → DeskState → LineReading → Type 0
+Goes Kept start left left_now taken taken_now now desk reading =
+    (progress : Progress start left left_now taken taken_now now desk reading) × Kept progress.steps
 
 abbrev pub ending_of : Result (Unit {0}) Ending → Ending
 ending_of (Ok value) = Done
@@ -46,22 +55,26 @@ ending_of (Err ending) = ending
 abbrev pub AreHanded : Ending → List ℕ → List ℕ → List ℕ → Type 0
 AreHanded Done answers written waiting = (written ≡ answers) × (waiting ≡ [])
 AreHanded Source answers written waiting = (written ≡ answers) × (waiting ≡ [])
+AreHanded Disk answers written waiting = (written ≡ answers) × (waiting ≡ [])
 AreHanded Sink answers written waiting = IsCut written answers
 AreHanded ending answers written waiting = answers ≡ written ++ waiting
 
--- a script is read and answered so; before a wrong line, whole lines are
-abbrev pub IsAnswered : Ending → List ℕ → List ℕ → List ℕ → Type 0
-IsAnswered (Line number) input rest answers =
-    LocalAnswers fresh (Line number) input rest answers × AnswersLines fresh input rest answers
-IsAnswered ending input rest answers = LocalAnswers fresh ending input rest answers
+-- what was read; before a wrong line, whole lines were
+abbrev pub IsRead : Ending → List ℕ → List ℕ → List Step → Type 0
+IsRead (Line number) input rest steps = HasRead (Line number) input rest steps × ReadsLines input rest steps
+IsRead ending input rest steps = HasRead ending input rest steps
 
 -- a script is read and answered as this ending says, but for the answers that wait
-pub record Answers (ending : Ending) (waiting : List ℕ) (left left_after taken taken_after : Option (List ℕ)) : Type 0 where
+pub record Answers (start : DeskState) (ending : Ending) (waiting : List ℕ) (left left_after taken taken_after : Option (List ℕ))
+    : Type 0 where
   pub input : List ℕ
   pub rest : List ℕ
-  pub answers : List ℕ
+  pub steps : List Step
+  pub answered : List Step
   pub written : List ℕ
   pub had : Had left left_after input rest
-  pub answered : IsAnswered ending input rest answers
+  pub read : IsRead ending input rest steps
+  pub are_answered : AreAnswered ending start answered steps
+  pub in_turn : AreInTurn start answered written
   pub appended : Appended taken written taken_after
-  pub handed : AreHanded ending answers written waiting
+  pub handed : AreHanded ending (replies start answered) written waiting

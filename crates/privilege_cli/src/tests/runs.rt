@@ -1,7 +1,7 @@
 //! What the tests run the program on.
 
 use crate::program::run;
-use desk_ports::{Bytes, FailList, MemSink, MemSource, Sink, Source};
+use desk_ports::{Bytes, Disk, FailList, FileSet, MemDisk, MemSink, MemSource, Sink, Source};
 use std::alloc::{AllocError, Global};
 
 /// A source of which this call fails; 0 is none.
@@ -14,16 +14,34 @@ pub fn failing_sink(alloc: Global, call: u64) -> Result<MemSink, AllocError> {
     MemSink::new(Bytes::new(alloc), FailList::of([call].to_vec(alloc)?))
 }
 
-/// The status of the program on these words.
+/// An empty folder.
+pub fn empty_disk(alloc: Global) -> Result<MemDisk, AllocError> {
+    let fails = FailList::of(Vec::new(alloc));
+    MemDisk::new(alloc, FileSet::of(Vec::new(alloc)), fails)
+}
+
+/// The status of the program on these words, over an empty folder.
 pub fn status_of<S: Source, K: Sink>(
     alloc: Global,
     words: &[&str],
     source: &mut S,
     sink: &mut K,
 ) -> Result<u8, AllocError> {
+    let mut disk = empty_disk(alloc)?;
+    status_over(alloc, words, source, sink, &mut disk)
+}
+
+/// The status of the program on these words, over a folder.
+pub fn status_over<S: Source, K: Sink, D: Disk>(
+    alloc: Global,
+    words: &[&str],
+    source: &mut S,
+    sink: &mut K,
+    disk: &mut D,
+) -> Result<u8, AllocError> {
     let mut strings = Vec::new(alloc);
     for word in words {
         strings.push(String::from_str(alloc, word)?)?;
     }
-    Ok(run(&(), alloc, &strings, source, sink))
+    Ok(run(&(), alloc, &strings, source, sink, disk))
 }

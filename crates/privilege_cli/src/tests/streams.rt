@@ -1,6 +1,6 @@
 //! `local` over readers and writers of std in memory.
 
-use super::runs::status_of;
+use super::runs::{empty_disk, status_of};
 use crate::standard_streams::{InputSource, OutputSink, run_on};
 use std::env::{Env, FillError};
 use std::io::{self, ErrorKind, Read, Write};
@@ -192,8 +192,9 @@ fn the_words_of_a_host_are_handed_on(rt: HostRuntime) -> Result<(), Fail> {
             writer: Vec::new(rt.alloc()),
             faults: 0,
         };
+        let mut disk = empty_disk(rt.alloc())?;
         assert_eq!(rt;
-            run_on(&Words(words), rt.alloc(), &mut source, &mut sink),
+            run_on(&Words(words), rt.alloc(), &mut source, &mut sink, &mut disk),
             *status
         );
         assert_eq!(rt; sink.writer.as_slice(), output.as_bytes());

@@ -1,0 +1,147 @@
+-- Commands and questions: the answers that wait behind them, and how a line's step ends.
+use Rattle.std.proofs.Common.{◌≡◌, ◌++◌, [], ℕ, true, false, List, Option, Some, None, Result, Ok, Err, MatchResult, inl, inr, refl, sym, ap, ◌∙◌, subst, append-nil}
+use Rattle.desk_ports.specs.Content.{Appended}
+use Rattle.desk_ports.proofs.Appends.{Appended-none}
+use Rattle.desk_state.specs.DeskState.{DeskState}
+use Rattle.desk_state.specs.Rules.{Refuses, fault}
+use Rattle.desk_state.specs.declared.commands.Command.{Command}
+use Rattle.desk_state.specs.declared.refusals.Refusal.{Refusal}
+use Rattle.desk_state.specs.declared.refusals.Refusal.TheVariants as refusal
+use Rattle.line_script.specs.Block.{Block}
+use Rattle.line_script.specs.Grammar.{step_at}
+use Rattle.line_script.specs.Refusals.{names_a_rule}
+use Rattle.line_script.specs.declared.steps.Step.{Step}
+use Rattle.line_script.specs.declared.steps.Step.TheVariants as step
+use Rattle.privilege_cli.specs.Reply.{reply, after, command_text, applied}
+use Rattle.privilege_cli.specs.parts.Local.{Hands, IsQuestion, Flushes, AnswersStep, RefusesStep, AnswersLine, RefusesLine}
+use Rattle.privilege_cli.specs.parts.Keeping.{counts_disk}
+use Rattle.privilege_cli.specs.declared.ending.Ending.{Ending}
+use Rattle.privilege_cli.specs.declared.ending.Ending.TheVariants.{Done, Memory, Words, Line, Source, Sink, Disk, Damaged}
+use Rattle.privilege_cli.specs.declared.local_script.LocalScript.{LocalScript}
+
+-- no answer was handed over
+pub hands-none : (taken : Option (List ℕ)) (answers answers_after : List ℕ) → answers_after ≡ answers
+    → Hands taken taken answers answers_after
+hands-none taken answers answers_after same =
+    record { handed = []; appended = Appended-none taken; parts = sym same }
+
+-- all answers were
+pub hands-all : (taken taken_after : Option (List ℕ)) (answers waiting : List ℕ) → Appended taken answers taken_after → waiting ≡ []
+    → Hands taken taken_after answers waiting
+hands-all taken taken_after answers waiting appended none =
+    record {
+      handed = answers;
+      appended = appended;
+      parts = sym (append-nil answers) ∙ ap (λ waiting. answers ++ waiting) (sym none);
+    }
+
+-- a refusal that names a rule names the first one
+pub refused-rule : (desk : DeskState) (command : Command) (broken : Refusal) → names_a_rule broken ≡ true
+    → Refuses desk command broken → fault desk command ≡ Some broken
+refused-rule desk command (refusal.Memory error) names refuses = cc
+refused-rule desk command (refusal.Reserved name) names refuses = refuses
+refused-rule desk command refusal.LayoutThere names refuses = refuses
+refused-rule desk command refusal.NoLayout names refuses = refuses
+refused-rule desk command (refusal.NoBucket name) names refuses = refuses
+refused-rule desk command refusal.RootBucket names refuses = refuses
+refused-rule desk command (refusal.BadKind kind) names refuses = refuses
+refused-rule desk command (refusal.UnknownUser uid) names refuses = refuses
+refused-rule desk command (refusal.OtherPackage name) names refuses = refuses
+refused-rule desk command (refusal.OtherAuthor author) names refuses = refuses
+refused-rule desk command refusal.NotInstalled names refuses = refuses
+refused-rule desk command (refusal.Limit counted most) names refuses = refuses
+refused-rule desk command (refusal.Cycle name) names refuses = refuses
+
+-- a question leaves the state
+question-stays : (desk : DeskState) (asked : Step) → IsQuestion asked → after desk asked ≡ desk
+question-stays desk step.Nothing question = refl
+question-stays desk (step.Command command) question = absurd question
+question-stays desk (step.List name filter) question = refl
+question-stays desk (step.Check question) is = refl
+question-stays desk (step.From name deep question) is = refl
+question-stays desk (step.Access subject object asked) question = refl
+question-stays desk step.Status question = refl
+
+-- a question was answered
+pub answers-question : (taken : Option (List ℕ)) (answers answers_after : List ℕ) (desk : DeskState) (asked : Step)
+    → IsQuestion asked → answers_after ≡ answers ++ reply desk asked
+    → AnswersStep taken taken answers answers_after desk desk asked
+answers-question taken answers answers_after desk asked question text =
+    record {
+      waiting = answers;
+      hands = hands-none taken answers answers refl;
+      answer = text;
+      state = sym (question-stays desk asked question);
+      in_turn = inl refl;
+    }
+
+-- a command was refused
+pub answers-refusal : (taken : Option (List ℕ)) (answers answers_after : List ℕ) (desk : DeskState) (command : Command)
+    (broken : Refusal) → fault desk command ≡ Some broken → answers_after ≡ answers ++ command_text desk command (Some broken)
+    → AnswersStep taken taken answers answers_after desk desk (step.Command command)
+answers-refusal taken answers answers_after desk command broken breaks text =
+    record {
+      waiting = answers;
+      hands = hands-none taken answers answers refl;
+      answer = text ∙ ap (λ fault. answers ++ command_text desk command fault) (sym breaks);
+      state = ap (applied desk command) (sym breaks);
+      in_turn = inl refl;
+    }
+
+-- a command was accepted, when all earlier answers were taken
+pub answers-command : (taken taken_after : Option (List ℕ)) (answers flushed answers_after : List ℕ) (desk desk_after : DeskState)
+    (command : Command) → fault desk command ≡ None → Appended taken answers taken_after → flushed ≡ []
+    → answers_after ≡ flushed ++ command_text desk command None → desk_after ≡ applied desk command None
+    → AnswersStep taken taken_after answers answers_after desk desk_after (step.Command command)
+answers-command taken taken_after answers flushed answers_after desk desk_after command accepted appended none text is =
+    record {
+      waiting = flushed;
+      hands = hands-all taken taken_after answers flushed appended none;
+      answer = text ∙ ap (λ fault. flushed ++ command_text desk command fault) (sym accepted);
+      state = is ∙ ap (applied desk command) (sym accepted);
+      in_turn = inr none;
+    }
+
+-- how a line ends, by how its step does
+pub line-of-step : (taken taken_after : Option (List ℕ)) (old new : LocalScript) (desk desk_after : DeskState) (line : List ℕ)
+    (number : ℕ) (asked : Step) → step_at old.reader line ≡ Some (new.reader, asked)
+    → (result : Result (Unit {0}) Ending)
+    → MatchResult result (λ value. AnswersStep taken taken_after old.answers new.answers desk desk_after asked)
+    (RefusesStep taken taken_after old.answers new.answers desk desk_after asked)
+    → MatchResult result (λ value. AnswersLine taken taken_after old new desk desk_after line)
+    (RefusesLine taken taken_after old new desk desk_after line number)
+line-of-step taken taken_after old new desk desk_after line number asked reads (Ok value) done =
+    record { step = asked; reads = reads; done = done }
+line-of-step taken taken_after old new desk desk_after line number asked reads (Err Memory) refuses = refuses
+line-of-step taken taken_after old new desk desk_after line number asked reads (Err Sink) refuses = refuses
+line-of-step taken taken_after old new desk desk_after line number asked reads (Err Disk) fails =
+    record { step = asked; reads = reads; fails = fails }
+line-of-step taken taken_after old new desk desk_after line number asked reads (Err Done) refuses = absurd refuses
+line-of-step taken taken_after old new desk desk_after line number asked reads (Err Words) refuses = absurd refuses
+line-of-step taken taken_after old new desk desk_after line number asked reads (Err Source) refuses = absurd refuses
+line-of-step taken taken_after old new desk desk_after line number asked reads (Err (Line wrong)) refuses = absurd refuses
+line-of-step taken taken_after old new desk desk_after line number asked reads (Err (Damaged file place)) refuses = absurd refuses
+
+-- the answers that waited were not all taken
+module _ (taken taken_after : Option (List ℕ)) (old new : LocalScript) where
+  pub refuses-unflushed : (answers_after : List ℕ) (desk : DeskState) (asked : Step) (ending : Ending)
+      → Flushes taken taken_after old new (Err ending) → RefusesStep taken taken_after old.answers answers_after desk desk asked ending
+  refuses-unflushed answers_after desk asked Sink flushed = (flushed.0, refl)
+  refuses-unflushed answers_after desk asked Done flushed = absurd flushed
+  refuses-unflushed answers_after desk asked Memory flushed = absurd flushed
+  refuses-unflushed answers_after desk asked Words flushed = absurd flushed
+  refuses-unflushed answers_after desk asked (Line number) flushed = absurd flushed
+  refuses-unflushed answers_after desk asked Source flushed = absurd flushed
+  refuses-unflushed answers_after desk asked Disk flushed = absurd flushed
+  refuses-unflushed answers_after desk asked (Damaged file line) flushed = absurd flushed
+
+  pub disk-unflushed : (ending : Ending) → Flushes taken taken_after old new (Err ending)
+      → (count : ℕ) → count ≡ counts_disk {A = Unit {0}} (Err ending) count
+  disk-unflushed Sink flushed count = refl
+  disk-unflushed Done flushed count = absurd flushed
+  disk-unflushed Memory flushed count = absurd flushed
+  disk-unflushed Words flushed count = absurd flushed
+  disk-unflushed (Line number) flushed count = absurd flushed
+  disk-unflushed Source flushed count = absurd flushed
+  disk-unflushed Disk flushed count = absurd flushed
+  disk-unflushed (Damaged file line) flushed count = absurd flushed
