@@ -25,6 +25,7 @@ fn seen(path: &Path, options: &OpenOptions) -> io::Result<Option<File>> {
 
 struct Folder {
     path: PathBuf,
+    held: File,
     touched: BTreeSet<String>,
 }
 
@@ -51,7 +52,9 @@ impl Folder {
             }
         }
         self.touched.clear();
-        File::open(&self.path)?.sync_all()
+        let (seen, opened) = (fs::metadata(&self.path)?, self.held.metadata()?);
+        assert!(opened.dev() == seen.dev() && opened.ino() == seen.ino());
+        self.held.sync_all()
     }
 
     fn commit(&mut self, primaries: &[String], backups: &[String]) -> io::Result<()> {
@@ -80,7 +83,8 @@ fn main() -> io::Result<()> {
     let primaries: Vec<String> = (0..15).map(|number| format!("_{number}")).collect();
     let backups: Vec<String> = (0..15).map(|number| format!("_{number}~")).collect();
     let _made = fs::create_dir(&words[1]);
-    let mut folder = Folder { path: PathBuf::from(&words[1]), touched: BTreeSet::new() };
+    let held = File::open(&words[1])?;
+    let mut folder = Folder { path: PathBuf::from(&words[1]), held, touched: BTreeSet::new() };
     folder.sync()?;
     let start = Instant::now();
     for _ in 0..count {

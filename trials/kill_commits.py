@@ -1,8 +1,11 @@
 #!/usr/bin/env python3
 """Kills `local` at random moments while it commits, and asks the next run on the same folder what it finds. That is to be the
 state after some number of the lines: not fewer than were answered, not more than were written. The folder then has the files
-of its list, the list, and nothing else. Ends with status 1 at the first that is otherwise, and with 2 where `local` keeps no
-state in a folder. A killed program loses nothing that the machine holds, so this shows the order of the calls and the repair
+of its list, the list, and nothing else. Before that, a second run beside one that holds the folder is to be refused: it answers
+nothing, says so on standard error, and ends with the status of a failed call, while the first goes on.
+
+Runs the built program, `local`, with PRIVILEGE_DIR naming a new folder; the state is in the folder `store` in it. Ends with
+status 1 at the first that is otherwise, and with 2 where `local` keeps no state in a folder. A killed program loses nothing that the machine holds, so this shows the order of the calls and the repair
 of a folder, not that a sync reaches the disk. Some thousand kills, as `kill_commits.py 3000`, take some minutes."""
 
 import os
@@ -13,9 +16,10 @@ import sys
 import tempfile
 import time
 
-from program import PROGRAM
+from program import PROGRAM, build
 
 PRIVILEGES = 7
+FAILED_CALL = 6
 LINES = 200
 QUESTIONS = "".join(f"check c u p{place}\n" for place in range(PRIVILEGES)).encode()
 
@@ -35,17 +39,17 @@ def state(number):
 
 
 def local(environment, text):
-    done = subprocess.run([PROGRAM, "local"], input=text, env=environment, stdout=subprocess.PIPE)
-    return done.stdout.decode().splitlines(), done.returncode
+    done = subprocess.run([PROGRAM, "local"], input=text, env=environment, stdout=subprocess.PIPE, stderr=subprocess.PIPE)
+    return done.stdout.decode().splitlines(), done.returncode, done.stderr.decode()
 
 
 def found(environment):
     """The number of the commit that the folder holds, and its results."""
-    lines, status = local(environment, QUESTIONS)
+    lines, status, said = local(environment, QUESTIONS)
     words = [line.split() for line in lines]
     commits = {row[1] for row in words}
     if status != 0 or len(words) != PRIVILEGES or len(commits) != 1:
-        sys.exit(f"the next run answers {lines} and ends with {status}")
+        sys.exit(f"the next run answers {lines}, says {said} and ends with {status}")
     return int(commits.pop()), [row[0] for row in words]
 
 
@@ -64,6 +68,21 @@ def killed(environment, first, patience):
     return first + len(answers) - 1
 
 
+def second_is_refused(environment, held):
+    """Runs a second `local` while one holds the folder, which then goes on. The last commit."""
+    with subprocess.Popen([PROGRAM, "local"], env=environment, stdin=subprocess.PIPE, stdout=subprocess.PIPE) as first:
+        for number in (held + 1, held + 2):
+            first.stdin.write(change(number)[0])
+            first.stdin.flush()
+            answer = first.stdout.readline().decode()
+            if answer != f"ok {number}\n":
+                sys.exit(f"commit {number} is answered {answer}")
+            lines, status, said = local(environment, QUESTIONS)
+            if lines or status != FAILED_CALL or "another program is using it" not in said:
+                sys.exit(f"a second run answers {lines}, says {said} and ends with {status}")
+    return held + 2
+
+
 def files_fault(store):
     """What is wrong with the files of a folder at rest."""
     files = set(os.listdir(store))
@@ -74,6 +93,7 @@ def files_fault(store):
 def main():
     rounds = int(sys.argv[1]) if len(sys.argv) > 1 else 300
     middle = 0
+    build()
     with tempfile.TemporaryDirectory() as name:
         environment = dict(os.environ, PRIVILEGE_DIR=name)
         store = pathlib.Path(name) / "store"
@@ -82,6 +102,7 @@ def main():
         if held != 1 or not store.is_dir():
             print("local keeps no state in a folder")
             sys.exit(2)
+        held = second_is_refused(environment, held)
         for turn in range(rounds):
             answered = killed(environment, held + 1, random.expovariate(8))
             was, (held, results) = held, found(environment)

@@ -1,2 +1,5 @@
-pub mod Untold
+pub mod Holding
+pub mod LastFailure
 pub mod Paths
+pub mod Shown
+pub mod Untold

@@ -1,69 +1,147 @@
-ghost use Rattle.std.specs.Prelude.{◌≡◌, ◌≤◌, ℕ, true, List, None, IfOk, OnOk, OnErr, string_bytes};
+ghost use Rattle.std.specs.Prelude.{◌≡◌, ◌≤◌, ℕ, true, List, Some, None, is_some, if◌then◌else◌, IfOk, OnOk, OnErr, string_bytes};
+ghost use Rattle.std.specs.Option.{option_copied};
 ghost use Rattle.desk_ports.specs.parts.NamesHeld.{has_name};
 ghost use Rattle.folder_disk.specs.Paths.{file_path};
 ghost use Rattle.desk_ports.specs.FileMap.{NamesRise};
 ghost use Rattle.desk_ports.specs.Faults.{next_count};
 ghost use Rattle.desk_ports.specs.PortFault.{count_after_call, count_after_refusal};
+ghost use Rattle.folder_disk.specs.Holding.{IsHeld};
+ghost use Rattle.folder_disk.specs.LastFailure.{last_failure, failure_after_refusal};
 ghost use Rattle.folder_disk.specs.Untold.{untold};
 
+use crate::failures::{Failure, FolderStep};
 use crate::{files, paths};
 use desk_ports::{Bytes, Disk, Failed, FileName, PortFault};
 use std::alloc::AllocError;
 use std::collections::BTreeSet;
-use std::io;
-use std::io::ErrorKind;
+use std::fs::File;
+use std::io::{Error, ErrorKind};
 use std::rt::Files;
 
 /// A folder of the machine as a disk. It follows no link out of the folder, and makes files that only their owner may
-/// read and write. It counts each error of the machine.
+/// read and write. It counts each error of the machine, and keeps the last one that it counted.
+///
+/// At its first call it takes the exclusive advisory lock on the folder, which it holds until it is dropped. Where
+/// another open of the folder holds it, or the folder can't be opened, this call fails, nothing in the folder was asked
+/// for, and the next call tries again. A program that does not ask for the lock is not kept out of the folder.
 ///
 /// It tells nothing of what its files hold. That a real folder keeps what a disk promises is trusted.
 #[derive(Drop)]
-pub struct FolderDisk<R: Files + AllocGlobal + Clone + Drop> {
+pub struct FolderDisk<R: Files<File = File> + AllocGlobal + Clone + Drop> {
     rt: R,
     folder: String,
+    // The open folder, with the lock on it.
+    held: Option<File>,
     touched: BTreeSet<FileName>,
     is_settled: bool,
     faults: u64,
+    failure: Option<Failure>,
 }
 
-impl<R: Files + AllocGlobal + Clone + Drop> FolderDisk<R> {
+impl<R: Files<File = File> + AllocGlobal + Clone + Drop> FolderDisk<R> {
     /// The folder of this path, which is made where there is none: its owner alone may use it. Where it can't be
-    /// made, that is the first error that is counted.
+    /// made, that is the first error that is counted. No lock is asked for yet.
     pub fn open(rt: R, folder: &str) -> Result<FolderDisk<R>, AllocError>
-        ensures { IfOk result (λ disk. disk.faults ≤ 1) }
+        ensures count { IfOk result (λ disk. disk.faults ≤ 1) }
+        ensures told { IfOk result (λ disk. disk.faults ≡ (if is_some disk.failure then 1 else 0)) }
     {
         let folder = String::from_str(rt.alloc(), folder)?;
-        let faults = match files::make_folder(&rt, folder.as_str()) {
-            Ok(()) => 0,
-            Err(_) => 1,
-        };
+        let failure = files::make_folder(&rt, folder.as_str()).err();
         Ok(FolderDisk {
+            held: None,
             touched: BTreeSet::new(rt.alloc()),
             rt,
             folder,
             is_settled: false,
-            faults,
+            faults: u64::from(failure.is_some()),
+            failure,
         })
     }
 
-    fn path_of(&self, name: &FileName) -> Result<String, AllocError>
-        ensures { IfOk result (λ path. string_bytes path ≡ file_path (string_bytes self.now.folder) name.now) }
+    /// The last error of the machine that was counted.
+    pub fn failure(&self) -> Option<&Failure>
+        ensures { option_copied result ≡ self.now.failure }
     {
-        paths::file_path(self.rt.alloc(), self.folder.as_str(), name)
+        self.failure.as_ref()
     }
 
-    fn read_file(&self, name: &FileName) -> io::Result<Option<Bytes>> {
-        let path = self.path_of(name)?;
-        match files::open_to_read(&self.rt, path.as_str())? {
-            Some(file) => Ok(Some(Bytes::of(files::read_whole(self.rt.alloc(), file)?))),
+    // Opens and locks the folder, where it is not held yet.
+    fn hold(&mut self) -> Result<(), Failure>
+        ensures held { OnOk result (IsHeld self.new.held) }
+        ensures count { self.new.faults ≡ self.old.faults }
+        ensures touched { self.new.touched ≡ self.old.touched }
+        ensures kept { OnErr result (self.new ≡ self.old) }
+    {
+        if self.held.is_none() {
+            self.held = Some(files::lock_folder(&self.rt, self.folder.as_str())?);
+        }
+        Ok(())
+    }
+
+    // The path of a file, for a step that is asked for next.
+    fn path_of(&self, name: &FileName, step: FolderStep) -> Result<String, Failure>
+        ensures { IfOk result (λ path. string_bytes path ≡ file_path (string_bytes self.now.folder) name.now) }
+    {
+        match paths::file_path(self.rt.alloc(), self.folder.as_str(), name) {
+            Ok(path) => Ok(path),
+            Err(error) => Err(Failure::without_path(step, Error::from(error))),
+        }
+    }
+
+    fn list_names(&mut self) -> Result<Vec<FileName>, Failure>
+        ensures rising { IfOk result (λ names. NamesRise names.items) }
+        ensures count { self.new.faults ≡ self.old.faults }
+    {
+        self.hold()?;
+        self.list_held()
+    }
+
+    fn list_held(&self) -> Result<Vec<FileName>, Failure>
+        requires { IsHeld self.now.held }
+        ensures { IfOk result (λ names. NamesRise names.items) }
+    {
+        files::list(&self.rt, self.folder.as_str())
+    }
+
+    fn read_file(&mut self, name: &FileName) -> Result<Option<Bytes>, Failure>
+        ensures count { self.new.faults ≡ self.old.faults }
+    {
+        self.hold()?;
+        self.read_held(name)
+    }
+
+    fn read_held(&self, name: &FileName) -> Result<Option<Bytes>, Failure>
+        requires { IsHeld self.now.held }
+    {
+        let path = self.path_of(name, FolderStep::OpenFile)?;
+        match files::read(&self.rt, path.as_str())? {
+            Some(bytes) => Ok(Some(Bytes::of(bytes))),
             None => Ok(None),
         }
     }
 
     // Notes that the file of this name is to be made sure of.
-    fn touch(&mut self, name: &FileName) -> Result<(), AllocError>
+    fn touch(&mut self, name: &FileName, path: &str) -> Result<(), Failure>
         ensures count { self.new.faults ≡ self.old.faults }
+        ensures held { self.new.held ≡ self.old.held }
+        ensures touched { OnOk result (has_name self.new.touched name.now ≡ true) }
+        ensures kept { (other : List ℕ) → has_name self.old.touched other ≡ true
+            → has_name self.new.touched other ≡ true }
+    {
+        match self.put_touched(name) {
+            Ok(()) => Ok(()),
+            Err(error) => Err(Failure::at(
+                self.rt.alloc(),
+                FolderStep::WriteFile,
+                path,
+                Error::from(error),
+            )),
+        }
+    }
+
+    fn put_touched(&mut self, name: &FileName) -> Result<(), AllocError>
+        ensures count { self.new.faults ≡ self.old.faults }
+        ensures held { self.new.held ≡ self.old.held }
         ensures touched { OnOk result (has_name self.new.touched name.now ≡ true) }
         ensures kept { (other : List ℕ) → has_name self.old.touched other ≡ true
             → has_name self.new.touched other ≡ true }
@@ -73,32 +151,52 @@ impl<R: Files + AllocGlobal + Clone + Drop> FolderDisk<R> {
     }
 
     // The name counts as touched before anything is asked of the machine: a write that fails may leave a part.
-    fn write_touched(&self, name: &FileName, bytes: &[u8]) -> io::Result<()>
-        requires { has_name self.now.touched name.now ≡ true }
+    fn write_touched(&self, name: &FileName, path: &str, bytes: &[u8]) -> Result<(), Failure>
+        requires held { IsHeld self.now.held }
+        requires touched { has_name self.now.touched name.now ≡ true }
     {
-        let path = self.path_of(name)?;
-        let mut file = files::open_to_write(&self.rt, path.as_str())?;
-        files::write_whole(&mut file, bytes)
+        let mut file = files::open_to_write(&self.rt, path)?;
+        files::write_whole(self.rt.alloc(), path, &mut file, bytes)
     }
 
-    fn write_file(&mut self, name: &FileName, bytes: &[u8]) -> io::Result<()>
+    fn write_file(&mut self, name: &FileName, bytes: &[u8]) -> Result<(), Failure>
         ensures count { self.new.faults ≡ self.old.faults }
         ensures kept { (other : List ℕ) → has_name self.old.touched other ≡ true
             → has_name self.new.touched other ≡ true }
     {
-        self.touch(name)?;
-        self.write_touched(name, bytes)
+        self.hold()?;
+        let path = self.path_of(name, FolderStep::WriteFile)?;
+        self.touch(name, path.as_str())?;
+        self.write_touched(name, path.as_str(), bytes)
     }
 
-    fn remove_file(&self, name: &FileName) -> io::Result<()> {
-        let path = self.path_of(name)?;
+    fn remove_file(&mut self, name: &FileName) -> Result<(), Failure>
+        ensures count { self.new.faults ≡ self.old.faults }
+    {
+        self.hold()?;
+        self.remove_held(name)
+    }
+
+    fn remove_held(&self, name: &FileName) -> Result<(), Failure>
+        requires { IsHeld self.now.held }
+    {
+        let path = self.path_of(name, FolderStep::RemoveFile)?;
         files::remove(&self.rt, path.as_str())
+    }
+
+    fn sync_all(&mut self) -> Result<(), Failure>
+        ensures count { self.new.faults ≡ self.old.faults }
+        ensures kept { OnErr result (self.new.touched ≡ self.old.touched) }
+    {
+        self.hold()?;
+        self.sync_held()
     }
 
     // Makes sure of every touched file, and then of the folder. What an earlier run of the program touched is not
     // known, so the first time every plain file of the folder counts as touched, and so does the folder itself in the
     // one that it stands in.
-    fn sync_all(&mut self) -> io::Result<()>
+    fn sync_held(&mut self) -> Result<(), Failure>
+        requires { IsHeld self.old.held }
         ensures count { self.new.faults ≡ self.old.faults }
         ensures kept { OnErr result (self.new ≡ self.old) }
     {
@@ -107,62 +205,83 @@ impl<R: Files + AllocGlobal + Clone + Drop> FolderDisk<R> {
             self.sync_parent()?;
         }
         self.sync_touched()?;
-        files::sync_folder(&self.rt, self.folder.as_str())?;
+        self.sync_folder()?;
         self.is_settled = true;
         self.touched.clear();
         Ok(())
     }
 
-    fn sync_found(&self) -> io::Result<()> {
-        for name in &files::list(&self.rt, self.folder.as_str())? {
-            files::sync_if_plain(&self.rt, self.path_of(name)?.as_str())?;
+    fn sync_found(&self) -> Result<(), Failure>
+        requires { IsHeld self.now.held }
+    {
+        for name in &self.list_held()? {
+            let path = self.path_of(name, FolderStep::Sync)?;
+            files::sync_if_plain(&self.rt, path.as_str())?;
         }
         Ok(())
     }
 
-    fn sync_parent(&self) -> io::Result<()> {
-        let path = paths::parent_path(self.rt.alloc(), self.folder.as_str())?;
-        files::sync_folder(&self.rt, path.as_str())
+    fn sync_parent(&self) -> Result<(), Failure> {
+        match paths::parent_path(self.rt.alloc(), self.folder.as_str()) {
+            Ok(path) => files::sync_folder(&self.rt, path.as_str()),
+            Err(error) => Err(Failure::without_path(FolderStep::Sync, Error::from(error))),
+        }
     }
 
-    fn sync_touched(&self) -> io::Result<()> {
+    fn sync_touched(&self) -> Result<(), Failure>
+        requires { IsHeld self.now.held }
+    {
         for name in &self.touched {
-            files::sync_file(&self.rt, self.path_of(name)?.as_str())?;
+            let path = self.path_of(name, FolderStep::Sync)?;
+            files::sync_file(&self.rt, path.as_str())?;
         }
         Ok(())
     }
 
-    // Counts an error of the machine.
-    fn fail(&mut self) -> Failed
-        ensures { self.new.faults ≡ next_count self.old.faults }
+    fn sync_folder(&self) -> Result<(), Failure>
+        requires { IsHeld self.now.held }
+    {
+        match &self.held {
+            Some(opened) => files::sync_open_folder(&self.rt, self.folder.as_str(), opened),
+            None => unreachable!(),
+        }
+    }
+
+    // Counts an error of the machine, and keeps it.
+    fn fail(&mut self, failure: Failure) -> Failed
+        ensures count { self.new.faults ≡ next_count self.old.faults }
+        ensures last { self.new.failure ≡ Some failure }
     {
         self.faults = self.faults.saturating_add(1);
+        self.failure = Some(failure);
         Failed
     }
 
     // The answer of a call that changes the folder.
-    fn changed(&mut self, done: io::Result<()>) -> Result<(), Failed>
-        ensures { self.new.faults ≡ count_after_call result self.old.faults }
+    fn changed(&mut self, done: Result<(), Failure>) -> Result<(), Failed>
+        ensures count { self.new.faults ≡ count_after_call result self.old.faults }
+        ensures last { self.new.failure ≡ last_failure done self.old.failure }
     {
         match done {
             Ok(()) => Ok(()),
-            Err(_) => Err(self.fail()),
+            Err(failure) => Err(self.fail(failure)),
         }
     }
 
     // The refusal of a call that reads the folder: want of memory is no error of the machine.
-    fn refused(&mut self, error: io::Error) -> PortFault
-        ensures { self.new.faults ≡ count_after_refusal result self.old.faults }
+    fn refused(&mut self, failure: Failure) -> PortFault
+        ensures count { self.new.faults ≡ count_after_refusal result self.old.faults }
+        ensures last { self.new.failure ≡ failure_after_refusal result failure self.old.failure }
     {
-        if error.kind() == ErrorKind::OutOfMemory {
+        if failure.error.kind() == ErrorKind::OutOfMemory {
             return PortFault::Memory(AllocError);
         }
-        let Failed = self.fail();
+        let Failed = self.fail(failure);
         PortFault::Failed
     }
 }
 
-impl<R: Files + AllocGlobal + Clone + Drop> Disk for FolderDisk<R> {
+impl<R: Files<File = File> + AllocGlobal + Clone + Drop> Disk for FolderDisk<R> {
     ghost faults = { λ disk. disk.faults };
 
     ghost state = { λ disk. None };
@@ -178,16 +297,16 @@ impl<R: Files + AllocGlobal + Clone + Drop> Disk for FolderDisk<R> {
     ghost only_now = { λ disk left. untold _ };
 
     fn names(&mut self) -> Result<Vec<FileName>, PortFault> {
-        match files::list(&self.rt, self.folder.as_str()) {
+        match self.list_names() {
             Ok(names) => Ok(names),
-            Err(error) => Err(self.refused(error)),
+            Err(failure) => Err(self.refused(failure)),
         }
     }
 
     fn read(&mut self, name: &FileName) -> Result<Option<Bytes>, PortFault> {
         match self.read_file(name) {
             Ok(content) => Ok(content),
-            Err(error) => Err(self.refused(error)),
+            Err(failure) => Err(self.refused(failure)),
         }
     }
 

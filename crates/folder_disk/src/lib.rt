@@ -4,11 +4,14 @@
 //! of what its files hold; proved of it are the counts of failures, and that names come in order.
 #![tactic(auto)]
 
+mod failures;
 mod files;
 mod folder_disk;
 mod paths;
+mod shown;
 #[cfg(test)]
 mod tests;
 
+pub use failures::{Failure, FolderStep};
 pub use files::MOST_FILE_BYTES;
 pub use folder_disk::FolderDisk;

@@ -1,4 +1,7 @@
 // A real folder of the machine.
+mod locks;
+mod texts;
+
 use crate::{FolderDisk, MOST_FILE_BYTES};
 use desk_ports::{Bytes, Disk, Failed, FileName, PortFault};
 use std::alloc::Global;
@@ -26,6 +29,25 @@ fn holds(content: Result<Option<Bytes>, PortFault>, bytes: &[u8]) -> bool {
         Ok(Some(content)) => content.as_slice() == bytes,
         _ => false,
     }
+}
+
+/// Whether the disk's last failure reads so.
+fn says(alloc: Global, disk: &FolderDisk<HostRuntime>, text: &str) -> Result<bool, Fail> {
+    match disk.failure() {
+        Some(failure) => Ok(format!(in alloc; "{failure}")?.as_str() == text),
+        None => Ok(false),
+    }
+}
+
+/// The path of a file `large` in the folder, with one byte more than is read.
+fn large_file(rt: &HostRuntime, folder: &str) -> Result<String, Fail> {
+    let path = format!(in rt.alloc(); "{folder}/large")?;
+    let large = OpenOptions::new()
+        .write(true)
+        .create(true)
+        .open(rt, path.as_str())?;
+    large.set_len(MOST_FILE_BYTES + 1)?;
+    Ok(path)
 }
 
 #[test]
@@ -85,12 +107,7 @@ fn a_file_above_the_limit_counts_one_and_other_names_are_left_out(
 ) -> Result<(), Fail> {
     let folder = fresh_folder(&rt, "limits")?;
     let mut disk = FolderDisk::open(rt.clone()?, folder.as_str())?;
-    let path = format!(in rt.alloc(); "{folder}/large")?;
-    let large = OpenOptions::new()
-        .write(true)
-        .create(true)
-        .open(&rt, path.as_str())?;
-    large.set_len(MOST_FILE_BYTES + 1)?;
+    let _large = large_file(&rt, folder.as_str())?;
     let path = format!(in rt.alloc(); "{folder}/no name")?;
     fs::write(&rt, path.as_str(), "x")?;
     assert_eq!(rt; disk.names().map(|names| names.len()), Ok(1));

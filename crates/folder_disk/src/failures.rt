@@ -1,0 +1,113 @@
+// What the machine was asked where it failed, and how a person reads of it.
+ghost use Rattle.std.specs.Prelude.{◌≡◌, Ok, Err, IfOk, IfErr, string_bytes};
+ghost use Rattle.std.specs.Option.{ForSome};
+ghost use Rattle.folder_disk.specs.Shown.{IsPrintable};
+
+use crate::shown::{MOST_SHOWN_BYTES, shown_path};
+use std::alloc::Global;
+use std::error::Error;
+use std::io::ErrorKind;
+use std::{fmt, io};
+
+/// What the machine is asked to do with a folder, or with a file in it.
+#[derive(Clone, Copy, Debug, PartialEq, Eq)]
+pub enum FolderStep {
+    MakeFolder,
+    OpenFolder,
+    LockFolder,
+    ListFolder,
+    OpenFile,
+    ReadFile,
+    WriteFile,
+    /// Cut a file to the length of what was written.
+    CutFile,
+    /// Have what a file holds, or which files a folder has, reach the medium.
+    Sync,
+    RemoveFile,
+}
+
+/// An error of the machine: what was asked, where, and why it was not done. Shown as one line without a newline, in a
+/// person's words.
+#[derive(Debug, Drop)]
+pub struct Failure {
+    pub step: FolderStep,
+    /// The path, as a person is shown it: a byte that is no printable ASCII, and a backslash, as `\x` with two digits
+    /// of hexadecimal, and at most 4,096 bytes. None where there was no memory for it.
+    pub path: Option<String>,
+    pub error: io::Error,
+    ghost printable: { ForSome path (λ text. IsPrintable (string_bytes text)) },
+}
+
+impl Failure {
+    pub(crate) fn at(alloc: Global, step: FolderStep, path: &str, error: io::Error) -> Failure
+        ensures step { result.step ≡ step }
+        ensures error { result.error ≡ error }
+    {
+        let path = match shown_path(alloc, path, MOST_SHOWN_BYTES) {
+            Ok(path) => Some(path),
+            Err(_) => None,
+        };
+        Failure { step, path, error }
+    }
+
+    /// A failure where there was no memory for the path.
+    pub(crate) fn without_path(step: FolderStep, error: io::Error) -> Failure
+        ensures step { result.step ≡ step }
+        ensures error { result.error ≡ error }
+    {
+        Failure {
+            step,
+            path: None,
+            error,
+        }
+    }
+
+    // What could not be done, as the words before the path.
+    fn words(&self) -> &'static str {
+        match self.step {
+            FolderStep::MakeFolder => "make the folder",
+            FolderStep::OpenFolder => "open the folder",
+            // Another open of the folder holds the lock.
+            FolderStep::LockFolder if self.error.kind() == ErrorKind::WouldBlock => {
+                "use the folder"
+            }
+            FolderStep::LockFolder => "lock the folder",
+            FolderStep::ListFolder => "list the folder",
+            FolderStep::OpenFile => "open",
+            FolderStep::ReadFile => "read",
+            FolderStep::WriteFile => "write",
+            FolderStep::CutFile => "shorten",
+            FolderStep::Sync => "sync",
+            FolderStep::RemoveFile => "remove",
+        }
+    }
+}
+
+impl fmt::Display for Failure {
+    fn fmt<W: fmt::Write>(&self, f: &mut fmt::Formatter<W>) -> fmt::Result {
+        let words = self.words();
+        let error = &self.error;
+        match &self.path {
+            Some(path) => write!(f, "cannot {words} {path}: {error}"),
+            None => write!(f, "cannot {words}: {error}"),
+        }
+    }
+}
+
+impl Error for Failure {}
+
+/// What the machine answered, and where it failed what was asked of it.
+pub(crate) fn told<T>(
+    alloc: Global,
+    step: FolderStep,
+    path: &str,
+    answer: io::Result<T>,
+) -> Result<T, Failure>
+    ensures ok { IfOk result (λ value. answer ≡ Ok value) }
+    ensures err { IfErr result (λ failure. answer ≡ Err failure.error) }
+{
+    match answer {
+        Ok(value) => Ok(value),
+        Err(error) => Err(Failure::at(alloc, step, path, error)),
+    }
+}
