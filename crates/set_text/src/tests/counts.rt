@@ -1,159 +1,115 @@
 //! The limits, each met by an exact count.
 
-use super::worked::{FRESH, USUAL};
-use super::{Row, refuses, set_file};
-use crate::read;
-use desk_ports::{FileSet, set_in_order};
-use std::alloc::Global;
-use std::process::Abort;
+use super::first_wrong;
+use super::typed_sets::FRESH;
+use std::alloc::{AllocError, Global};
 use std::test::Fail;
 
-// Texts with a number of five digits between them, the numbers from 1 on.
-fn numbered(alloc: Global, front: &str, back: &str, count: u32) -> Result<Vec<u8>, Fail> {
-    let mut text = Vec::new(alloc);
-    for number in 1..=count {
-        text.extend_from_slice(front.as_bytes())?;
-        for unit in [10000, 1000, 100, 10, 1] {
-            text.push(b'0' + (number / unit % 10) as u8)?;
+fn push_number(text: &mut String, number: u32) -> Result<(), AllocError> {
+    for unit in [10000, 1000, 100, 10, 1] {
+        text.push((b'0' + (number / unit % 10) as u8) as char)?;
+    }
+    Ok(())
+}
+
+fn push_line(text: &mut String, line: &str, number: u32) -> Result<(), AllocError> {
+    for (at, part) in line.split('#').enumerate() {
+        if at > 0 {
+            push_number(text, number)?;
         }
-        text.extend_from_slice(back.as_bytes())?;
+        text.push_str(part)?;
     }
-    Ok(text)
+    Ok(())
 }
 
-fn joined(alloc: Global, front: &str, back: &[u8]) -> Result<Vec<u8>, Fail> {
-    let mut text = front.as_bytes().to_vec(alloc)?;
-    text.extend_from_slice(back)?;
-    Ok(text)
+fn push_lines(text: &mut String, line: &str, count: u32) -> Result<(), AllocError> {
+    for number in 1..=count {
+        push_line(text, line, number)?;
+    }
+    Ok(())
 }
 
-// The set before the first command, with another text in one file.
-fn with_text(alloc: Global, name: &str, text: &[u8], rows: &[Row<'_>]) -> Result<FileSet, Fail> {
-    let mut files = Vec::new(alloc);
-    files.push(set_file(alloc, name, text)?)?;
-    for row in rows {
-        files.push(set_file(alloc, row.0, row.1.as_bytes())?)?;
-    }
-    for row in FRESH {
-        files.push(set_file(alloc, row.0, row.1.as_bytes())?)?;
-    }
-    Ok(set_in_order(alloc, &files)?)
+fn push_counted(text: &mut String, words: &str) -> Result<(), Fail> {
+    let Some((count, line)) = words.split_once(' ') else {
+        return Err(Fail::from("a count of no line"));
+    };
+    let count = count.parse::<u32>()?;
+    Ok(push_lines(text, line, count)?)
 }
 
-fn names(
-    rt: &impl Abort,
-    alloc: Global,
-    file: &str,
-    text: &[u8],
-    want: (&str, u32),
-) -> Result<(), Fail> {
-    let set = with_text(alloc, file, text, &[])?;
-    refuses(rt, alloc, &set, want.0, want.1);
+// Puts what stands behind an opening bracket, or a text without one, behind the text.
+fn push_part(text: &mut String, part: &str) -> Result<(), Fail> {
+    let Some((words, back)) = part.split_once(']') else {
+        return Ok(text.push_str(part)?);
+    };
+    push_counted(text, words)?;
+    Ok(text.push_str(back)?)
+}
+
+/// The text with the lines written out that its brackets stand for.
+pub fn expanded(alloc: Global, text: &str) -> Result<String, Fail> {
+    let mut all = String::new(alloc);
+    for part in text.split('[') {
+        push_part(&mut all, part)?;
+    }
+    Ok(all)
+}
+
+// 256 buckets and 64 users: the fault that is named is a later one, of which there is one more than there may be.
+const BUCKETS_AND_USERS: &[&str] = &[
+    "_b00001 0: buckets = ;0x0;\n[255 b#;0x0;\n]",
+    "buckets 257: buckets = ;0x0;\n[256 b#;0x0;\n]",
+    "buckets 0: users = [64 1#;guest\n]",
+    "users 65: users = [65 1#;guest\n]",
+];
+
+// 1024 packages, 8192 installs, and 65536 privileges of all installs.
+const INSTALLS: &[&str] = &[
+    "r.p00001 0: apps = [1 p#;;a;*\n]",
+    "r.p00001 0: apps = [1024 p#;;a#;*\n]",
+    "apps 1025: apps = [1025 p#;;a#;*\n]",
+    "r.p 0: apps = [8192 p;;a#;*\n]",
+    "apps 8193: apps = [8193 p;;a#;*\n]",
+    "apps 1: apps = p;;a;*[65536 ;q#]",
+    "r.p 0: apps = p;;a;*[65536 ;q#]\n",
+    "r.p 0: apps = p;;a;*[65536 ;q#]\np;;b;*\n",
+    "apps 3: apps = p;;a;*[65536 ;q#]\np;;b;*\np;;c;*;q\n",
+];
+
+// 65536 policies over all buckets.
+const POLICIES: &[&str] = &[
+    "a state: _ = [65536 c#;*;*;0x0;\n]",
+    "_b 1: _ = [65536 c#;*;*;0x0;\n] & _b = *;*;*;0x0;\n & buckets = ;0x0;\nb;0x0;\n",
+    "_ 65537: _ = [65537 c#;*;*;0x0;\n]",
+];
+
+// 64 lines of a template.
+const TEMPLATE_LINES: &[&str] = &[
+    "a state: template = [64 s# o r\n]",
+    "template 65: template = [65 s# o r\n]",
+    "template 65: template ~AUTHOR~ rwxatl\n -> ~AUTHOR~ rwxatl\n[64 s# o r\n]",
+];
+
+#[test]
+fn counts_buckets_and_users(rt: HostRuntime) -> Result<(), Fail> {
+    assert_eq!(rt; first_wrong(rt.alloc(), FRESH, BUCKETS_AND_USERS)?, "");
     Ok(())
 }
 
 #[test]
-fn counts_buckets_and_users(rt: HostRuntime) -> Result<(), Fail> {
-    let alloc = rt.alloc();
-    let most = joined(alloc, ";0x0;\n", &numbered(alloc, "b", ";0x0;\n", 255)?)?;
-    names(&rt, alloc, "buckets", &most, ("_b00001", 0))?;
-    let over = joined(alloc, ";0x0;\n", &numbered(alloc, "b", ";0x0;\n", 256)?)?;
-    names(&rt, alloc, "buckets", &over, ("buckets", 257))?;
-    names(
-        &rt,
-        alloc,
-        "users",
-        &numbered(alloc, "1", ";guest\n", 64)?,
-        ("buckets", 0),
-    )?;
-    names(
-        &rt,
-        alloc,
-        "users",
-        &numbered(alloc, "1", ";guest\n", 65)?,
-        ("users", 65),
-    )
-}
-
-#[test]
 fn counts_packages_and_installs(rt: HostRuntime) -> Result<(), Fail> {
-    let alloc = rt.alloc();
-    let packages = numbered(alloc, "p", ";;a;*\n", 1)?;
-    names(&rt, alloc, "apps", &packages, ("r.p00001", 0))?;
-    names(
-        &rt,
-        alloc,
-        "apps",
-        &numbered(alloc, "p;;a", ";*\n", 8192)?,
-        ("r.p", 0),
-    )?;
-    names(
-        &rt,
-        alloc,
-        "apps",
-        &numbered(alloc, "p;;a", ";*\n", 8193)?,
-        ("apps", 8193),
-    )?;
-    let most = joined(alloc, "p;;a;*", &numbered(alloc, ";q", "", 65536)?)?;
-    names(&rt, alloc, "apps", &joined(alloc, "", &most)?, ("apps", 1))?;
-    let mut text = joined(alloc, "", &most)?;
-    text.push(b'\n')?;
-    names(&rt, alloc, "apps", &text, ("r.p", 0))?;
-    text.extend_from_slice(b"p;;b;*\n")?;
-    names(&rt, alloc, "apps", &text, ("r.p", 0))?;
-    text.extend_from_slice(b"p;;c;*;q\n")?;
-    names(&rt, alloc, "apps", &text, ("apps", 3))
-}
-
-#[test]
-fn counts_packages(rt: HostRuntime) -> Result<(), Fail> {
-    let alloc = rt.alloc();
-    let mut text = Vec::new(alloc);
-    for number in 1..=1025u32 {
-        text.extend_from_slice(b"p")?;
-        for unit in [1000, 100, 10, 1] {
-            text.push(b'0' + (number / unit % 10) as u8)?;
-        }
-        text.extend_from_slice(b";;a")?;
-        for unit in [1000, 100, 10, 1] {
-            text.push(b'0' + (number / unit % 10) as u8)?;
-        }
-        text.extend_from_slice(b";*\n")?;
-    }
-    names(&rt, alloc, "apps", &text, ("apps", 1025))?;
-    let last = text.len() - b"p1025;;a1025;*\n".len();
-    text.truncate(last);
-    names(&rt, alloc, "apps", &text, ("r.p0001", 0))
+    assert_eq!(rt; first_wrong(rt.alloc(), FRESH, INSTALLS)?, "");
+    Ok(())
 }
 
 #[test]
 fn counts_policies(rt: HostRuntime) -> Result<(), Fail> {
-    let alloc = rt.alloc();
-    let most = numbered(alloc, "c", ";*;*;0x0;\n", 65536)?;
-    assert!(rt; read(alloc, &with_text(alloc, "_", &most, &[])?).is_ok());
-    let more: &[Row<'_>] = &[("_b", "*;*;*;0x0;\n"), ("buckets", ";0x0;\nb;0x0;\n")];
-    refuses(&rt, alloc, &with_text(alloc, "_", &most, more)?, "_b", 1);
-    names(
-        &rt,
-        alloc,
-        "_",
-        &numbered(alloc, "c", ";*;*;0x0;\n", 65537)?,
-        ("_", 65537),
-    )
+    assert_eq!(rt; first_wrong(rt.alloc(), FRESH, POLICIES)?, "");
+    Ok(())
 }
 
 #[test]
 fn counts_template_lines(rt: HostRuntime) -> Result<(), Fail> {
-    let alloc = rt.alloc();
-    let most = numbered(alloc, "s", " o r\n", 64)?;
-    assert!(rt; read(alloc, &with_text(alloc, "template", &most, &[])?).is_ok());
-    names(
-        &rt,
-        alloc,
-        "template",
-        &numbered(alloc, "s", " o r\n", 65)?,
-        ("template", 65),
-    )?;
-    let front = joined(alloc, USUAL, &most)?;
-    names(&rt, alloc, "template", &front, ("template", 65))
+    assert_eq!(rt; first_wrong(rt.alloc(), FRESH, TEMPLATE_LINES)?, "");
+    Ok(())
 }
