@@ -16,6 +16,7 @@ use crate::{TextRefusal, read};
 use counts::expanded;
 use desk_ports::{Bytes, FileName, FileSet, SetFile, set_in_order};
 use std::alloc::{AllocError, Global};
+use std::process::Abort;
 use std::test::Fail;
 
 /// A file: its name and its text.
@@ -169,12 +170,34 @@ fn is_answered(alloc: Global, rows: &[Row<'_>], row: &str) -> Result<bool, Fail>
     Ok(answer.as_str() == wanted)
 }
 
-// The first row that is not answered as it says, or an empty text.
-fn first_wrong<'a>(alloc: Global, rows: &[Row<'_>], table: &[&'a str]) -> Result<&'a str, Fail> {
+// What is said of a row holds.
+fn shows(rt: &impl Abort, holds: bool, row: &str) {
+    assert!(rt; holds, "{row}");
+}
+
+// Each row of the table is answered as it says.
+fn shows_rows(
+    rt: &impl Abort,
+    alloc: Global,
+    rows: &[Row<'_>],
+    table: &[&str],
+) -> Result<(), Fail> {
     for row in table {
-        if !is_answered(alloc, rows, row)? {
-            return Ok(row);
-        }
+        let holds = is_answered(alloc, rows, row)?;
+        shows(rt, holds, row);
     }
-    Ok("")
+    Ok(())
+}
+
+// Each row of the tables is answered as it says.
+fn shows_tables(
+    rt: &impl Abort,
+    alloc: Global,
+    rows: &[Row<'_>],
+    tables: &[&[&str]],
+) -> Result<(), Fail> {
+    for table in tables {
+        shows_rows(rt, alloc, rows, table)?;
+    }
+    Ok(())
 }

@@ -1,6 +1,6 @@
 //! The limits, each met by an exact count.
 
-use super::first_wrong;
+use super::shows_tables;
 use super::typed_sets::FRESH;
 use std::alloc::{AllocError, Global};
 use std::test::Fail;
@@ -91,25 +91,16 @@ const TEMPLATE_LINES: &[&str] = &[
 ];
 
 #[test]
-fn counts_buckets_and_users(rt: HostRuntime) -> Result<(), Fail> {
-    assert_eq!(rt; first_wrong(rt.alloc(), FRESH, BUCKETS_AND_USERS)?, "");
-    Ok(())
+fn counts_buckets_users_and_template_lines(rt: HostRuntime) -> Result<(), Fail> {
+    shows_tables(&rt, rt.alloc(), FRESH, &[BUCKETS_AND_USERS, TEMPLATE_LINES])
 }
 
 #[test]
 fn counts_packages_and_installs(rt: HostRuntime) -> Result<(), Fail> {
-    assert_eq!(rt; first_wrong(rt.alloc(), FRESH, INSTALLS)?, "");
-    Ok(())
+    shows_tables(&rt, rt.alloc(), FRESH, &[INSTALLS])
 }
 
 #[test]
 fn counts_policies(rt: HostRuntime) -> Result<(), Fail> {
-    assert_eq!(rt; first_wrong(rt.alloc(), FRESH, POLICIES)?, "");
-    Ok(())
-}
-
-#[test]
-fn counts_template_lines(rt: HostRuntime) -> Result<(), Fail> {
-    assert_eq!(rt; first_wrong(rt.alloc(), FRESH, TEMPLATE_LINES)?, "");
-    Ok(())
+    shows_tables(&rt, rt.alloc(), FRESH, &[POLICIES])
 }

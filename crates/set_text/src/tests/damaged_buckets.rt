@@ -1,6 +1,6 @@
 //! Damage in the names of files, in `stamp`, in `buckets` and in the files of buckets.
 
-use super::first_wrong;
+use super::shows_tables;
 use super::typed_sets::FULL;
 use std::test::Fail;
 
@@ -189,25 +189,6 @@ const POLICIES: &[&str] = &[
 ];
 
 #[test]
-fn refuses_other_files(rt: HostRuntime) -> Result<(), Fail> {
-    assert_eq!(rt; first_wrong(rt.alloc(), FULL, NAMES)?, "");
-    Ok(())
-}
-
-#[test]
-fn refuses_other_stamps(rt: HostRuntime) -> Result<(), Fail> {
-    assert_eq!(rt; first_wrong(rt.alloc(), FULL, STAMPS)?, "");
-    Ok(())
-}
-
-#[test]
-fn refuses_other_bucket_lines(rt: HostRuntime) -> Result<(), Fail> {
-    assert_eq!(rt; first_wrong(rt.alloc(), FULL, BUCKETS)?, "");
-    Ok(())
-}
-
-#[test]
-fn refuses_other_policy_lines(rt: HostRuntime) -> Result<(), Fail> {
-    assert_eq!(rt; first_wrong(rt.alloc(), FULL, POLICIES)?, "");
-    Ok(())
+fn damage_in_buckets_is_named(rt: HostRuntime) -> Result<(), Fail> {
+    shows_tables(&rt, rt.alloc(), FULL, &[NAMES, STAMPS, BUCKETS, POLICIES])
 }

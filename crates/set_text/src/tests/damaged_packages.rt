@@ -1,6 +1,6 @@
 //! Damage in `users`, in `apps` and in `template`.
 
-use super::first_wrong;
+use super::shows_tables;
 use super::typed_sets::FULL;
 use std::test::Fail;
 
@@ -124,19 +124,6 @@ const TEMPLATES: &[&str] = &[
 ];
 
 #[test]
-fn refuses_other_user_lines(rt: HostRuntime) -> Result<(), Fail> {
-    assert_eq!(rt; first_wrong(rt.alloc(), FULL, USERS)?, "");
-    Ok(())
-}
-
-#[test]
-fn refuses_other_install_lines(rt: HostRuntime) -> Result<(), Fail> {
-    assert_eq!(rt; first_wrong(rt.alloc(), FULL, APPS)?, "");
-    Ok(())
-}
-
-#[test]
-fn refuses_other_template_lines(rt: HostRuntime) -> Result<(), Fail> {
-    assert_eq!(rt; first_wrong(rt.alloc(), FULL, TEMPLATES)?, "");
-    Ok(())
+fn damage_in_users_packages_and_templates_is_named(rt: HostRuntime) -> Result<(), Fail> {
+    shows_tables(&rt, rt.alloc(), FULL, &[USERS, APPS, TEMPLATES])
 }

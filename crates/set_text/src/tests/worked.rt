@@ -1,7 +1,7 @@
 //! The worked example, and sets that are read and written as they were.
 
 use super::typed_sets::{FRESH, FULL, OTHER_TEMPLATES, WORKED};
-use super::{Row, set_of};
+use super::{Row, set_of, shows};
 use crate::{read, write};
 use app_registry::{Ident, Install, NameSet, Scope, UserType};
 use bucket_store::{Bucket, Change, Database};
@@ -10,6 +10,7 @@ use desk_ports::FileSet;
 use desk_state::{Command, Desk};
 use rule_templates::USUAL_TEXT;
 use std::alloc::Global;
+use std::process::Abort;
 use std::test::Fail;
 
 /// The buckets beside the root in the worked example, and the kinds of their fallbacks.
@@ -190,30 +191,35 @@ fn unlike<'a>(set: &FileSet, rows: &[Row<'a>]) -> &'a str {
     ""
 }
 
-fn written<'a>(alloc: Global, desk: &Desk, rows: &[Row<'a>]) -> Result<&'a str, Fail> {
-    Ok(unlike(&write(alloc, desk)?, rows))
-}
-
 fn read_rows(alloc: Global, rows: &[Row<'_>]) -> Result<Desk, Fail> {
     let set = set_of(alloc, rows)?;
     Ok(read(alloc, &set)?)
 }
 
-#[test]
-fn writes_the_worked_example(rt: HostRuntime) -> Result<(), Fail> {
-    let desk = worked_desk(rt.alloc())?;
-    assert_eq!(rt; written(rt.alloc(), &desk, WORKED)?, "");
+// The rows are what is written of the state.
+fn shows_written(
+    rt: &impl Abort,
+    alloc: Global,
+    desk: &Desk,
+    rows: &[Row<'_>],
+) -> Result<(), Fail> {
+    let set = write(alloc, desk)?;
+    let name = unlike(&set, rows);
+    shows(rt, name.is_empty(), name);
     Ok(())
 }
 
-#[test]
-fn reads_the_worked_example(rt: HostRuntime) -> Result<(), Fail> {
-    let desk = read_rows(rt.alloc(), WORKED)?;
-    assert_eq!(rt; desk.commit(), 2);
-    assert!(rt; has_worked_installs(rt.alloc(), &desk)?);
-    assert!(rt; has_worked_database(rt.alloc(), &desk)?);
-    assert!(rt; has_usual_template(&desk)?);
-    assert_eq!(rt; written(rt.alloc(), &desk, WORKED)?, "");
+// The rows are those of a state of this commit.
+fn shows_read(rt: &impl Abort, alloc: Global, rows: &[Row<'_>], commit: u64) -> Result<(), Fail> {
+    let desk = read_rows(alloc, rows)?;
+    shows(rt, desk.commit() == commit, "commit");
+    shows_written(rt, alloc, &desk, rows)
+}
+
+fn shows_worked(rt: &impl Abort, alloc: Global, desk: &Desk) -> Result<(), Fail> {
+    shows(rt, has_worked_installs(alloc, desk)?, "installs");
+    shows(rt, has_worked_database(alloc, desk)?, "database");
+    shows(rt, has_usual_template(desk)?, "template");
     Ok(())
 }
 
@@ -224,18 +230,37 @@ fn has_the_users_of_full(desk: &Desk) -> bool {
     }
 }
 
-// The commit number of a set that is read, and whether it is written as it was.
-fn read_and_written(alloc: Global, rows: &[Row<'_>]) -> Result<(u64, bool), Fail> {
-    let desk = read_rows(alloc, rows)?;
-    Ok((desk.commit(), written(alloc, &desk, rows)?.is_empty()))
+/// Sets, and the commit numbers of their states.
+const SETS: &[(&[Row<'static>], u64)] = &[
+    (WORKED, 2),
+    (FULL, 12),
+    (FRESH, 0),
+    (OTHER_TEMPLATES, 18_446_744_073_709_551_615),
+];
+
+#[test]
+fn writes_the_worked_example(rt: HostRuntime) -> Result<(), Fail> {
+    let desk = worked_desk(rt.alloc())?;
+    shows_written(&rt, rt.alloc(), &desk, WORKED)
+}
+
+#[test]
+fn reads_the_worked_example(rt: HostRuntime) -> Result<(), Fail> {
+    let desk = read_rows(rt.alloc(), WORKED)?;
+    shows_worked(&rt, rt.alloc(), &desk)
+}
+
+#[test]
+fn reads_the_types_of_users(rt: HostRuntime) -> Result<(), Fail> {
+    let desk = read_rows(rt.alloc(), FULL)?;
+    shows(&rt, has_the_users_of_full(&desk), "users");
+    Ok(())
 }
 
 #[test]
 fn reads_what_it_writes(rt: HostRuntime) -> Result<(), Fail> {
-    assert!(rt; has_the_users_of_full(&read_rows(rt.alloc(), FULL)?));
-    assert_eq!(rt; read_and_written(rt.alloc(), FULL)?, (12, true));
-    assert_eq!(rt; read_and_written(rt.alloc(), FRESH)?, (0, true));
-    let last = read_and_written(rt.alloc(), OTHER_TEMPLATES)?;
-    assert_eq!(rt; last, (18_446_744_073_709_551_615, true));
+    for (rows, commit) in SETS {
+        shows_read(&rt, rt.alloc(), rows, *commit)?;
+    }
     Ok(())
 }
