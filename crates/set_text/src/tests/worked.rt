@@ -134,12 +134,20 @@ fn after(desk: &Desk, command: &Command) -> Result<Desk, Fail> {
     Ok(applied.desk)
 }
 
+fn laid_out(alloc: Global) -> Result<Desk, Fail> {
+    let fresh = Desk::fresh(alloc)?;
+    after(&fresh, &Command::Layout)
+}
+
+fn install_command(alloc: Global) -> Result<Command, Fail> {
+    let install = install(alloc)?;
+    Ok(Command::Install { install })
+}
+
 // The state of the worked example: a layout, and one install.
 fn worked_desk(alloc: Global) -> Result<Desk, Fail> {
-    let fresh = Desk::fresh(alloc)?;
-    let laid_out = after(&fresh, &Command::Layout)?;
-    let install = install(alloc)?;
-    after(&laid_out, &Command::Install { install })
+    let laid_out = laid_out(alloc)?;
+    after(&laid_out, &install_command(alloc)?)
 }
 
 fn is_same_bucket(bucket: &Bucket, other: &Bucket) -> bool {
