@@ -22,6 +22,8 @@ mod results;
 mod sets;
 mod stamps;
 mod templates;
+#[cfg(test)]
+mod tests;
 mod users;
 mod writing;
 
