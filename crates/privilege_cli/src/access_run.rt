@@ -35,10 +35,24 @@ pub fn run_access<S: Source, K: Sink>(
     requires { IsTrue (is_request asked) }
     ensures { (disk : Option DiskState) → (moment disk_faults : ℕ)
         → Reads WritesBefore (AccessAnswers subject.now object.now asked) result
-        (record { left = S.left source.old; source_faults = S.faults source.old; taken = K.taken sink.old; sink_faults = K.faults sink.old;
-            disk = disk; moment = moment; disk_faults = disk_faults })
-        (record { left = S.left source.new; source_faults = S.faults source.new; taken = K.taken sink.new; sink_faults = K.faults sink.new;
-            disk = disk; moment = moment; disk_faults = disk_faults }) }
+        (record {
+          left = S.left source.old;
+          source_faults = S.faults source.old;
+          taken = K.taken sink.old;
+          sink_faults = K.faults sink.old;
+          disk = disk;
+          moment = moment;
+          disk_faults = disk_faults;
+        })
+        (record {
+          left = S.left source.new;
+          source_faults = S.faults source.new;
+          taken = K.taken sink.new;
+          sink_faults = K.faults sink.new;
+          disk = disk;
+          moment = moment;
+          disk_faults = disk_faults;
+        }) }
 {
     let table = match read_rules(alloc, source) {
         Ok(table) => table,

@@ -16,10 +16,24 @@ use std::alloc::{AllocError, Global};
 /// memory runs out.
 pub fn run_load<K: Sink, D: Disk>(alloc: Global, sink: &mut K, disk: &mut D) -> Ending
     ensures { (left : Option (List ℕ)) → (source_faults : ℕ) → RunsLoad WritesBefore (D.left_since disk.new) result
-        (record { left = left; source_faults = source_faults; taken = K.taken sink.old; sink_faults = K.faults sink.old;
-            disk = D.state disk.old; moment = D.moment disk.old; disk_faults = D.faults disk.old })
-        (record { left = left; source_faults = source_faults; taken = K.taken sink.new; sink_faults = K.faults sink.new;
-            disk = D.state disk.new; moment = D.moment disk.new; disk_faults = D.faults disk.new }) }
+        (record {
+          left = left;
+          source_faults = source_faults;
+          taken = K.taken sink.old;
+          sink_faults = K.faults sink.old;
+          disk = D.state disk.old;
+          moment = D.moment disk.old;
+          disk_faults = D.faults disk.old;
+        })
+        (record {
+          left = left;
+          source_faults = source_faults;
+          taken = K.taken sink.new;
+          sink_faults = K.faults sink.new;
+          disk = D.state disk.new;
+          moment = D.moment disk.new;
+          disk_faults = D.faults disk.new;
+        }) }
 {
     match KeptDesk::find(alloc, disk) {
         Ok(found) => write_rules(alloc, found.desk(), sink),

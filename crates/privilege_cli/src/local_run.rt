@@ -25,10 +25,24 @@ pub fn run_local<S: Source, K: Sink, D: Disk>(
     disk: &mut D,
 ) -> Ending
     ensures { RunsLocal WritesBefore (D.left_since disk.new) result
-        (record { left = S.left source.old; source_faults = S.faults source.old; taken = K.taken sink.old; sink_faults = K.faults sink.old;
-            disk = D.state disk.old; moment = D.moment disk.old; disk_faults = D.faults disk.old })
-        (record { left = S.left source.new; source_faults = S.faults source.new; taken = K.taken sink.new; sink_faults = K.faults sink.new;
-            disk = D.state disk.new; moment = D.moment disk.new; disk_faults = D.faults disk.new }) }
+        (record {
+          left = S.left source.old;
+          source_faults = S.faults source.old;
+          taken = K.taken sink.old;
+          sink_faults = K.faults sink.old;
+          disk = D.state disk.old;
+          moment = D.moment disk.old;
+          disk_faults = D.faults disk.old;
+        })
+        (record {
+          left = S.left source.new;
+          source_faults = S.faults source.new;
+          taken = K.taken sink.new;
+          sink_faults = K.faults sink.new;
+          disk = D.state disk.new;
+          moment = D.moment disk.new;
+          disk_faults = D.faults disk.new;
+        }) }
 {
     let found = match KeptDesk::find(alloc, disk) {
         Ok(found) => found,
@@ -49,12 +63,24 @@ fn answer_over<S: Source, K: Sink, D: Disk>(
 ) -> Ending
     requires decided { (keeper.old.read && keeper.old.vault.decided) ≡ true }
     ensures script { (script : AnswersScript WritesBefore keeper.old.desk result
-        (record { left = S.left source.old; source_faults = S.faults source.old; taken = K.taken sink.old; sink_faults = K.faults sink.old;
-            disk = D.state keeper.old.vault.disk.now; moment = D.moment keeper.old.vault.disk.now;
-            disk_faults = D.faults keeper.old.vault.disk.now })
-        (record { left = S.left source.new; source_faults = S.faults source.new; taken = K.taken sink.new; sink_faults = K.faults sink.new;
-            disk = D.state keeper.new.vault.disk.now; moment = D.moment keeper.new.vault.disk.now;
-            disk_faults = D.faults keeper.new.vault.disk.now }))
+        (record {
+          left = S.left source.old;
+          source_faults = S.faults source.old;
+          taken = K.taken sink.old;
+          sink_faults = K.faults sink.old;
+          disk = D.state keeper.old.vault.disk.now;
+          moment = D.moment keeper.old.vault.disk.now;
+          disk_faults = D.faults keeper.old.vault.disk.now;
+        })
+        (record {
+          left = S.left source.new;
+          source_faults = S.faults source.new;
+          taken = K.taken sink.new;
+          sink_faults = K.faults sink.new;
+          disk = D.state keeper.new.vault.disk.now;
+          moment = D.moment keeper.new.vault.disk.now;
+          disk_faults = D.faults keeper.new.vault.disk.now;
+        }))
         × KeepsSteps D.state D.moment D.left_since keeper.old.vault.disk.now keeper.new.vault.disk.now
         keeper.old.desk keeper.old.vault.held result script.answered script.steps }
     ensures same_disk { keeper.new.vault.disk.ghost_name ≡ keeper.old.vault.disk.ghost_name }

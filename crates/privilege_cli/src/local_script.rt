@@ -193,7 +193,12 @@ impl LocalScript {
             }
         };
         self.flush(sink)?;
-        print_done(command, prepared.desk().commit(), prepared.erased(), &mut self.answers)?;
+        print_done(
+            command,
+            prepared.desk().commit(),
+            prepared.erased(),
+            &mut self.answers,
+        )?;
         match keeper.commit(prepared) {
             Ok(_) => {
                 self.rules = FoldedRules::unasked();

@@ -19,10 +19,13 @@ mod tests;
 mod zeros;
 
 use folder_disk::FolderDisk;
-use host_folder::folder_path;
+use host_folder::{DIRECTORY, folder_path};
 use standard_streams::{InputSource, OutputSink, run_on};
 use std::alloc::AllocError;
 use std::process::ExitCode;
+
+/// The status of a run whose disk failed.
+const FOLDER_FAILED: u8 = 6;
 
 fn main(rt: HostRuntime) -> ExitCode {
     match run_on_host(&rt) {
@@ -43,5 +46,18 @@ fn run_on_host(rt: &HostRuntime) -> Result<u8, AllocError> {
         writer: rt.stdout(),
         faults: 0,
     };
-    Ok(run_on(rt, rt.alloc(), &mut source, &mut sink, &mut disk))
+    let status = run_on(rt, rt.alloc(), &mut source, &mut sink, &mut disk);
+    if status == FOLDER_FAILED {
+        explain(rt, folder.as_str(), &disk);
+    }
+    Ok(status)
+}
+
+// Says on standard error which call failed on what, and why. Where that takes nothing, there is no one to tell.
+fn explain(rt: &HostRuntime, folder: &str, disk: &FolderDisk<HostRuntime>) {
+    if folder.is_empty() {
+        let _ = eprintln!(rt; "privilege: {DIRECTORY} is no UTF-8, or longer than a path may be");
+    } else if let Some(failure) = disk.failure() {
+        let _ = eprintln!(rt; "privilege: {failure}");
+    }
 }

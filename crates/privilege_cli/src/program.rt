@@ -26,10 +26,24 @@ pub fn run<R, S: Source, K: Sink, D: Disk>(
     disk: &mut D,
 ) -> u8
     ensures run { Ends (D.left_since disk.new) (command_of words.now) result
-        (record { left = S.left source.old; source_faults = S.faults source.old; taken = K.taken sink.old; sink_faults = K.faults sink.old;
-            disk = D.state disk.old; moment = D.moment disk.old; disk_faults = D.faults disk.old })
-        (record { left = S.left source.new; source_faults = S.faults source.new; taken = K.taken sink.new; sink_faults = K.faults sink.new;
-            disk = D.state disk.new; moment = D.moment disk.new; disk_faults = D.faults disk.new }) }
+        (record {
+          left = S.left source.old;
+          source_faults = S.faults source.old;
+          taken = K.taken sink.old;
+          sink_faults = K.faults sink.old;
+          disk = D.state disk.old;
+          moment = D.moment disk.old;
+          disk_faults = D.faults disk.old;
+        })
+        (record {
+          left = S.left source.new;
+          source_faults = S.faults source.new;
+          taken = K.taken sink.new;
+          sink_faults = K.faults sink.new;
+          disk = D.state disk.new;
+          moment = D.moment disk.new;
+          disk_faults = D.faults disk.new;
+        }) }
     ensures source { reads_source (command_of words.now) ≡ false → source.new ≡ source.old }
     ensures disk { mounts_folder (command_of words.now) ≡ false → disk.new ≡ disk.old }
 {
@@ -47,10 +61,24 @@ fn run_words<S: Source, K: Sink, D: Disk>(
     disk: &mut D,
 ) -> Ending
     ensures run { Does WritesBefore (D.left_since disk.new) (command_of words.now) result
-        (record { left = S.left source.old; source_faults = S.faults source.old; taken = K.taken sink.old; sink_faults = K.faults sink.old;
-            disk = D.state disk.old; moment = D.moment disk.old; disk_faults = D.faults disk.old })
-        (record { left = S.left source.new; source_faults = S.faults source.new; taken = K.taken sink.new; sink_faults = K.faults sink.new;
-            disk = D.state disk.new; moment = D.moment disk.new; disk_faults = D.faults disk.new }) }
+        (record {
+          left = S.left source.old;
+          source_faults = S.faults source.old;
+          taken = K.taken sink.old;
+          sink_faults = K.faults sink.old;
+          disk = D.state disk.old;
+          moment = D.moment disk.old;
+          disk_faults = D.faults disk.old;
+        })
+        (record {
+          left = S.left source.new;
+          source_faults = S.faults source.new;
+          taken = K.taken sink.new;
+          sink_faults = K.faults sink.new;
+          disk = D.state disk.new;
+          moment = D.moment disk.new;
+          disk_faults = D.faults disk.new;
+        }) }
     ensures source { reads_source (command_of words.now) ≡ false → source.new ≡ source.old }
     ensures disk { mounts_folder (command_of words.now) ≡ false → disk.new ≡ disk.old }
 {

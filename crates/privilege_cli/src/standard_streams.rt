@@ -76,10 +76,24 @@ pub fn run_on<E: Env, S: Source, K: Sink, D: Disk>(
     disk: &mut D,
 ) -> u8
     ensures { RunsOn (D.left_since disk.new) result
-        (record { left = S.left source.old; source_faults = S.faults source.old; taken = K.taken sink.old; sink_faults = K.faults sink.old;
-            disk = D.state disk.old; moment = D.moment disk.old; disk_faults = D.faults disk.old })
-        (record { left = S.left source.new; source_faults = S.faults source.new; taken = K.taken sink.new; sink_faults = K.faults sink.new;
-            disk = D.state disk.new; moment = D.moment disk.new; disk_faults = D.faults disk.new }) }
+        (record {
+          left = S.left source.old;
+          source_faults = S.faults source.old;
+          taken = K.taken sink.old;
+          sink_faults = K.faults sink.old;
+          disk = D.state disk.old;
+          moment = D.moment disk.old;
+          disk_faults = D.faults disk.old;
+        })
+        (record {
+          left = S.left source.new;
+          source_faults = S.faults source.new;
+          taken = K.taken sink.new;
+          sink_faults = K.faults sink.new;
+          disk = D.state disk.new;
+          moment = D.moment disk.new;
+          disk_faults = D.faults disk.new;
+        }) }
 {
     match host_words(host, alloc) {
         Ok(words) => run(host, alloc, &words, source, sink, disk),

@@ -1,5 +1,6 @@
 mod endings;
 mod failing_calls;
+mod folders;
 mod limits;
 mod runs;
 mod streams;

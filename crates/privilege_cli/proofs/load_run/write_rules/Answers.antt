@@ -1,4 +1,4 @@
-use Rattle.std.proofs.Common.{take, refl, subst, sym, ◌∙◌}
+use Rattle.std.proofs.Common.{take, refl, subst, ◌∙◌}
 use Rattle.desk_ports.specs.Content.{AppendedPart}
 use Rattle.privilege_cli.specs.LoadRun.{loads_text}
 use Rattle.privilege_cli.proofs.Trying.{IsCut-take}

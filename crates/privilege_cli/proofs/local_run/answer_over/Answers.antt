@@ -1,7 +1,6 @@
-use Rattle.std.proofs.Common.{refl, sym, subst}
+use Rattle.std.proofs.Common.{refl, subst}
 use Rattle.privilege_cli.specs.parts.Keeping.{KeepsSteps}
-use Rattle.privilege_cli.specs.declared.ending.Ending.{Ending}
-use Rattle.privilege_cli.specs.declared.ending.Ending.TheVariants.{Done, Line, Sink}
+use Rattle.privilege_cli.specs.declared.ending.Ending.TheVariants.{Done}
 use Rattle.privilege_cli.proofs.Finishing.{Run-finished}
 use Rattle.privilege_cli.proofs.local_run.answer_over.Goals as goal
 

@@ -1,4 +1,4 @@
-use Rattle.std.proofs.Common.{[], ◌∷◌, ◌++◌, subst, sym, refl, ap, ◌∙◌, ◌+◌, Ok}
+use Rattle.std.proofs.Common.{subst, sym, refl, ap, ◌∙◌, ◌+◌, Ok}
 use Rattle.std.proofs.lemmas.Result.{err_from_is_err_and}
 use Rattle.privilege_cli.specs.parts.Keeping.{KeepsSteps, KeepsSoFar}
 use Rattle.privilege_cli.specs.parts.Local.{Turns, AreFolded}

@@ -9,5 +9,5 @@ returns-in-Err-clause-run g c =
 pub returns-in-Ok-SmackAccess-clause-run : goal.returns-in-Ok-SmackAccess-clause-run
 returns-in-Ok-SmackAccess-clause-run g c =
     let disk = c.args.disk.now in
-    rw c.in-Ok-SmackAccess.ensures.command
+    rw (c.in-Ok-SmackAccess.ensures.command, c.in-Ok-SmackAccess.field-0-is)
     (c.run_access.ensures (g.D.Disk.state disk) (g.D.Disk.moment disk) (g.D.Disk.faults disk))

@@ -1,4 +1,4 @@
-use Rattle.std.proofs.Common.{◌≡◌, ◌++◌, ◌∙◌, refl, ap}
+use Rattle.std.proofs.Common.{◌++◌, ◌∙◌, refl, ap}
 use Rattle.std.proofs.lemmas.Result.{err_from_is_err_and}
 use Rattle.desk_state.specs.DeskState.{DeskState}
 use Rattle.line_script.specs.declared.steps.Step.TheVariants.{Command}
