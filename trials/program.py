@@ -1,5 +1,6 @@
 """The program, as the trials call it, and how they tell of their way."""
 
+import os
 import pathlib
 import subprocess
 import sys
@@ -8,20 +9,24 @@ import tempfile
 import models
 
 TOP = pathlib.Path(__file__).resolve().parent.parent
+# Where folders are made: in memory, where the machine has such a place, since each commit is synced.
+ROOM = "/dev/shm" if pathlib.Path("/dev/shm").is_dir() else None
 PROGRAM = TOP / "crates" / "privilege_cli" / "out" / "privilege_cli"
 
 
 def build():
     """Builds the program, where it isn't built from these sources, by the script `privilege`."""
     with tempfile.TemporaryDirectory() as folder:
-        if subprocess.run([TOP / "privilege", "local"], cwd=folder, stdin=subprocess.DEVNULL).returncode:
+        kept = {**os.environ, "PRIVILEGE_DIR": folder}
+        if subprocess.run([TOP / "privilege", "local"], cwd=folder, env=kept, stdin=subprocess.DEVNULL).returncode:
             sys.exit(1)
 
 
 def answered(words, text):
     """What the program writes in an empty folder of its own, and its status."""
-    with tempfile.TemporaryDirectory() as folder:
-        done = subprocess.run([PROGRAM, *words], input=text, stdout=subprocess.PIPE, cwd=folder)
+    with tempfile.TemporaryDirectory(dir=ROOM) as folder:
+        kept = {**os.environ, "PRIVILEGE_DIR": folder}
+        done = subprocess.run([PROGRAM, *words], input=text, stdout=subprocess.PIPE, cwd=folder, env=kept)
     return done.stdout, done.returncode
 
 

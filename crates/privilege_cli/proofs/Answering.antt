@@ -9,7 +9,6 @@ use Rattle.text_lines.specs.LineReader.{LineReading}
 use Rattle.line_script.specs.Turn.{is_in_block}
 use Rattle.desk_state.specs.DeskState.{DeskState}
 use Rattle.line_script.specs.declared.steps.Step.{Step}
-use Rattle.line_script.specs.declared.steps.Step.TheVariants.{Command as CommandStep}
 use Rattle.privilege_cli.specs.Script.{read_script, read_lines, line_step, wrong_line, replies}
 use Rattle.privilege_cli.specs.Outside.{Had}
 use Rattle.privilege_cli.specs.LocalRun.{ReadsLines}

@@ -1,5 +1,5 @@
 -- What steps leave of a folder, put together from what each part of a run leaves.
-use Rattle.std.proofs.Common.{◌≡◌, ◌≤◌, ◌⊎◌, inl, inr, ℕ, List, [], ◌∷◌, ◌++◌, length, take, Option, Result, Ok, Err, refl, sym, ap, ◌∙◌, subst, ⊎_elim}
+use Rattle.std.proofs.Common.{◌≡◌, ◌≤◌, ◌⊎◌, inl, inr, ℕ, List, [], ◌∷◌, ◌++◌, length, Option, Ok, sym, ap, ◌∙◌, subst, ⊎_elim}
 use Rattle.std.proofs.Math.Seq.{take-length}
 use Rattle.desk_ports.specs.FileMap.{FileMap}
 use Rattle.desk_ports.specs.Disk.{DiskState, MayLeave, WhereTold}
@@ -10,11 +10,10 @@ use Rattle.desk_state.specs.DeskState.{DeskState}
 use Rattle.desk_keeper.specs.Kept.{kept}
 use Rattle.desk_keeper.specs.Keeping.{EndsKept, IsBeforeOrAfter}
 use Rattle.line_script.specs.declared.steps.Step.{Step}
-use Rattle.privilege_cli.specs.Folder.{StandsWithin, EndsOver}
+use Rattle.privilege_cli.specs.Folder.{StandsWithin}
 use Rattle.privilege_cli.specs.Script.{state_after}
 use Rattle.privilege_cli.specs.Reply.{after}
 use Rattle.privilege_cli.specs.parts.Keeping.{KeepsSteps, FailsToCommit, StandsStill, Commits, KeepsSoFar}
-use Rattle.privilege_cli.specs.declared.ending.Ending.{Ending}
 use Rattle.privilege_cli.specs.declared.ending.Ending.TheVariants.{Disk}
 use Rattle.privilege_cli.proofs.Steps.{take-front, state_after-then}
 

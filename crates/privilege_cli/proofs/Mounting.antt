@@ -1,5 +1,5 @@
 -- A folder that was mounted, or not, and what a run leaves of it.
-use Rattle.std.proofs.Common.{◌≡◌, ◌⊎◌, inl, inr, ⊎_elim, ℕ, List, [], Option, Ok, Err, refl}
+use Rattle.std.proofs.Common.{◌≡◌, inl, inr, ⊎_elim, ℕ, List, [], Option, Ok, Err, refl}
 use Rattle.desk_ports.specs.FileMap.{FileMap}
 use Rattle.desk_ports.specs.Disk.{DiskState, MayLeave, WhereTold}
 use Rattle.desk_ports.specs.Moments.{LeavesOnly}

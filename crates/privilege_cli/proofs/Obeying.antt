@@ -1,5 +1,5 @@
 -- Commands and questions: the answers that wait behind them, and how a line's step ends.
-use Rattle.std.proofs.Common.{◌≡◌, ◌++◌, [], ℕ, true, false, List, Option, Some, None, Result, Ok, Err, MatchResult, inl, inr, refl, sym, ap, ◌∙◌, subst, append-nil}
+use Rattle.std.proofs.Common.{◌≡◌, ◌++◌, [], ℕ, true, List, Option, Some, None, Result, Ok, Err, MatchResult, inl, inr, refl, sym, ap, ◌∙◌, append-nil}
 use Rattle.desk_ports.specs.Content.{Appended}
 use Rattle.desk_ports.proofs.Appends.{Appended-none}
 use Rattle.desk_state.specs.DeskState.{DeskState}
@@ -7,7 +7,6 @@ use Rattle.desk_state.specs.Rules.{Refuses, fault}
 use Rattle.desk_state.specs.declared.commands.Command.{Command}
 use Rattle.desk_state.specs.declared.refusals.Refusal.{Refusal}
 use Rattle.desk_state.specs.declared.refusals.Refusal.TheVariants as refusal
-use Rattle.line_script.specs.Block.{Block}
 use Rattle.line_script.specs.Grammar.{step_at}
 use Rattle.line_script.specs.Refusals.{names_a_rule}
 use Rattle.line_script.specs.declared.steps.Step.{Step}

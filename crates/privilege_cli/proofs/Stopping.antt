@@ -1,5 +1,5 @@
 -- What a folder keeps at a turn that stops a run.
-use Rattle.std.proofs.Common.{◌≡◌, ◌≤◌, inl, ℕ, List, ◌∷◌, [], ◌++◌, Option, Err, ap, ◌∙◌, sym}
+use Rattle.std.proofs.Common.{◌≡◌, ◌≤◌, inl, ℕ, List, Option, Err, ap, ◌∙◌, sym}
 use Rattle.desk_ports.specs.FileMap.{FileMap}
 use Rattle.desk_ports.specs.Disk.{DiskState, MayLeave, WhereTold}
 use Rattle.desk_ports.specs.declared.file_sets.SetFile.{SetFile}

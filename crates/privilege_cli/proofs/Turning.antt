@@ -1,5 +1,5 @@
 -- One turn of answering a script, from its parts.
-use Rattle.std.proofs.Common.{◌≡◌, ◌+◌, ◌++◌, ◌∷◌, [], ℕ, true, false, List, Option, Result, Ok, Err, inl, inr, refl, sym, ap, ◌∙◌, subst, append-nil, append_assoc}
+use Rattle.std.proofs.Common.{◌≡◌, ◌++◌, ◌∷◌, [], ℕ, true, false, List, Option, Ok, Err, inl, inr, refl, sym, ap, ◌∙◌, subst, append-nil, append_assoc}
 use Rattle.desk_ports.specs.Content.{Took, Appended, AppendedPart}
 use Rattle.desk_ports.proofs.Appends.{Appended-then, AppendedPart-then}
 use Rattle.text_lines.specs.Lines.{HasNoNewline}
@@ -10,7 +10,7 @@ use Rattle.text_lines.proofs.Newlines.{list_any-none}
 use Rattle.desk_state.specs.DeskState.{DeskState}
 use Rattle.line_script.specs.Grammar.{step_at}
 use Rattle.privilege_cli.specs.parts.Endings.{reading_ending}
-use Rattle.privilege_cli.specs.parts.Local.{Hands, HandsOver, AnswersStep, AnswersLine, FailsToKeep, RefusesLine, Turns}
+use Rattle.privilege_cli.specs.parts.Local.{Hands, HandsOver, AnswersLine, RefusesLine, Turns}
 use Rattle.privilege_cli.specs.declared.local_script.LocalScript.{LocalScript}
 use Rattle.privilege_cli.specs.declared.ending.Ending.{Ending}
 use Rattle.privilege_cli.specs.declared.ending.Ending.TheVariants.{Done, Memory, Words, Line, Source, Sink, Disk, Damaged}

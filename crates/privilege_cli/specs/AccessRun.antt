@@ -9,7 +9,7 @@ use Rattle.smack_rules.specs.Effective.{effective}
 use Rattle.smack_rules.specs.Decision.{decision}
 use Rattle.privilege_cli.specs.Reply.{decided_text}
 use Rattle.privilege_cli.specs.declared.ending.Ending.{Ending}
-use Rattle.privilege_cli.specs.declared.ending.Ending.TheVariants.{Done, Memory, Words, Line, Source, Sink, Disk, Damaged}
+use Rattle.privilege_cli.specs.declared.ending.Ending.TheVariants.{Done, Memory, Line, Source, Sink}
 use Rattle.privilege_cli.specs.declared.limits.TheConstants.{MOST_RULES_BYTES}
 
 -- the rules of these lines, the first of which has this number, or the number of the first that is no rule

@@ -1,5 +1,5 @@
 -- What a run leaves of the folder that it mounts.
-use Rattle.std.specs.Prelude.{◌≡◌, ◌≤◌, ◌⊎◌, ℕ, List, [], take, Option, Result, Ok, Err}
+use Rattle.std.specs.Prelude.{◌≡◌, ◌≤◌, ◌⊎◌, ℕ, List, [], take, Option, Ok, Err}
 use Rattle.desk_ports.specs.FileMap.{FileMap}
 use Rattle.desk_ports.specs.Disk.{DiskState, MayLeave, WhereTold}
 use Rattle.desk_ports.specs.declared.file_sets.SetFile.{SetFile}
@@ -10,7 +10,7 @@ use Rattle.line_script.specs.declared.steps.Step.{Step}
 use Rattle.privilege_cli.specs.Outside.{Outside}
 use Rattle.privilege_cli.specs.Script.{state_after}
 use Rattle.privilege_cli.specs.declared.ending.Ending.{Ending}
-use Rattle.privilege_cli.specs.declared.ending.Ending.TheVariants.{Done, Memory, Words, Line, Source, Sink, Disk, Damaged}
+use Rattle.privilege_cli.specs.declared.ending.Ending.TheVariants.{Memory, Disk, Damaged}
 
 -- ---- the mount
 

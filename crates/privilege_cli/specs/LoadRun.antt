@@ -8,7 +8,7 @@ use Rattle.set_text.specs.Files.{load_files}
 use Rattle.privilege_cli.specs.Outside.{Outside}
 use Rattle.privilege_cli.specs.Folder.{RefusesFolder, KeepsFolder}
 use Rattle.privilege_cli.specs.declared.ending.Ending.{Ending}
-use Rattle.privilege_cli.specs.declared.ending.Ending.TheVariants.{Done, Memory, Words, Line, Source, Sink, Disk, Damaged}
+use Rattle.privilege_cli.specs.declared.ending.Ending.TheVariants.{Done, Memory, Sink}
 
 -- the Smack rules of all packages, in the order of their names, a line each
 abbrev pub loads_text : DeskState → List ℕ

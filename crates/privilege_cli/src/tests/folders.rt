@@ -186,7 +186,7 @@ fn the_rules_of_all_packages_are_loaded_in_order_of_name(rt: HostRuntime) -> Res
     let alloc = rt.alloc();
     let mut disk = disk_with(alloc, &[], &[])?;
     let script =
-        "template\n~PACKAGE~ User::Home rx\nend\nlayout\ninstall bb - b * p\ninstall aa - a * p\n";
+        "template\n~PROCESS~ User::Home rx\nend\nlayout\ninstall bb - b * p\ninstall aa - a * p\n";
     assert!(rt; says(alloc, script, &mut disk, 0, "ok 1\nok 2\nok 3\nok 4\n")?);
     let (status, written) = run_over(alloc, "smack-load", "", &mut disk)?;
     assert_eq!(rt; status, 0);

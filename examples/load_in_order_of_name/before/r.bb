@@ -1,0 +1,1 @@
+User::Pkg::bb User::Home rx
