@@ -79,4 +79,5 @@ def main():
     sys.exit(own / bare > MOST)
 
 
-main()
+if __name__ == "__main__":
+    main()

@@ -94,6 +94,29 @@ fn a_stop_leaves_the_state_before_or_after(rt: HostRuntime) -> Result<(), Fail> 
     Ok(())
 }
 
+/// Stops the mount of what this stop left after each of its calls.
+fn stop_repair(alloc: Global, disk: &MemDisk, after: usize) -> Result<(), Fail> {
+    let mut left = disk.stopped(after, 255)?;
+    run_over(alloc, "local", "", &mut left)?;
+    for call in 0..=left.calls().len() {
+        is_removed(alloc, &left, call, 1)?;
+    }
+    Ok(())
+}
+
+#[test]
+fn a_stop_within_a_repair_loses_nothing(rt: HostRuntime) -> Result<(), Fail> {
+    let alloc = rt.alloc();
+    let mut disk = disk_with(alloc, &[], &[])?;
+    assert!(rt; says(alloc, INSTALLED, &mut disk, 0, "ok 1\nok 2\n")?);
+    let before = disk.calls().len();
+    assert!(rt; says(alloc, REMOVED, &mut disk, 0, "ok 3\n")?);
+    for after in before..disk.calls().len() {
+        stop_repair(alloc, &disk, after)?;
+    }
+    Ok(())
+}
+
 /// How many lines `ok N` stand in the output, which has no others.
 fn accepted(written: &[u8]) -> Result<u64, Fail> {
     match written {
@@ -208,9 +231,10 @@ fn kept_at_sink(alloc: Global, text: &str, failing: u64) -> Result<(u8, Vec<u8>)
 fn a_sink_that_fails_stops_the_next_commit(rt: HostRuntime) -> Result<(), Fail> {
     // The answer to the first command is handed over before the second is committed.
     let script = "set . * * p allow\nset . c * p deny\ncheck c u p\n";
-    let (status, found) = kept_at_sink(rt.alloc(), script, 1)?;
-    assert_eq!(rt; (status, found.as_slice()), (5, b"commit 1\n".as_slice()));
-    let (status, found) = kept_at_sink(rt.alloc(), script, 2)?;
-    assert_eq!(rt; (status, found.as_slice()), (5, b"commit 2\n".as_slice()));
+    for (call, kept) in [(1, "commit 1\n"), (2, "commit 2\n")] {
+        let (status, found) = kept_at_sink(rt.alloc(), script, call)?;
+        assert_eq!(rt; status, 5);
+        assert_eq!(rt; found.as_slice(), kept.as_bytes());
+    }
     Ok(())
 }

@@ -1,7 +1,7 @@
 //! What the tests run the program on.
 
 use crate::program::run;
-use desk_ports::{Bytes, Disk, FailList, FileSet, MemDisk, MemSink, MemSource, Sink, Source};
+use desk_ports::{Bytes, Disk, FailList, MemDisk, MemSink, MemSource, Sink, Source, set_in_order};
 use std::alloc::{AllocError, Global};
 
 /// A source of which this call fails; 0 is none.
@@ -17,7 +17,7 @@ pub fn failing_sink(alloc: Global, call: u64) -> Result<MemSink, AllocError> {
 /// An empty folder.
 pub fn empty_disk(alloc: Global) -> Result<MemDisk, AllocError> {
     let fails = FailList::of(Vec::new(alloc));
-    MemDisk::new(alloc, FileSet::of(Vec::new(alloc)), fails)
+    MemDisk::new(alloc, set_in_order(alloc, &[])?, fails)
 }
 
 /// The status of the program on these words, over an empty folder.
