@@ -1,4 +1,4 @@
--- Commands and questions: the answers that wait behind them, and how a line's step ends.
+-- Commands: the answers that wait behind them, and how a line's step ends.
 use Rattle.std.proofs.Common.{◌≡◌, ◌++◌, [], ℕ, true, List, Option, Some, None, Result, Ok, Err, MatchResult, inl, inr, refl, sym, ap, ◌∙◌, append-nil}
 use Rattle.desk_ports.specs.Content.{Appended}
 use Rattle.desk_ports.proofs.Appends.{Appended-none}
@@ -11,8 +11,8 @@ use Rattle.line_script.specs.Grammar.{step_at}
 use Rattle.line_script.specs.Refusals.{names_a_rule}
 use Rattle.line_script.specs.declared.steps.Step.{Step}
 use Rattle.line_script.specs.declared.steps.Step.TheVariants as step
-use Rattle.privilege_cli.specs.Reply.{reply, after, command_text, applied}
-use Rattle.privilege_cli.specs.parts.Local.{Hands, IsQuestion, Flushes, AnswersStep, RefusesStep, AnswersLine, RefusesLine}
+use Rattle.privilege_cli.specs.Reply.{command_text, applied}
+use Rattle.privilege_cli.specs.parts.Local.{Hands, Flushes, AnswersStep, RefusesStep, AnswersLine, RefusesLine}
 use Rattle.privilege_cli.specs.parts.Keeping.{counts_disk}
 use Rattle.privilege_cli.specs.declared.ending.Ending.{Ending}
 use Rattle.privilege_cli.specs.declared.ending.Ending.TheVariants.{Done, Memory, Words, Line, Source, Sink, Disk, Damaged}
@@ -50,29 +50,6 @@ refused-rule desk command (refusal.OtherAuthor author) names refuses = refuses
 refused-rule desk command refusal.NotInstalled names refuses = refuses
 refused-rule desk command (refusal.Limit counted most) names refuses = refuses
 refused-rule desk command (refusal.Cycle name) names refuses = refuses
-
--- a question leaves the state
-question-stays : (desk : DeskState) (asked : Step) → IsQuestion asked → after desk asked ≡ desk
-question-stays desk step.Nothing question = refl
-question-stays desk (step.Command command) question = absurd question
-question-stays desk (step.List name filter) question = refl
-question-stays desk (step.Check question) is = refl
-question-stays desk (step.From name deep question) is = refl
-question-stays desk (step.Access subject object asked) question = refl
-question-stays desk step.Status question = refl
-
--- a question was answered
-pub answers-question : (taken : Option (List ℕ)) (answers answers_after : List ℕ) (desk : DeskState) (asked : Step)
-    → IsQuestion asked → answers_after ≡ answers ++ reply desk asked
-    → AnswersStep taken taken answers answers_after desk desk asked
-answers-question taken answers answers_after desk asked question text =
-    record {
-      waiting = answers;
-      hands = hands-none taken answers answers refl;
-      answer = text;
-      state = sym (question-stays desk asked question);
-      in_turn = inl refl;
-    }
 
 -- a command was refused
 pub answers-refusal : (taken : Option (List ℕ)) (answers answers_after : List ℕ) (desk : DeskState) (command : Command)

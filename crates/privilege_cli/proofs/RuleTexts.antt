@@ -247,9 +247,6 @@ pub record LinesSoFar (text rest : List ℕ) (count : ℕ) : Type 0 where
   pub whole : AreWholeLines lines
   pub counted : length (pieces_of lines) ≡ count
 
-pub LinesSoFar-none : (text : List ℕ) → LinesSoFar text text 0
-LinesSoFar-none text = record { lines = []; parts = refl; whole = inl refl; counted = refl }
-
 pub LinesSoFar-more : (text rest line after : List ℕ) (count : ℕ) → LinesSoFar text rest count → rest ≡ line ++ 10 ∷ after
     → HasNoNewline line → LinesSoFar text after (count + 1)
 LinesSoFar-more text rest line after count so_far cut plain =

@@ -12,7 +12,6 @@ returns-in-Ok g c left source_faults =
     let found = c.in-Ok.found in
     inr
     (loads-rules g.D.Disk.state g.D.Disk.moment g.D.Disk.left_since c.args.disk.now c.find.new.disk left taken taken_after
-    source_faults faults faults_after _ _ found.desk found.held c.write_rules.result
-    (subst (λ desk. LoadsBefore desk taken taken_after faults faults_after c.write_rules.result) c.desk.ensures c.write_rules.ensures)
-    c.in-Ok.ensures.count c.in-Ok.ensures.desk c.in-Ok.ensures.settled c.in-Ok.ensures.moments
-    (λ left. g.met.D.Disk.only_now c.find.new.disk left))
+    source_faults faults faults_after _ _ found.desk found.held c.in-Ok.ensures.count c.in-Ok.ensures.desk c.in-Ok.ensures.settled
+    c.in-Ok.ensures.moments (λ left. g.met.D.Disk.only_now c.find.new.disk left) c.write_rules.result
+    (subst (λ desk. LoadsBefore desk taken taken_after faults faults_after c.write_rules.result) c.desk.ensures c.write_rules.ensures))
