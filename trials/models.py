@@ -79,6 +79,9 @@ def self_test():
     cases = 0
     for folder in sorted(path for path in EXAMPLES.iterdir() if path.is_dir()):
         words = (folder / "words").read_bytes().splitlines()
+        if words == [b"smack-load"] or (folder / "before").exists():
+            # over a folder with files: `folder_model.py` has the model
+            continue
         status = int((folder / "status").read_text()) if (folder / "status").exists() else 0
         wanted = (folder / "output").read_bytes(), status
         given = answered(words, (folder / "input").read_bytes())

@@ -22,12 +22,17 @@ def build():
             sys.exit(1)
 
 
+def over(folder, words, text):
+    """What the program writes over the folder `store` in this one, and its status."""
+    kept = {**os.environ, "PRIVILEGE_DIR": str(folder)}
+    done = subprocess.run([PROGRAM, *words], input=text, stdout=subprocess.PIPE, cwd=folder, env=kept)
+    return done.stdout, done.returncode
+
+
 def answered(words, text):
     """What the program writes in an empty folder of its own, and its status."""
     with tempfile.TemporaryDirectory(dir=ROOM) as folder:
-        kept = {**os.environ, "PRIVILEGE_DIR": folder}
-        done = subprocess.run([PROGRAM, *words], input=text, stdout=subprocess.PIPE, cwd=folder, env=kept)
-    return done.stdout, done.returncode
+        return over(folder, words, text)
 
 
 def differ(words, text):
