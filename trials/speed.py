@@ -2,9 +2,11 @@
 """speed.py [WORD..]: times the program and the peer in `peer.rs` on the same inputs, in turn. Takes some two minutes. Words,
 as `rules`, choose the inputs whose names have them all.
 
-Prints the best of three runs each, and where GNU time stands in /usr/bin the most memory that each took. The two must answer
-alike. The peer is built here, by `rustc`."""
+Each run of `local` has a folder of its own, in memory where the machine has such a place. Prints the best of three runs
+each, and where GNU time stands in /usr/bin the most memory that each took. The two must answer alike. The peer is built
+here, by `rustc`."""
 
+import os
 import pathlib
 import random
 import subprocess
@@ -12,7 +14,7 @@ import sys
 import tempfile
 import time
 
-from program import PROGRAM, build
+from program import PROGRAM, ROOM, build
 
 HERE = pathlib.Path(__file__).resolve().parent
 MOST_BYTES = 16_777_216
@@ -74,9 +76,10 @@ def inputs():
 def timed(command, file):
     """How long a run took, its memory in MB, and what it wrote."""
     measured = [GNU_TIME, "-f", "%M", "-o", file.with_suffix(".memory")] if GNU_TIME.exists() else []
-    with open(file, "rb") as text:
+    with open(file, "rb") as text, tempfile.TemporaryDirectory(dir=ROOM) as folder:
+        kept = {**os.environ, "PRIVILEGE_DIR": folder}
         start = time.perf_counter()
-        done = subprocess.run([*measured, *command], stdin=text, stdout=subprocess.PIPE, check=True)
+        done = subprocess.run([*measured, *command], stdin=text, stdout=subprocess.PIPE, env=kept, check=True)
         took = time.perf_counter() - start
     memory = int(file.with_suffix(".memory").read_text()) / 1000 if measured else 0
     return took, memory, done.stdout
