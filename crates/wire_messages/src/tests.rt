@@ -2,6 +2,7 @@
 mod carried;
 mod hearing;
 mod long;
+mod meanings;
 mod pieces;
 mod questions;
 mod replies;

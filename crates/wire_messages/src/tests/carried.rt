@@ -1,9 +1,8 @@
 // The messages that carry commands, and those that tell refusals.
-use super::Right;
 use super::hearing::decoded;
 use super::questions::QUESTIONS;
 use super::replies::REPLIES;
-use super::spelled;
+use super::{Right, spelled};
 use crate::{Framed, Message, command_of, message_of, refused_of};
 use desk_ports::Bytes;
 use desk_state::{Command, Refusal};
