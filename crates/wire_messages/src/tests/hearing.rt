@@ -6,16 +6,16 @@ use std::test::Fail;
 
 // What a feeder answers to the last piece and to an empty one behind it, and what rests then.
 #[derive(Clone, Copy, PartialEq, Eq)]
-pub struct Told {
+pub struct Answered {
     answer: Result<(), WireRefusal>,
     again: Result<(), WireRefusal>,
     rest: usize,
 }
 
-impl Told {
+impl Answered {
     // what a feeder tells that has refused
-    pub fn refused(refusal: WireRefusal) -> Told {
-        Told {
+    pub fn refused(refusal: WireRefusal) -> Answered {
+        Answered {
             answer: Err(refusal),
             again: Err(refusal),
             rest: 0,
@@ -23,16 +23,16 @@ impl Told {
     }
 }
 
-fn told_then(feeder: &mut Feeder, answer: Result<(), WireRefusal>) -> Told {
+fn told_then(feeder: &mut Feeder, answer: Result<(), WireRefusal>) -> Answered {
     let again = feeder.feed(b"");
-    Told {
+    Answered {
         answer,
         again,
         rest: feeder.rest(),
     }
 }
 
-fn fed(feeder: &mut Feeder, pieces: &[&[u8]]) -> Told {
+fn fed(feeder: &mut Feeder, pieces: &[&[u8]]) -> Answered {
     let mut answer = Ok(());
     for piece in pieces {
         answer = feeder.feed(*piece);
@@ -40,7 +40,7 @@ fn fed(feeder: &mut Feeder, pieces: &[&[u8]]) -> Told {
     told_then(feeder, answer)
 }
 
-fn fed_in_bytes(feeder: &mut Feeder, bytes: &[u8]) -> Told {
+fn fed_in_bytes(feeder: &mut Feeder, bytes: &[u8]) -> Answered {
     let mut answer = Ok(());
     for byte in bytes {
         answer = feeder.feed(&[*byte]);
@@ -49,20 +49,20 @@ fn fed_in_bytes(feeder: &mut Feeder, bytes: &[u8]) -> Told {
 }
 
 // what is told of these pieces
-pub fn told(alloc: Global, heard: Heard, pieces: &[&[u8]]) -> Told {
+pub fn told(alloc: Global, heard: Heard, pieces: &[&[u8]]) -> Answered {
     let mut feeder = Feeder::new(alloc, heard);
     fed(&mut feeder, pieces)
 }
 
 // what is told of these bytes, one by one
-pub fn told_in_bytes(alloc: Global, heard: Heard, bytes: &[u8]) -> Told {
+pub fn told_in_bytes(alloc: Global, heard: Heard, bytes: &[u8]) -> Answered {
     let mut feeder = Feeder::new(alloc, heard);
     fed_in_bytes(&mut feeder, bytes)
 }
 
 // whether the bytes are refused so, whole and byte by byte, and every later piece too
 pub fn is_refused(alloc: Global, heard: Heard, bytes: &[u8], refusal: WireRefusal) -> bool {
-    let wanted = Told::refused(refusal);
+    let wanted = Answered::refused(refusal);
     if told(alloc, heard, &[bytes]) != wanted {
         return false;
     }

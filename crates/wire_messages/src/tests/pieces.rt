@@ -1,5 +1,5 @@
 // Bytes in pieces, and sides that know operations of their own.
-use super::hearing::{Told, is_refused, next_number, told};
+use super::hearing::{Answered, is_refused, next_number, told};
 use super::wrong::WRONG;
 use crate::{Feeder, Heard, WireRefusal};
 use std::alloc::Global;
@@ -22,7 +22,7 @@ const REGISTERED: &[&[u8]] = &[
 #[test]
 fn a_flag_of_2_behind_a_register(rt: HostRuntime) {
     let told = told(rt.alloc(), Heard::AtAgent, REGISTERED);
-    assert!(rt; told == Told::refused(WireRefusal::BadField(11)));
+    assert!(rt; told == Answered::refused(WireRefusal::BadField(11)));
 }
 
 // the numbers of the operations that each side knows
