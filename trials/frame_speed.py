@@ -1,15 +1,15 @@
 #!/usr/bin/env python3
-"""frame_speed.py [WORD..]: times the reading and spelling of frames. Takes some seconds, and the time of a first build
-of `wire_messages` and the crates below it, which is some minutes. Words, as `checks`, choose the inputs whose names
-have them all.
+"""frame_speed.py [WORD..]: times the reading and spelling of frames. Takes half a minute, and the time of a first build
+of `wire_messages` and the crates below it, which is many minutes where nothing of them is kept. Words, as `checks`,
+choose the inputs whose names have them all: `trials/frame_speed.py verdicts read`.
 
 The program in `frame_codec.rt.txt`, over `wire_messages`, and the peer in `frame_peer.rs`, the same work in Rust
-without proofs, run in turn on the same bytes, which are made here from the table in docs/PROTOCOL.md. Prints the middle
-of several runs each as frames a second, and the program's over the peer's (0.9 is wanted). Needs `rt` and `rustc`."""
+without proofs, run in turn on the same bytes, which are made here from the table in docs/PROTOCOL.md. Prints the best of
+several runs each as frames a second, and the program's over the peer's. Ends with status 1 where one is below 0.9, which
+is wanted. Needs `rt` and `rustc`."""
 
 import pathlib
 import shutil
-import statistics
 import struct
 import subprocess
 import sys
@@ -108,7 +108,7 @@ def main():
                     counts.add(count)
                     rates[each].append(a_second)
                 assert len(counts) == 1, counts
-            own, bare = (statistics.median(rates[each]) for each in (program, peer))
+            own, bare = (max(rates[each]) for each in (program, peer))
             slow = slow or own / bare < LEAST
             print(f"{title}: {own:,.0f} a second, the peer {bare:,.0f}, quotient {own / bare:.2f}", flush=True)
     sys.exit(slow)

@@ -66,10 +66,12 @@ fn put_with_byte(rest: &mut Vec<u8>, frame: &[u8]) -> Result<(), Fail> {
 
 // whether a byte behind the last field is refused by its place
 fn goes_on(alloc: Global, row: &Right<'_>) -> Result<bool, Fail> {
-    let refusal = WireRefusal::Trailing(row.frame.len() as u32);
+    let Ok(place) = u32::try_from(row.frame.len()) else {
+        return Ok(false);
+    };
     let mut rest = Vec::new(alloc);
     put_with_byte(&mut rest, row.frame)?;
-    is_refused_behind(alloc, row.heard, &rest, refusal)
+    is_refused_behind(alloc, row.heard, &rest, WireRefusal::Trailing(place))
 }
 
 #[test]
