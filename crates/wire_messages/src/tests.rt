@@ -30,39 +30,53 @@ pub struct Right<'a> {
     slips: &'a [(usize, u8, u32)],
 }
 
-fn spelled(alloc: Global, framed: &Framed) -> Result<Bytes, Fail> {
+// the frame of the one message
+fn spelled(alloc: Global, list: &[Framed]) -> Result<Bytes, Fail> {
+    let [framed] = list else {
+        return Err(Fail::from("no message, or several"));
+    };
     Ok(encode(alloc, framed)?)
 }
 
 // the spelling of what is decoded
 fn decoded_again(alloc: Global, row: &Right<'_>) -> Result<Bytes, Fail> {
-    let framed = decoded(alloc, row.heard, row.frame)?;
-    spelled(alloc, &framed)
+    let list = decoded(alloc, row.heard, row.frame)?;
+    spelled(alloc, &list)
 }
 
-fn decoded_operation(alloc: Global, row: &Right<'_>) -> Result<Operation, Fail> {
-    let framed = decoded(alloc, row.heard, row.frame)?;
-    Ok(operation(&framed.message))
+fn operation_of(list: &[Framed]) -> Option<Operation> {
+    let [framed] = list else {
+        return None;
+    };
+    Some(operation(&framed.message))
+}
+
+fn decoded_operation(alloc: Global, row: &Right<'_>) -> Result<Option<Operation>, Fail> {
+    let list = decoded(alloc, row.heard, row.frame)?;
+    Ok(operation_of(&list))
 }
 
 // the frame is decoded as a message of the operation, which is spelled as the frame
 fn decodes(alloc: Global, row: &Right<'_>) -> Result<bool, Fail> {
-    if decoded_operation(alloc, row)? != row.operation {
+    if decoded_operation(alloc, row)? != Some(row.operation) {
         return Ok(false);
     }
     Ok(decoded_again(alloc, row)?.as_slice() == row.frame)
 }
 
 // whether the message is spelled as the frame, in place of what the buffer holds
-fn spells(buffer: &mut Vec<u8>, framed: &Framed, frame: &[u8]) -> Result<bool, Fail> {
+fn spells(buffer: &mut Vec<u8>, list: &[Framed], frame: &[u8]) -> Result<bool, Fail> {
+    let [framed] = list else {
+        return Ok(false);
+    };
     encode_into(buffer, framed)?;
     Ok(buffer.as_slice() == frame)
 }
 
 // what comes byte by byte is spelled in place of another frame
 fn comes_in_bytes(alloc: Global, row: &Right<'_>, buffer: &mut Vec<u8>) -> Result<bool, Fail> {
-    let framed = heard_in_bytes(alloc, row.heard, row.frame)?;
-    spells(buffer, &framed, row.frame)
+    let list = heard_in_bytes(alloc, row.heard, row.frame)?;
+    spells(buffer, &list, row.frame)
 }
 
 #[test]
@@ -89,7 +103,10 @@ const WORKED: &[u8] = &[
     0x00, 0x00, 0x00, 0x0c, 0x00, 0x01, 0x01, 0x00, 0x01, 0x63, 0x00, 0x01, 0x75, 0x00, 0x01, 0x70,
 ];
 
-fn is_worked(framed: &Framed) -> bool {
+fn is_worked(list: &[Framed]) -> bool {
+    let [framed] = list else {
+        return false;
+    };
     let Message::Check { question } = &framed.message else {
         return false;
     };
@@ -100,18 +117,18 @@ fn is_worked(framed: &Framed) -> bool {
 }
 
 fn hears_worked(alloc: Global) -> Result<bool, Fail> {
-    let framed = heard_whole(alloc, Heard::AtClient, WORKED)?;
-    Ok(is_worked(&framed))
+    let list = heard_whole(alloc, Heard::AtClient, WORKED)?;
+    Ok(is_worked(&list))
 }
 
 fn hears_worked_in_bytes(alloc: Global) -> Result<bool, Fail> {
-    let framed = heard_in_bytes(alloc, Heard::AtClient, WORKED)?;
-    Ok(is_worked(&framed))
+    let list = heard_in_bytes(alloc, Heard::AtClient, WORKED)?;
+    Ok(is_worked(&list))
 }
 
 fn spells_worked(alloc: Global) -> Result<bool, Fail> {
-    let framed = heard_whole(alloc, Heard::AtClient, WORKED)?;
-    Ok(spelled(alloc, &framed)?.as_slice() == WORKED)
+    let list = heard_whole(alloc, Heard::AtClient, WORKED)?;
+    Ok(spelled(alloc, &list)?.as_slice() == WORKED)
 }
 
 #[test]

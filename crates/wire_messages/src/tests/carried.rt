@@ -9,14 +9,28 @@ use desk_state::{Command, Refusal};
 use std::alloc::Global;
 use std::test::Fail;
 
+fn put_command(
+    list: &mut Vec<Framed>,
+    alloc: Global,
+    sequence: u16,
+    command: &Command,
+) -> Result<(), Fail> {
+    let message = message_of(alloc, command)?;
+    Ok(list.push(Framed { sequence, message })?)
+}
+
 // the frame of the message that carries the command
 fn spelled_command(alloc: Global, sequence: u16, command: &Command) -> Result<Bytes, Fail> {
-    let message = message_of(alloc, command)?;
-    spelled(alloc, &Framed { sequence, message })
+    let mut list = Vec::new(alloc);
+    put_command(&mut list, alloc, sequence, command)?;
+    spelled(alloc, &list)
 }
 
 // the frame of the message that carries the command of this one, and no byte where it is none
-fn carried(alloc: Global, framed: &Framed) -> Result<Bytes, Fail> {
+fn carried(alloc: Global, list: &[Framed]) -> Result<Bytes, Fail> {
+    let [framed] = list else {
+        return Err(Fail::from("no message, or several"));
+    };
     match command_of(alloc, &framed.message)? {
         Some(command) => spelled_command(alloc, framed.sequence, &command),
         None => Ok(Bytes::new(alloc)),
@@ -24,8 +38,8 @@ fn carried(alloc: Global, framed: &Framed) -> Result<Bytes, Fail> {
 }
 
 fn carried_again(alloc: Global, row: &Right<'_>) -> Result<Bytes, Fail> {
-    let framed = decoded(alloc, row.heard, row.frame)?;
-    carried(alloc, &framed)
+    let list = decoded(alloc, row.heard, row.frame)?;
+    carried(alloc, &list)
 }
 
 // whether a command is carried by the message that it was made of, and by no other
@@ -46,17 +60,26 @@ fn commands_are_carried(rt: HostRuntime) -> Result<(), Fail> {
     Ok(())
 }
 
-// the frame of the message that tells the refusal
-fn spelled_refusal(alloc: Global, sequence: u16, refusal: &Refusal) -> Result<Bytes, Fail> {
+fn put_refusal(list: &mut Vec<Framed>, sequence: u16, refusal: &Refusal) -> Result<(), Fail> {
     if let Refusal::Memory(_) = refusal {
         return Err(Fail::from("no frame tells want of memory"));
     }
     let message = refused_of(refusal)?;
-    spelled(alloc, &Framed { sequence, message })
+    Ok(list.push(Framed { sequence, message })?)
+}
+
+// the frame of the message that tells the refusal
+fn spelled_refusal(alloc: Global, sequence: u16, refusal: &Refusal) -> Result<Bytes, Fail> {
+    let mut list = Vec::new(alloc);
+    put_refusal(&mut list, sequence, refusal)?;
+    spelled(alloc, &list)
 }
 
 // the frame of the message that tells the refusal of this one, and no byte where it tells none
-fn told(alloc: Global, framed: &Framed) -> Result<Bytes, Fail> {
+fn told(alloc: Global, list: &[Framed]) -> Result<Bytes, Fail> {
+    let [framed] = list else {
+        return Err(Fail::from("no message, or several"));
+    };
     let Message::Refused { refusal } = &framed.message else {
         return Ok(Bytes::new(alloc));
     };
@@ -64,8 +87,8 @@ fn told(alloc: Global, framed: &Framed) -> Result<Bytes, Fail> {
 }
 
 fn told_again(alloc: Global, row: &Right<'_>) -> Result<Bytes, Fail> {
-    let framed = decoded(alloc, row.heard, row.frame)?;
-    told(alloc, &framed)
+    let list = decoded(alloc, row.heard, row.frame)?;
+    told(alloc, &list)
 }
 
 // whether a refusal that was told is told again in the same words, and nothing else is

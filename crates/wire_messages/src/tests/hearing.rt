@@ -1,4 +1,7 @@
 // What a feeder answers, and the messages that are heard.
+ghost use Rattle.std.specs.Prelude.{◌≡◌, ◌+◌, length};
+ghost use Rattle.wire_messages.specs.Frame.{length_of};
+
 use crate::decoding::length_of;
 use crate::{Feeder, Framed, Heard, WireRefusal, decode};
 use std::alloc::Global;
@@ -69,66 +72,86 @@ pub fn is_refused(alloc: Global, heard: Heard, bytes: &[u8], refusal: WireRefusa
     told_in_bytes(alloc, heard, bytes) == wanted
 }
 
-pub fn decoded(alloc: Global, heard: Heard, frame: &[u8]) -> Result<Framed, Fail> {
+fn put_decoded(
+    list: &mut Vec<Framed>,
+    alloc: Global,
+    heard: Heard,
+    frame: &[u8],
+) -> Result<(), Fail>
+    requires { length frame.now ≡ length_of frame.now + 4 }
+{
+    Ok(list.push(decode(alloc, heard, frame)?)?)
+}
+
+// the message that a frame is decoded as, in a list, as below
+pub fn decoded(alloc: Global, heard: Heard, frame: &[u8]) -> Result<Vec<Framed>, Fail> {
     if frame.len() < 4 {
         return Err(Fail::from("no length"));
     }
     if frame.len() != length_of(frame) as usize + 4 {
         return Err(Fail::from("another length"));
     }
-    Ok(decode(alloc, heard, frame)?)
+    let mut list = Vec::new(alloc);
+    put_decoded(&mut list, alloc, heard, frame)?;
+    Ok(list)
 }
 
-// the first message that waits
-fn taken(feeder: &mut Feeder) -> Result<Framed, Fail> {
+// Puts the next message that waits behind the others, if one does. The tests keep messages in lists, since the proof of
+// each function that has a message as a value of its own takes long.
+pub fn put_taken(list: &mut Vec<Framed>, feeder: &mut Feeder) -> Result<(), Fail> {
     match feeder.take() {
-        Some(framed) => Ok(framed),
-        None => Err(Fail::from("no message waits")),
+        Some(framed) => Ok(list.push(framed)?),
+        None => Ok(()),
     }
 }
 
-fn taken_whole(feeder: &mut Feeder, frame: &[u8]) -> Result<Framed, Fail> {
+fn put_whole(list: &mut Vec<Framed>, feeder: &mut Feeder, frame: &[u8]) -> Result<(), Fail> {
     feeder.feed(frame)?;
-    taken(feeder)
+    put_taken(list, feeder)
+}
+
+fn put_heard(
+    list: &mut Vec<Framed>,
+    alloc: Global,
+    heard: Heard,
+    frame: &[u8],
+) -> Result<(), Fail> {
+    let mut feeder = Feeder::new(alloc, heard);
+    put_whole(list, &mut feeder, frame)
 }
 
 // the message of a frame that comes in one piece
-pub fn heard_whole(alloc: Global, heard: Heard, frame: &[u8]) -> Result<Framed, Fail> {
-    let mut feeder = Feeder::new(alloc, heard);
-    taken_whole(&mut feeder, frame)
-}
-
-// whether no message waits
-fn hears_nothing(feeder: &mut Feeder) -> bool {
-    feeder.take().is_none()
+pub fn heard_whole(alloc: Global, heard: Heard, frame: &[u8]) -> Result<Vec<Framed>, Fail> {
+    let mut list = Vec::new(alloc);
+    put_heard(&mut list, alloc, heard, frame)?;
+    Ok(list)
 }
 
 // feeds the frame byte by byte; no byte before the last makes it whole
-fn feed_bytes(feeder: &mut Feeder, frame: &[u8]) -> Result<(), Fail> {
+fn put_bytes(list: &mut Vec<Framed>, feeder: &mut Feeder, frame: &[u8]) -> Result<(), Fail> {
     for (count, byte) in frame.iter().enumerate() {
-        if feeder.rest() != count || !hears_nothing(feeder) {
+        put_taken(list, feeder)?;
+        if feeder.rest() != count || !list.is_empty() {
             return Err(Fail::from("the frame was whole too early"));
         }
         feeder.feed(&[*byte])?;
     }
-    Ok(())
+    put_taken(list, feeder)
 }
 
-fn taken_in_bytes(feeder: &mut Feeder, frame: &[u8]) -> Result<Framed, Fail> {
-    feed_bytes(feeder, frame)?;
-    taken(feeder)
+fn put_heard_bytes(
+    list: &mut Vec<Framed>,
+    alloc: Global,
+    heard: Heard,
+    frame: &[u8],
+) -> Result<(), Fail> {
+    let mut feeder = Feeder::new(alloc, heard);
+    put_bytes(list, &mut feeder, frame)
 }
 
 // the message of a frame that comes byte by byte
-pub fn heard_in_bytes(alloc: Global, heard: Heard, frame: &[u8]) -> Result<Framed, Fail> {
-    let mut feeder = Feeder::new(alloc, heard);
-    taken_in_bytes(&mut feeder, frame)
-}
-
-// the sequence number of the next message
-pub fn next_number(feeder: &mut Feeder) -> Option<u16> {
-    match feeder.take() {
-        Some(framed) => Some(framed.sequence),
-        None => None,
-    }
+pub fn heard_in_bytes(alloc: Global, heard: Heard, frame: &[u8]) -> Result<Vec<Framed>, Fail> {
+    let mut list = Vec::new(alloc);
+    put_heard_bytes(&mut list, alloc, heard, frame)?;
+    Ok(list)
 }

@@ -44,25 +44,46 @@ fn repeated(alloc: Global, changes: &[Change], count: usize) -> Result<Changes, 
     Ok(Changes::of(list))
 }
 
-fn with_repeated(alloc: Global, framed: &Framed, count: usize) -> Result<Framed, Fail> {
-    let Message::SetPolicies { changes } = &framed.message else {
-        return Err(Fail::from("no changes"));
-    };
-    let changes = repeated(alloc, changes.as_slice(), count)?;
-    Ok(Framed {
+fn put_changes(list: &mut Vec<Framed>, changes: Changes) -> Result<(), Fail> {
+    let message = Message::SetPolicies { changes };
+    Ok(list.push(Framed {
         sequence: 1,
-        message: Message::SetPolicies { changes },
-    })
+        message,
+    })?)
+}
+
+fn changes_of(framed: &Framed) -> Result<&Changes, Fail> {
+    match &framed.message {
+        Message::SetPolicies { changes } => Ok(changes),
+        _ => Err(Fail::from("no changes")),
+    }
+}
+
+// the changes of the one message, with the first so many times
+fn repeated_in(alloc: Global, list: &[Framed], count: usize) -> Result<Changes, Fail> {
+    let [framed] = list else {
+        return Err(Fail::from("no message, or several"));
+    };
+    repeated(alloc, changes_of(framed)?.as_slice(), count)
+}
+
+fn many_deletions(alloc: Global, count: usize, frame: &[u8]) -> Result<Changes, Fail> {
+    let two = heard_whole(alloc, Heard::AtAdmin, frame)?;
+    repeated_in(alloc, &two, count)
 }
 
 // the message of two deletions, with the first so many times
-fn deletions(alloc: Global, count: usize, frame: &[u8]) -> Result<Framed, Fail> {
-    let two = heard_whole(alloc, Heard::AtAdmin, frame)?;
-    with_repeated(alloc, &two, count)
+fn deletions(alloc: Global, count: usize, frame: &[u8]) -> Result<Vec<Framed>, Fail> {
+    let mut list = Vec::new(alloc);
+    put_changes(&mut list, many_deletions(alloc, count, frame)?)?;
+    Ok(list)
 }
 
-// how many bytes the frame has
-fn size(alloc: Global, framed: &Framed) -> Result<usize, EncodeRefusal> {
+// how many bytes the frame of the one message has
+fn size(alloc: Global, list: &[Framed]) -> Result<usize, EncodeRefusal> {
+    let [framed] = list else {
+        return Ok(0);
+    };
     match encode(alloc, framed) {
         Ok(frame) => Ok(frame.len()),
         Err(refusal) => Err(refusal),
@@ -75,8 +96,8 @@ fn has_size(
     frame: &[u8],
     wanted: Result<usize, EncodeRefusal>,
 ) -> Result<bool, Fail> {
-    let framed = deletions(alloc, count, frame)?;
-    Ok(size(alloc, &framed) == wanted)
+    let list = deletions(alloc, count, frame)?;
+    Ok(size(alloc, &list) == wanted)
 }
 
 #[test]
@@ -90,14 +111,14 @@ fn the_longest_frame(rt: HostRuntime) -> Result<(), Fail> {
 
 // the frame of 1,048,580 bytes
 fn longest(alloc: Global) -> Result<Bytes, Fail> {
-    let framed = deletions(alloc, 87_379, IN_NINE)?;
-    spelled(alloc, &framed)
+    let list = deletions(alloc, 87_379, IN_NINE)?;
+    spelled(alloc, &list)
 }
 
 // the spelling of an administrator's message that comes in one piece
 fn spelled_again(alloc: Global, frame: &[u8]) -> Result<Bytes, Fail> {
-    let framed = heard_whole(alloc, Heard::AtAdmin, frame)?;
-    spelled(alloc, &framed)
+    let list = heard_whole(alloc, Heard::AtAdmin, frame)?;
+    spelled(alloc, &list)
 }
 
 fn is_heard(alloc: Global, frame: &[u8]) -> Result<bool, Fail> {

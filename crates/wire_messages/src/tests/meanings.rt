@@ -152,9 +152,16 @@ const REFUSED: &[(&[u8], &str)] = &[
     ),
 ];
 
-fn shown(alloc: Global, heard: Heard, frame: &[u8]) -> Result<String, Fail> {
-    let framed = decoded(alloc, heard, frame)?;
+fn message_text(alloc: Global, list: &[Framed]) -> Result<String, Fail> {
+    let [framed] = list else {
+        return Err(Fail::from("no message, or several"));
+    };
     Ok(format!(in alloc; "{:?}", framed.message)?)
+}
+
+fn shown(alloc: Global, heard: Heard, frame: &[u8]) -> Result<String, Fail> {
+    let list = decoded(alloc, heard, frame)?;
+    message_text(alloc, &list)
 }
 
 #[test]
@@ -196,7 +203,10 @@ fn is_judged(cause: &Cause) -> bool {
         && row.privilege.as_slice() == b"p".as_slice()
 }
 
-fn tells_judged(framed: &Framed) -> bool {
+fn tells_judged(list: &[Framed]) -> bool {
+    let [framed] = list else {
+        return false;
+    };
     let Message::Judged { verdict } = &framed.message else {
         return false;
     };
@@ -205,8 +215,8 @@ fn tells_judged(framed: &Framed) -> bool {
 }
 
 fn hears_judged(alloc: Global) -> Result<bool, Fail> {
-    let framed = decoded(alloc, Heard::Replies, JUDGED)?;
-    Ok(tells_judged(&framed))
+    let list = decoded(alloc, Heard::Replies, JUDGED)?;
+    Ok(tells_judged(&list))
 }
 
 #[test]

@@ -1,8 +1,9 @@
 // Bytes in pieces, and sides that know operations of their own.
-use super::hearing::{Answered, is_refused, next_number, told};
+use super::hearing::{Answered, is_refused, put_taken, told};
 use super::wrong::WRONG;
-use crate::{Feeder, Heard, WireRefusal};
+use crate::{Feeder, Framed, Heard, WireRefusal};
 use std::alloc::Global;
+use std::test::Fail;
 
 #[test]
 fn the_first_fault_by_its_place(rt: HostRuntime) {
@@ -78,22 +79,52 @@ fn two_and_a_long_one(feeder: &mut Feeder) -> bool {
     feeder.feed(bytes.as_slice()) == Err(WireRefusal::TooLong(1_048_577)) && feeder.rest() == 0
 }
 
-fn two_wait(feeder: &mut Feeder) -> bool {
-    next_number(feeder) == Some(1)
-        && next_number(feeder) == Some(2)
-        && next_number(feeder).is_none()
+fn are_two(list: &[Framed]) -> bool {
+    let [first, second] = list else {
+        return false;
+    };
+    first.sequence == 1 && second.sequence == 2
+}
+
+fn put_three(list: &mut Vec<Framed>, feeder: &mut Feeder) -> Result<(), Fail> {
+    put_taken(list, feeder)?;
+    put_taken(list, feeder)?;
+    put_taken(list, feeder)
+}
+
+// whether the messages 1 and 2 wait, and no further one
+fn two_wait(alloc: Global, feeder: &mut Feeder) -> Result<bool, Fail> {
+    let mut list = Vec::new(alloc);
+    put_three(&mut list, feeder)?;
+    Ok(are_two(&list))
+}
+
+fn two_wait_before_a_length(alloc: Global) -> Result<bool, Fail> {
+    let mut feeder = Feeder::new(alloc, Heard::AtAdmin);
+    if !two_and_a_length(&mut feeder) {
+        return Ok(false);
+    }
+    two_wait(alloc, &mut feeder)
+}
+
+fn two_wait_before_a_long_one(alloc: Global) -> Result<bool, Fail> {
+    let mut feeder = Feeder::new(alloc, Heard::AtAdmin);
+    if !two_and_a_long_one(&mut feeder) {
+        return Ok(false);
+    }
+    two_wait(alloc, &mut feeder)
 }
 
 #[test]
-fn messages_before_an_unfinished_frame_wait(rt: HostRuntime) {
-    let mut feeder = Feeder::new(rt.alloc(), Heard::AtAdmin);
-    let right = two_and_a_length(&mut feeder) && two_wait(&mut feeder);
+fn messages_before_an_unfinished_frame_wait(rt: HostRuntime) -> Result<(), Fail> {
+    let right = two_wait_before_a_length(rt.alloc())?;
     assert!(rt; right);
+    Ok(())
 }
 
 #[test]
-fn messages_before_a_wrong_frame_wait(rt: HostRuntime) {
-    let mut feeder = Feeder::new(rt.alloc(), Heard::AtAdmin);
-    let right = two_and_a_long_one(&mut feeder) && two_wait(&mut feeder);
+fn messages_before_a_wrong_frame_wait(rt: HostRuntime) -> Result<(), Fail> {
+    let right = two_wait_before_a_long_one(rt.alloc())?;
     assert!(rt; right);
+    Ok(())
 }
