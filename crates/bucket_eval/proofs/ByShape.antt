@@ -1,6 +1,7 @@
 -- The policies that match a question, shape by shape: each is of one shape, and a search finds the one of a shape.
-use Rattle.std.proofs.Common.{◌≡◌, ℕ, ◌+◌, ◌<◌, ◌≤◌, ◌%◌, Bool, true, false, ◌&&◌, ◌==◌, cond, List, [], ◌∷◌, ◌++◌, length, get_or}
-use Rattle.std.proofs.Common.{nat_lt, nat_le, slice_get, zero, suc, Option, None, Some, IfSome, refl, sym, ap, ◌∙◌, subst, arith, inl, inr, ◌⊎◌}
+use Rattle.std.proofs.Common.{◌≡◌, ℕ, ◌+◌, ◌<◌, ◌≤◌, ◌%◌, Bool, true, false, ◌&&◌, ◌==◌, cond, List, [], ◌∷◌, ◌++◌}
+use Rattle.std.proofs.Common.{get_or, nat_lt, nat_le, Option, None, Some, IfSome, refl, sym, ap, ◌∙◌, subst, arith}
+use Rattle.std.proofs.Common.{inl, inr, ◌⊎◌}
 use Rattle.std.specs.declared.cmp.Ordering.{Ordering}
 use Rattle.std.specs.declared.cmp.Ordering.TheVariants.{Less, Equal, Greater}
 use Rattle.std.specs.Cmp.{IsTotalOrder, first_so, second_so}
@@ -26,7 +27,8 @@ use Rattle.bucket_store.specs.parts.Closure.{OnlyAt}
 use Rattle.bucket_store.specs.parts.Search.{StandsAt, BelongsAt}
 use Rattle.bucket_store.proofs.Lists.{All-weaker, All-append}
 use Rattle.bucket_eval.specs.Evaluation.{Contribution, contribution_cmp}
-use Rattle.bucket_eval.specs.parts.Shapes.{is_wild, shape_by, shape_of, sought_field, sought, fits, FitsAt, in_shape, below_shape}
+use Rattle.bucket_eval.specs.parts.Shapes.{is_wild, shape_by, shape_of, sought_field, sought, fits, FitsAt}
+use Rattle.bucket_eval.specs.parts.Shapes.{in_shape, below_shape}
 use Rattle.bucket_eval.proofs.Lesser.{combined, combined-joined, combined-swapped}
 
 -- ---- a key that matches ties with the sought one of its shape
@@ -196,7 +198,8 @@ filter_map-same : {X Y : Type 0} (f g : X → Option Y) (xs : List X) → ((x : 
 filter_map-same f g [] same = refl
 filter_map-same f g (x ∷ xs) same = λ i. cons_option (same x i) (filter_map-same f g xs same i)
 
-first_least-alone : {X : Type 0} (cmp : X → X → Ordering) (made : Option X) → first_least cmp (cons_option made []) ≡ made
+first_least-alone : {X : Type 0} (cmp : X → X → Ordering) (made : Option X)
+    → first_least cmp (cons_option made []) ≡ made
 first_least-alone cmp None = refl
 first_least-alone cmp (Some x) = refl
 
@@ -236,7 +239,8 @@ module _ (question : Question) (made : Policy → Option Contribution) (own : Is
       ap (λ b. cond b (made policy) None) is ∙ own.silent policy matching
   quiet shape policy false false matching is other = ap (λ b. cond b (made policy) None) is
 
-  all-quiet : (shape : ℕ) (policies : List Policy) → AllByRecursion (λ policy. fits question shape policy ≡ false) policies
+  all-quiet : (shape : ℕ) (policies : List Policy)
+      → AllByRecursion (λ policy. fits question shape policy ≡ false) policies
       → AllByRecursion (λ policy. in_shape shape made policy ≡ None) policies
   all-quiet shape policies others =
       All-weaker (λ policy. fits question shape policy ≡ false) (λ policy. in_shape shape made policy ≡ None)
@@ -261,7 +265,8 @@ module _ (question : Question) (made : Policy → Option Contribution) (own : Is
       → AllByRecursion (λ policy. fits question shape policy ≡ false) policies
       → first_least contribution_cmp (filter_map (in_shape shape made) policies) ≡ None
   least-of-none shape policies others =
-      ap (first_least contribution_cmp) (filter_map-none (in_shape shape made) policies (all-quiet shape policies others))
+      ap (first_least contribution_cmp)
+      (filter_map-none (in_shape shape made) policies (all-quiet shape policies others))
 
   -- ---- one shape more
 
@@ -363,14 +368,17 @@ module _ (question : Question) (made : Policy → Option Contribution) (own : Is
       first_least-cons_option contribution_cmp (below_shape (shape + 1) made policy)
       (filter_map (below_shape (shape + 1) made) policies)
       ∙ ap (combined contribution_cmp (below_shape (shape + 1) made policy)) (least-below-more shape policies rising.1)
-      ∙ one-more policy (in_shape shape made policy) (below_shape shape made policy) (below_shape (shape + 1) made policy)
+      ∙ one-more policy (in_shape shape made policy) (below_shape shape made policy)
+      (below_shape (shape + 1) made policy)
       of below (parted shape policy)
       (if-some (nat_lt (shape_of policy.key) shape) (λ later. later.key ≡ policy.key) (made policy) (own.key policy))
       (first_least-all contribution_cmp (λ (later : Contribution). key_cmp policy.key later.key ≡ Less)
       (filter_map (in_shape shape made) policies) (all-behind shape policy policies rising.0))
       ∙ sym (λ i. combined contribution_cmp
-      (first_least-cons_option contribution_cmp (in_shape shape made policy) (filter_map (in_shape shape made) policies) i)
-      (first_least-cons_option contribution_cmp (below_shape shape made policy) (filter_map (below_shape shape made) policies) i))
+      (first_least-cons_option contribution_cmp (in_shape shape made policy)
+      (filter_map (in_shape shape made) policies) i)
+      (first_least-cons_option contribution_cmp (below_shape shape made policy)
+      (filter_map (below_shape shape made) policies) i))
 
   -- below the first shape there is none, and below the last all are
   pub least-below-first : (policies : List Policy)
@@ -390,5 +398,6 @@ module _ (question : Question) (made : Policy → Option Contribution) (own : Is
   least-below-last shape policies last =
       ap (first_least contribution_cmp)
       (filter_map-same (below_shape shape made) made policies
-      (λ policy. let below = shape-below (is_wild policy.key.client) (is_wild policy.key.user) (is_wild policy.key.privilege) in
+      (λ policy. let key = policy.key in
+      let below = shape-below (is_wild key.client) (is_wild key.user) (is_wild key.privilege) in
       ap (λ b. cond b (made policy) None) (lt-ltb (shape_of policy.key) shape (omega arith))))

@@ -19,7 +19,8 @@ use Rattle.bucket_eval.specs.parts.Shapes.{FitsAt, in_shape, below_shape}
 use Rattle.bucket_eval.specs.declared.nested.Offer.{Offer}
 use Rattle.bucket_eval.proofs.Best.{min-after, min-before}
 use Rattle.bucket_eval.proofs.Lesser.{combined}
-use Rattle.bucket_eval.proofs.ByShape.{IsOwn, if-some, least-of-one, least-of-none, least-below-first, least-below-more, least-below-last}
+use Rattle.bucket_eval.proofs.ByShape.{IsOwn, if-some, least-of-one, least-of-none}
+use Rattle.bucket_eval.proofs.ByShape.{least-below-first, least-below-more, least-below-last}
 
 -- the order of two offers is that of the contributions
 after-is : (buckets : List Bucket) (first second : Contribution) (offer other : Offer)
@@ -30,7 +31,8 @@ after-is buckets first second offer other is other_is =
     λ i. is_gt (ordering_then (result_cmp (is.result i) (other_is.result i)) (key_cmp (is.key i) (other_is.key i)))
 
 only : (buckets : List Bucket) (made rest : Option Contribution) (offer : Offer)
-    → Offers buckets made (Some offer) → Offers buckets rest None → Offers buckets (combined contribution_cmp made rest) (Some offer)
+    → Offers buckets made (Some offer) → Offers buckets rest None
+    → Offers buckets (combined contribution_cmp made rest) (Some offer)
 only buckets None rest offer is rest_is = absurd is
 only buckets (Some made) None offer is rest_is = is
 only buckets (Some made) (Some least) offer is rest_is = absurd rest_is
@@ -80,14 +82,16 @@ counted-key key None = tt
 counted-key key (Some outcome) = told (outcome.result.kind == none)
   where
     told : (b : Bool)
-        → IfSome (cond b None (Some (record { outcome = outcome; key = key }))) (λ (made : Contribution). made.key ≡ key)
+        → IfSome (cond b None (Some (record { outcome = outcome; key = key })))
+        (λ (made : Contribution). made.key ≡ key)
     told true = tt
     told false = refl
 
 IsOwn-offered : (buckets : List Bucket) (question : Question) (deep : Bool) (most : ℕ) (name : List ℕ)
     → IsOwn question (offered buckets question deep most name)
 IsOwn-offered buckets question deep most name =
-    let outcome : Policy → Option Outcome = outcome_of (answer_within (database_of buckets) question deep most) deep name in
+    let outcome : Policy → Option Outcome =
+    outcome_of (answer_within (database_of buckets) question deep most) deep name in
     record {
       key = λ policy. if-some (key_matches policy.key question) (λ made. made.key ≡ policy.key)
           (counted policy.key (outcome policy)) (counted-key policy.key (outcome policy));
@@ -122,7 +126,8 @@ not-offered : (buckets : List Bucket) (made rest : Option Contribution) (best : 
 not-offered buckets None rest best offers rest_is = rest_is
 not-offered buckets (Some made) rest best offers rest_is = absurd offers
 
-module _ (buckets : List Bucket) (question : Question) (deep : Bool) (most : ℕ) (name : List ℕ) (policies : List Policy) where
+module _ (buckets : List Bucket) (question : Question) (deep : Bool) (most : ℕ) (name : List ℕ)
+    (policies : List Policy) where
   -- the least contribution of the policies whose shape is below this one
   abbrev pub least_below : ℕ → Option Contribution
   least_below shape =

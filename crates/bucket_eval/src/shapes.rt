@@ -1,5 +1,5 @@
-// The shapes of the keys that match a question: each field of such a key is the wildcard or the question's name. A bucket has
-// at most one policy of each shape that matches.
+// The shapes of the keys that match a question: each field of such a key is the wildcard or the question's name. A
+// bucket has at most one policy of each shape that matches.
 ghost use Rattle.std.specs.Prelude.{◌≡◌, ◌<◌, ◌≤◌, length, if◌then◌else◌, IfOk, IfErr, MatchResult};
 ghost use Rattle.std.specs.List.Sorted.{IsStrictlySortedBy};
 ghost use Rattle.cynara_keys.specs.Field.{field_cmp};

@@ -1,12 +1,11 @@
 -- What changes of one bucket make of the buckets.
-use Rattle.std.proofs.Common.{◌≡◌, ℕ, ◌+◌, ◌<◌, ◌≤◌, Bool, true, false, not, ◌||◌, cond, List, [], ◌∷◌, ◌++◌, length, map, get_or}
-use Rattle.std.proofs.Common.{set, None, refl, sym, ap, ◌∙◌, subst, arith}
+use Rattle.std.proofs.Common.{◌≡◌, ℕ, ◌+◌, ◌≤◌, Bool, true, false, not, ◌||◌, cond, List, [], ◌∷◌, ◌++◌, length}
+use Rattle.std.proofs.Common.{map, get_or, set, None, refl, sym, ap, ◌∙◌, subst, arith}
 use Rattle.std.specs.declared.cmp.Ordering.{Ordering}
 use Rattle.std.specs.declared.cmp.Ordering.TheVariants.{Less, Equal, Greater}
 use Rattle.std.specs.Cmp.{first_so, second_so}
 use Rattle.std.specs.List.{AllByRecursion, filter, fold, flat_map, list_all, list_any}
 use Rattle.std.specs.Ordering.{is_eq, is_lt, is_gt}
-use Rattle.std.proofs.lemmas.Bool.{true≢false, or_parts}
 use Rattle.std.proofs.lemmas.Cmp.{nat_list_eq_equiv}
 use Rattle.std.proofs.lemmas.List.{set_at, length-append}
 use Rattle.std.proofs.Math.Seq.{get_or-append_seam}
@@ -14,16 +13,14 @@ use Rattle.cynara_keys.specs.Text.{same_text, text_cmp}
 use Rattle.cynara_keys.proofs.Order.{same_text-≡, text_cmp-equal}
 use Rattle.bucket_store.specs.Bucket.{Bucket}
 use Rattle.bucket_store.specs.Change.{after_change, is_at, with_changes}
-use Rattle.bucket_store.specs.Database.{Database, Placed, database_of, placed_of}
-use Rattle.bucket_store.specs.Order.{put, placed_cmp}
-use Rattle.bucket_store.specs.Refusal.{fault, set_policies, most_policies}
+use Rattle.bucket_store.specs.Database.{Placed, database_of, placed_of}
+use Rattle.bucket_store.specs.Order.{placed_cmp}
+use Rattle.bucket_store.specs.Refusal.{fault, set_policies}
 use Rattle.bucket_store.specs.WellFormed.{IsKept}
 use Rattle.bucket_store.specs.declared.policy_changes.Change.{Change}
 use Rattle.bucket_store.specs.declared.policy_changes.Change.TheVariants.{Set, Delete}
 use Rattle.bucket_store.specs.parts.Batch.{name_of, is_own, own, edited, changed}
 use Rattle.bucket_store.specs.parts.OneBucket.{edited_by, IsOwnPlace, ChangesOne}
-use Rattle.bucket_store.specs.parts.Search.{StandsAt}
-use Rattle.bucket_store.proofs.Lists.{filter-all}
 use Rattle.bucket_store.proofs.Changing.{untouched}
 use Rattle.bucket_store.proofs.Accepting.{flat-after, view-after, kept-after, free-after, accepted-after}
 
@@ -147,7 +144,8 @@ module _ (buckets : List Bucket) (changes : List Change) (at : ℕ) (kept : IsKe
       kept-after changes buckets kept one.named (omega (arith, same, most, one.short))
       (free-after changes buckets kept one.named one.unlinked)
 
-  module _ (bucket after : Bucket) (is : bucket ≡ get_or buckets at bucket) (edit : after ≡ edited_by changes bucket) where
+  module _ (bucket after : Bucket) (is : bucket ≡ get_or buckets at bucket)
+      (edit : after ≡ edited_by changes bucket) where
     whole : set buckets at after ≡ map (changed changes) buckets
     whole = edited-at buckets changes at bucket after one.place is edit
 

@@ -88,7 +88,8 @@ impl Bucket {
         Ok(Bucket { body })
     }
 
-    // Makes these changes of its policies, where nothing else shares the bucket and there is memory. Says whether it did.
+    // Makes these changes of its policies, where nothing else shares the bucket and there is memory. Says whether it
+    // did.
     pub(crate) fn edit(&mut self, changes: &[Change]) -> bool
         requires { IsStrictlySortedBy policy_cmp self.old.policies }
         ensures done { IsTrue result → self.new ≡ edited_by changes.now self.old }

@@ -17,8 +17,8 @@ use crate::{Bucket, Change};
 use cynara_keys::BucketName;
 use std::alloc::Global;
 
-/// The place of the one bucket that the changes are about, where they are about one, put no policy that points to a bucket, and
-/// leave room for as many policies as they are.
+/// The place of the one bucket that the changes are about, where they are about one, put no policy that points to a
+/// bucket, and leave room for as many policies as they are.
 pub fn place_of_changes(alloc: Global, buckets: &[Bucket], changes: &[Change]) -> Option<usize>
     requires { IsStrictlySortedBy bucket_cmp buckets.now }
     ensures { IfSome result (ChangesOne buckets.now changes.now) }

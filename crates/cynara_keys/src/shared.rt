@@ -1,5 +1,5 @@
-// Bytes that do not change, which is what names, buckets' names and metadata keep. They stand in one place that all copies
-// share, in any thread, so a copy asks for no memory, and a copy and a move are one machine word or two.
+// Bytes that do not change, which is what names, buckets' names and metadata keep. They stand in one place that all
+// copies share, in any thread, so a copy asks for no memory, and a copy and a move are one machine word or two.
 ghost use Rattle.std.specs.Prelude.{◌≡◌, [], IfOk};
 
 use std::alloc::{AllocError, Global};

@@ -14,8 +14,8 @@ use bucket_store::Changes;
 
 impl Desk {
     /// Makes this state the one that the command gives, and answers how many policies an `Erase` erased, 0 for other
-    /// commands. Refuses as `apply` does, and then this state stays as it is. What policies are set in one bucket, or granted
-    /// by an install, changes lists in place that no other state shares; other commands copy what they change.
+    /// commands. Refuses as `apply` does, and then this state stays as it is. Policies that are set in one bucket, or
+    /// granted by an install, change lists in place that no other state shares; other commands copy what they change.
     pub fn change(&mut self, command: &Command) -> Result<u32, Refusal>
         ensures next { OnOk result (self.new ≡ next self.old command.now) }
         ensures erased { IfOk result (λ erased. erased ≡ erased_by self.old command.now) }

@@ -1,4 +1,5 @@
-use Rattle.std.proofs.Common.{◌≡◌, ℕ, ◌+◌, zero, suc, List, [], ◌∷◌, slice_get, slice_index_or, get_or, None, Some, IfSome, refl, sym, ap, ◌∙◌, subst, arith}
+use Rattle.std.proofs.Common.{◌≡◌, ℕ, ◌+◌, zero, suc, List, [], ◌∷◌, slice_get, slice_index_or, get_or, None, Some}
+use Rattle.std.proofs.Common.{IfSome, refl, sym, ap, ◌∙◌, subst, arith}
 use Rattle.std.specs.List.{AllByRecursion}
 use Rattle.std.specs.List.Sorted.{IsStrictlySortedBy}
 use Rattle.std.proofs.lemmas.Option.{slice_get-get_or}
@@ -10,8 +11,8 @@ use Rattle.bucket_eval.specs.Evaluation.{answer_within}
 use Rattle.bucket_eval.specs.parts.Buckets.{IsHeld, Offers}
 use Rattle.bucket_eval.specs.parts.Shapes.{FitsAt}
 use Rattle.bucket_eval.proofs.Held.{followed-holds, end-held, fallback-answers, offer-answers}
-use Rattle.bucket_eval.proofs.Offers.{least_below, least_below-first, least_below-some, least_below-none, least_below-last}
-use Rattle.bucket_eval.proofs.Offers.{offers-one, offers-none}
+use Rattle.bucket_eval.proofs.Offers.{least_below, least_below-first, least_below-some, least_below-none}
+use Rattle.bucket_eval.proofs.Offers.{least_below-last, offers-one, offers-none}
 use Rattle.bucket_eval.proofs.Targets.{target-there, target-at}
 use Rattle.bucket_eval.proofs.nested.+evaluation.Goals as goal
 use Rattle.bucket_eval.proofs.nested.+evaluation.Goals.{least_offer-in-Some, least_offer-in_default}

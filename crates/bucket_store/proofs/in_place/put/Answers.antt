@@ -8,7 +8,8 @@ use Rattle.bucket_store.proofs.in_place.put.Goals as goal
 pub returns-in-Ok-clause-items : goal.returns-in-Ok-clause-items
 returns-in-Ok-clause-items c =
     put-StandsAt (λ (policy : Policy). key_cmp policy.key c.args.policy.key)
-    (subst (λ (list : List Policy). StandsAt (λ (policy : Policy). key_cmp policy.key c.args.policy.key) list c.in-Ok.at)
+    (subst
+    (λ (list : List Policy). StandsAt (λ (policy : Policy). key_cmp policy.key c.args.policy.key) list c.in-Ok.at)
     c.deref.ensures.value c.in-Ok.ensures.found)
     c.args.policy
 
@@ -16,6 +17,7 @@ pub returns-in-Ok-insert-clause-items : goal.returns-in-Ok-insert-clause-items
 returns-in-Ok-insert-clause-items c =
     c.in-Ok-insert.ensures.items
     ∙ put-BelongsAt (λ (policy : Policy). key_cmp policy.key c.args.policy.key)
-    (subst (λ (list : List Policy). BelongsAt (λ (policy : Policy). key_cmp policy.key c.args.policy.key) list c.in-Err.at)
+    (subst
+    (λ (list : List Policy). BelongsAt (λ (policy : Policy). key_cmp policy.key c.args.policy.key) list c.in-Err.at)
     c.deref.ensures.value c.in-Err.ensures.absent)
     c.args.policy
