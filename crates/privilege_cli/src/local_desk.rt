@@ -1,10 +1,11 @@
 // The policy state that `local` keeps, and the answers to the steps of a script.
-ghost use Rattle.std.specs.Prelude.{◌≡◌, ◌<◌, ◌++◌, true, length, slice_get, IfSome, IfOk, IsTrue, OnOk, OnErr};
+ghost use Rattle.std.specs.Prelude.{◌≡◌, ◌<◌, ◌+◌, ◌++◌, true, length, slice_get, IfSome, IfOk, IsTrue, IsFalse, OnOk, OnErr};
 ghost use Rattle.std.specs.List.{flat_map};
 ghost use Rattle.smack_rules.specs.Modes.{is_request};
 ghost use Rattle.bucket_eval.specs.Evaluation as evaluation;
 ghost use Rattle.line_script.specs.Answers.{refusal_text, row_text, status_text};
-ghost use Rattle.desk_state.specs.DeskState.{fresh};
+ghost use Rattle.desk_state.specs.DeskState.{DeskState, fresh};
+ghost use Rattle.desk_state.specs.Next.{erased_by};
 ghost use Rattle.desk_state.specs.Rules.{fault};
 ghost use Rattle.privilege_cli.specs.Reply.{reply, after, command_text, applied, about, verdict_text, list_text, decided_text};
 ghost use Rattle.privilege_cli.specs.Reply.{done_text, access_reply};
@@ -13,7 +14,7 @@ ghost use Rattle.line_script.specs.Turn.{AsksRequest};
 use crate::questions::{print_from, print_list, print_refusal};
 use cynara_keys::BucketName;
 use desk_ports::Bytes;
-use desk_state::{Applied, Command, Desk};
+use desk_state::{Command, Desk, LAST_COMMIT};
 use line_script::{LineAnswer, Step, print};
 use smack_rules::{Label, Modes, RuleTable};
 use std::alloc::{AllocError, Global};
@@ -89,14 +90,60 @@ impl LocalDesk {
         ensures err { OnErr result (out.new ≡ out.old) }
         ensures kept { OnErr result (self.new ≡ self.old) }
     {
+        if erases(command) {
+            return self.apply_anew(command, out);
+        }
+        let commit = self.desk.commit();
+        if commit == LAST_COMMIT {
+            return self.apply_anew(command, out);
+        }
+        self.apply_here(command, commit + 1, out)
+    }
+
+    // The same in a new state, from which the answer is printed.
+    fn apply_anew(&mut self, command: &Command, out: &mut Bytes) -> Result<(), AllocError>
+        ensures answer { OnOk result (out.new ≡ out.old ++ command_text self.old command.now (fault self.old command.now)) }
+        ensures state { OnOk result (self.new ≡ applied self.old command.now (fault self.old command.now)) }
+        ensures err { OnErr result (out.new ≡ out.old) }
+        ensures kept { OnErr result (self.new ≡ self.old) }
+    {
         match self.desk.apply(command) {
             Ok(applied) => {
-                print_done(command, &applied, out)?;
+                print_done(command, applied.desk.commit(), applied.erased, out)?;
                 self.desk = applied.desk;
-                self.rules = None;
+                let _ = self.rules.take();
                 Ok(())
             }
             Err(refusal) => print_refusal(&refusal, out),
+        }
+    }
+
+    // The same in the state itself, of a command that erases nothing. The answer that it is accepted is there before the state
+    // changes, and gives way to a refusal.
+    fn apply_here(
+        &mut self,
+        command: &Command,
+        next: u64,
+        out: &mut Bytes,
+    ) -> Result<(), AllocError>
+        requires next { next ≡ self.old.commit + 1 }
+        requires erased { erased_by self.old command.now ≡ 0 }
+        ensures answer { OnOk result (out.new ≡ out.old ++ command_text self.old command.now (fault self.old command.now)) }
+        ensures state { OnOk result (self.new ≡ applied self.old command.now (fault self.old command.now)) }
+        ensures err { OnErr result (out.new ≡ out.old) }
+        ensures kept { OnErr result (self.new ≡ self.old) }
+    {
+        let length = out.len();
+        print_done(command, next, 0, out)?;
+        match self.desk.change(command) {
+            Ok(_) => {
+                self.rules = None;
+                Ok(())
+            }
+            Err(refusal) => {
+                out.truncate(length);
+                print_refusal(&refusal, out)
+            }
         }
     }
 
@@ -129,17 +176,31 @@ impl LocalDesk {
     }
 }
 
+// Whether the command erases policies, which its answer counts.
+fn erases(command: &Command) -> bool
+    ensures { IsFalse result → (desk : DeskState) → erased_by desk command.now ≡ 0 }
+{
+    match command {
+        Command::Erase { .. } => true,
+        _ => false,
+    }
+}
+
 // What an accepted command is answered.
-fn print_done(command: &Command, applied: &Applied, out: &mut Bytes) -> Result<(), AllocError>
-    ensures ok { OnOk result (out.new ≡ out.old ++ done_text command.now applied.now.desk.commit applied.now.erased) }
+fn print_done(
+    command: &Command,
+    commit: u64,
+    erased: u32,
+    out: &mut Bytes,
+) -> Result<(), AllocError>
+    ensures ok { OnOk result (out.new ≡ out.old ++ done_text command.now commit erased) }
     ensures err { OnErr result (out.new ≡ out.old) }
 {
-    let commit = applied.desk.commit();
     match command {
         Command::Erase { .. } => print(
             &LineAnswer::Erased {
                 commit,
-                count: applied.erased,
+                count: erased,
             },
             out,
         ),
