@@ -148,8 +148,7 @@ fn user_remove_changes(
     Ok(changes)
 }
 
-/// What `MANIFESTS` loses by the installs of a package before, and gets by those after.
-pub(crate) fn package_changes(
+fn package_changes(
     alloc: Global,
     before: &[Install],
     after: &[Install],
