@@ -1,13 +1,16 @@
 // What the machine was asked where it failed, and how a person reads of it.
 ghost use Rattle.std.specs.Prelude.{◌≡◌, Ok, Err, IfOk, IfErr, string_bytes};
 ghost use Rattle.std.specs.Option.{ForSome};
-ghost use Rattle.folder_disk.specs.Shown.{IsPrintable};
+ghost use Rattle.desk_ports.specs.Shown.{IsPrintable};
 
-use crate::shown::{MOST_SHOWN_BYTES, shown_path};
+use desk_ports::shown_bytes;
 use std::alloc::Global;
 use std::error::Error;
 use std::io::ErrorKind;
 use std::{fmt, io};
+
+// The most bytes of a path that are shown.
+const MOST_SHOWN_BYTES: usize = 4_096;
 
 /// What the machine is asked to do with a folder, or with a file in it.
 #[derive(Clone, Copy, Debug, PartialEq, Eq)]
@@ -43,7 +46,7 @@ impl Failure {
         ensures step { result.step ≡ step }
         ensures error { result.error ≡ error }
     {
-        let path = match shown_path(alloc, path, MOST_SHOWN_BYTES) {
+        let path = match shown_bytes(alloc, path.as_bytes(), MOST_SHOWN_BYTES) {
             Ok(path) => Some(path),
             Err(_) => None,
         };

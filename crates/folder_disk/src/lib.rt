@@ -8,7 +8,6 @@ mod failures;
 mod files;
 mod folder_disk;
 mod paths;
-mod shown;
 #[cfg(test)]
 mod tests;
 

@@ -1,6 +1,6 @@
 use Rattle.std.proofs.Common.{◌++◌, [], ◌∷◌, take, string_bytes, ap₂, ◌∙◌}
-use Rattle.folder_disk.proofs.Cut.{cut_next}
-use Rattle.folder_disk.proofs.shown.push_escaped.Goals as goal
+use Rattle.desk_ports.proofs.Cut.{cut_next}
+use Rattle.desk_ports.proofs.shown.push_escaped.Goals as goal
 
 pub returns-clause-shown : goal.returns-clause-shown
 returns-clause-shown c =

@@ -1,4 +1,4 @@
--- A path, as a person is shown it.
+-- Bytes from the outside, as a person is shown them.
 use Rattle.std.specs.Prelude.{◌≡◌, ℕ, Bool, true, ◌&&◌, not, ◌==◌, ◌+◌, ◌/◌, ◌%◌, List, [], ◌∷◌, take, flat_map, nat_lt, nat_le, if◌then◌else◌}
 use Rattle.std.specs.List.{list_all}
 
@@ -25,5 +25,5 @@ abbrev pub shown_byte : ℕ → List ℕ
 shown_byte byte = if is_plain byte then byte ∷ [] else escaped_byte byte
 
 -- the first bytes of all that is shown
-abbrev pub shown_path : ℕ → List ℕ → List ℕ
-shown_path most path = take most (flat_map shown_byte path)
+abbrev pub shown_bytes : ℕ → List ℕ → List ℕ
+shown_bytes most bytes = take most (flat_map shown_byte bytes)

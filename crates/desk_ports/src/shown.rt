@@ -1,20 +1,17 @@
-// A path, as a person is shown it: no byte of it moves the cursor of a terminal or ends the line.
+// Bytes from the outside, as a person is shown them: none moves the cursor of a terminal or ends the line.
 ghost use Rattle.std.specs.Prelude.{◌≡◌, ◌≤◌, ◌<◌, [], ◌∷◌, ◌++◌, true, take, length, IfOk, OnOk, string_bytes};
-ghost use Rattle.folder_disk.specs.Shown as word;
+ghost use Rattle.desk_ports.specs.Shown as word;
 
 use std::alloc::{AllocError, Global};
 
-/// The most bytes of a path that are shown.
-pub const MOST_SHOWN_BYTES: usize = 4_096;
-
-/// The path, cut to the first of these many bytes. A byte that is no printable ASCII, and a backslash, stands as `\x`
-/// with two digits of hexadecimal.
-pub fn shown_path(alloc: Global, path: &str, most: usize) -> Result<String, AllocError>
-    ensures shown { IfOk result (λ text. string_bytes text ≡ word.shown_path most path.now) }
+/// The bytes as a text that no terminal acts on. A byte that is no printable ASCII, and a backslash, stands as `\x` with
+/// two digits of hexadecimal, and of all that is shown the first `most` bytes are kept.
+pub fn shown_bytes(alloc: Global, bytes: &[u8], most: usize) -> Result<String, AllocError>
+    ensures shown { IfOk result (λ text. string_bytes text ≡ word.shown_bytes most bytes.now) }
     ensures printable { IfOk result (λ text. word.IsPrintable (string_bytes text)) }
 {
     let mut text = String::new(alloc);
-    for byte in path.as_bytes() {
+    for byte in bytes {
         push_shown(&mut text, *byte, most)?;
     }
     Ok(text)

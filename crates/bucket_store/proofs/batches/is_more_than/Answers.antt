@@ -6,8 +6,7 @@ use Rattle.std.specs.List.{flat_map}
 use Rattle.cynara_keys.specs.declared.keys.Policy.{Policy}
 use Rattle.bucket_store.specs.Bucket.{Bucket}
 use Rattle.bucket_store.specs.Database.{Placed, placed_of}
-use Rattle.bucket_store.specs.Refusal.{most_policies}
-use Rattle.bucket_store.proofs.batches.is_over.Goals as goal
+use Rattle.bucket_store.proofs.batches.is_more_than.Goals as goal
 
 pub returns-then-count-room : goal.returns-then-count-room
 returns-then-count-room c =
@@ -19,5 +18,5 @@ returns-then-count-room c =
     let count = length-map bucket.policies
     (λ (policy : Policy). let placed : Placed = record { bucket = bucket.name; policy = policy } in placed) in
     let read = ap length c.policies-count.ensures in
-    sym (lt-ltb most_policies (length (flat_map placed_of buckets))
+    sym (lt-ltb c.args.most (length (flat_map placed_of buckets))
     (omega (arith, upto, own, count, read, c.loop-bucket.invariant, c.if-count-room.true)))
