@@ -12,11 +12,13 @@ ghost use Rattle.privilege_cli.specs.Program.{Reads};
 ghost use Rattle.desk_ports.specs.Disk.{DiskState};
 
 use crate::ending::Ending;
+use crate::rule_notes::note_rules;
 use crate::zeros::zeros;
 use desk_ports::{Bytes, Sink, Source, write_all};
 use line_script::{LineAnswer, print};
 use smack_rules::{Label, LoadRefusal, MOST_TEXT_BYTES, Modes, RuleTable};
 use std::alloc::Global;
+use std::marker::Model;
 use text_lines::split_at_newline;
 
 /// How many bytes are read at most in one call.
@@ -54,19 +56,43 @@ pub fn run_access<S: Source, K: Sink>(
           disk_faults = disk_faults;
         }) }
 {
-    let table = match read_rules(alloc, source) {
-        Ok(table) => table,
+    let rules = match read_rules(alloc, source) {
+        Ok(rules) => rules,
         Err(ending) => return ending,
     };
-    let decision = table.decide(subject, object, asked);
+    let decision = rules.table.decide(subject, object, asked);
     let answer = LineAnswer::Access {
         allowed: decision.allowed,
         rule: decision.rule,
     };
+    note_rules(
+        alloc,
+        rules.text.as_slice(),
+        &rules.table,
+        (subject, object),
+        &decision,
+        sink,
+    );
     match write_answer(alloc, &answer, sink) {
         Ok(()) => Ending::Done,
         Err(ending) => ending,
     }
+}
+
+/// A text of rules, and the table of them.
+#[derive(Drop)]
+struct ReadRules {
+    text: Bytes,
+    table: RuleTable,
+}
+
+impl Model for ReadRules {
+    ghost use Rattle.std.specs.Prelude.{List};
+    ghost use Rattle.smack_rules.specs.declared.table.PairModes.{PairModes};
+
+    ghost Value = { List PairModes };
+
+    ghost view = { λ rules. rules.table };
 }
 
 // Prints the answer, and has the sink take it.
@@ -82,13 +108,14 @@ fn write_answer<K: Sink>(alloc: Global, answer: &LineAnswer, sink: &mut K) -> Re
     }
 }
 
-// The table of the rules of the source, which is read to its end or past the limit of a rule text.
-fn read_rules<S: Source>(alloc: Global, source: &mut S) -> Result<RuleTable, Ending>
+// The rules of the source, which is read to its end or past the limit of a rule text.
+fn read_rules<S: Source>(alloc: Global, source: &mut S) -> Result<ReadRules, Ending>
     ensures read { ReadsRules (S.left source.old) (S.left source.new) result }
     ensures count { S.faults source.new ≡ counts_source result (S.faults source.old) }
 {
     let text = read_text(alloc, source)?;
-    load_rules(alloc, text.as_slice())
+    let table = load_rules(alloc, text.as_slice())?;
+    Ok(ReadRules { text, table })
 }
 
 // The bytes of the source up to its end. Where there are more than a rule text may have, one byte more than that.

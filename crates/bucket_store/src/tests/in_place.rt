@@ -25,19 +25,39 @@ fn two_buckets(alloc: Global) -> Result<Database, Fail> {
 // Changes, whether they are made in place, and the policies of the root behind them.
 const CASES: [(&[Row<'static>], bool, &str); 8] = [
     (&[], false, "c u p 65535: / rows 1"),
-    (&[("", SECOND, Some((DENY, "")))], true, "c u p 65535: / c u q 0: / rows 2"),
+    (
+        &[("", SECOND, Some((DENY, "")))],
+        true,
+        "c u p 65535: / c u q 0: / rows 2",
+    ),
     (&[("", FIRST, Some((DENY, "")))], true, "c u p 0: / rows 1"),
     // The last change of a key counts, and what is not there need not be taken away.
     (
-        &[("", FIRST, None), ("", SECOND, None), ("", FIRST, Some((DENY, "")))],
+        &[
+            ("", FIRST, None),
+            ("", SECOND, None),
+            ("", FIRST, Some((DENY, ""))),
+        ],
         true,
         "c u p 0: / rows 1",
     ),
-    (&[("A", FIRST, Some((DENY, "")))], true, "c u p 65535: / rows 1"),
+    (
+        &[("A", FIRST, Some((DENY, "")))],
+        true,
+        "c u p 65535: / rows 1",
+    ),
     // An absent bucket, two buckets, a policy that points to one.
     (&[("B", FIRST, None)], false, "c u p 65535: / rows 1"),
-    (&[("", FIRST, None), ("A", FIRST, None)], false, "c u p 65535: / rows 1"),
-    (&[("", FIRST, Some((BUCKET, "A")))], false, "c u p 65535: / rows 1"),
+    (
+        &[("", FIRST, None), ("A", FIRST, None)],
+        false,
+        "c u p 65535: / rows 1",
+    ),
+    (
+        &[("", FIRST, Some((BUCKET, "A")))],
+        false,
+        "c u p 65535: / rows 1",
+    ),
 ];
 
 #[test]
@@ -59,7 +79,10 @@ fn what_another_database_shares_stays(rt: HostRuntime) -> Result<(), Fail> {
     let mut database = two_buckets(alloc)?;
     let copy = database.copy()?;
     assert!(rt; !database.change_in_place(change.as_slice()));
-    assert_eq!(rt; list_text(alloc, &copy, "", ANY)?.as_str(), "c u p 65535: / rows 1");
+    assert_eq!(rt;
+        list_text(alloc, &copy, "", ANY)?.as_str(),
+        "c u p 65535: / rows 1"
+    );
     drop(copy);
     assert!(rt; database.change_in_place(change.as_slice()));
     assert_eq!(rt; list_text(alloc, &database, "", ANY)?.as_str(), "rows 0");

@@ -40,7 +40,12 @@ fn an_erase_says_how_many_it_took(rt: HostRuntime) -> Result<(), Fail> {
 #[test]
 fn a_copy_stays_where_the_state_changes(rt: HostRuntime) -> Result<(), Fail> {
     let mut desk = after_all(&rt, rt.alloc(), &ROWS)?;
-    for line in ["set X e f g allow", "install pk - a * p q", "user 1 guest", "erase X"] {
+    for line in [
+        "set X e f g allow",
+        "install pk - a * p q",
+        "user 1 guest",
+        "erase X",
+    ] {
         let copy = desk.copy()?;
         let count = policy_count(&copy);
         let _ = desk.change(&command(rt.alloc(), line)?)?;
