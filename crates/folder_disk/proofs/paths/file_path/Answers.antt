@@ -1,4 +1,3 @@
-use Rattle.std.proofs.Common.{◌<◌, length, get_or}
 use Rattle.folder_disk.proofs.NameBytes.{name_byte}
 use Rattle.folder_disk.proofs.paths.file_path.Goals as goal
 
