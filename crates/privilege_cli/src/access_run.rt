@@ -2,21 +2,21 @@
 ghost use Rattle.std.specs.Prelude.{◌≡◌, ◌≤◌, ◌<◌, ◌+◌, ◌⊎◌, ℕ, List, Option, length, MatchResult, IfOk, IfErr, IsTrue};
 ghost use Rattle.desk_ports.specs.Faults.{CountsFailure};
 ghost use Rattle.desk_ports.specs.Content.{Took};
-ghost use Rattle.line_script.specs.Answers.{answer_text};
 ghost use Rattle.smack_rules.specs.Modes.{is_request};
 ghost use Rattle.privilege_cli.specs.AccessRun.{AccessAnswers};
 ghost use Rattle.privilege_cli.specs.parts.Access.{IsRead, ReadsMore, AreLinesOf, AreLoaded, StopsAtText, ReadsRules, WritesAnswer};
 ghost use Rattle.privilege_cli.specs.parts.Local.{counts_source, counts_sink};
 ghost use Rattle.privilege_cli.specs.parts.Runs.{WritesBefore};
 ghost use Rattle.privilege_cli.specs.Program.{Reads};
+ghost use Rattle.privilege_cli.specs.Reply.{decided_text};
 ghost use Rattle.desk_ports.specs.Disk.{DiskState};
 
 use crate::ending::Ending;
+use crate::questions::print_decision;
 use crate::rule_notes::note_rules;
 use crate::zeros::zeros;
 use desk_ports::{Bytes, Sink, Source, write_all};
-use line_script::{LineAnswer, print};
-use smack_rules::{Label, LoadRefusal, MOST_TEXT_BYTES, Modes, RuleTable};
+use smack_rules::{Decision, Label, LoadRefusal, MOST_TEXT_BYTES, Modes, RuleTable};
 use std::alloc::Global;
 use std::marker::Model;
 use text_lines::split_at_newline;
@@ -61,19 +61,7 @@ pub fn run_access<S: Source, K: Sink>(
         Err(ending) => return ending,
     };
     let decision = rules.table.decide(subject, object, asked);
-    let answer = LineAnswer::Access {
-        allowed: decision.allowed,
-        rule: decision.rule,
-    };
-    note_rules(
-        alloc,
-        rules.text.as_slice(),
-        &rules.table,
-        (subject, object),
-        &decision,
-        sink,
-    );
-    match write_answer(alloc, &answer, sink) {
+    match write_decision(alloc, &rules, (subject, object), decision, sink) {
         Ok(()) => Ending::Done,
         Err(ending) => ending,
     }
@@ -95,13 +83,27 @@ impl Model for ReadRules {
     ghost view = { λ rules. rules.table };
 }
 
-// Prints the answer, and has the sink take it.
-fn write_answer<K: Sink>(alloc: Global, answer: &LineAnswer, sink: &mut K) -> Result<(), Ending>
-    ensures written { WritesAnswer (K.taken sink.old) (K.taken sink.new) (answer_text answer.now) result }
+// Tells a person of the rules, prints the decision on the pair, and has the sink take it.
+fn write_decision<K: Sink>(
+    alloc: Global,
+    rules: &ReadRules,
+    pair: (&Label, &Label),
+    decision: Decision,
+    sink: &mut K,
+) -> Result<(), Ending>
+    ensures written { WritesAnswer (K.taken sink.old) (K.taken sink.new) (decided_text decision) result }
     ensures count { K.faults sink.new ≡ counts_sink result (K.faults sink.old) }
 {
+    note_rules(
+        alloc,
+        rules.text.as_slice(),
+        &rules.table,
+        pair,
+        decision,
+        sink,
+    );
     let mut text = Bytes::new(alloc);
-    print(answer, &mut text)?;
+    print_decision(&decision, &mut text)?;
     match write_all(sink, text.as_slice()) {
         Ok(()) => Ok(()),
         Err(_) => Err(Ending::Sink),

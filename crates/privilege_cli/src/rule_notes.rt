@@ -31,7 +31,7 @@ pub fn note_rules<K: Sink>(
     text: &[u8],
     table: &RuleTable,
     pair: (&Label, &Label),
-    decision: &Decision,
+    decision: Decision,
     sink: &mut K,
 )
     ensures taken { K.taken sink.new ≡ K.taken sink.old }
