@@ -17,6 +17,7 @@ const GRANTED: u8 = 6;
 #[derive(Clone, Copy)]
 struct Seen {
     lines: u32,
+    has_rule: bool,
     has_subject: bool,
     has_object: bool,
     /// The first line whose subject begins with `#`.
@@ -39,7 +40,7 @@ pub fn note_rules<K: Sink>(
 {
     let (subject, object) = pair;
     let seen = seen_in(text, subject.as_slice(), object.as_slice());
-    if seen.lines == 0 {
+    if !seen.has_rule {
         sink.note("privilege: no rule was read");
         return;
     }
@@ -74,6 +75,7 @@ fn note_text<K: Sink>(text: Result<String, AllocError>, sink: &mut K)
 fn seen_in(text: &[u8], subject: &[u8], object: &[u8]) -> Seen {
     let mut seen = Seen {
         lines: 0,
+        has_rule: false,
         has_subject: false,
         has_object: false,
         hash: None,
@@ -88,7 +90,7 @@ fn seen_in(text: &[u8], subject: &[u8], object: &[u8]) -> Seen {
 }
 
 impl Seen {
-    // Follows one line more.
+    // Follows one line more, which is blank or a rule.
     fn follow(&mut self, line: &[u8], subject: &[u8], object: &[u8]) {
         self.lines = self.lines.saturating_add(1);
         let Some((first, rest)) = split_word(line) else {
@@ -97,6 +99,7 @@ impl Seen {
         let Some((second, _)) = split_word(rest) else {
             return;
         };
+        self.has_rule = true;
         self.has_subject = self.has_subject || first == subject;
         self.has_object = self.has_object || second == object;
         if first == subject && second == object {
