@@ -145,11 +145,8 @@ fn read_access(
     let Some(asked) = Modes::read(modes) else {
         return Err(CommandRefusal::Unknown(WordFault::Modes { place: 3 }));
     };
-    if asked.bring_up {
-        return Err(CommandRefusal::Unknown(WordFault::AsksBringUp { place: 3 }));
-    }
     if !asked.is_request() {
-        return Err(CommandRefusal::Unknown(WordFault::AsksNothing { place: 3 }));
+        return Err(CommandRefusal::Unknown(WordFault::NoRequest { place: 3 }));
     }
     copy_labels(alloc, subject, object, asked).map_err(CommandRefusal::Memory)
 }

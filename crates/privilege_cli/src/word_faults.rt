@@ -18,10 +18,8 @@ pub enum WordFault {
     Label { place: usize, fault: LabelRefusal },
     #[error("modes are 1 to 64 of the letters r w x a t l, in either case, or - for none")]
     Modes { place: usize },
-    #[error("it asks for no mode")]
-    AsksNothing { place: usize },
-    #[error("b stands in rules alone, and is not asked for")]
-    AsksBringUp { place: usize },
+    #[error("what is asked for has a letter, and no b, which stands in rules alone")]
+    NoRequest { place: usize },
 }
 
 impl WordFault {
@@ -33,8 +31,7 @@ impl WordFault {
             WordFault::Dash { place }
             | WordFault::Label { place, .. }
             | WordFault::Modes { place }
-            | WordFault::AsksNothing { place }
-            | WordFault::AsksBringUp { place } => Some(place),
+            | WordFault::NoRequest { place } => Some(place),
         }
     }
 }
