@@ -1,54 +1,66 @@
 // The messages that carry commands, and those that tell refusals.
-use super::hearing::decoded;
+use super::Right;
+use super::hearing::{decoded, put_ok, put_some};
+use super::meanings::{framed_text, message_text};
 use super::questions::QUESTIONS;
 use super::replies::REPLIES;
-use super::{Right, spelled};
 use crate::{Framed, Message, command_of, message_of, refused_of};
-use desk_ports::Bytes;
 use desk_state::{Command, Refusal};
-use std::alloc::Global;
+use std::alloc::{AllocError, Global};
 use std::test::Fail;
 
-fn put_command(
-    list: &mut Vec<Framed>,
-    alloc: Global,
-    sequence: u16,
-    command: &Command,
+fn put_found<T: Drop>(
+    list: &mut Vec<T>,
+    value: Result<Option<T>, AllocError>,
 ) -> Result<(), Fail> {
-    let message = message_of(alloc, command)?;
-    Ok(list.push(Framed { sequence, message })?)
-}
-
-// the frame of the message that carries the command
-fn spelled_command(alloc: Global, sequence: u16, command: &Command) -> Result<Bytes, Fail> {
-    let mut list = Vec::new(alloc);
-    put_command(&mut list, alloc, sequence, command)?;
-    spelled(alloc, &list)
-}
-
-// the frame of the message that carries the command of this one, and no byte where it is none
-fn carried(alloc: Global, list: &[Framed]) -> Result<Bytes, Fail> {
-    let [framed] = list else {
-        return Err(Fail::from("no message, or several"));
-    };
-    match command_of(alloc, &framed.message)? {
-        Some(command) => spelled_command(alloc, framed.sequence, &command),
-        None => Ok(Bytes::new(alloc)),
+    match value {
+        Ok(value) => put_some(list, value),
+        Err(_) => Err(Fail::from("no memory")),
     }
 }
 
-fn carried_again(alloc: Global, row: &Right<'_>) -> Result<Bytes, Fail> {
-    let list = decoded(alloc, row.heard, row.frame)?;
-    carried(alloc, &list)
+// puts the command of the one message, if it is one
+fn put_command(list: &mut Vec<Command>, alloc: Global, framed: &[Framed]) -> Result<(), Fail> {
+    let [framed] = framed else {
+        return Err(Fail::from("no message, or several"));
+    };
+    put_found(list, command_of(alloc, &framed.message))
+}
+
+fn commands(alloc: Global, framed: &[Framed]) -> Result<Vec<Command>, Fail> {
+    let mut list = Vec::new(alloc);
+    put_command(&mut list, alloc, framed)?;
+    Ok(list)
+}
+
+// puts the messages that carry the commands
+fn put_messages(
+    list: &mut Vec<Message>,
+    alloc: Global,
+    commands: &[Command],
+) -> Result<(), Fail> {
+    for command in commands {
+        put_ok(list, message_of(alloc, command))?;
+    }
+    Ok(())
+}
+
+// the message that carries the command of the one message, as text, and no text where it is none
+fn carried(alloc: Global, framed: &[Framed]) -> Result<String, Fail> {
+    let commands = commands(alloc, framed)?;
+    let mut list = Vec::new(alloc);
+    put_messages(&mut list, alloc, &commands)?;
+    message_text(alloc, &list)
 }
 
 // whether a command is carried by the message that it was made of, and by no other
 fn is_carried(alloc: Global, row: &Right<'_>) -> Result<bool, Fail> {
-    let again = carried_again(alloc, row)?;
+    let framed = decoded(alloc, row.heard, row.frame)?;
+    let again = carried(alloc, &framed)?;
     if (0x10..0x1A).contains(&row.operation.number()) {
-        return Ok(again.as_slice() == row.frame);
+        return Ok(again.as_str() == framed_text(alloc, &framed)?.as_str());
     }
-    Ok(again.len() == 0)
+    Ok(again.is_empty())
 }
 
 #[test]
@@ -60,44 +72,39 @@ fn commands_are_carried(rt: HostRuntime) -> Result<(), Fail> {
     Ok(())
 }
 
-fn put_refusal(list: &mut Vec<Framed>, sequence: u16, refusal: &Refusal) -> Result<(), Fail> {
+fn put_refusal(list: &mut Vec<Message>, refusal: &Refusal) -> Result<(), Fail> {
     if let Refusal::Memory(_) = refusal {
         return Err(Fail::from("no frame tells want of memory"));
     }
-    let message = refused_of(refusal)?;
-    Ok(list.push(Framed { sequence, message })?)
+    put_ok(list, refused_of(refusal))
 }
 
-// the frame of the message that tells the refusal
-fn spelled_refusal(alloc: Global, sequence: u16, refusal: &Refusal) -> Result<Bytes, Fail> {
-    let mut list = Vec::new(alloc);
-    put_refusal(&mut list, sequence, refusal)?;
-    spelled(alloc, &list)
-}
-
-// the frame of the message that tells the refusal of this one, and no byte where it tells none
-fn told(alloc: Global, list: &[Framed]) -> Result<Bytes, Fail> {
-    let [framed] = list else {
+// puts the message that tells the refusal of the one message, if it tells one
+fn put_told(list: &mut Vec<Message>, framed: &[Framed]) -> Result<(), Fail> {
+    let [framed] = framed else {
         return Err(Fail::from("no message, or several"));
     };
-    let Message::Refused { refusal } = &framed.message else {
-        return Ok(Bytes::new(alloc));
-    };
-    spelled_refusal(alloc, framed.sequence, refusal)
+    match &framed.message {
+        Message::Refused { refusal } => put_refusal(list, refusal),
+        _ => Ok(()),
+    }
 }
 
-fn told_again(alloc: Global, row: &Right<'_>) -> Result<Bytes, Fail> {
-    let list = decoded(alloc, row.heard, row.frame)?;
-    told(alloc, &list)
+// that message as text, and no text where it is none
+fn told(alloc: Global, framed: &[Framed]) -> Result<String, Fail> {
+    let mut list = Vec::new(alloc);
+    put_told(&mut list, framed)?;
+    message_text(alloc, &list)
 }
 
 // whether a refusal that was told is told again in the same words, and nothing else is
 fn is_told(alloc: Global, row: &Right<'_>) -> Result<bool, Fail> {
-    let again = told_again(alloc, row)?;
+    let framed = decoded(alloc, row.heard, row.frame)?;
+    let again = told(alloc, &framed)?;
     if row.operation.number() == 0x91 {
-        return Ok(again.as_slice() == row.frame);
+        return Ok(again.as_str() == framed_text(alloc, &framed)?.as_str());
     }
-    Ok(again.len() == 0)
+    Ok(again.is_empty())
 }
 
 #[test]

@@ -72,6 +72,22 @@ pub fn is_refused(alloc: Global, heard: Heard, bytes: &[u8], refusal: WireRefusa
     told_in_bytes(alloc, heard, bytes) == wanted
 }
 
+// Tests keep messages in lists, and put them there by these two functions, whatever they are: the proof of each function
+// that has a message as a value of its own takes long.
+pub fn put_some<T: Drop>(list: &mut Vec<T>, value: Option<T>) -> Result<(), Fail> {
+    match value {
+        Some(value) => Ok(list.push(value)?),
+        None => Ok(()),
+    }
+}
+
+pub fn put_ok<T: Drop, E: Drop>(list: &mut Vec<T>, value: Result<T, E>) -> Result<(), Fail> {
+    match value {
+        Ok(value) => Ok(list.push(value)?),
+        Err(_) => Err(Fail::from("refused")),
+    }
+}
+
 fn put_decoded(
     list: &mut Vec<Framed>,
     alloc: Global,
@@ -80,10 +96,10 @@ fn put_decoded(
 ) -> Result<(), Fail>
     requires { length frame.now ≡ length_of frame.now + 4 }
 {
-    Ok(list.push(decode(alloc, heard, frame)?)?)
+    put_ok(list, decode(alloc, heard, frame))
 }
 
-// the message that a frame is decoded as, in a list, as below
+// the message that a frame is decoded as, in a list
 pub fn decoded(alloc: Global, heard: Heard, frame: &[u8]) -> Result<Vec<Framed>, Fail> {
     if frame.len() < 4 {
         return Err(Fail::from("no length"));
@@ -96,13 +112,9 @@ pub fn decoded(alloc: Global, heard: Heard, frame: &[u8]) -> Result<Vec<Framed>,
     Ok(list)
 }
 
-// Puts the next message that waits behind the others, if one does. The tests keep messages in lists, since the proof of
-// each function that has a message as a value of its own takes long.
+// puts the next message that waits behind the others, if one does
 pub fn put_taken(list: &mut Vec<Framed>, feeder: &mut Feeder) -> Result<(), Fail> {
-    match feeder.take() {
-        Some(framed) => Ok(list.push(framed)?),
-        None => Ok(()),
-    }
+    put_some(list, feeder.take())
 }
 
 fn put_whole(list: &mut Vec<Framed>, feeder: &mut Feeder, frame: &[u8]) -> Result<(), Fail> {

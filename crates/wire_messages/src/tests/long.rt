@@ -1,5 +1,5 @@
 // The longest frame, and one that would be longer.
-use super::hearing::heard_whole;
+use super::hearing::{heard_whole, put_some};
 use super::spelled;
 use crate::{EncodeRefusal, Framed, Heard, Message, encode};
 use bucket_store::{Change, Changes};
@@ -46,10 +46,13 @@ fn repeated(alloc: Global, changes: &[Change], count: usize) -> Result<Changes, 
 
 fn put_changes(list: &mut Vec<Framed>, changes: Changes) -> Result<(), Fail> {
     let message = Message::SetPolicies { changes };
-    Ok(list.push(Framed {
-        sequence: 1,
-        message,
-    })?)
+    put_some(
+        list,
+        Some(Framed {
+            sequence: 1,
+            message,
+        }),
+    )
 }
 
 fn changes_of(framed: &Framed) -> Result<&Changes, Fail> {

@@ -152,16 +152,25 @@ const REFUSED: &[(&[u8], &str)] = &[
     ),
 ];
 
-fn message_text(alloc: Global, list: &[Framed]) -> Result<String, Fail> {
+// the one message with the names of its fields
+pub fn framed_text(alloc: Global, list: &[Framed]) -> Result<String, Fail> {
     let [framed] = list else {
         return Err(Fail::from("no message, or several"));
     };
     Ok(format!(in alloc; "{:?}", framed.message)?)
 }
 
+// the same, and no text where there is no message
+pub fn message_text(alloc: Global, list: &[Message]) -> Result<String, Fail> {
+    let [message] = list else {
+        return Ok(String::new(alloc));
+    };
+    Ok(format!(in alloc; "{:?}", message)?)
+}
+
 fn shown(alloc: Global, heard: Heard, frame: &[u8]) -> Result<String, Fail> {
     let list = decoded(alloc, heard, frame)?;
-    message_text(alloc, &list)
+    framed_text(alloc, &list)
 }
 
 #[test]
