@@ -246,10 +246,10 @@ impl Feeder<'_> {
     }
 }
 
-fn hear(operations: &[u8], bytes: &[u8]) -> Result<u64, Refusal> {
+fn hear(operations: &[u8], bytes: &[u8], most: usize) -> Result<u64, Refusal> {
     let mut feeder = Feeder { operations, partial: Vec::new(), waiting: VecDeque::new() };
     let mut count = 0;
-    for piece in bytes.chunks(PIECE) {
+    for piece in bytes.chunks(most) {
         feeder.feed(piece)?;
         while let Some(_framed) = feeder.waiting.pop_front() {
             count += 1;
@@ -271,6 +271,7 @@ fn main() -> io::Result<()> {
     let mut feeder = Feeder { operations, partial: Vec::new(), waiting: VecDeque::new() };
     feeder.feed(&bytes).unwrap();
     let mut buffer = Vec::new();
+    let most = if words[1] == "bytes" { 1 } else { PIECE };
     let mut count = 0;
     let start = Instant::now();
     for _ in 0..times {
@@ -280,7 +281,7 @@ fn main() -> io::Result<()> {
                 count += 1;
             }
         } else {
-            count += hear(operations, &bytes).unwrap();
+            count += hear(operations, &bytes, most).unwrap();
         }
     }
     println!("{count} {}", start.elapsed().as_nanos());

@@ -39,12 +39,13 @@ def inputs():
     change = b"\1" + text(b"") + b"".join(map(text, (b"c00001", b"u", b"p"))) + struct.pack(">H", 65535) + text(b"")
     count = (1_048_576 - 7) // len(change)
     policies = frame(0x12, struct.pack(">I", count) + count * change)
-    yield "checks of names up to 23 bytes, read", "client", 100_000 * frame(0x01, short), "read", 10
+    yield "checks of short names, read", "client", 100_000 * frame(0x01, short), "read", 10
     yield "checks of longer names, read", "client", checks, "read", 10
     yield "checks of longer names, spelled", "client", checks, "spell", 20
     yield "verdicts, spelled", "replies", verdicts, "spell", 20
     yield "verdicts, read", "replies", verdicts, "read", 10
     yield "changes of policies, a mebibyte, read", "admin", policies, "read", 20
+    yield "changes of policies, a mebibyte, read byte by byte", "admin", policies, "bytes", 20
     yield "changes of policies, a mebibyte, spelled", "admin", policies, "spell", 40
 
 

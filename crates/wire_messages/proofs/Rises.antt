@@ -1,5 +1,5 @@
 -- Names that rise, as a list in order and as they are read one behind the other.
-use Rattle.std.proofs.Common.{◌≡◌, ℕ, zero, suc, true, cond, List, [], ◌∷◌, ◌++◌, Option, Some, Ok, refl, ap, subst}
+use Rattle.std.proofs.Common.{◌≡◌, ℕ, zero, suc, true, cond, List, [], ◌∷◌, ◌++◌, Option, Some, None, Ok, refl, ap, subst}
 use Rattle.std.proofs.Common.{◌∙◌}
 use Rattle.std.specs.declared.cmp.Ordering.{Ordering}
 use Rattle.std.specs.declared.cmp.Ordering.TheVariants.{Less, Equal, Greater}
@@ -90,3 +90,22 @@ names_rise last (suc count) left x e =
     let read : List (List ℕ) × Left = (a.0.0 ∷ b.0.0, b.0.1) in
     subst (λ (x : List (List ℕ) × Left). AreRising last x.0) (ok_is read x b.2)
     (after, names_rise (Some a.0.0) count a.0.1 b.0 b.1)
+
+-- ---- what is in order rises
+
+rises_behind : (last : List ℕ) (names : List (List ℕ)) → AllByRecursion (λ other. text_cmp last other ≡ Less) names
+    → IsStrictlySortedBy text_cmp names → AreRising (Some last) names
+unfolding IsStrictlySortedBy
+rises_behind last [] all sorted = tt
+rises_behind last (name ∷ names) all sorted = (ap is_lt all.0, rises_behind name names sorted.0 sorted.1)
+
+pub rises_from_sorted : (names : List (List ℕ)) → IsStrictlySortedBy text_cmp names → AreRising None names
+unfolding IsStrictlySortedBy
+rises_from_sorted [] sorted = tt
+rises_from_sorted (name ∷ names) sorted = (refl, rises_behind name names sorted.0 sorted.1)
+
+-- a fact of the first names and of the one behind them holds of them all
+pub all_and_next : {X : Type 0} (P : X → Type 0) (xs : List X) (x : X) → AllByRecursion P xs → P x
+    → AllByRecursion P (xs ++ x ∷ [])
+all_and_next P [] x all next = (next, tt)
+all_and_next P (y ∷ xs) x all next = (all.0, all_and_next P xs x all.1 next)

@@ -194,3 +194,10 @@ IsRight (Registered kind) = IsKind kind
 IsRight (KindTaken kind) = IsKind kind
 IsRight (AgentQuestion asked question result) = IsNumber4 asked × (IsQuestion question × IsRuling result)
 IsRight (UnknownNumber asked) = IsNumber4 asked
+
+-- the numbers in front of a list and of a template's text have room for them, which no type keeps
+abbrev pub HasRoom : Message → Type 0
+HasRoom (SetPolicies changes) = length changes < 2 ^ 32
+HasRoom (SetTemplate template) = IsTemplate template
+HasRoom (Install install) = length install.privileges < 2 ^ 32
+HasRoom message = Unit {0}

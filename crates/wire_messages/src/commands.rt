@@ -1,14 +1,15 @@
 ghost use Rattle.std.specs.Prelude.{◌≡◌, Some, IfOk};
 ghost use Rattle.wire_messages.specs.Commands as words;
 ghost use Rattle.wire_messages.specs.Commands.{IsByRule};
+ghost use Rattle.wire_messages.specs.Right.{IsRight, HasRoom};
 
 use crate::Message;
-use bucket_store::{Change, Changes};
+use crate::right_fields::{command_is_right, refusal_is_right};
 use desk_state::{Command, Refusal};
-use std::alloc::{AllocError, Global};
+use std::alloc::AllocError;
 
 /// The command of an administrator's message; `None` exactly for a message that is no command.
-pub fn command_of(alloc: Global, message: &Message) -> Result<Option<Command>, AllocError>
+pub fn command_of(message: &Message) -> Result<Option<Command>, AllocError>
     ensures { IfOk result (λ command. command ≡ words.command_of message.now) }
 {
     match message {
@@ -20,7 +21,7 @@ pub fn command_of(alloc: Global, message: &Message) -> Result<Option<Command>, A
             bucket: bucket.copy()?,
         })),
         Message::SetPolicies { changes } => Ok(Some(Command::SetPolicies {
-            changes: changes_copy(alloc, changes.as_slice())?,
+            changes: changes.copy()?,
         })),
         Message::Erase { bucket, filter } => Ok(Some(Command::Erase {
             bucket: bucket.copy()?,
@@ -46,8 +47,20 @@ pub fn command_of(alloc: Global, message: &Message) -> Result<Option<Command>, A
     }
 }
 
-/// The message that carries a command, from which `command_of` gives the command back.
-pub fn message_of(alloc: Global, command: &Command) -> Result<Message, AllocError>
+/// The message that carries a command, from which `command_of` gives the command back. No field of it is wrong.
+pub fn message_of(command: &Command) -> Result<Message, AllocError>
+    ensures message { IfOk result (λ message. message ≡ words.message_of command.now) }
+    ensures back { IfOk result (λ message. words.command_of message ≡ Some command.now) }
+    ensures right { IfOk result (λ message. HasRoom message → IsRight message) }
+{
+    command_is_right(command);
+    match message_for(command) {
+        Ok(message) => Ok(message),
+        Err(error) => Err(error),
+    }
+}
+
+fn message_for(command: &Command) -> Result<Message, AllocError>
     ensures message { IfOk result (λ message. message ≡ words.message_of command.now) }
     ensures back { IfOk result (λ message. words.command_of message ≡ Some command.now) }
 {
@@ -60,7 +73,7 @@ pub fn message_of(alloc: Global, command: &Command) -> Result<Message, AllocErro
             bucket: bucket.copy()?,
         }),
         Command::SetPolicies { changes } => Ok(Message::SetPolicies {
-            changes: changes_copy(alloc, changes.as_slice())?,
+            changes: changes.copy()?,
         }),
         Command::Erase { bucket, filter } => Ok(Message::Erase {
             bucket: bucket.copy()?,
@@ -88,21 +101,13 @@ pub fn message_of(alloc: Global, command: &Command) -> Result<Message, AllocErro
 /// The message that tells a refusal by a rule.
 pub fn refused_of(refusal: &Refusal) -> Result<Message, AllocError>
     requires { IsByRule refusal.now }
-    ensures { IfOk result (λ message. message ≡ Message.Refused refusal.now) }
+    ensures message { IfOk result (λ message. message ≡ Message.Refused refusal.now) }
+    ensures right { IfOk result (λ message. IsRight message) }
 {
+    refusal_is_right(refusal);
     Ok(Message::Refused {
         refusal: refusal_copy(refusal)?,
     })
-}
-
-fn changes_copy(alloc: Global, changes: &[Change]) -> Result<Changes, AllocError>
-    ensures { IfOk result (λ copy. copy ≡ changes.now) }
-{
-    let mut list = Vec::with_capacity(alloc, changes.len())?;
-    for change in changes {
-        list.push(change.copy()?)?;
-    }
-    Ok(Changes::of(list))
 }
 
 fn refusal_copy(refusal: &Refusal) -> Result<Refusal, AllocError>

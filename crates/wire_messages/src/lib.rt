@@ -22,6 +22,7 @@ mod operations;
 mod readers;
 mod refusal_readers;
 mod refusals;
+mod right_fields;
 mod rules;
 mod writers;
 

@@ -9,10 +9,7 @@ use desk_state::{Command, Refusal};
 use std::alloc::{AllocError, Global};
 use std::test::Fail;
 
-fn put_found<T: Drop>(
-    list: &mut Vec<T>,
-    value: Result<Option<T>, AllocError>,
-) -> Result<(), Fail> {
+fn put_found<T: Drop>(list: &mut Vec<T>, value: Result<Option<T>, AllocError>) -> Result<(), Fail> {
     match value {
         Ok(value) => put_some(list, value),
         Err(_) => Err(Fail::from("no memory")),
@@ -20,27 +17,23 @@ fn put_found<T: Drop>(
 }
 
 // puts the command of the one message, if it is one
-fn put_command(list: &mut Vec<Command>, alloc: Global, framed: &[Framed]) -> Result<(), Fail> {
+fn put_command(list: &mut Vec<Command>, framed: &[Framed]) -> Result<(), Fail> {
     let [framed] = framed else {
         return Err(Fail::from("no message, or several"));
     };
-    put_found(list, command_of(alloc, &framed.message))
+    put_found(list, command_of(&framed.message))
 }
 
 fn commands(alloc: Global, framed: &[Framed]) -> Result<Vec<Command>, Fail> {
     let mut list = Vec::new(alloc);
-    put_command(&mut list, alloc, framed)?;
+    put_command(&mut list, framed)?;
     Ok(list)
 }
 
 // puts the messages that carry the commands
-fn put_messages(
-    list: &mut Vec<Message>,
-    alloc: Global,
-    commands: &[Command],
-) -> Result<(), Fail> {
+fn put_messages(list: &mut Vec<Message>, commands: &[Command]) -> Result<(), Fail> {
     for command in commands {
-        put_ok(list, message_of(alloc, command))?;
+        put_ok(list, message_of(command))?;
     }
     Ok(())
 }
@@ -49,7 +42,7 @@ fn put_messages(
 fn carried(alloc: Global, framed: &[Framed]) -> Result<String, Fail> {
     let commands = commands(alloc, framed)?;
     let mut list = Vec::new(alloc);
-    put_messages(&mut list, alloc, &commands)?;
+    put_messages(&mut list, &commands)?;
     message_text(alloc, &list)
 }
 
