@@ -103,9 +103,3 @@ pub rises_from_sorted : (names : List (List ℕ)) → IsStrictlySortedBy text_cm
 unfolding IsStrictlySortedBy
 rises_from_sorted [] sorted = tt
 rises_from_sorted (name ∷ names) sorted = (refl, rises_behind name names sorted.0 sorted.1)
-
--- a fact of the first names and of the one behind them holds of them all
-pub all_and_next : {X : Type 0} (P : X → Type 0) (xs : List X) (x : X) → AllByRecursion P xs → P x
-    → AllByRecursion P (xs ++ x ∷ [])
-all_and_next P [] x all next = (next, tt)
-all_and_next P (y ∷ xs) x all next = (all.0, all_and_next P xs x all.1 next)

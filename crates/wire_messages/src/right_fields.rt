@@ -4,11 +4,12 @@ ghost use Rattle.std.specs.Prelude.{◌<◌, ◌^◌, length};
 ghost use Rattle.std.specs.List.{AllByRecursion};
 ghost use Rattle.wire_messages.specs.Commands.{IsByRule, message_of};
 ghost use Rattle.wire_messages.specs.Right.{IsName, IsBucket, IsIdent, IsAuthor, IsField, IsFilterField, IsKey, IsFilter};
-ghost use Rattle.wire_messages.specs.Right.{IsRuling, IsChange, IsScope, IsInstall, IsTold, IsRight, HasRoom};
+ghost use Rattle.wire_messages.specs.Right.{IsKind, IsRuling, IsChange, IsScope, ArePrivileges, IsInstall, IsTold};
+ghost use Rattle.wire_messages.specs.Right.{IsRight, HasRoom};
 
-use app_registry::{Ident, Install, Scope};
+use app_registry::{Ident, Install, NameSet, Scope};
 use bucket_store::Change;
-use cynara_keys::{BucketName, Field, Filter, FilterField, Key, Name, PolicyResult};
+use cynara_keys::{BucketName, Field, Filter, FilterField, Key, Kind, Name, PolicyResult};
 use desk_state::{Command, Refusal};
 
 fn name_is_right(name: &Name)
@@ -116,6 +117,12 @@ fn names_are_right(names: &[Name])
     }
 }
 
+fn kind_is_right(kind: Kind)
+    ensures { IsKind kind }
+{
+    let _number = kind.0;
+}
+
 fn scope_is_right(scope: Scope)
     ensures { IsScope scope }
 {
@@ -125,6 +132,12 @@ fn scope_is_right(scope: Scope)
     }
 }
 
+fn privileges_are_right(names: &NameSet)
+    ensures { length names.now < 2 ^ 32 → ArePrivileges names.now }
+{
+    names_are_right(names.as_slice());
+}
+
 fn install_is_right(install: &Install)
     ensures { length install.now.privileges < 2 ^ 32 → IsInstall install.now }
 {
@@ -132,7 +145,7 @@ fn install_is_right(install: &Install)
     author_is_right(&install.author);
     ident_is_right(&install.app);
     scope_is_right(install.scope);
-    names_are_right(install.privileges.as_slice());
+    privileges_are_right(&install.privileges);
 }
 
 /// The message of a command has no field that is wrong, where there is room for its list or its template.
@@ -177,9 +190,7 @@ pub fn refusal_is_right(refusal: &Refusal)
         Refusal::NoLayout => {}
         Refusal::NoBucket(name) => bucket_is_right(name),
         Refusal::RootBucket => {}
-        Refusal::BadKind(kind) => {
-            let _kind = kind.0;
-        }
+        Refusal::BadKind(kind) => kind_is_right(*kind),
         Refusal::UnknownUser(uid) => {
             let _uid = *uid;
         }
