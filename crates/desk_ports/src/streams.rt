@@ -49,8 +49,7 @@ pub trait Sink {
     fn note(&mut self, _note: &str)
         ensures taken { taken self.new ≡ taken self.old }
         ensures count { faults self.new ≡ faults self.old }
-    {
-    }
+    {}
 }
 
 /// Has the sink take all bytes, in as many calls as it needs. It fails at the first call of the sink that does; the sink

@@ -1,6 +1,5 @@
 -- What a state is after a change that was made in place.
-use Rattle.std.proofs.Common.{◌≡◌, ℕ, ◌+◌, ◌≤◌, ◌==◌, Bool, true, false, cond, List, None, Some, Ok, refl, sym, ap, ◌∙◌, subst, arith}
-use Rattle.std.specs.Prelude.{IsTrue}
+use Rattle.std.proofs.Common.{◌≡◌, ℕ, ◌+◌, ◌≤◌, true, cond, List, None, Some, Ok, refl, sym, ap, ◌∙◌, subst, arith}
 use Rattle.std.specs.List.{flat_map}
 use Rattle.std.proofs.lemmas.Bool.{ne_eqb}
 use Rattle.cynara_keys.specs.declared.limits.Counted.TheVariants.{Commits}
@@ -14,12 +13,10 @@ use Rattle.app_registry.specs.Refusal as registry
 use Rattle.app_registry.specs.Registry.{RegistryLists, with_install}
 use Rattle.app_registry.specs.Rules.{IsRegistry}
 use Rattle.app_registry.specs.declared.installs.Install.{Install}
-use Rattle.rule_templates.specs.declared.lines.TemplateLine.{TemplateLine}
 use Rattle.desk_state.specs.DeskState.{DeskState}
 use Rattle.desk_state.specs.IsDesk.{IsDesk}
 use Rattle.desk_state.specs.Layout.{has_layout, settled}
 use Rattle.desk_state.specs.Rules.{commit_limit}
-use Rattle.desk_state.specs.declared.commands.Command.{Command}
 use Rattle.desk_state.specs.declared.commands.Command.TheVariants.{Install as InstallCommand, SetPolicies}
 use Rattle.desk_state.specs.declared.desks.Applied.{Applied}
 use Rattle.desk_state.specs.declared.desks.TheConstants.{LAST_COMMIT}

@@ -53,16 +53,20 @@ impl Failure {
         Failure { step, path, error }
     }
 
-    /// A failure where there was no memory for the path.
-    pub(crate) fn without_path(step: FolderStep, error: io::Error) -> Failure
-        ensures step { result.step ≡ step }
-        ensures error { result.error ≡ error }
+    /// The failure of a step on a file in the folder, or on what the folder stands in, where its path is longer than the
+    /// machine takes. The folder is shown in place of it.
+    pub(crate) fn long_path(alloc: Global, step: FolderStep, folder: &str) -> Failure
+        ensures { result.step ≡ step }
     {
-        Failure {
+        Failure::at(
+            alloc,
             step,
-            path: None,
-            error,
-        }
+            folder,
+            io::Error::new(
+                ErrorKind::InvalidFilename,
+                "a path in it has more than 4,095 bytes",
+            ),
+        )
     }
 
     // What could not be done, as the words before the path.

@@ -5,6 +5,7 @@
 #![tactic(auto)]
 
 mod failures;
+mod file_name_bytes;
 mod files;
 mod folder_disk;
 mod paths;

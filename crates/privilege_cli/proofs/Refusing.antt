@@ -20,7 +20,7 @@ use Rattle.privilege_cli.proofs.Accessing.{Reads-unread}
 pub Does-refused : (left_since : ℕ → FileMap → Type 0) (command : Option Command) (refusal : CommandRefusal) (ending : Ending)
     (outside : Outside) → Reads (Err refusal) command → RefusesCommand refusal ending
     → Does WritesBefore left_since command ending outside outside
-Does-refused left_since command Unknown ending outside none is =
+Does-refused left_since command (Unknown fault) ending outside none is =
     subst (λ command. Does WritesBefore left_since command ending outside outside) (sym none)
     (record {
       ending = is;

@@ -85,7 +85,7 @@ impl From<CommandRefusal> for Ending {
 
     fn from(refusal: CommandRefusal) -> Ending {
         match refusal {
-            CommandRefusal::Unknown => Ending::Words,
+            CommandRefusal::Unknown(_) => Ending::Words,
             CommandRefusal::Memory(_) => Ending::Memory,
         }
     }

@@ -40,9 +40,15 @@ impl Registry {
     pub fn uninstall_in_place(&mut self, app: &Ident, scope: Scope)
         ensures { self.new ≡ without_install self.old app.now scope }
     {
-        self.installs
-            .retain(|install| !is_install_of(app, scope, install));
+        take_out(&mut self.installs, app, scope);
     }
+}
+
+// Takes the install of the application for the scope out of the list.
+fn take_out(installs: &mut Vec<Install>, app: &Ident, scope: Scope)
+    ensures { installs.new.items ≡ filter (λ install. not (is_install_of app.now scope install)) installs.old.items }
+{
+    installs.retain(|install| !is_install_of(app, scope, install));
 }
 
 // Puts the install at its place, if none has it, and there is room and memory. Says whether it did.
@@ -65,11 +71,9 @@ fn put_new(installs: &mut Vec<Install>, install: &Install) -> bool
         Ok(()) => {}
         Err(_) => return false,
     }
-    match installs_limit(installs) {
-        None => true,
-        Some(_) => {
-            let _ = installs.remove(at);
-            false
-        }
-    }
+    let Some(_) = installs_limit(installs) else {
+        return true;
+    };
+    let _ = installs.remove(at);
+    false
 }

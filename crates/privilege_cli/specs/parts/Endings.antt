@@ -10,7 +10,7 @@ use Rattle.privilege_cli.specs.declared.ending.Ending.{Ending}
 use Rattle.privilege_cli.specs.declared.ending.Ending.TheVariants.{Memory, Words, Line, Source, Disk, Damaged}
 
 abbrev pub command_ending : CommandRefusal → Ending
-command_ending Unknown = Words
+command_ending (Unknown fault) = Words
 command_ending (NoMemoryForWords error) = Memory
 
 abbrev pub reading_ending : ReadRefusal → Ending

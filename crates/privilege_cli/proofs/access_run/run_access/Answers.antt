@@ -7,12 +7,12 @@ pub returns-in-Err : goal.returns-in-Err
 returns-in-Err g c disk moment disk_faults =
     Reads-unread _ _ _ _ _ _ _ _ disk moment disk_faults _ _ _ c.in-Err.ending c.in-Err.ensures.read c.in-Err.ensures.count refl refl
 
-pub returns-in-Ok-write_answer : goal.returns-in-Ok-write_answer
-returns-in-Ok-write_answer g c disk moment disk_faults =
-    Reads-written _ _ _ _ _ _ _ _ disk moment disk_faults _ _ _ c.in-Ok.table c.in-Ok.ensures.read _ (ap decided_text c.decide-decision.ensures.decided)
-    c.in-Ok.ensures.count c.in-Ok-write_answer.ensures.written c.in-Ok-write_answer.ensures.count
+pub returns-in-Ok-write_decision : goal.returns-in-Ok-write_decision
+returns-in-Ok-write_decision g c disk moment disk_faults =
+    Reads-written _ _ _ _ _ _ _ _ disk moment disk_faults _ _ _ c.in-Ok.rules c.in-Ok.ensures.read _ (ap decided_text c.decide-decision.ensures.decided)
+    c.in-Ok.ensures.count c.in-Ok-write_decision.ensures.written c.in-Ok-write_decision.ensures.count
 
 pub returns : goal.returns
 returns g c disk moment disk_faults =
-    Reads-unwritten _ _ _ _ _ _ _ _ disk moment disk_faults _ _ _ c.in-Ok.table c.in-Ok.ensures.read _ (ap decided_text c.decide-decision.ensures.decided)
-    c.in-Ok.ensures.count c.in-Err-write_answer.ending c.in-Err-write_answer.ensures.written c.in-Err-write_answer.ensures.count
+    Reads-unwritten _ _ _ _ _ _ _ _ disk moment disk_faults _ _ _ c.in-Ok.rules c.in-Ok.ensures.read _ (ap decided_text c.decide-decision.ensures.decided)
+    c.in-Ok.ensures.count c.in-Err-write_decision.ending c.in-Err-write_decision.ensures.written c.in-Err-write_decision.ensures.count
