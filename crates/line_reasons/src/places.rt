@@ -13,13 +13,13 @@ pub(crate) fn longest_front(ground: Ground, line: &[u8]) -> usize
     ensures parts { result < length line.now → begins_line ground (take (result + 1) line.now) ≡ false }
 {
     let mut low = 0;
-    let mut high = line.len();
-    while low < high {
-        let middle = high - (high - low) / 2;
+    let mut past = line.len() + 1;
+    while low + 1 < past {
+        let middle = low + (past - low) / 2;
         if ground.begins_line(&line[..middle]) {
             low = middle;
         } else {
-            high = middle - 1;
+            past = middle;
         }
     }
     low

@@ -5,7 +5,7 @@ use thiserror::Error;
 /// Why a line is outside its grammar, in a person's words: one line of plain ASCII. What it shows of the line is at most 40
 /// bytes, with `\x` and two digits of hexadecimal for a byte that is not printable. The reasons at the end are those of a
 /// whole script.
-#[derive(Debug, Drop, PartialEq, Eq, Error)]
+#[derive(Debug, Drop, Error)]
 pub enum Reason {
     #[error("a carriage return, \\x0d: a line ends with a newline alone")]
     CarriageReturn,

@@ -17,9 +17,9 @@ pub(crate) fn word_reason(
     next: Option<u8>,
 ) -> Result<Reason, AllocError> {
     match form {
-        Form::Bucket => text_reason(alloc, "the name of a bucket", MOST_BUCKET_NAME_BYTES, part, next),
+        Form::Bucket => text_reason(alloc, "the name of a bucket", MOST_BUCKET_NAME_BYTES as u32, part, next),
         Form::Field | Form::Name | Form::Names | Form::FilterField => {
-            text_reason(alloc, "a name", MOST_NAME_BYTES, part, next)
+            text_reason(alloc, "a name", MOST_NAME_BYTES as u32, part, next)
         }
         Form::Depth => Ok(Reason::BadDepth),
         Form::Result => Ok(Reason::BadResult),
@@ -27,15 +27,15 @@ pub(crate) fn word_reason(
         Form::UserType => Ok(Reason::BadUserType),
         Form::Scope => Ok(Reason::BadScope),
         Form::Ident | Form::Author => {
-            text_reason(alloc, "the name of a package, author or application", IDENT_LIMIT, part, next)
+            text_reason(alloc, "the name of a package, author or application", IDENT_LIMIT as u32, part, next)
         }
-        Form::Label => text_reason(alloc, "a label", MOST_LABEL_BYTES, part, next),
+        Form::Label => text_reason(alloc, "a label", MOST_LABEL_BYTES as u32, part, next),
         Form::Request => Ok(Reason::BadRequest),
         Form::TemplateLabel => {
             if let [b'~', ..] = part {
                 return Ok(Reason::BadPlaceholder);
             }
-            text_reason(alloc, "a label", MOST_LABEL_BYTES, part, next)
+            text_reason(alloc, "a label", MOST_LABEL_BYTES as u32, part, next)
         }
         Form::Modes | Form::MoreModes => Ok(Reason::BadModes),
     }
@@ -45,7 +45,7 @@ pub(crate) fn word_reason(
 fn text_reason(
     alloc: Global,
     what: &'static str,
-    most: usize,
+    most: u32,
     part: &[u8],
     next: Option<u8>,
 ) -> Result<Reason, AllocError> {
@@ -55,10 +55,10 @@ fn text_reason(
     if matches!(byte, b' ' | b'\t') {
         return Ok(ended(what, part));
     }
-    if part.len() >= most {
+    if part.len() >= most as usize {
         return Ok(Reason::TooLong {
             what,
-            most: most as u32,
+            most,
         });
     }
     match shown_bytes(alloc, &[byte], 4) {
