@@ -9,3 +9,4 @@ pub mod Answering
 pub mod Holding
 pub mod Listing
 pub mod Picks
+pub mod Cut

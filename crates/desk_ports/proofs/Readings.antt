@@ -1,5 +1,5 @@
 -- One reading after another.
-use Rattle.std.proofs.Common.{◌≡◌, ◌++◌, [], ℕ, List, Option, Some, None, refl, sym, ap, ◌∙◌, subst, append_assoc}
+use Rattle.std.proofs.Common.{◌++◌, [], ℕ, List, Option, Some, None, refl, sym, ap, ◌∙◌, subst, append_assoc}
 use Rattle.desk_ports.specs.Content.{Took, AtEnd, ReadToEnd, Stays}
 
 -- what two readings took

@@ -12,3 +12,4 @@ pub mod MemDiskLaws
 pub mod DiskContent
 pub mod parts
 pub mod Stopping
+pub mod Shown

@@ -16,6 +16,7 @@ mod mem_sink;
 mod mem_source;
 mod name_order;
 mod port_faults;
+mod shown;
 mod stops;
 mod streams;
 #[cfg(test)]
@@ -32,5 +33,6 @@ pub use mem_sink::MemSink;
 pub use mem_source::MemSource;
 pub use name_order::names_in_order;
 pub use port_faults::PortFault;
+pub use shown::shown_bytes;
 pub use stops::set_in_order;
 pub use streams::{Failed, Sink, Source, write_all};

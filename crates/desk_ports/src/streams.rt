@@ -43,6 +43,13 @@ pub trait Sink {
         ensures kept { OnErr result (Stays (taken self.old) (taken self.new)) }
         ensures count { CountsFailure result (faults self.old) (faults self.new) }
         ensures bound { NeverFalls (faults self.old) (faults self.new) };
+
+    /// Takes a line for the person who runs the program, which is no part of what the sink holds. It may be lost: neither
+    /// the bytes taken nor the count of faults changes.
+    fn note(&mut self, _note: &str)
+        ensures taken { taken self.new ≡ taken self.old }
+        ensures count { faults self.new ≡ faults self.old }
+    {}
 }
 
 /// Has the sink take all bytes, in as many calls as it needs. It fails at the first call of the sink that does; the sink
