@@ -1,11 +1,11 @@
 //! The commits of `folder_commit.rt` as one would write them in Rust without proofs, by the same system calls in the same
 //! order. The peer that the speed of a commit is measured against.
+use std::env;
 use std::fs::{self, File, OpenOptions};
 use std::io::{self, ErrorKind, Write};
 use std::os::unix::fs::{MetadataExt, OpenOptionsExt};
 use std::path::{Path, PathBuf};
 use std::time::Instant;
-use std::{collections::BTreeSet, env};
 
 const BYTES: &[u8] = b"; a line of a policy file, as long as most of them are;1;\n; and a second one, which is much like it;1;\n";
 
@@ -26,38 +26,31 @@ fn seen(path: &Path, options: &OpenOptions) -> io::Result<Option<File>> {
 struct Folder {
     path: PathBuf,
     held: File,
-    touched: BTreeSet<String>,
 }
 
 impl Folder {
-    fn write(&mut self, name: &str, bytes: &[u8]) -> io::Result<()> {
-        self.touched.insert(name.to_owned());
+    fn write(&self, name: &str, bytes: &[u8]) -> io::Result<()> {
         let path = self.path.join(name);
         let mut file = match seen(&path, OpenOptions::new().write(true))? {
             Some(file) => file,
             None => OpenOptions::new().write(true).create_new(true).mode(0o600).open(&path)?,
         };
         file.write_all(bytes)?;
-        file.set_len(bytes.len() as u64)
+        file.set_len(bytes.len() as u64)?;
+        file.sync_all()
     }
 
     fn remove(&self, name: &str) -> io::Result<()> {
         fs::remove_file(self.path.join(name))
     }
 
-    fn sync(&mut self) -> io::Result<()> {
-        for name in &self.touched {
-            if let Some(file) = seen(&self.path.join(name), OpenOptions::new().read(true))? {
-                file.sync_all()?;
-            }
-        }
-        self.touched.clear();
+    fn sync(&self) -> io::Result<()> {
         let (seen, opened) = (fs::metadata(&self.path)?, self.held.metadata()?);
         assert!(opened.dev() == seen.dev() && opened.ino() == seen.ino());
         self.held.sync_all()
     }
 
-    fn commit(&mut self, primaries: &[String], backups: &[String]) -> io::Result<()> {
+    fn commit(&self, primaries: &[String], backups: &[String]) -> io::Result<()> {
         for name in backups {
             self.write(name, BYTES)?;
         }
@@ -84,7 +77,7 @@ fn main() -> io::Result<()> {
     let backups: Vec<String> = (0..15).map(|number| format!("_{number}~")).collect();
     let _made = fs::create_dir(&words[1]);
     let held = File::open(&words[1])?;
-    let mut folder = Folder { path: PathBuf::from(&words[1]), held, touched: BTreeSet::new() };
+    let folder = Folder { path: PathBuf::from(&words[1]), held };
     folder.sync()?;
     let start = Instant::now();
     for _ in 0..count {

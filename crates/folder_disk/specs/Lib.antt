@@ -1,5 +1,4 @@
 pub mod Holding
 pub mod LastFailure
 pub mod Paths
-pub mod Shown
 pub mod Untold

@@ -9,3 +9,7 @@ file_path folder name = folder ++ 47 ∷ name
 -- the folder's own name of the folder that it stands in
 abbrev pub parent_path : List ℕ → List ℕ
 parent_path folder = folder ++ codes "/.."
+
+-- the folder, whatever leads to it
+abbrev pub names_path : List ℕ → List ℕ
+names_path folder = folder ++ codes "/"

@@ -1,13 +1,16 @@
 // What the machine was asked where it failed, and how a person reads of it.
 ghost use Rattle.std.specs.Prelude.{◌≡◌, Ok, Err, IfOk, IfErr, string_bytes};
 ghost use Rattle.std.specs.Option.{ForSome};
-ghost use Rattle.folder_disk.specs.Shown.{IsPrintable};
+ghost use Rattle.desk_ports.specs.Shown.{IsPrintable};
 
-use crate::shown::{MOST_SHOWN_BYTES, shown_path};
+use desk_ports::shown_bytes;
 use std::alloc::Global;
 use std::error::Error;
 use std::io::ErrorKind;
 use std::{fmt, io};
+
+// The most bytes of a path that are shown.
+const MOST_SHOWN_BYTES: usize = 4_096;
 
 /// What the machine is asked to do with a folder, or with a file in it.
 #[derive(Clone, Copy, Debug, PartialEq, Eq)]
@@ -43,23 +46,27 @@ impl Failure {
         ensures step { result.step ≡ step }
         ensures error { result.error ≡ error }
     {
-        let path = match shown_path(alloc, path, MOST_SHOWN_BYTES) {
+        let path = match shown_bytes(alloc, path.as_bytes(), MOST_SHOWN_BYTES) {
             Ok(path) => Some(path),
             Err(_) => None,
         };
         Failure { step, path, error }
     }
 
-    /// A failure where there was no memory for the path.
-    pub(crate) fn without_path(step: FolderStep, error: io::Error) -> Failure
-        ensures step { result.step ≡ step }
-        ensures error { result.error ≡ error }
+    /// The failure of a step on a file in the folder, or on what the folder stands in, where its path is longer than the
+    /// machine takes. The folder is shown in place of it.
+    pub(crate) fn long_path(alloc: Global, step: FolderStep, folder: &str) -> Failure
+        ensures { result.step ≡ step }
     {
-        Failure {
+        Failure::at(
+            alloc,
             step,
-            path: None,
-            error,
-        }
+            folder,
+            io::Error::new(
+                ErrorKind::InvalidFilename,
+                "a path in it has more than 4,095 bytes",
+            ),
+        )
     }
 
     // What could not be done, as the words before the path.

@@ -4,9 +4,10 @@ ghost use Rattle.std.specs.Io.KnownBytes.{Appends};
 ghost use Rattle.desk_ports.specs.FileMap.{NamesRise};
 
 use crate::failures::{Failure, FolderStep, told};
+use crate::paths;
 use desk_ports::{FileName, FileNameRefusal, names_in_order};
 use std::alloc::{AllocError, Global};
-use std::fs::{DirEntry, File, Metadata, OpenFile, OpenOptions, TryLockError};
+use std::fs::{File, Metadata, OpenFile, OpenOptions, TryLockError};
 use std::io::{Error, ErrorKind, Read, Write};
 use std::os::unix::fs::{DirBuilderExt, MetadataExt, OpenOptionsExt};
 use std::rt::Files;
@@ -14,6 +15,9 @@ use std::{fs, io};
 
 /// The most bytes of a file that is read.
 pub const MOST_FILE_BYTES: u64 = 268_435_456;
+
+/// Room for the names of some entries of a folder, and for one of any length.
+pub const NAMES_BYTES: usize = 4_096;
 
 /// Files are made for their owner alone.
 const FILE_MODE: u32 = 0o600;
@@ -69,49 +73,69 @@ fn lock_error(refusal: TryLockError) -> Error {
     }
 }
 
-/// The names of the folder's entries that are file names, in order.
-pub fn list<R: Files + AllocGlobal + Clone + Drop>(
-    rt: &R,
-    folder: &str,
-) -> Result<Vec<FileName>, Failure>
-    ensures { IfOk result (λ names. NamesRise names.items) }
-{
-    match listed_names(rt, folder) {
-        Ok(names) => Ok(names),
-        Err(error) => Err(Failure::at(rt.alloc(), FolderStep::ListFolder, folder, error)),
+/// The folder, opened so that the names of its entries are read from it.
+pub fn open_names<R: Files + AllocGlobal + Drop>(rt: &R, folder: &str) -> Result<R::Dir, Failure> {
+    match paths::names_path(folder) {
+        Some(path) => told(
+            rt.alloc(),
+            FolderStep::ListFolder,
+            folder,
+            rt.open_dir(path.as_str()),
+        ),
+        None => Err(Failure::long_path(rt.alloc(), FolderStep::ListFolder, folder)),
     }
 }
 
-fn listed_names<R: Files + AllocGlobal + Clone + Drop>(
-    rt: &R,
+/// The names of the folder's next entries, as many as there is room for, each with a NUL behind it. Empty at the end.
+pub fn next_names<'a, D: Read>(
+    alloc: Global,
     folder: &str,
-) -> io::Result<Vec<FileName>>
+    dir: &mut D,
+    room: &'a mut [u8; NAMES_BYTES],
+) -> Result<&'a [u8], Failure> {
+    let count = told(alloc, FolderStep::ListFolder, folder, dir.read(room))?;
+    Ok(&room[..count])
+}
+
+/// The names of the folder's entries that are file names, in order.
+pub fn list<R: Files + AllocGlobal + Drop>(rt: &R, folder: &str) -> Result<Vec<FileName>, Failure>
     ensures { IfOk result (λ names. NamesRise names.items) }
 {
+    let mut dir = open_names(rt, folder)?;
+    let mut room = [0; NAMES_BYTES];
     let mut names = Vec::new(rt.alloc());
-    for entry in fs::read_dir(rt, folder)? {
-        if let Some(name) = entry_name(rt.alloc(), entry)? {
-            names.push(name)?;
+    for _ in 0..u64::MAX {
+        let next = next_names(rt.alloc(), folder, &mut dir, &mut room)?;
+        if next.is_empty() {
+            break;
+        }
+        if let Err(error) = push_names(rt.alloc(), &mut names, next) {
+            return Err(list_failure(rt.alloc(), folder, error));
         }
     }
-    Ok(names_in_order(rt.alloc(), names)?)
+    match names_in_order(rt.alloc(), names) {
+        Ok(names) => Ok(names),
+        Err(error) => Err(list_failure(rt.alloc(), folder, error)),
+    }
 }
 
-// The name of an entry. `None` where it is no file name.
-fn entry_name<R: Files + Drop>(
-    alloc: Global,
-    entry: io::Result<DirEntry<R, Global>>,
-) -> io::Result<Option<FileName>> {
-    match entry {
-        Ok(entry) => match FileName::read(alloc, entry.file_name().as_bytes()) {
-            Ok(name) => Ok(Some(name)),
-            Err(FileNameRefusal::Memory(error)) => Err(Error::from(error)),
-            Err(_) => Ok(None),
-        },
-        // The name is no text.
-        Err(e) if e.kind() == ErrorKind::InvalidFilename => Ok(None),
-        Err(e) => Err(e),
+fn list_failure(alloc: Global, folder: &str, error: AllocError) -> Failure {
+    Failure::at(alloc, FolderStep::ListFolder, folder, Error::from(error))
+}
+
+// Appends those of the entries' names that are file names, but for the two folders that every folder has.
+fn push_names(alloc: Global, names: &mut Vec<FileName>, next: &[u8]) -> Result<(), AllocError> {
+    for entry in next.split(|byte| *byte == 0) {
+        if entry == b".".as_slice() || entry == b"..".as_slice() {
+            continue;
+        }
+        match FileName::read(alloc, entry) {
+            Ok(name) => names.push(name)?,
+            Err(FileNameRefusal::Memory(error)) => return Err(error),
+            Err(_) => {}
+        }
     }
+    Ok(())
 }
 
 /// All bytes of the plain file of the path, where they are no more than the limit. `None` where there is none. A link
@@ -141,11 +165,19 @@ fn open_to_read<R: Files + AllocGlobal + Drop>(
     )
 }
 
-/// The plain file of the path, opened to be written, and made where there is none. A link is not followed.
-pub fn open_to_write<R: Files + AllocGlobal + Drop>(
+/// Writes these bytes to the plain file of the path, which is made where there is none, and makes sure of it. A link is
+/// not followed.
+pub fn write<R: Files + AllocGlobal + Drop>(
     rt: &R,
     path: &str,
-) -> Result<R::File, Failure> {
+    bytes: &[u8],
+) -> Result<(), Failure> {
+    let mut file = open_to_write(rt, path)?;
+    write_whole(rt.alloc(), path, &mut file, bytes)
+}
+
+// The plain file of the path, opened to be written, and made where there is none. A link is not followed.
+fn open_to_write<R: Files + AllocGlobal + Drop>(rt: &R, path: &str) -> Result<R::File, Failure> {
     told(
         rt.alloc(),
         FolderStep::OpenFile,
@@ -255,8 +287,8 @@ fn read_at_most<F: Read + Drop>(alloc: Global, file: F, most: u64) -> io::Result
     Ok(bytes)
 }
 
-/// Writes the bytes over those of the file, and cuts it to their length. A short write is carried on, and a write
-/// that is interrupted is tried again.
+/// Writes the bytes over those of the file, cuts it to their length and makes sure of it. A short write is carried on,
+/// and a write that is interrupted is tried again.
 pub fn write_whole<F: Write + OpenFile>(
     alloc: Global,
     path: &str,
@@ -271,7 +303,8 @@ pub fn write_whole<F: Write + OpenFile>(
         FolderStep::CutFile,
         path,
         file.set_len(bytes.len() as u64),
-    )
+    )?;
+    told(alloc, FolderStep::Sync, path, file.sync_all())
 }
 
 /// Removes the file of the path, where there is one.
@@ -279,14 +312,6 @@ pub fn remove<R: Files + AllocGlobal + Drop>(rt: &R, path: &str) -> Result<(), F
     match fs::remove_file(rt, path) {
         Err(e) if e.kind() == ErrorKind::NotFound => Ok(()),
         removed => told(rt.alloc(), FolderStep::RemoveFile, path, removed),
-    }
-}
-
-/// Makes sure of the plain file of the path, where there is one.
-pub fn sync_file<R: Files + AllocGlobal + Drop>(rt: &R, path: &str) -> Result<(), Failure> {
-    match open_to_read(rt, path)? {
-        Some(file) => told(rt.alloc(), FolderStep::Sync, path, file.sync_all()),
-        None => Ok(()),
     }
 }
 

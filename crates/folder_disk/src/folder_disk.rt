@@ -1,6 +1,6 @@
-ghost use Rattle.std.specs.Prelude.{◌≡◌, ◌≤◌, ℕ, true, List, Some, None, is_some, if◌then◌else◌, IfOk, OnOk, OnErr, string_bytes};
+ghost use Rattle.std.specs.Prelude.{◌≡◌, ◌≤◌, true, false, Some, None, is_some, if◌then◌else◌, IfOk, OnOk, OnErr, string_bytes};
 ghost use Rattle.std.specs.Option.{option_copied};
-ghost use Rattle.desk_ports.specs.parts.NamesHeld.{has_name};
+ghost use Rattle.desk_ports.specs.FileName.{IsFileName};
 ghost use Rattle.folder_disk.specs.Paths.{file_path};
 ghost use Rattle.desk_ports.specs.FileMap.{NamesRise};
 ghost use Rattle.desk_ports.specs.Faults.{next_count};
@@ -10,12 +10,13 @@ ghost use Rattle.folder_disk.specs.LastFailure.{last_failure, failure_after_refu
 ghost use Rattle.folder_disk.specs.Untold.{untold};
 
 use crate::failures::{Failure, FolderStep};
+use crate::file_name_bytes::is_file_name;
+use crate::paths::Path;
 use crate::{files, paths};
 use desk_ports::{Bytes, Disk, Failed, FileName, PortFault};
 use std::alloc::AllocError;
-use std::collections::BTreeSet;
 use std::fs::File;
-use std::io::{Error, ErrorKind};
+use std::io::ErrorKind;
 use std::rt::Files;
 
 /// A folder of the machine as a disk. It follows no link out of the folder, and makes files that only their owner may
@@ -25,6 +26,8 @@ use std::rt::Files;
 /// another open of the folder holds it, or the folder can't be opened, this call fails, nothing in the folder was asked
 /// for, and the next call tries again. A program that does not ask for the lock is not kept out of the folder.
 ///
+/// A call that changes it asks for no memory, but for the text of the path that a failure shows, which may be lacking.
+///
 /// It tells nothing of what its files hold. That a real folder keeps what a disk promises is trusted.
 #[derive(Drop)]
 pub struct FolderDisk<R: Files<File = File> + AllocGlobal + Clone + Drop> {
@@ -32,7 +35,7 @@ pub struct FolderDisk<R: Files<File = File> + AllocGlobal + Clone + Drop> {
     folder: String,
     // The open folder, with the lock on it.
     held: Option<File>,
-    touched: BTreeSet<FileName>,
+    // Whether each file of the folder is made sure of. Each is as it is written, so that no name has to be noted.
     is_settled: bool,
     faults: u64,
     failure: Option<Failure>,
@@ -49,7 +52,6 @@ impl<R: Files<File = File> + AllocGlobal + Clone + Drop> FolderDisk<R> {
         let failure = files::make_folder(&rt, folder.as_str()).err();
         Ok(FolderDisk {
             held: None,
-            touched: BTreeSet::new(rt.alloc()),
             rt,
             folder,
             is_settled: false,
@@ -69,7 +71,7 @@ impl<R: Files<File = File> + AllocGlobal + Clone + Drop> FolderDisk<R> {
     fn hold(&mut self) -> Result<(), Failure>
         ensures held { OnOk result (IsHeld self.new.held) }
         ensures count { self.new.faults ≡ self.old.faults }
-        ensures touched { self.new.touched ≡ self.old.touched }
+        ensures settled { self.new.is_settled ≡ self.old.is_settled }
         ensures kept { OnErr result (self.new ≡ self.old) }
     {
         if self.held.is_none() {
@@ -79,13 +81,18 @@ impl<R: Files<File = File> + AllocGlobal + Clone + Drop> FolderDisk<R> {
     }
 
     // The path of a file, for a step that is asked for next.
-    fn path_of(&self, name: &FileName, step: FolderStep) -> Result<String, Failure>
-        ensures { IfOk result (λ path. string_bytes path ≡ file_path (string_bytes self.now.folder) name.now) }
+    fn path_of(&self, name: &[u8], step: FolderStep) -> Result<Path, Failure>
+        requires { IsFileName name.now }
+        ensures { IfOk result (λ path. path.bytes ≡ file_path (string_bytes self.now.folder) name.now) }
     {
-        match paths::file_path(self.rt.alloc(), self.folder.as_str(), name) {
-            Ok(path) => Ok(path),
-            Err(error) => Err(Failure::without_path(step, Error::from(error))),
+        match paths::file_path(self.folder.as_str(), name) {
+            Some(path) => Ok(path),
+            None => Err(self.long_path(step)),
         }
+    }
+
+    fn long_path(&self, step: FolderStep) -> Failure {
+        Failure::long_path(self.rt.alloc(), step, self.folder.as_str())
     }
 
     fn list_names(&mut self) -> Result<Vec<FileName>, Failure>
@@ -113,65 +120,31 @@ impl<R: Files<File = File> + AllocGlobal + Clone + Drop> FolderDisk<R> {
     fn read_held(&self, name: &FileName) -> Result<Option<Bytes>, Failure>
         requires { IsHeld self.now.held }
     {
-        let path = self.path_of(name, FolderStep::OpenFile)?;
+        let path = self.path_of(name.as_slice(), FolderStep::OpenFile)?;
         match files::read(&self.rt, path.as_str())? {
             Some(bytes) => Ok(Some(Bytes::of(bytes))),
             None => Ok(None),
         }
     }
 
-    // Notes that the file of this name is to be made sure of.
-    fn touch(&mut self, name: &FileName, path: &str) -> Result<(), Failure>
-        ensures count { self.new.faults ≡ self.old.faults }
-        ensures held { self.new.held ≡ self.old.held }
-        ensures touched { OnOk result (has_name self.new.touched name.now ≡ true) }
-        ensures kept { (other : List ℕ) → has_name self.old.touched other ≡ true
-            → has_name self.new.touched other ≡ true }
-    {
-        match self.put_touched(name) {
-            Ok(()) => Ok(()),
-            Err(error) => Err(Failure::at(
-                self.rt.alloc(),
-                FolderStep::WriteFile,
-                path,
-                Error::from(error),
-            )),
-        }
-    }
-
-    fn put_touched(&mut self, name: &FileName) -> Result<(), AllocError>
-        ensures count { self.new.faults ≡ self.old.faults }
-        ensures held { self.new.held ≡ self.old.held }
-        ensures touched { OnOk result (has_name self.new.touched name.now ≡ true) }
-        ensures kept { (other : List ℕ) → has_name self.old.touched other ≡ true
-            → has_name self.new.touched other ≡ true }
-    {
-        self.touched.insert(name.copy()?)?;
-        Ok(())
-    }
-
-    // The name counts as touched before anything is asked of the machine: a write that fails may leave a part.
-    fn write_touched(&self, name: &FileName, path: &str, bytes: &[u8]) -> Result<(), Failure>
-        requires held { IsHeld self.now.held }
-        requires touched { has_name self.now.touched name.now ≡ true }
-    {
-        let mut file = files::open_to_write(&self.rt, path)?;
-        files::write_whole(self.rt.alloc(), path, &mut file, bytes)
-    }
-
     fn write_file(&mut self, name: &FileName, bytes: &[u8]) -> Result<(), Failure>
         ensures count { self.new.faults ≡ self.old.faults }
-        ensures kept { (other : List ℕ) → has_name self.old.touched other ≡ true
-            → has_name self.new.touched other ≡ true }
+        ensures settled { self.new.is_settled ≡ self.old.is_settled }
     {
         self.hold()?;
-        let path = self.path_of(name, FolderStep::WriteFile)?;
-        self.touch(name, path.as_str())?;
-        self.write_touched(name, path.as_str(), bytes)
+        self.write_held(name, bytes)
+    }
+
+    fn write_held(&self, name: &FileName, bytes: &[u8]) -> Result<(), Failure>
+        requires { IsHeld self.now.held }
+    {
+        let path = self.path_of(name.as_slice(), FolderStep::WriteFile)?;
+        files::write(&self.rt, path.as_str(), bytes)
     }
 
     fn remove_file(&mut self, name: &FileName) -> Result<(), Failure>
         ensures count { self.new.faults ≡ self.old.faults }
+        ensures settled { self.new.is_settled ≡ self.old.is_settled }
     {
         self.hold()?;
         self.remove_held(name)
@@ -180,62 +153,74 @@ impl<R: Files<File = File> + AllocGlobal + Clone + Drop> FolderDisk<R> {
     fn remove_held(&self, name: &FileName) -> Result<(), Failure>
         requires { IsHeld self.now.held }
     {
-        let path = self.path_of(name, FolderStep::RemoveFile)?;
+        let path = self.path_of(name.as_slice(), FolderStep::RemoveFile)?;
         files::remove(&self.rt, path.as_str())
     }
 
     fn sync_all(&mut self) -> Result<(), Failure>
         ensures count { self.new.faults ≡ self.old.faults }
-        ensures kept { OnErr result (self.new.touched ≡ self.old.touched) }
+        ensures settled { OnOk result (self.new.is_settled ≡ true) }
     {
         self.hold()?;
         self.sync_held()
     }
 
-    // Makes sure of every touched file, and then of the folder. What an earlier run of the program touched is not
-    // known, so the first time every plain file of the folder counts as touched, and so does the folder itself in the
-    // one that it stands in.
+    // Makes sure of which files the folder has. What an earlier run of the program touched is not known, nor what is
+    // left of a file where a call failed. So the first time, and the next time after a failure, every plain file of the
+    // folder is made sure of before, and so is the folder itself in the one that it stands in.
     fn sync_held(&mut self) -> Result<(), Failure>
         requires { IsHeld self.old.held }
         ensures count { self.new.faults ≡ self.old.faults }
+        ensures settled { OnOk result (self.new.is_settled ≡ true) }
         ensures kept { OnErr result (self.new ≡ self.old) }
     {
         if !self.is_settled {
             self.sync_found()?;
             self.sync_parent()?;
         }
-        self.sync_touched()?;
         self.sync_folder()?;
         self.is_settled = true;
-        self.touched.clear();
         Ok(())
     }
 
     fn sync_found(&self) -> Result<(), Failure>
         requires { IsHeld self.now.held }
     {
-        for name in &self.list_held()? {
-            let path = self.path_of(name, FolderStep::Sync)?;
-            files::sync_if_plain(&self.rt, path.as_str())?;
+        let mut dir = files::open_names(&self.rt, self.folder.as_str())?;
+        let mut room = [0; files::NAMES_BYTES];
+        for _ in 0..u64::MAX {
+            let names = files::next_names(
+                self.rt.alloc(),
+                self.folder.as_str(),
+                &mut dir,
+                &mut room,
+            )?;
+            if names.is_empty() {
+                break;
+            }
+            self.sync_each(names)?;
+        }
+        Ok(())
+    }
+
+    // Makes sure of the plain files of these names, each of which has a NUL behind it.
+    fn sync_each(&self, names: &[u8]) -> Result<(), Failure>
+        requires { IsHeld self.now.held }
+    {
+        for name in names.split(|byte| *byte == 0) {
+            if is_file_name(name) {
+                let path = self.path_of(name, FolderStep::Sync)?;
+                files::sync_if_plain(&self.rt, path.as_str())?;
+            }
         }
         Ok(())
     }
 
     fn sync_parent(&self) -> Result<(), Failure> {
-        match paths::parent_path(self.rt.alloc(), self.folder.as_str()) {
-            Ok(path) => files::sync_folder(&self.rt, path.as_str()),
-            Err(error) => Err(Failure::without_path(FolderStep::Sync, Error::from(error))),
+        match paths::parent_path(self.folder.as_str()) {
+            Some(path) => files::sync_folder(&self.rt, path.as_str()),
+            None => Err(self.long_path(FolderStep::Sync)),
         }
-    }
-
-    fn sync_touched(&self) -> Result<(), Failure>
-        requires { IsHeld self.now.held }
-    {
-        for name in &self.touched {
-            let path = self.path_of(name, FolderStep::Sync)?;
-            files::sync_file(&self.rt, path.as_str())?;
-        }
-        Ok(())
     }
 
     fn sync_folder(&self) -> Result<(), Failure>
@@ -251,7 +236,9 @@ impl<R: Files<File = File> + AllocGlobal + Clone + Drop> FolderDisk<R> {
     fn fail(&mut self, failure: Failure) -> Failed
         ensures count { self.new.faults ≡ next_count self.old.faults }
         ensures last { self.new.failure ≡ Some failure }
+        ensures unsettled { self.new.is_settled ≡ false }
     {
+        self.is_settled = false;
         self.faults = self.faults.saturating_add(1);
         self.failure = Some(failure);
         Failed
@@ -261,6 +248,8 @@ impl<R: Files<File = File> + AllocGlobal + Clone + Drop> FolderDisk<R> {
     fn changed(&mut self, done: Result<(), Failure>) -> Result<(), Failed>
         ensures count { self.new.faults ≡ count_after_call result self.old.faults }
         ensures last { self.new.failure ≡ last_failure done self.old.failure }
+        ensures settled { OnOk result (self.new.is_settled ≡ self.old.is_settled) }
+        ensures unsettled { OnErr result (self.new.is_settled ≡ false) }
     {
         match done {
             Ok(()) => Ok(()),

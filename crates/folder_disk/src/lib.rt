@@ -5,10 +5,10 @@
 #![tactic(auto)]
 
 mod failures;
+mod file_name_bytes;
 mod files;
 mod folder_disk;
 mod paths;
-mod shown;
 #[cfg(test)]
 mod tests;
 

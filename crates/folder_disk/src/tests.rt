@@ -1,6 +1,7 @@
 // A real folder of the machine.
 mod locks;
 mod texts;
+mod writes;
 
 use crate::{FolderDisk, MOST_FILE_BYTES};
 use desk_ports::{Bytes, Disk, Failed, FileName, PortFault};
