@@ -1,3 +1,2 @@
 -- What only this crate's own functions cite.
-pub mod Shared
 pub mod Short

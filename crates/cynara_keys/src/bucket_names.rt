@@ -56,7 +56,7 @@ impl BucketName {
     }
 
     /// Reads a bucket's name from its bytes, all of them. Refuses, in this order, `TooLong` and `BadByte`, and `Memory`
-    /// only for bytes that are a bucket's name. One pass; a few bytes take no memory.
+    /// only for bytes that are a bucket's name. One pass.
     pub fn read(alloc: Global, bytes: &[u8]) -> Result<BucketName, BucketNameRefusal>
         ensures text { IfOk result (λ text. text ≡ bytes.now) }
         ensures accepted { OnOk result (bucket_name_fault bytes.now ≡ None) }

@@ -56,7 +56,7 @@ impl Metadata {
     }
 
     /// Reads metadata from its bytes, all of them. Refuses, in this order, `TooLong` and `BadByte`, and `Memory` only for
-    /// bytes that are metadata. One pass; a few bytes take no memory.
+    /// bytes that are metadata. One pass.
     pub fn read(alloc: Global, bytes: &[u8]) -> Result<Metadata, MetadataRefusal>
         ensures text { IfOk result (λ text. text ≡ bytes.now) }
         ensures accepted { OnOk result (metadata_fault bytes.now ≡ None) }

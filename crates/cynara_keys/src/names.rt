@@ -52,7 +52,7 @@ impl Model for Name {
 
 impl Name {
     /// Reads a name from its bytes, all of them. Refuses, in this order, `Empty`, `TooLong`, `BadByte` and `Reserved`, and
-    /// `Memory` only for bytes that are a name. One pass; a few bytes take no memory.
+    /// `Memory` only for bytes that are a name. One pass.
     pub fn read(alloc: Global, bytes: &[u8]) -> Result<Name, NameRefusal>
         ensures name { IfOk result (λ name. name ≡ bytes.now) }
         ensures accepted { OnOk result (name_fault bytes.now ≡ None) }

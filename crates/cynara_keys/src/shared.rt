@@ -1,5 +1,5 @@
-// Bytes that do not change, which is what names, buckets' names and metadata keep. A copy asks for no memory: a few
-// bytes stand in the value itself, and more of them in one place that all copies share, in any thread.
+// Bytes that do not change, which is what names, buckets' names and metadata keep. They stand in one place that all
+// copies share, in any thread, so a copy asks for no memory, and a copy and a move are one machine word or two.
 ghost use Rattle.std.specs.Prelude.{◌≡◌, [], IfOk};
 
 use std::alloc::{AllocError, Global};
@@ -7,29 +7,20 @@ use std::fmt;
 use std::marker::Model;
 use std::sync::ArcSlice;
 
-const MOST_FEW: usize = 23;
-
 #[derive(Drop)]
 pub struct Shared {
-    held: Held,
-}
-
-#[derive(Drop)]
-enum Held {
-    Few { count: u8, bytes: [u8; MOST_FEW] },
-    Many(ArcSlice<u8>),
+    // None for no bytes, which take no memory.
+    held: Option<ArcSlice<u8>>,
 }
 
 impl Model for Shared {
-    ghost use Rattle.std.specs.Prelude.{List, ℕ, IsTrue};
+    ghost use Rattle.std.specs.Prelude.{List, ℕ, []};
+    ghost use Rattle.std.specs.Arc.{arc_slice_items};
+    ghost use Rattle.std.specs.Option.{option_map_or};
 
     ghost Value = { List ℕ };
 
-    ghost use Rattle.cynara_keys.specs.parts.Shared.{held_bytes, counts_few};
-
-    ghost view = { λ shared. held_bytes shared.held };
-
-    ghost invariant = { λ shared. IsTrue (counts_few shared.held) };
+    ghost view = { λ shared. option_map_or arc_slice_items shared.held [] };
 }
 
 impl Shared {
@@ -37,39 +28,25 @@ impl Shared {
     pub fn empty() -> Shared
         ensures { result ≡ [] }
     {
-        Shared {
-            held: Held::Few {
-                count: 0,
-                bytes: [0; MOST_FEW],
-            },
-        }
+        Shared { held: None }
     }
 
     pub fn of(alloc: Global, bytes: &[u8]) -> Result<Shared, AllocError>
         ensures { IfOk result (λ shared. shared ≡ bytes.now) }
     {
-        let count = bytes.len();
-        if count > MOST_FEW {
-            return Ok(Shared {
-                held: Held::Many(ArcSlice::from_slice(alloc, bytes)?),
-            });
+        if bytes.is_empty() {
+            return Ok(Shared::empty());
         }
-        let mut few = [0; MOST_FEW];
-        few[..count].copy_from_slice(bytes);
-        Ok(Shared {
-            held: Held::Few {
-                count: count as u8,
-                bytes: few,
-            },
-        })
+        let held = ArcSlice::from_slice(alloc, bytes)?;
+        Ok(Shared { held: Some(held) })
     }
 
     pub fn as_slice(&self) -> &[u8]
         ensures { result.now ≡ self.now }
     {
         match &self.held {
-            Held::Few { count, bytes } => &bytes[..usize::from(*count)],
-            Held::Many(bytes) => bytes.as_slice(),
+            Some(bytes) => bytes.as_slice(),
+            None => &[],
         }
     }
 
@@ -77,14 +54,12 @@ impl Shared {
     pub fn copy(&self) -> Result<Shared, AllocError>
         ensures { IfOk result (λ copy. copy ≡ self.now) }
     {
-        let held = match &self.held {
-            Held::Few { count, bytes } => Held::Few {
-                count: *count,
-                bytes: *bytes,
-            },
-            Held::Many(bytes) => Held::Many(bytes.clone()?),
-        };
-        Ok(Shared { held })
+        match &self.held {
+            Some(bytes) => Ok(Shared {
+                held: Some(bytes.clone()?),
+            }),
+            None => Ok(Shared { held: None }),
+        }
     }
 }
 
