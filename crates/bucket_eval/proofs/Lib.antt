@@ -1,9 +1,9 @@
 mod Best
 pub mod Buckets
+mod Lesser
+mod ByShape
 mod Offers
 mod Held
 pub mod Places
 mod Targets
 pub mod Decisions
-pub mod Reordered
-pub mod Rising

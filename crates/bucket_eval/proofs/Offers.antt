@@ -1,28 +1,26 @@
--- The search for the least contribution, from the last policy of a bucket to its first.
-use Rattle.std.proofs.Common.{◌≡◌, ℕ, ◌+◌, ◌-◌, ◌<◌, Bool, true, false, cond, List, ◌∷◌, length, drop, get_or, Option}
-use Rattle.std.proofs.Common.{None, Some, refl, sym, ap, ◌∙◌, subst, arith}
-use Rattle.std.specs.List.{filter_map, cons_option}
+-- The least contribution of a bucket's policies, shape by shape.
+use Rattle.std.proofs.Common.{◌≡◌, ℕ, ◌+◌, ◌≤◌, Bool, true, false, ◌==◌, cond, List, get_or, Option, None, Some, IfSome}
+use Rattle.std.proofs.Common.{refl, sym, ap, ◌∙◌, subst}
+use Rattle.std.specs.List.{filter_map}
+use Rattle.std.specs.List.Sorted.{IsStrictlySortedBy}
 use Rattle.std.specs.Ordering.{is_gt, ordering_then}
-use Rattle.std.proofs.lemmas.List.{at_drop_more}
-use Rattle.cynara_keys.specs.Key.{key_cmp}
-use Rattle.cynara_keys.specs.Minimum.{lesser, first_least}
-use Rattle.cynara_keys.specs.PolicyResult.{result_cmp}
+use Rattle.cynara_keys.specs.Key.{key_cmp, key_matches}
+use Rattle.cynara_keys.specs.Minimum.{first_least}
+use Rattle.cynara_keys.specs.PolicyResult.{none, result_cmp}
+use Rattle.cynara_keys.specs.declared.keys.Key.{Key}
 use Rattle.cynara_keys.specs.declared.keys.Policy.{Policy}
+use Rattle.cynara_keys.specs.declared.keys.Question.{Question}
 use Rattle.bucket_store.specs.Bucket.{Bucket}
-use Rattle.bucket_eval.specs.Evaluation.{Contribution, contribution_cmp}
-use Rattle.bucket_eval.specs.parts.Buckets.{IsOffer, Offers, chosen, comes_after}
+use Rattle.bucket_store.specs.Database.{database_of}
+use Rattle.bucket_store.specs.Order.{policy_cmp}
+use Rattle.bucket_eval.specs.Evaluation.{Outcome, Contribution, contribution_cmp, counted, outcome_of, answer_within}
+use Rattle.bucket_eval.specs.parts.Buckets.{IsOffer, Offers, offered, chosen, comes_after}
+use Rattle.bucket_eval.specs.parts.Shapes.{FitsAt, in_shape, below_shape}
 use Rattle.bucket_eval.specs.declared.nested.Offer.{Offer}
 use Rattle.bucket_eval.proofs.Best.{min-after, min-before}
-
--- a contribution before the least of those behind it
-abbrev combined : Option Contribution → Option Contribution → Option Contribution
-combined None rest = rest
-combined (Some made) rest = Some (lesser contribution_cmp made rest)
-
-first_least-cons_option : (made : Option Contribution) (others : List Contribution)
-    → first_least contribution_cmp (cons_option made others) ≡ combined made (first_least contribution_cmp others)
-first_least-cons_option None others = refl
-first_least-cons_option (Some made) others = refl
+use Rattle.bucket_eval.proofs.Lesser.{combined}
+use Rattle.bucket_eval.proofs.ByShape.{IsOwn, if-some, least-of-one, least-of-none}
+use Rattle.bucket_eval.proofs.ByShape.{least-below-first, least-below-more, least-below-last}
 
 -- the order of two offers is that of the contributions
 after-is : (buckets : List Bucket) (first second : Contribution) (offer other : Offer)
@@ -33,7 +31,8 @@ after-is buckets first second offer other is other_is =
     λ i. is_gt (ordering_then (result_cmp (is.result i) (other_is.result i)) (key_cmp (is.key i) (other_is.key i)))
 
 only : (buckets : List Bucket) (made rest : Option Contribution) (offer : Offer)
-    → Offers buckets made (Some offer) → Offers buckets rest None → Offers buckets (combined made rest) (Some offer)
+    → Offers buckets made (Some offer) → Offers buckets rest None
+    → Offers buckets (combined contribution_cmp made rest) (Some offer)
 only buckets None rest offer is rest_is = absurd is
 only buckets (Some made) None offer is rest_is = is
 only buckets (Some made) (Some least) offer is rest_is = absurd rest_is
@@ -41,7 +40,7 @@ only buckets (Some made) (Some least) offer is rest_is = absurd rest_is
 after : (buckets : List Bucket) (made rest : Option Contribution) (offer other : Offer)
     → is_gt (ordering_then (result_cmp offer.result.now other.result.now) (key_cmp offer.key.now other.key.now)) ≡ true
     → Offers buckets made (Some offer) → Offers buckets rest (Some other)
-    → Offers buckets (combined made rest) (Some other)
+    → Offers buckets (combined contribution_cmp made rest) (Some other)
 after buckets None rest offer other greater is rest_is = absurd is
 after buckets (Some made) None offer other greater is rest_is = absurd rest_is
 after buckets (Some made) (Some least) offer other greater is rest_is =
@@ -53,7 +52,7 @@ after buckets (Some made) (Some least) offer other greater is rest_is =
 instead : (buckets : List Bucket) (made rest : Option Contribution) (offer other : Offer)
     → is_gt (ordering_then (result_cmp offer.result.now other.result.now) (key_cmp offer.key.now other.key.now)) ≡ false
     → Offers buckets made (Some offer) → Offers buckets rest (Some other)
-    → Offers buckets (combined made rest) (Some offer)
+    → Offers buckets (combined contribution_cmp made rest) (Some offer)
 instead buckets None rest offer other less is rest_is = absurd is
 instead buckets (Some made) None offer other less is rest_is = absurd rest_is
 instead buckets (Some made) (Some least) offer other less is rest_is =
@@ -65,49 +64,110 @@ instead buckets (Some made) (Some least) offer other less is rest_is =
 between : (buckets : List Bucket) (made rest : Option Contribution) (offer other : Offer) (is_after : Bool)
     → comes_after offer other ≡ is_after
     → Offers buckets made (Some offer) → Offers buckets rest (Some other)
-    → Offers buckets (combined made rest) (Some (cond is_after other offer))
+    → Offers buckets (combined contribution_cmp made rest) (Some (cond is_after other offer))
 between buckets made rest offer other true is offers rest_is = after buckets made rest offer other is offers rest_is
 between buckets made rest offer other false is offers rest_is = instead buckets made rest offer other is offers rest_is
 
 chosen-offers : (buckets : List Bucket) (made rest : Option Contribution) (offer : Offer) (best : Option Offer)
     → Offers buckets made (Some offer) → Offers buckets rest best
-    → Offers buckets (combined made rest) (Some (chosen offer best))
+    → Offers buckets (combined contribution_cmp made rest) (Some (chosen offer best))
 chosen-offers buckets made rest offer None offers rest_is = only buckets made rest offer offers rest_is
 chosen-offers buckets made rest offer (Some other) offers rest_is =
     between buckets made rest offer other (comes_after offer other) refl offers rest_is
 
-module _ (buckets : List Bucket) (offered : Policy → Option Contribution) where
-  -- the least contribution of the policies from a place on
-  abbrev pub least_from : List Policy → ℕ → Option Contribution
-  least_from policies at = first_least contribution_cmp (filter_map offered (drop at policies))
+-- ---- what policies offer, shape by shape
 
-  least_from-more : (policies : List Policy) (at : ℕ) (policy : Policy) → at < length policies
-      → policy ≡ get_or policies at policy
-      → least_from policies at ≡ combined (offered policy) (least_from policies (at + 1))
-  least_from-more policies at policy lt is =
-      at_drop_more (λ others. first_least contribution_cmp (filter_map offered others)) policies at policy lt
-      ∙ ap (λ other. first_least contribution_cmp (filter_map offered (other ∷ drop (at + 1) policies))) (sym is)
-      ∙ first_least-cons_option (offered policy) (filter_map offered (drop (at + 1) policies))
+counted-key : (key : Key) (outcome : Option Outcome) → IfSome (counted key outcome) (λ made. made.key ≡ key)
+counted-key key None = tt
+counted-key key (Some outcome) = told (outcome.result.kind == none)
+  where
+    told : (b : Bool)
+        → IfSome (cond b None (Some (record { outcome = outcome; key = key })))
+        (λ (made : Contribution). made.key ≡ key)
+    told true = tt
+    told false = refl
 
-  more : (policies : List Policy) (at : ℕ) (policy : Policy) (best : Option Offer) → at < length policies
-      → policy ≡ get_or policies at policy
-      → Offers buckets (combined (offered policy) (least_from policies (at + 1))) best
-      → Offers buckets (least_from policies at) best
-  more policies at policy best lt is offers =
-      subst (λ least. Offers buckets least best) (sym (least_from-more policies at policy lt is)) offers
+IsOwn-offered : (buckets : List Bucket) (question : Question) (deep : Bool) (most : ℕ) (name : List ℕ)
+    → IsOwn question (offered buckets question deep most name)
+IsOwn-offered buckets question deep most name =
+    let outcome : Policy → Option Outcome =
+    outcome_of (answer_within (database_of buckets) question deep most) deep name in
+    record {
+      key = λ policy. if-some (key_matches policy.key question) (λ made. made.key ≡ policy.key)
+          (counted policy.key (outcome policy)) (counted-key policy.key (outcome policy));
+      silent = λ policy other. ap (λ b. cond b (counted policy.key (outcome policy)) None) other;
+    }
 
-  -- with one place fewer to look at
-  pub least_from-down : (policies : List Policy) (left : ℕ) (best alike : Option Offer) → 0 < left → best ≡ alike
-      → Offers buckets (least_from policies left) best → Offers buckets (least_from policies (left - 1 + 1)) alike
-  least_from-down policies left best alike some is offers =
-      let above : left ≡ left - 1 + 1 = omega arith in
-      subst (λ o. Offers buckets (least_from policies (left - 1 + 1)) o) is
-      (subst (λ n. Offers buckets (least_from policies n) best) above offers)
+-- what is offered in a shape, by the one policy that fits
+pub offers-one : (buckets : List Bucket) (question : Question) (deep : Bool) (most : ℕ) (name : List ℕ) (shape : ℕ)
+    (policies : List Policy) (place : ℕ) (policy : Policy) (offer : Option Offer)
+    → FitsAt question shape policies (Some place) → policy ≡ get_or policies place policy
+    → Offers buckets (offered buckets question deep most name policy) offer
+    → Offers buckets
+    (first_least contribution_cmp (filter_map (in_shape shape (offered buckets question deep most name)) policies)) offer
+offers-one buckets question deep most name shape policies place policy offer at is offers =
+    subst (λ made. Offers buckets made offer)
+    (sym (least-of-one question (offered buckets question deep most name)
+    (IsOwn-offered buckets question deep most name) shape policies place policy at is))
+    offers
 
-  pub least_from-offer : (policies : List Policy) (at : ℕ) (policy : Policy) (offer : Offer) (best : Option Offer)
-      → at < length policies → policy ≡ get_or policies at policy → Offers buckets (offered policy) (Some offer)
-      → Offers buckets (least_from policies (at + 1)) best
-      → Offers buckets (least_from policies at) (Some (chosen offer best))
-  least_from-offer policies at policy offer best lt is made rest =
-      more policies at policy (Some (chosen offer best)) lt is
-      (chosen-offers buckets (offered policy) (least_from policies (at + 1)) offer best made rest)
+pub offers-none : (buckets : List Bucket) (question : Question) (deep : Bool) (most : ℕ) (name : List ℕ) (shape : ℕ)
+    (policies : List Policy) → FitsAt question shape policies None
+    → Offers buckets
+    (first_least contribution_cmp (filter_map (in_shape shape (offered buckets question deep most name)) policies)) None
+offers-none buckets question deep most name shape policies others =
+    subst (λ made. Offers buckets made None)
+    (sym (least-of-none question (offered buckets question deep most name)
+    (IsOwn-offered buckets question deep most name) shape policies others))
+    tt
+
+not-offered : (buckets : List Bucket) (made rest : Option Contribution) (best : Option Offer)
+    → Offers buckets made None → Offers buckets rest best → Offers buckets (combined contribution_cmp made rest) best
+not-offered buckets None rest best offers rest_is = rest_is
+not-offered buckets (Some made) rest best offers rest_is = absurd offers
+
+module _ (buckets : List Bucket) (question : Question) (deep : Bool) (most : ℕ) (name : List ℕ)
+    (policies : List Policy) where
+  -- the least contribution of the policies whose shape is below this one
+  abbrev pub least_below : ℕ → Option Contribution
+  least_below shape =
+      first_least contribution_cmp (filter_map (below_shape shape (offered buckets question deep most name)) policies)
+
+  abbrev least_in : ℕ → Option Contribution
+  least_in shape =
+      first_least contribution_cmp (filter_map (in_shape shape (offered buckets question deep most name)) policies)
+
+  one-more : (shape : ℕ) → IsStrictlySortedBy policy_cmp policies
+      → least_below (shape + 1) ≡ combined contribution_cmp (least_in shape) (least_below shape)
+  one-more shape rising =
+      least-below-more question (offered buckets question deep most name)
+      (IsOwn-offered buckets question deep most name) shape policies rising
+
+  pub least_below-first : Offers buckets (least_below 0) None
+  least_below-first =
+      subst (λ made. Offers buckets made None)
+      (sym (least-below-first question (offered buckets question deep most name)
+      (IsOwn-offered buckets question deep most name) policies))
+      tt
+
+  pub least_below-some : (shape : ℕ) (offer : Offer) (best : Option Offer) → IsStrictlySortedBy policy_cmp policies
+      → Offers buckets (least_in shape) (Some offer) → Offers buckets (least_below shape) best
+      → Offers buckets (least_below (shape + 1)) (Some (chosen offer best))
+  least_below-some shape offer best rising offers rest =
+      subst (λ made. Offers buckets made (Some (chosen offer best))) (sym (one-more shape rising))
+      (chosen-offers buckets (least_in shape) (least_below shape) offer best offers rest)
+
+  pub least_below-none : (shape : ℕ) (best : Option Offer) → IsStrictlySortedBy policy_cmp policies
+      → Offers buckets (least_in shape) None → Offers buckets (least_below shape) best
+      → Offers buckets (least_below (shape + 1)) best
+  least_below-none shape best rising offers rest =
+      subst (λ made. Offers buckets made best) (sym (one-more shape rising))
+      (not-offered buckets (least_in shape) (least_below shape) best offers rest)
+
+  pub least_below-last : (shape : ℕ) (best : Option Offer) → 8 ≤ shape → Offers buckets (least_below shape) best
+      → Offers buckets (first_least contribution_cmp (filter_map (offered buckets question deep most name) policies)) best
+  least_below-last shape best last offers =
+      subst (λ made. Offers buckets made best)
+      (least-below-last question (offered buckets question deep most name)
+      (IsOwn-offered buckets question deep most name) shape policies last)
+      offers

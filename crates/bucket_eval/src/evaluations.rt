@@ -9,8 +9,8 @@ use cynara_keys::{BucketName, Key, Policy, PolicyResult, Question, Short};
 
 /// What the bucket at the place `start` answers to the question: of the results of its policies that match, and, if
 /// `recursive`, of the answers of the buckets that they point to, the least by kind, then by metadata and then by key
-/// that isn't NONE, and else its fallback. Takes no memory. One pass over the policies of each bucket, each time that
-/// it is reached; a bucket may be reached by many ways.
+/// that isn't NONE, and else its fallback. Takes no memory. Eight binary searches of each bucket's policies, each time
+/// that it is reached; a bucket may be reached by many ways.
 pub fn plain(database: &Database, start: usize, question: &Question, recursive: bool) -> Found
     requires { start < length database.now.buckets }
     ensures answer { IfSome (slice_get database.now.buckets start) (λ heading.

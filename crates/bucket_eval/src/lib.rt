@@ -5,20 +5,19 @@
 //! are ordered by their keys, and how buckets are nested, is this project's profile.
 #![tactic(auto)]
 
-ghost use Rattle.std.specs.Prelude.{◌≡◌, ◌≢◌, ℕ, ◌<◌, ◌≤◌, length, None, slice_get};
-ghost use Rattle.std.specs.Prelude.{IfSome, IfNone, IfOk, IfErr, MatchOption, MatchResult};
+ghost use Rattle.std.specs.Prelude.{◌≡◌, ◌≢◌, ℕ, ◌<◌, length, None, slice_get, IfSome, IfNone, MatchOption};
 ghost use Rattle.std.specs.List.{All};
 ghost use Rattle.std.specs.Ordering.{is_gt};
 ghost use Rattle.cynara_keys.specs.PolicyResult.{bucket};
 ghost use Rattle.bucket_eval.specs.Least.{counts, decision_cmp, least_policy, DecidesAmong, NoneCounts};
-ghost use Rattle.bucket_eval.specs.Rising.{IsRising, HasKeyAt, BelongsAt};
 
 mod answers;
 mod evaluations;
 mod nested;
+mod shapes;
 
 pub use answers::{Answer, Cause, Found, Row, Verdict};
-use cynara_keys::{Key, Kind, Policy, Question};
+use cynara_keys::{Kind, Policy, Question};
 pub use evaluations::{describe, plain};
 
 /// The place of the policy that decides the question, from 0: the least by result (kind, then metadata) and then by key
@@ -47,19 +46,6 @@ pub fn least(policies: &[Policy], question: &Question) -> Option<usize>
         }
     }
     best
-}
-
-/// Where the key stands in policies whose keys rise, from 0: `Ok` of the place of the policy that has it, or `Err` of
-/// the place at which a policy with this key keeps the keys rising.
-pub fn place_of(policies: &[Policy], key: &Key) -> Result<usize, usize>
-    requires { IsRising policies.now }
-    ensures found { IfOk result (HasKeyAt policies.now key.now) }
-    ensures absent { IfErr result (BelongsAt policies.now key.now) }
-    ensures in_range { MatchResult result
-        (λ place. place < length policies.now)
-        (λ place. place ≤ length policies.now) }
-{
-    policies.binary_search_by(|policy| policy.key.cmp(key))
 }
 
 // Whether a policy has a say in the answer.

@@ -10,8 +10,10 @@ ghost use Rattle.bucket_store.specs.Walk.{points};
 ghost use Rattle.bucket_store.specs.WellFormed.{IsKept};
 ghost use Rattle.bucket_eval.specs.Evaluation.{contribution_cmp, outcome_of, answer_within};
 ghost use Rattle.bucket_eval.specs.parts.Buckets.{IsHeld, Holds, Offers, offered, chosen, comes_after};
+ghost use Rattle.bucket_eval.specs.parts.Shapes.{in_shape};
 
 use crate::answers::Found;
+use crate::shapes::{SHAPES, place_of_shape};
 use bucket_store::Bucket;
 use cynara_keys::{Key, Kind, Policy, PolicyResult, Question};
 
@@ -60,7 +62,7 @@ pub fn within<'a>(asked: Asked<'a>, at: usize, left: usize) -> Held<'a>
     }
 }
 
-// The least contribution of the bucket's policies.
+// The least contribution of the bucket's policies: of those that match the question, one a shape of key at most.
 #[cycle(evaluation)]
 fn least_offer<'a>(
     asked: Asked<'a>,
@@ -74,15 +76,36 @@ fn least_offer<'a>(
         (offered asked.entry.buckets.now asked.entry.question.now asked.entry.deep most bucket.now.name)
         bucket.now.policies)) result }
 {
-    let policies = bucket.policies();
     let mut best: Option<Offer<'a>> = None;
-    for place in (0..policies.len()).rev() {
-        let policy = &policies[place];
-        if let Some(offer) = offer_of(asked, at, bucket, place, policy, most) {
+    for shape in 0..SHAPES {
+        if let Some(offer) = offer_in_shape(asked, at, bucket, shape, most) {
             best = Some(least_of(offer, best));
         }
     }
     best
+}
+
+// What the policy of the bucket contributes whose key has this shape, if one does.
+#[cycle(evaluation)]
+fn offer_in_shape<'a>(
+    asked: Asked<'a>,
+    at: usize,
+    bucket: &'a Bucket,
+    shape: usize,
+    most: usize,
+) -> Option<Offer<'a>>
+    requires kept { IsKept asked.buckets.now }
+    requires there { slice_get asked.buckets.now at ≡ Some bucket.now }
+    ensures { Offers asked.entry.buckets.now (first_least contribution_cmp (filter_map
+        (in_shape shape
+        (offered asked.entry.buckets.now asked.entry.question.now asked.entry.deep most bucket.now.name))
+        bucket.now.policies)) result }
+{
+    let policies = bucket.policies();
+    match place_of_shape(policies, asked.question, shape) {
+        Some(place) => offer_of(asked, at, bucket, place, &policies[place], most),
+        None => None,
+    }
 }
 
 // What the policy of the bucket contributes. NONE is left out.

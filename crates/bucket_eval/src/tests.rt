@@ -1,7 +1,7 @@
 mod nested;
 
 use super::*;
-use cynara_keys::{Field, Metadata, Name, PolicyResult};
+use cynara_keys::{Field, Key, Metadata, Name, PolicyResult};
 use std::alloc::Global;
 use std::test::Fail;
 
