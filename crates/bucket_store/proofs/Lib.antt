@@ -11,3 +11,4 @@ pub mod Changing
 pub mod Accepting
 pub mod Sorting
 pub mod Merging
+pub mod OneBucket

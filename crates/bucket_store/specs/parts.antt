@@ -4,3 +4,4 @@ pub mod Edit
 pub mod Closure
 pub mod Batch
 pub mod Merge
+pub mod OneBucket

@@ -37,7 +37,14 @@ fn is_link(change: &Change) -> bool
 pub fn is_over(buckets: &[Bucket]) -> bool
     ensures { result ≡ nat_lt most_policies (length (list.flat_map placed_of buckets.now)) }
 {
-    let mut room = MOST_POLICIES;
+    is_more_than(buckets, MOST_POLICIES)
+}
+
+/// Whether the buckets have more policies than this.
+pub fn is_more_than(buckets: &[Bucket], most: usize) -> bool
+    ensures { result ≡ nat_lt most (length (list.flat_map placed_of buckets.now)) }
+{
+    let mut room = most;
     for bucket in buckets {
         let count = bucket.policies().len();
         if count > room {

@@ -1,5 +1,10 @@
-ghost use Rattle.std.specs.Prelude.{◌≡◌, IfOk};
+ghost use Rattle.std.specs.Prelude.{◌≡◌, IfOk, IsTrue, IsFalse};
+ghost use Rattle.std.specs.List.Sorted.{IsStrictlySortedBy};
+ghost use Rattle.bucket_store.specs.Order.{policy_cmp};
+ghost use Rattle.bucket_store.specs.parts.OneBucket.{edited_by};
 
+use crate::Change;
+use crate::in_place::edit_all;
 use cynara_keys::{BucketName, Policy, PolicyResult};
 use std::alloc::{AllocError, Global};
 use std::marker::Model;
@@ -81,5 +86,21 @@ impl Bucket {
     {
         let body = Arc::try_clone(&self.body)?;
         Ok(Bucket { body })
+    }
+
+    // Makes these changes of its policies, where nothing else shares the bucket and there is memory. Says whether it
+    // did.
+    pub(crate) fn edit(&mut self, changes: &[Change]) -> bool
+        requires { IsStrictlySortedBy policy_cmp self.old.policies }
+        ensures done { IsTrue result → self.new ≡ edited_by changes.now self.old }
+        ensures kept { IsFalse result → self.new ≡ self.old }
+    {
+        let Some(body) = Arc::get_mut(&mut self.body) else {
+            return false;
+        };
+        match edit_all(&mut body.policies, changes) {
+            Ok(()) => true,
+            Err(_) => false,
+        }
     }
 }

@@ -1,4 +1,4 @@
-ghost use Rattle.std.specs.Prelude.{◌≡◌, length, IfOk, IfErr, OnOk, None};
+ghost use Rattle.std.specs.Prelude.{◌≡◌, length, IsTrue, IsFalse, IfOk, IfErr, OnOk, None};
 ghost use Rattle.std.specs.List.{position};
 ghost use Rattle.cynara_keys.specs.Text.{same_text};
 ghost use Rattle.bucket_store.specs.Database.{fresh, database_of};
@@ -17,6 +17,7 @@ use crate::cycles::least_on_cycle;
 use crate::edits::{has_room, is_bad, with_heading, with_policies, without_bucket};
 use crate::limits::{MOST_BUCKETS, MOST_POLICIES};
 use crate::named::all_named;
+use crate::one_bucket::place_of_changes;
 use crate::searches::place_of_bucket;
 use crate::{Change, StoreRefusal};
 use cynara_keys::{BucketName, Counted, Filter, Kind, Policy, PolicyResult};
@@ -211,6 +212,24 @@ impl Database {
             Ok(Some(at)) => Err(on_cycle(&buckets[at])),
             Err(error) => Err(StoreRefusal::Memory(error)),
         }
+    }
+
+    /// Makes the changes in this database, where that can be done without a copy: they are at most 32, all of one bucket
+    /// that no other database shares, none puts a policy that points to a bucket, and there are room and memory for them.
+    /// Says whether it did. Where it did not nothing has changed, and `set_policies` makes the changes, or says why not.
+    pub fn change_in_place(&mut self, changes: &[Change]) -> bool
+        ensures next { IsTrue result → self.new ≡ (request.set_policies changes.now self.old).next }
+        ensures accepted { IsTrue result → fault self.old (request.set_policies changes.now self.old) ≡ None }
+        ensures kept { IsFalse result → self.new ≡ self.old }
+    {
+        let alloc = *self.buckets.allocator();
+        let Some(at) = place_of_changes(alloc, &self.buckets, changes) else {
+            return false;
+        };
+        if !self.buckets[at].edit(changes) {
+            return false;
+        }
+        true
     }
 }
 

@@ -1,5 +1,6 @@
 // Stories: calls made in turn, each on the database that the last one left, and what each answers in words.
 mod calls;
+mod in_place;
 mod refusals;
 mod stories;
 mod texts;

@@ -154,7 +154,7 @@ fn place_text(alloc: Global, database: &Database, name: &str) -> Result<String, 
     }
 }
 
-fn list_text(
+pub fn list_text(
     alloc: Global,
     database: &Database,
     name: &str,
@@ -177,7 +177,7 @@ fn rows_text(alloc: Global, policies: &[Policy]) -> Result<String, Fail> {
 
 // ---- the arguments
 
-fn bucket_name(alloc: Global, text: &str) -> Result<BucketName, Fail> {
+pub fn bucket_name(alloc: Global, text: &str) -> Result<BucketName, Fail> {
     Ok(BucketName::read(alloc, text.as_bytes())?)
 }
 
@@ -212,7 +212,7 @@ fn change(alloc: Global, (name, fields, outcome): Row<'_>) -> Result<Change, Fai
     })
 }
 
-fn changes(alloc: Global, rows: &[Row<'_>]) -> Result<Changes, Fail> {
+pub fn changes(alloc: Global, rows: &[Row<'_>]) -> Result<Changes, Fail> {
     let mut list = Vec::new(alloc);
     for row in rows {
         list.push(change(alloc, *row)?)?;
@@ -220,7 +220,7 @@ fn changes(alloc: Global, rows: &[Row<'_>]) -> Result<Changes, Fail> {
     Ok(Changes::of(list))
 }
 
-fn many_changes(alloc: Global, name: &str, count: u32) -> Result<Changes, Fail> {
+pub fn many_changes(alloc: Global, name: &str, count: u32) -> Result<Changes, Fail> {
     let mut list = Vec::new(alloc);
     for number in 1..=count {
         let client = format!(in alloc; "c{number}")?;
