@@ -7,3 +7,4 @@ pub mod Counts
 pub mod Search
 pub mod Changes
 pub mod Grants
+mod Undoing

@@ -2,7 +2,7 @@
 ghost use Rattle.std.specs.Prelude.{◌≡◌, length, nat_lt};
 ghost use Rattle.app_registry.specs.Refusal.{over, installs_limit};
 ghost use Rattle.app_registry.specs.Registry.{packages, grant_count};
-ghost use Rattle.app_registry.specs.declared.refusals.TheConstants.{GRANT_LIMIT, USER_LIMIT};
+ghost use Rattle.app_registry.specs.declared.refusals.TheConstants.{GRANT_LIMIT, PACKAGE_LIMIT, USER_LIMIT};
 ghost use Rattle.cynara_keys.specs.declared.limits.Counted.TheVariants.{Users};
 
 use crate::{
@@ -24,7 +24,7 @@ pub fn users_limit(users: &[User]) -> Option<RegistryRefusal>
 pub fn installs_limit(installs: &[Install]) -> Option<RegistryRefusal>
     ensures { result ≡ installs_limit installs.now }
 {
-    if package_count(installs) > PACKAGE_LIMIT {
+    if has_too_many_packages(installs) {
         return Some(RegistryRefusal::Limit(Counted::Packages, PACKAGE_LIMIT as u64));
     }
     if installs.len() > INSTALL_LIMIT {
@@ -34,6 +34,16 @@ pub fn installs_limit(installs: &[Install]) -> Option<RegistryRefusal>
         return Some(RegistryRefusal::Limit(Counted::Grants, GRANT_LIMIT as u64));
     }
     None
+}
+
+// No count is needed where there are not even as many installs.
+fn has_too_many_packages(installs: &[Install]) -> bool
+    ensures { result ≡ nat_lt PACKAGE_LIMIT (length (packages installs.now)) }
+{
+    if installs.len() <= PACKAGE_LIMIT {
+        return false;
+    }
+    package_count(installs) > PACKAGE_LIMIT
 }
 
 // How many packages there are: a package's installs stand together.

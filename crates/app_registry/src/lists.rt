@@ -61,7 +61,8 @@ pub fn with_install(
     Ok(list)
 }
 
-fn place_of_install(installs: &[Install], install: &Install) -> Result<usize, usize>
+/// Where the install of this place stands, from 0, or where one belongs.
+pub fn place_of_install(installs: &[Install], install: &Install) -> Result<usize, usize>
     requires { IsStrictlySortedBy install_cmp installs.now }
     ensures in_range { IsSearchInRange result (length installs.now) }
     ensures placed { MatchResult result

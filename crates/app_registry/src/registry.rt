@@ -12,6 +12,7 @@ ghost use Rattle.app_registry.specs.Registry.{no_entries, has_package, author_of
 ghost use Rattle.app_registry.specs.Rules.{IsRegistry};
 ghost use Rattle.app_registry.specs.Registry.{with_user, without_user, with_install, without_install};
 
+mod in_place;
 mod made;
 
 use crate::labels::install_label;

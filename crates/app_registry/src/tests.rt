@@ -1,5 +1,6 @@
 mod changes;
 mod idents;
+mod in_place;
 mod limits;
 
 use crate::{Ident, Install, NameSet, Registry, Scope, UserType};

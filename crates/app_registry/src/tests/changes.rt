@@ -76,7 +76,7 @@ fn append_install(alloc: Global, text: &mut String, install: &Install) -> Result
 }
 
 // The installs, and then the rows of the manifests.
-fn listing(alloc: Global, registry: &Registry) -> Result<String, Fail> {
+pub fn listing(alloc: Global, registry: &Registry) -> Result<String, Fail> {
     let mut text = String::new(alloc);
     for install in registry.installs() {
         append_install(alloc, &mut text, install)?;
@@ -85,14 +85,14 @@ fn listing(alloc: Global, registry: &Registry) -> Result<String, Fail> {
     Ok(text)
 }
 
-const INSTALLED: [Row<'static>; 3] = [
+pub const INSTALLED: [Row<'static>; 3] = [
     ("x", None, "a", EVERYONE, &[]),
     ("p", Some("au"), "b", Scope::One(1), &["q"]),
     ("p", Some("au"), "c", EVERYONE, &["q", "r"]),
 ];
 
 // An install, and why it is refused.
-const REFUSED: [(Row<'static>, &str); 13] = [
+pub const REFUSED: [(Row<'static>, &str); 13] = [
     (("x", None, "d", Scope::One(9), &[]), "user 9"),
     // Each with the next fault too.
     (("y", None, "a", Scope::One(9), &[]), "user 9"),

@@ -67,12 +67,22 @@ fn limit_of(
     Ok(limit(registry.install(&numbered(alloc, numbers)?)))
 }
 
+// Whether the install is made in the registry itself.
+fn fits_in_place(alloc: Global, registry: &mut Registry, numbers: Numbers) -> Result<bool, Fail> {
+    Ok(registry.install_in_place(&numbered(alloc, numbers)?))
+}
+
+fn put(alloc: Global, registry: &mut Registry, numbers: Numbers) -> Result<(), Fail> {
+    let made = fits_in_place(alloc, registry, numbers)?;
+    Ok(made.then_some(()).ok_or("an install is not made in place")?)
+}
+
 // 1,024 packages, of 8 applications each, of 8 privileges of their own each.
 fn fullest(alloc: Global) -> Result<Registry, Fail> {
     let mut registry = Registry::fresh(alloc);
     for app in 0..INSTALL_LIMIT {
         let numbers = [app / APPS, app, app.saturating_mul(PRIVILEGES), PRIVILEGES];
-        registry = registry.install(&numbered(alloc, numbers)?)?;
+        put(alloc, &mut registry, numbers)?;
     }
     Ok(registry)
 }
@@ -103,7 +113,7 @@ fn installs_up_to_each_limit(rt: HostRuntime) -> Result<(), Fail> {
 fn most_packages(alloc: Global) -> Result<Registry, Fail> {
     let mut registry = Registry::fresh(alloc);
     for package in 0..PACKAGE_LIMIT {
-        registry = registry.install(&numbered(alloc, [package, package, 0, 0])?)?;
+        put(alloc, &mut registry, [package, package, 0, 0])?;
     }
     Ok(registry)
 }
@@ -120,6 +130,23 @@ fn packages_and_privileges_of_one_install(rt: HostRuntime) -> Result<(), Fail> {
     let registry = most_packages(rt.alloc())?;
     for (numbers, want) in AT_MOST_PACKAGES {
         assert_eq!(rt; limit_of(rt.alloc(), &registry, numbers)?, want);
+    }
+    Ok(())
+}
+
+// New installs, and whether there is room for them behind the one before.
+const IN_PLACE: [(Numbers, bool); 4] = [
+    ([1024, 1024, 0, 0], false),
+    ([1023, 1024, 0, 0], true),
+    ([1023, 1025, 0, 65537], false),
+    ([1023, 1025, 0, 65536], true),
+];
+
+#[test]
+fn installs_in_place_up_to_each_limit(rt: HostRuntime) -> Result<(), Fail> {
+    let mut registry = most_packages(rt.alloc())?;
+    for (numbers, want) in IN_PLACE {
+        assert_eq!(rt; fits_in_place(rt.alloc(), &mut registry, numbers)?, want);
     }
     Ok(())
 }
