@@ -12,3 +12,4 @@ pub mod Touching
 pub mod Commanding
 pub mod Laying
 pub mod Expanding
+mod Becoming

@@ -2,6 +2,8 @@ ghost use Rattle.std.specs.Prelude.{◌≡◌, IfOk};
 ghost use Rattle.desk_state.specs.IsDesk.{IsDesk};
 ghost use Rattle.desk_state.specs.DeskState.{fresh};
 
+mod in_place;
+
 use app_registry::Registry;
 use bucket_store::Database;
 use rule_templates::Template;

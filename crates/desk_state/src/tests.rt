@@ -1,4 +1,5 @@
 mod changes;
+mod copies;
 mod limits;
 mod rows;
 
@@ -254,19 +255,24 @@ fn name(refusal: &Refusal) -> &[u8] {
     }
 }
 
-// The state after a row, whose answer is checked.
-fn after(rt: &impl Abort, alloc: Global, desk: Desk, row: &Row<'_>) -> Result<Desk, Fail> {
-    match desk.apply(&command(alloc, row.0)?) {
-        Ok(applied) => {
-            assert_eq!(rt; row.1, 0);
-            Ok(applied.desk)
-        }
-        Err(refusal) => {
-            assert_eq!(rt; number(&refusal), row.1);
-            assert_eq!(rt; name(&refusal), row.2.as_bytes());
-            Ok(desk)
-        }
+fn is_refused_as(rt: &impl Abort, row: &Row<'_>, refusal: &Refusal) {
+    assert_eq!(rt; number(refusal), row.1);
+    assert_eq!(rt; name(refusal), row.2.as_bytes());
+}
+
+// The state after a row. The command is applied, and the state itself is changed by it too: both answers are checked.
+fn after(rt: &impl Abort, alloc: Global, mut desk: Desk, row: &Row<'_>) -> Result<Desk, Fail> {
+    let command = command(alloc, row.0)?;
+    let applied = desk.apply(&command);
+    match desk.change(&command) {
+        Ok(_) => assert_eq!(rt; row.1, 0),
+        Err(refusal) => is_refused_as(rt, row, &refusal),
     }
+    match applied {
+        Ok(applied) => assert_eq!(rt; applied.desk.commit(), desk.commit()),
+        Err(refusal) => is_refused_as(rt, row, &refusal),
+    }
+    Ok(desk)
 }
 
 fn after_all(rt: &impl Abort, alloc: Global, rows: &[Row<'_>]) -> Result<Desk, Fail> {

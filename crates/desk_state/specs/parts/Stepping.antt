@@ -75,6 +75,12 @@ pub record IsApplied (desk : DeskState) (command : Command) (applied : Applied) 
   pub erased : applied.erased ≡ erased_by desk command
   pub accepted : fault desk command ≡ None
 
+-- the state becomes the next one by a command that breaks no rule and erases nothing
+pub record Becomes (desk : DeskState) (command : Command) (after : DeskState) : Type 0 where
+  pub next : after ≡ next desk command
+  pub erased : erased_by desk command ≡ 0
+  pub accepted : fault desk command ≡ None
+
 -- what is answered to a command
 abbrev pub Answers : DeskState → Command → Result Applied Refusal → Type 0
 Answers desk command (Ok applied) = IsApplied desk command applied

@@ -101,15 +101,26 @@ fn rules_follow(alloc: Global, desk: &Desk) -> Result<bool, Fail> {
     Ok(true)
 }
 
+// The state after the command, whether it is accepted or not: by a new state, or by a change of the state itself.
+fn after_try(alloc: Global, mut desk: Desk, line: &str, anew: bool) -> Result<Desk, Fail> {
+    let command = command(alloc, line)?;
+    if !anew {
+        let _ = desk.change(&command);
+        return Ok(desk);
+    }
+    match desk.apply(&command) {
+        Ok(applied) => Ok(applied.desk),
+        Err(_) => Ok(desk),
+    }
+}
+
 #[test]
 fn a_hundred_commands(rt: HostRuntime) -> Result<(), Fail> {
     let alloc = rt.alloc();
     let mut desk = accepted(alloc, &Desk::fresh(alloc)?, "layout")?;
     for number in 0..100usize {
         let line = ROUND.get(number * 7 % 10).ok_or("no line")?;
-        if let Ok(applied) = desk.apply(&command(alloc, line)?) {
-            desk = applied.desk;
-        }
+        desk = after_try(alloc, desk, line, number / 10 % 2 == 0)?;
         assert!(rt; manifests_follow(&desk)?);
         assert!(rt; main_follows(alloc, &desk)?);
         assert!(rt; rules_follow(alloc, &desk)?);

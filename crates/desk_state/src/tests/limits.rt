@@ -1,9 +1,10 @@
 ghost use Rattle.std.specs.Prelude.{◌≡◌, IfOk};
 
-use super::{accepted, command, number, set};
+use super::{accepted, command, ident, number, set};
 use crate::{Command, Desk, LAST_COMMIT, Refusal};
+use app_registry::{Install, NameSet, Scope};
 use bucket_store::Changes;
-use cynara_keys::Counted;
+use cynara_keys::{Counted, Name};
 use std::alloc::{AllocError, Global};
 use std::test::Fail;
 
@@ -121,6 +122,61 @@ fn room_for_the_policies_of_the_layout(rt: HostRuntime) -> Result<(), Fail> {
         limit(&desk, &Command::Layout),
         Some((Counted::Policies, 65_536))
     );
+    Ok(())
+}
+
+// A state with the layout, changed in place by so many installs of packages without privileges.
+fn with_packages(alloc: Global, count: u32) -> Result<Desk, Fail> {
+    let mut desk = accepted(alloc, &Desk::fresh(alloc)?, "layout")?;
+    for number in 0..count {
+        let line = format!(in alloc; "install p{number} - a{number} *")?;
+        let _ = desk.change(&command(alloc, line.as_str())?)?;
+    }
+    Ok(desk)
+}
+
+#[test]
+fn one_package_too_many(rt: HostRuntime) -> Result<(), Fail> {
+    let desk = with_packages(rt.alloc(), 1_024)?;
+    for (line, want) in [
+        ("install more - a *", Some((Counted::Packages, 1_024))),
+        ("install p7 - more *", None),
+    ] {
+        assert_eq!(rt; limit(&desk, &command(rt.alloc(), line)?), want);
+    }
+    Ok(())
+}
+
+// An install of so many privileges.
+fn with_privileges(alloc: Global, count: u32) -> Result<Command, Fail> {
+    let mut names = Vec::new(alloc);
+    for number in 0..count {
+        let name = format!(in alloc; "p{number}")?;
+        names.push(Name::read(alloc, name.as_bytes())?)?;
+    }
+    Ok(Command::Install {
+        install: Install {
+            package: ident(alloc, "pk")?,
+            author: None,
+            app: ident(alloc, "a")?,
+            scope: Scope::Everyone,
+            privileges: NameSet::of(names)?,
+        },
+    })
+}
+
+// What an install grants counts among the policies, of which the layout has six.
+#[test]
+fn room_for_what_an_install_grants(rt: HostRuntime) -> Result<(), Fail> {
+    let desk = accepted(rt.alloc(), &Desk::fresh(rt.alloc())?, "layout")?;
+    for (count, want) in [
+        (65_530, None),
+        (65_531, Some((Counted::Policies, 65_536))),
+        (65_537, Some((Counted::Grants, 65_536))),
+    ] {
+        let install = with_privileges(rt.alloc(), count)?;
+        assert_eq!(rt; limit(&desk, &install), want);
+    }
     Ok(())
 }
 
