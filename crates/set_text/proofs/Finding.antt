@@ -1,5 +1,6 @@
 -- What a search by halving says of a list that rises by a text.
-use Rattle.std.proofs.Common.{◌≡◌, ℕ, Bool, true, false, ◌||◌, cond, List, [], ◌∷◌, ◌++◌, length, get_or, refl, sym, ap, ◌∙◌}
+use Rattle.std.proofs.Common.{◌≡◌, ℕ, Bool, true, false, ◌||◌, cond, List, [], ◌∷◌, ◌++◌, length, get_or, refl, sym, ap}
+use Rattle.std.proofs.Common.{◌∙◌}
 use Rattle.std.specs.declared.cmp.Ordering.TheVariants.{Less, Greater}
 use Rattle.std.specs.List.{AllByRecursion, list_any}
 use Rattle.std.specs.Ordering.{is_eq}
@@ -24,24 +25,28 @@ module _ {X : Type 0} (key : X → List ℕ) (name : List ℕ) where
       ap (λ b. same_text (key first) name || b) (any-front front x back is) ∙ or-true (same_text (key first) name)
 
   any-less : (front back : List X) → AllByRecursion (λ x. text_cmp (key x) name ≡ Less) front
-      → list_any (λ x. same_text (key x) name) back ≡ false → list_any (λ x. same_text (key x) name) (front ++ back) ≡ false
+      → list_any (λ x. same_text (key x) name) back ≡ false
+      → list_any (λ x. same_text (key x) name) (front ++ back) ≡ false
   any-less [] back all none = none
   any-less (first ∷ front) back all none =
-      ap (λ b. b || list_any (λ x. same_text (key x) name) (front ++ back)) (sym (text_cmp-equal (key first) name) ∙ ap is_eq all.0)
+      ap (λ b. b || list_any (λ x. same_text (key x) name) (front ++ back))
+      (sym (text_cmp-equal (key first) name) ∙ ap is_eq all.0)
       ∙ any-less front back all.1 none
 
   any-greater : (back : List X) → AllByRecursion (λ x. text_cmp (key x) name ≡ Greater) back
       → list_any (λ x. same_text (key x) name) back ≡ false
   any-greater [] all = refl
   any-greater (first ∷ back) all =
-      ap (λ b. b || list_any (λ x. same_text (key x) name) back) (sym (text_cmp-equal (key first) name) ∙ ap is_eq all.0)
+      ap (λ b. b || list_any (λ x. same_text (key x) name) back)
+      (sym (text_cmp-equal (key first) name) ∙ ap is_eq all.0)
       ∙ any-greater back all.1
 
   pub any-found : (list : List X) (at : ℕ) → StandsAt (λ x. text_cmp (key x) name) list at
       → list_any (λ x. same_text (key x) name) list ≡ true
   any-found list at stands =
       ap (list_any (λ x. same_text (key x) name)) stands.parts
-      ∙ any-front stands.front stands.element stands.back (sym (text_cmp-equal (key stands.element) name) ∙ ap is_eq stands.ties)
+      ∙ any-front stands.front stands.element stands.back
+      (sym (text_cmp-equal (key stands.element) name) ∙ ap is_eq stands.ties)
 
   pub any-absent : (list : List X) (at : ℕ) → BelongsAt (λ x. text_cmp (key x) name) list at
       → list_any (λ x. same_text (key x) name) list ≡ false
@@ -51,28 +56,33 @@ module _ {X : Type 0} (key : X → List ℕ) (name : List ℕ) where
 
 -- ---- the bytes of a file
 
-bytes-front : (name : List ℕ) (front set : List SetFile) → AllByRecursion (λ (file : SetFile). text_cmp file.name name ≡ Less) front
+bytes-front : (name : List ℕ) (front set : List SetFile)
+    → AllByRecursion (λ (file : SetFile). text_cmp file.name name ≡ Less) front
     → bytes_in (front ++ set) name ≡ bytes_in set name
 bytes-front name [] set all = refl
 bytes-front name (file ∷ front) set all =
     ap (λ b. cond b file.bytes (bytes_in (front ++ set) name)) (sym (text_cmp-equal file.name name) ∙ ap is_eq all.0)
     ∙ bytes-front name front set all.1
 
-bytes-none : (name : List ℕ) (set : List SetFile) → AllByRecursion (λ (file : SetFile). text_cmp file.name name ≡ Greater) set
+bytes-none : (name : List ℕ) (set : List SetFile)
+    → AllByRecursion (λ (file : SetFile). text_cmp file.name name ≡ Greater) set
     → bytes_in set name ≡ []
 bytes-none name [] all = refl
 bytes-none name (file ∷ set) all =
-    ap (λ b. cond b file.bytes (bytes_in set name)) (sym (text_cmp-equal file.name name) ∙ ap is_eq all.0) ∙ bytes-none name set all.1
+    ap (λ b. cond b file.bytes (bytes_in set name)) (sym (text_cmp-equal file.name name) ∙ ap is_eq all.0)
+    ∙ bytes-none name set all.1
 
 pub bytes-found : (name : List ℕ) (set : List SetFile) (at : ℕ)
-    → (stands : StandsAt (λ (file : SetFile). text_cmp file.name name) set at) → bytes_in set name ≡ stands.element.bytes
+    → (stands : StandsAt (λ (file : SetFile). text_cmp file.name name) set at)
+    → bytes_in set name ≡ stands.element.bytes
 bytes-found name set at stands =
     ap (λ set. bytes_in set name) stands.parts
     ∙ bytes-front name stands.front (stands.element ∷ stands.back) stands.before
     ∙ ap (λ b. cond b stands.element.bytes (bytes_in stands.back name))
     (sym (text_cmp-equal stands.element.name name) ∙ ap is_eq stands.ties)
 
-pub bytes-absent : (name : List ℕ) (set : List SetFile) (at : ℕ) → BelongsAt (λ (file : SetFile). text_cmp file.name name) set at
+pub bytes-absent : (name : List ℕ) (set : List SetFile) (at : ℕ)
+    → BelongsAt (λ (file : SetFile). text_cmp file.name name) set at
     → bytes_in set name ≡ []
 bytes-absent name set at belongs =
     ap (λ set. bytes_in set name) belongs.parts
@@ -84,7 +94,8 @@ element-at [] element other back = refl
 element-at (first ∷ front) element other back = element-at front element other back
 
 -- files that rise by their names
-pub files-rise : (set : List SetFile) → NamesRise (names_of set) → IsStrictlySortedBy (on (λ (file : SetFile). file.name) text_cmp) set
+pub files-rise : (set : List SetFile) → NamesRise (names_of set)
+    → IsStrictlySortedBy (on (λ (file : SetFile). file.name) text_cmp) set
 unfolding IsStrictlySortedBy
 files-rise [] rise = tt
 files-rise (file ∷ set) rise = (below set rise.0, files-rise set rise.1)

@@ -1,5 +1,6 @@
 -- The names of the files of buckets and packages are file names.
-use Rattle.std.proofs.Common.{◌≡◌, ℕ, ◌≤◌, Bool, true, false, not, cond, ltb, eqb, List, length, position, Option, Some, None, refl, ap, ◌∙◌, arith}
+use Rattle.std.proofs.Common.{◌≡◌, ℕ, ◌≤◌, Bool, true, false, not, cond, ltb, eqb, List, length, position, Option, Some}
+use Rattle.std.proofs.Common.{None, refl, ap, ◌∙◌, arith}
 use Rattle.std.proofs.lemmas.Bool.{ltb-false, le-ltb, ne_eqb}
 use Rattle.std.proofs.lemmas.Bool.Decides.{nat_tests}
 use Rattle.cynara_keys.specs.Text.{is_word_byte}
@@ -15,7 +16,8 @@ use Rattle.set_text.specs.FileNames.{bucket_file, load_file}
 file_name-none : (text : List ℕ) → eqb (length text) 0 ≡ false → ltb 255 (length text) ≡ false
     → NonePass (λ byte. not (is_file_name_byte byte)) text → IsFileName text
 file_name-none text some short known =
-    let rest = λ (long : Bool). cond long (Some TooLong) (bad_byte_at (position (λ byte. not (is_file_name_byte byte)) text)) in
+    let rest = λ (long : Bool). cond long (Some TooLong)
+    (bad_byte_at (position (λ byte. not (is_file_name_byte byte)) text)) in
     ap (λ empty. cond empty (Some Empty) (rest (ltb 255 (length text)))) some
     ∙ ap rest short ∙ ap bad_byte_at (position-none (λ byte. not (is_file_name_byte byte)) text known)
 
@@ -41,7 +43,8 @@ bucket_file-is name sound =
           (none_from_position (λ byte. not (is_word_byte byte)) name parts.1),
     )
 
-ident-parts : (a b c : Bool) (at : Option ℕ) → cond a (Some IdentEmpty) (cond b (Some IdentTooLong) (byte_fault (cond c (Some 0) at))) ≡ None
+ident-parts : (a b c : Bool) (at : Option ℕ)
+    → cond a (Some IdentEmpty) (cond b (Some IdentTooLong) (byte_fault (cond c (Some 0) at))) ≡ None
     → (b ≡ false) × (at ≡ None)
 ident-parts true b c at h = cc
 ident-parts false true c at h = cc
@@ -59,7 +62,8 @@ load_file-is name sound =
       refl,
       (
         refl,
-        NonePass-weaker (λ byte. not (is_ident_byte byte)) (λ byte. not (is_file_name_byte byte)) ident_in_file_name name
+        NonePass-weaker (λ byte. not (is_ident_byte byte))
+            (λ byte. not (is_file_name_byte byte)) ident_in_file_name name
             (none_from_position (λ byte. not (is_ident_byte byte)) name parts.1),
       ),
     )

@@ -1,5 +1,7 @@
 -- What holds of the buckets that a set of files gives.
-use Rattle.std.proofs.Common.{◌≡◌, ℕ, ◌+◌, ◌≤◌, Bool, true, false, not, ◌||◌, ◌==◌, nat_lt, List, [], ◌∷◌, ◌++◌, length, map, Result, Ok, Err, refl, sym, ap, ◌∙◌, subst, arith, length-append, append_assoc, append-nil}
+use Rattle.std.proofs.Common.{◌≡◌, ℕ, ◌+◌, ◌≤◌, Bool, true, false, not, ◌||◌, ◌==◌, nat_lt, List, [], ◌∷◌, ◌++◌, length}
+use Rattle.std.proofs.Common.{map, Result, Ok, Err, refl, sym, ap, ◌∙◌, subst, arith, length-append, append_assoc}
+use Rattle.std.proofs.Common.{append-nil}
 use Rattle.std.specs.List.{AllByRecursion, list_any}
 use Rattle.std.specs.List.Sorted.{IsStrictlySortedBy}
 use Rattle.std.proofs.lemmas.Bool.{and_parts, ltb-true, eqb-true}
@@ -16,7 +18,8 @@ use Rattle.bucket_store.proofs.Lists.{All-append}
 use Rattle.bucket_store.proofs.Sound.{policy_total}
 use Rattle.desk_ports.specs.declared.file_sets.SetFile.{SetFile}
 use Rattle.set_text.specs.Buckets as word
-use Rattle.set_text.specs.Buckets.{read_heading, headings_of, heading_fits, is_root_or_later, read_policy, policies_of, policy_of, policy_fits, has_target}
+use Rattle.set_text.specs.Buckets.{read_heading, headings_of, heading_fits, is_root_or_later, read_policy, policies_of}
+use Rattle.set_text.specs.Buckets.{policy_of, policy_fits, has_target}
 use Rattle.set_text.specs.Fault.{Fault, with_value, in_file, bytes_in}
 use Rattle.set_text.specs.FileNames.{bucket_file}
 use Rattle.set_text.specs.Lines.{rises_above, values_of, at_least_one}

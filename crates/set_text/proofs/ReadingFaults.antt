@@ -1,5 +1,6 @@
 -- The first fault of several tests and parts, one after the other.
-use Rattle.std.proofs.Common.{◌≡◌, ℕ, ◌+◌, ◌<◌, Bool, cond, true, List, [], ◌∷◌, drop, filter, get_or, length, Option, Some, None, Result, Ok, Err, sym, ap, ◌∙◌, subst, arith, add-one}
+use Rattle.std.proofs.Common.{◌≡◌, ℕ, ◌+◌, ◌<◌, Bool, cond, true, List, [], ◌∷◌, drop, filter, get_or, length, Option}
+use Rattle.std.proofs.Common.{Some, None, Result, Ok, Err, sym, ap, ◌∙◌, subst, arith, add-one}
 use Rattle.std.proofs.Math.Seq.{drop-cons}
 use Rattle.std.specs.Option.{option_or}
 use Rattle.desk_ports.specs.FileMap.{names_of}

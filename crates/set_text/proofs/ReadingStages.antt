@@ -1,5 +1,6 @@
 -- How the parts of a set of files lead to what it says.
-use Rattle.std.proofs.Common.{◌≡◌, ℕ, Bool, true, false, ◌||◌, not, cond, List, [], ◌∷◌, map, Option, Some, None, is_some, Result, Ok, Err, refl, ap, ◌∙◌}
+use Rattle.std.proofs.Common.{◌≡◌, ℕ, Bool, true, false, ◌||◌, not, cond, List, [], ◌∷◌, map, Option, Some, None}
+use Rattle.std.proofs.Common.{is_some, Result, Ok, Err, refl, ap, ◌∙◌}
 use Rattle.std.specs.List.{AllByRecursion, list_any}
 use Rattle.std.specs.Option.{option_or}
 use Rattle.std.proofs.lemmas.List.Elements.{recursion_from_All, All-from_recursion}
@@ -20,13 +21,15 @@ use Rattle.rule_templates.specs.declared.lines.TemplateLine.{TemplateLine}
 use Rattle.set_text.specs.Fault.{Fault, whole, unless, with_value, in_file, bytes_in, unlike}
 use Rattle.set_text.specs.FileNames as name
 use Rattle.set_text.specs.FileNames.{bucket_file, load_file, is_bucket_file, is_load_file, is_other_file, fixed_files}
-use Rattle.set_text.specs.Reading.{odd_file, buckets_behind, layout_fault, managed_fault, fallback_fault, load_fault, is_laid_out, is_bare, only, read_of}
+use Rattle.set_text.specs.Reading.{odd_file, buckets_behind, layout_fault, managed_fault, fallback_fault, load_fault}
+use Rattle.set_text.specs.Reading.{is_laid_out, is_bare, only, read_of}
 use Rattle.set_text.specs.Registry.{users_of, installs_of}
 use Rattle.set_text.specs.Template.{load_text}
 use Rattle.set_text.specs.Refusal.{Refuses}
 use Rattle.set_text.specs.declared.refusals.TextRefusal.{TextRefusal}
 use Rattle.set_text.specs.parts.Names.{RefusesTest}
-use Rattle.set_text.specs.parts.Parts.{stamp_part, headings_part, registry_part, template_part, layout_fault_of, managed_fault_of, fallback_fault_of, beside}
+use Rattle.set_text.specs.parts.Parts.{stamp_part, headings_part, registry_part, template_part, layout_fault_of}
+use Rattle.set_text.specs.parts.Parts.{managed_fault_of, fallback_fault_of, beside}
 use Rattle.set_text.specs.parts.Stages.{desk_of, joint_fault, with_template, with_buckets}
 use Rattle.set_text.proofs.ReadingFaults.{skip-test, skip-part, stop-test, stop-part}
 

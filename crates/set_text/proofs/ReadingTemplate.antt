@@ -1,5 +1,7 @@
 -- A template, read one line behind the other.
-use Rattle.std.proofs.Common.{◌≡◌, ℕ, ◌+◌, ◌<◌, ◌≤◌, Bool, true, false, not, cond, ◌&&◌, nat_lt, List, [], ◌∷◌, ◌++◌, length, Option, Some, None, is_some, Result, Ok, Err, option_map, refl, sym, ap, ◌∙◌, arith, append-nil, length-append}
+use Rattle.std.proofs.Common.{◌≡◌, ℕ, ◌+◌, ◌<◌, ◌≤◌, Bool, true, false, not, cond, ◌&&◌, nat_lt, List, [], ◌∷◌, ◌++◌}
+use Rattle.std.proofs.Common.{length, Option, Some, None, is_some, Result, Ok, Err, option_map, refl, sym, ap, ◌∙◌}
+use Rattle.std.proofs.Common.{arith, append-nil, length-append}
 use Rattle.std.specs.List.{list_all}
 use Rattle.std.proofs.lemmas.Bool.{ltb-false, ltb-true, lt-ltb, le-ltb, le-leb}
 use Rattle.std.proofs.lemmas.List.Folds.{list_all-append}
@@ -11,13 +13,16 @@ use Rattle.rule_templates.specs.declared.lines.Change.{Change}
 use Rattle.rule_templates.specs.declared.lines.TemplateLine.{TemplateLine}
 use Rattle.rule_templates.specs.declared.placeholders.Placeholder.{Placeholder}
 use Rattle.rule_templates.specs.declared.templates.TemplateRefusal.{TemplateRefusal}
-use Rattle.rule_templates.specs.declared.templates.TemplateRefusal.TheVariants.{BadLine, BadPlaceholder, TooMany, Memory}
+use Rattle.rule_templates.specs.declared.templates.TemplateRefusal.TheVariants.{BadLine, BadPlaceholder, TooMany}
+use Rattle.rule_templates.specs.declared.templates.TemplateRefusal.TheVariants.{Memory}
 use Rattle.rule_templates.specs.Placeholder.{placeholder_of, begins_with_tilde}
-use Rattle.rule_templates.specs.TemplateLine.{line_text, line_of, line_of_words, line_with, word_of, change_of, is_label_word, is_kept_word, is_kept_line}
+use Rattle.rule_templates.specs.TemplateLine.{line_text, line_of, line_of_words, line_with, word_of, change_of}
+use Rattle.rule_templates.specs.TemplateLine.{is_label_word, is_kept_word, is_kept_line}
 use Rattle.rule_templates.specs.Template.{with_front, with_line, with_one_more, template_text, is_template}
 use Rattle.smack_rules.specs.Words.{words_of}
 use Rattle.set_text.specs.Lines.{kept}
-use Rattle.set_text.specs.Template.{spelt_line, template_line_of, template_line_fits, read_template_line, template_lines_of}
+use Rattle.set_text.specs.Template.{spelt_line, template_line_of, template_line_fits, read_template_line}
+use Rattle.set_text.specs.Template.{template_lines_of}
 use Rattle.rule_templates.specs.TemplateRead.{RefusesAs}
 use Rattle.set_text.specs.parts.Puts.{IsWrongLine, PutsLine}
 use Rattle.set_text.proofs.Numbering.{same_text-last}

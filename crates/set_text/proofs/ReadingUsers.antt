@@ -1,5 +1,6 @@
 -- What holds of the users that a text gives.
-use Rattle.std.proofs.Common.{◌≡◌, ℕ, ◌≤◌, true, cond, nat_lt, List, [], ◌∷◌, ◌++◌, length, Some, None, Ok, ap, arith, length-append}
+use Rattle.std.proofs.Common.{◌≡◌, ℕ, ◌≤◌, true, cond, nat_lt, List, [], ◌∷◌, ◌++◌, length, Some, None, Ok, ap, arith}
+use Rattle.std.proofs.Common.{length-append}
 use Rattle.std.proofs.lemmas.Bool.{and_parts, ltb-true, le-ltb}
 use Rattle.cynara_keys.specs.declared.limits.Counted.TheVariants.{Users}
 use Rattle.app_registry.specs.Registry.{user_cmp}

@@ -1,5 +1,6 @@
 -- What `stamp` says at each form of its text.
-use Rattle.std.proofs.Common.{◌≡◌, ℕ, ◌==◌, cond, true, false, List, [], ◌∷◌, ◌++◌, length, map, Option, Some, None, Ok, Err, refl, ap, ◌∙◌}
+use Rattle.std.proofs.Common.{◌≡◌, ℕ, ◌==◌, cond, true, false, List, [], ◌∷◌, ◌++◌, length, map, Option, Some, None, Ok}
+use Rattle.std.proofs.Common.{Err, refl, ap, ◌∙◌}
 use Rattle.std.proofs.lemmas.Bool.{true≢false}
 use Rattle.std.specs.List.{onto_first}
 use Rattle.text_lines.specs.Lines.{is_newline, HasNoNewline, pieces_of}
@@ -7,18 +8,23 @@ use Rattle.desk_state.specs.declared.desks.TheConstants.{LAST_COMMIT}
 use Rattle.set_text.specs.Lines.{whole_line, whole_lines, values_behind, at_least_one}
 use Rattle.set_text.specs.Numbers.{decimal_of}
 use Rattle.set_text.specs.Stamp.{read_commit, commits_of}
-use Rattle.set_text.proofs.TextLines.{values_behind-value, values_behind-wrong, values_behind-open, values_behind-done, some-bytes, some-length}
+use Rattle.set_text.proofs.TextLines.{values_behind-value, values_behind-wrong, values_behind-open, values_behind-done}
+use Rattle.set_text.proofs.TextLines.{some-bytes, some-length}
 
 pub commits-open : (text : List ℕ) → HasNoNewline text → commits_of text ≡ Err 1
 commits-open [] none = refl
 commits-open (byte ∷ bytes) none =
-    ap at_least_one (values_behind-open read_commit [] (byte ∷ bytes) none (some-bytes (byte ∷ bytes) (some-length byte bytes)))
+    ap at_least_one
+    (values_behind-open read_commit [] (byte ∷ bytes) none (some-bytes (byte ∷ bytes) (some-length byte bytes)))
 
-pub commits-wrong : (text line rest : List ℕ) → text ≡ line ++ 10 ∷ rest → HasNoNewline line → decimal_of LAST_COMMIT line ≡ None
+pub commits-wrong : (text line rest : List ℕ) → text ≡ line ++ 10 ∷ rest → HasNoNewline line
+    → decimal_of LAST_COMMIT line ≡ None
     → commits_of text ≡ Err 1
-commits-wrong text line rest is none wrong = ap at_least_one (values_behind-wrong read_commit [] text line rest is none wrong)
+commits-wrong text line rest is none wrong =
+    ap at_least_one (values_behind-wrong read_commit [] text line rest is none wrong)
 
-piece-of : (byte : ℕ) (pieces : List (List ℕ)) → (first : List ℕ) × (others : List (List ℕ)) × (onto_first byte pieces ≡ first ∷ others)
+piece-of : (byte : ℕ) (pieces : List (List ℕ))
+    → (first : List ℕ) × (others : List (List ℕ)) × (onto_first byte pieces ≡ first ∷ others)
 piece-of byte [] = (byte ∷ [], [], refl)
 piece-of byte (piece ∷ pieces) = (byte ∷ piece, pieces, refl)
 

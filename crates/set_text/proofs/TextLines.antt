@@ -1,5 +1,6 @@
 -- A text, cut at its first newline, and what its lines give.
-use Rattle.std.proofs.Common.{◌≡◌, ◌≢◌, ℕ, ◌+◌, ◌==◌, cond, true, false, List, [], ◌∷◌, ◌++◌, length, map, Option, Some, None, Result, Ok, Err, refl, sym, ap, ◌∙◌, rules}
+use Rattle.std.proofs.Common.{◌≡◌, ◌≢◌, ℕ, ◌+◌, ◌==◌, cond, true, false, List, [], ◌∷◌, ◌++◌, length, map, Option, Some}
+use Rattle.std.proofs.Common.{None, Result, Ok, Err, refl, sym, ap, ◌∙◌, rules}
 use Rattle.std.proofs.lemmas.Bool.{true≢false}
 use Rattle.std.specs.Option.{option_map}
 use Rattle.text_lines.specs.Lines.{HasNoNewline}
@@ -31,9 +32,11 @@ fields_of-some (byte ∷ bytes) =
     ]
 
 -- the first line, where a newline ends it
-pub whole_lines-newline : (line rest : List ℕ) → HasNoNewline line → whole_lines (line ++ 10 ∷ rest) ≡ Some line ∷ whole_lines rest
+pub whole_lines-newline : (line rest : List ℕ) → HasNoNewline line
+    → whole_lines (line ++ 10 ∷ rest) ≡ Some line ∷ whole_lines rest
 whole_lines-newline line rest none =
-    ap (map whole_line) (pieces_of-newline line rest none) ∙ ap (λ first. first ∷ whole_lines rest) (whole_line-newline line none)
+    ap (map whole_line) (pieces_of-newline line rest none)
+    ∙ ap (λ first. first ∷ whole_lines rest) (whole_line-newline line none)
 
 -- a text that has bytes and no newline
 pub whole_lines-open : (text : List ℕ) → HasNoNewline text → text ≢ [] → whole_lines text ≡ None ∷ []
@@ -70,7 +73,8 @@ module _ {X : Type 0} (read : List X → List ℕ → Option X) (before : List X
   values_behind-value text line rest value is none gives = first_line text line rest is none ∙ ap (with_line rest) gives
 
   -- a line that gives none
-  pub values_behind-wrong : (text line rest : List ℕ) → text ≡ line ++ 10 ∷ rest → HasNoNewline line → read before line ≡ None
+  pub values_behind-wrong : (text line rest : List ℕ) → text ≡ line ++ 10 ∷ rest → HasNoNewline line
+      → read before line ≡ None
       → values_behind read before (whole_lines text) ≡ Err (length before + 1)
   unfolding with_line
   values_behind-wrong text line rest is none gives = first_line text line rest is none ∙ ap (with_line rest) gives
@@ -81,7 +85,8 @@ module _ {X : Type 0} (read : List X → List ℕ → Option X) (before : List X
   values_behind-open text none some = ap (values_behind read before) (whole_lines-open text none some)
 
   -- no line is left
-  pub values_behind-done : (text : List ℕ) → (length text == 0) ≡ true → values_behind read before (whole_lines text) ≡ Ok before
+  pub values_behind-done : (text : List ℕ) → (length text == 0) ≡ true
+      → values_behind read before (whole_lines text) ≡ Ok before
   values_behind-done [] none = refl
   values_behind-done (byte ∷ bytes) none = absurd (true≢false (sym none ∙ some-length byte bytes))
 

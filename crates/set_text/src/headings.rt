@@ -49,7 +49,8 @@ pub fn buckets_text(alloc: Global, buckets: &[Bucket]) -> Result<Vec<u8>, AllocE
 }
 
 fn append_heading(bucket: &Bucket, text: &mut Vec<u8>) -> Result<(), AllocError>
-    ensures text { OnOk result (text.new.items ≡ text.old.items ++ (word.heading_line (heading_of bucket.now) ++ 10 ∷ [])) }
+    ensures text { OnOk result
+        (text.new.items ≡ text.old.items ++ (word.heading_line (heading_of bucket.now) ++ 10 ∷ [])) }
     ensures spelt { OnOk result (IsHeading (heading_of bucket.now)) }
 {
     text.extend_from_slice(bucket.name().as_slice())?;

@@ -1,6 +1,7 @@
 //! The tests of a whole state that is read: the layout, and what users and installs decide.
 
-ghost use Rattle.std.specs.Prelude.{◌≡◌, ◌==◌, ◌&&◌, ◌∷◌, not, true, None, length, map, insert, slice_set, IfOk, OnOk, MatchResult};
+ghost use Rattle.std.specs.Prelude.{◌≡◌, ◌==◌, ◌&&◌, ◌∷◌, not, true, None, length, map, insert, slice_set, IfOk, OnOk};
+ghost use Rattle.std.specs.Prelude.{MatchResult};
 ghost use Rattle.std.specs.List.{AllByRecursion, list_all, list_any};
 ghost use Rattle.std.specs.List.Sorted.{IsStrictlySortedBy, IsSearchInRange};
 ghost use Rattle.cynara_keys.specs.BucketName.{is_bucket_name};
@@ -15,7 +16,8 @@ ghost use Rattle.desk_ports.specs.FileMap.{NamesRise, names_of};
 ghost use Rattle.desk_state.specs.Layout as layout;
 ghost use Rattle.set_text.specs.Buckets as word;
 ghost use Rattle.set_text.specs.parts.Names.{RefusesTest};
-ghost use Rattle.set_text.specs.parts.Parts.{has_all, has_name, has_some, is_empty, layout_fault_of, managed_fault_of, fallback_fault_of};
+ghost use Rattle.set_text.specs.parts.Parts.{has_all, has_name, has_some, is_empty, layout_fault_of, managed_fault_of};
+ghost use Rattle.set_text.specs.parts.Parts.{fallback_fault_of};
 
 use crate::file_names::BUCKETS;
 use crate::headings::{BucketHeading, has_heading};

@@ -1,6 +1,7 @@
 //! Reading `apps` line by line, with the rules of a registry.
 
-ghost use Rattle.std.specs.Prelude.{◌≡◌, ◌≤◌, ◌+◌, ◌++◌, ◌∷◌, ◌&&◌, [], is_none, None, length, Ok, IfOk, IsTrue, MatchResult};
+ghost use Rattle.std.specs.Prelude.{◌≡◌, ◌≤◌, ◌+◌, ◌++◌, ◌∷◌, ◌&&◌, [], is_none, None, length, Ok, IfOk, IsTrue};
+ghost use Rattle.std.specs.Prelude.{MatchResult};
 ghost use Rattle.app_registry.specs.Install.{install_cmp, same_author};
 ghost use Rattle.app_registry.specs.Refusal.{unknown_scope, owner_fault};
 ghost use Rattle.app_registry.specs.Registry.{has_user};

@@ -1,5 +1,7 @@
 -- The files of a state read back as the state.
-use Rattle.std.proofs.Common.{◌≡◌, ℕ, ◌+◌, ◌≤◌, ◌⊎◌, inl, inr, Bool, true, false, not, cond, ltb, ◌&&◌, ◌||◌, ◌==◌, List, [], ◌∷◌, ◌++◌, length, map, Option, Some, None, is_some, Result, Ok, refl, sym, ap, ◌∙◌, arith, append_assoc, append-nil}
+use Rattle.std.proofs.Common.{◌≡◌, ℕ, ◌+◌, ◌≤◌, ◌⊎◌, inl, inr, Bool, true, false, not, cond, ltb, ◌&&◌, ◌||◌, ◌==◌}
+use Rattle.std.proofs.Common.{List, [], ◌∷◌, ◌++◌, length, map, Option, Some, None, is_some, Result, Ok, refl, sym, ap}
+use Rattle.std.proofs.Common.{◌∙◌, arith, append_assoc, append-nil}
 use Rattle.std.specs.List.{AllByRecursion, list_any, flat_map, filter}
 use Rattle.std.specs.List.Sorted.{IsStrictlySortedBy}
 use Rattle.std.specs.Option.{option_or}
@@ -35,7 +37,8 @@ use Rattle.set_text.specs.FileNames as name
 use Rattle.set_text.specs.FileNames.{bucket_file, load_file, is_bucket_file, is_load_file, is_other_file, fixed_files}
 use Rattle.set_text.specs.Files.{files}
 use Rattle.set_text.specs.IsSpelt.{IsSpelt, IsPolicy}
-use Rattle.set_text.specs.Reading.{policy_count, buckets_behind, is_laid_out, is_bare, layout_fault, managed_fault, fallback_fault, load_fault, read_of}
+use Rattle.set_text.specs.Reading.{policy_count, buckets_behind, is_laid_out, is_bare, layout_fault, managed_fault}
+use Rattle.set_text.specs.Reading.{fallback_fault, load_fault, read_of}
 use Rattle.set_text.specs.Registry.{is_ident, installs_of, users_of}
 use Rattle.set_text.specs.Stamp.{commits_of}
 use Rattle.set_text.specs.Buckets.{headings_of}
@@ -49,8 +52,10 @@ use Rattle.set_text.proofs.round.OtherLines.{stamp-read, template-lines-read}
 use Rattle.set_text.proofs.round.PolicyLines.{policies-read}
 use Rattle.set_text.proofs.round.Reads.{IsRead, facts-read}
 use Rattle.set_text.proofs.round.Regrouped.{filled, own-rises, database-again}
-use Rattle.set_text.proofs.round.SetBytes.{bytes-bucket, bytes-load, bytes-apps, bytes-buckets, bytes-stamp, bytes-template, bytes-users}
-use Rattle.set_text.proofs.round.SetNames.{bucket_names, load_names, names-are, packages-named, other-names, bucket-names, load-names, none-odd}
+use Rattle.set_text.proofs.round.SetBytes.{bytes-bucket, bytes-load, bytes-apps, bytes-buckets, bytes-stamp}
+use Rattle.set_text.proofs.round.SetBytes.{bytes-template, bytes-users}
+use Rattle.set_text.proofs.round.SetNames.{bucket_names, load_names, names-are, packages-named, other-names}
+use Rattle.set_text.proofs.round.SetNames.{bucket-names, load-names, none-odd}
 use Rattle.set_text.proofs.round.Tests.{none-when}
 use Rattle.set_text.proofs.round.UserLines.{users-read}
 

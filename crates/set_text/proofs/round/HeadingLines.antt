@@ -1,5 +1,6 @@
 -- The lines of `buckets`, written and read.
-use Rattle.std.proofs.Common.{◌≡◌, ℕ, ◌+◌, ◌≤◌, true, false, not, cond, ◌&&◌, ◌||◌, ◌==◌, ltb, List, [], ◌∷◌, ◌++◌, length, Some, None, Ok, refl, sym, ap, subst, ◌∙◌, arith, length-append}
+use Rattle.std.proofs.Common.{◌≡◌, ℕ, ◌+◌, ◌≤◌, true, false, not, cond, ◌&&◌, ◌||◌, ◌==◌, ltb, List, [], ◌∷◌, ◌++◌}
+use Rattle.std.proofs.Common.{length, Some, None, Ok, refl, sym, ap, subst, ◌∙◌, arith, length-append}
 use Rattle.std.specs.declared.cmp.Ordering.TheVariants.{Less}
 use Rattle.std.specs.Option.{option_map}
 use Rattle.std.specs.List.{AllByRecursion, list_any}
@@ -18,14 +19,16 @@ use Rattle.bucket_store.specs.WellFormed.{IsWellFormed}
 use Rattle.bucket_store.proofs.Lists.{All-weaker}
 use Rattle.text_lines.specs.Lines.{HasNoNewline}
 use Rattle.set_text.specs.Lines.{joined, fields_of, values_of, at_least_one, rises_above}
-use Rattle.set_text.specs.Buckets.{ruling_of, heading_line, buckets_text, heading_of_fields, heading_of, is_root_or_later, heading_fits, read_heading, headings_of}
+use Rattle.set_text.specs.Buckets.{ruling_of, heading_line, buckets_text, heading_of_fields, heading_of}
+use Rattle.set_text.specs.Buckets.{is_root_or_later, heading_fits, read_heading, headings_of}
 use Rattle.set_text.specs.IsSpelt.{IsHeading}
 use Rattle.set_text.specs.Numbers.{kind_text}
 use Rattle.set_text.proofs.round.Fields.{IsPlain, fields_of-joined, newline-joined, joined-fields_of}
 use Rattle.set_text.proofs.round.Plain.{plain-bucket, plain-kind, plain-metadata}
 use Rattle.set_text.proofs.round.Results.{some-when, some-made, ruling-read, ruling-spelled}
 use Rattle.set_text.proofs.round.Tests.{not-true}
-use Rattle.set_text.proofs.round.Values.{AllFit, fit-both, fit-first, fit-second, fit-each, each-fit, rises-fit, fit-rises, few-fit, fit-few, values-read, values-spelled, some-line}
+use Rattle.set_text.proofs.round.Values.{AllFit, fit-both, fit-first, fit-second, fit-each, each-fit, rises-fit}
+use Rattle.set_text.proofs.round.Values.{fit-rises, few-fit, fit-few, values-read, values-spelled, some-line}
 
 pub heading_total : IsTotalOrder heading_cmp
 heading_total = on_total (λ (heading : Heading). heading.name) text_total

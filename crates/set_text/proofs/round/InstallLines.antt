@@ -1,5 +1,6 @@
 -- The lines of `apps`, written and read.
-use Rattle.std.proofs.Common.{◌≡◌, ℕ, Bool, true, false, cond, ◌&&◌, decimal, List, [], ◌∷◌, Option, Some, None, refl, sym, ap, subst, ◌∙◌, arith}
+use Rattle.std.proofs.Common.{◌≡◌, ℕ, Bool, true, false, cond, ◌&&◌, decimal, List, [], ◌∷◌, Option, Some, None, refl}
+use Rattle.std.proofs.Common.{sym, ap, subst, ◌∙◌, arith}
 use Rattle.std.specs.declared.cmp.Ordering.TheVariants.{Less}
 use Rattle.std.specs.Option.{option_map}
 use Rattle.std.specs.List.{AllByRecursion, list_all}
@@ -20,7 +21,8 @@ use Rattle.text_lines.specs.Lines.{HasNoNewline}
 use Rattle.set_text.specs.IsSpelt.{IsAuthor, IsScope, IsInstall}
 use Rattle.set_text.specs.Lines.{joined, fields_of}
 use Rattle.set_text.specs.Numbers.{decimal_of}
-use Rattle.set_text.specs.Registry.{last_uid, author_text, scope_text, install_line, is_ident, is_author, author_of, scope_of, are_rising, are_privileges, install_of_fields, install_of}
+use Rattle.set_text.specs.Registry.{last_uid, author_text, scope_text, install_line, is_ident, is_author, author_of}
+use Rattle.set_text.specs.Registry.{scope_of, are_rising, are_privileges, install_of_fields, install_of}
 use Rattle.set_text.proofs.Numbering.{decimal_of-decimal, decimal_of-text}
 use Rattle.set_text.proofs.round.Fields.{IsPlain, fields_of-joined, newline-joined, joined-fields_of}
 use Rattle.set_text.proofs.round.Plain.{plain-is_name, plain-ident, plain-none, plain-wildcard, plain-decimal}

@@ -1,5 +1,7 @@
 -- The rules of installs: those of each line, with the installs before it, and those of all.
-use Rattle.std.proofs.Common.{◌≡◌, ℕ, ◌≤◌, Bool, true, false, not, cond, ◌&&◌, find, List, [], ◌∷◌, ◌++◌, length, map, Option, Some, None, is_none, Ok, refl, sym, ap, subst, ◌∙◌, arith, append_assoc, append-nil, length-append}
+use Rattle.std.proofs.Common.{◌≡◌, ℕ, ◌≤◌, Bool, true, false, not, cond, ◌&&◌, find, List, [], ◌∷◌, ◌++◌, length, map}
+use Rattle.std.proofs.Common.{Option, Some, None, is_none, Ok, refl, sym, ap, subst, ◌∙◌, arith, append_assoc}
+use Rattle.std.proofs.Common.{append-nil, length-append}
 use Rattle.std.specs.Option.{option_map}
 use Rattle.std.specs.List.{AllByRecursion, dedup_from}
 use mathlib.Core.Bool.{and-false}
@@ -10,7 +12,8 @@ use Rattle.cynara_keys.specs.Text.{same_text}
 use Rattle.cynara_keys.specs.declared.limits.Counted.TheVariants.{Users, Packages, Installs, Grants}
 use Rattle.cynara_keys.proofs.Order.{same_text-≡, ≡-same_text}
 use Rattle.app_registry.specs.Install.{install_cmp, same_author}
-use Rattle.app_registry.specs.Refusal.{unknown_scope, is_elsewhere, other_package, is_by_another, other_author, owner_fault, over, installs_limit}
+use Rattle.app_registry.specs.Refusal.{unknown_scope, is_elsewhere, other_package, is_by_another, other_author}
+use Rattle.app_registry.specs.Refusal.{owner_fault, over, installs_limit}
 use Rattle.app_registry.specs.Registry.{RegistryLists, packages, grant_count}
 use Rattle.app_registry.specs.Rules.{IsRegistry}
 use Rattle.app_registry.specs.declared.installs.Install.{Install}
@@ -28,7 +31,8 @@ use Rattle.set_text.specs.Registry.{install_line, apps_text, install_of, install
 use Rattle.set_text.proofs.round.InstallLines.{install-newline, install-read, install-spelled}
 use Rattle.set_text.proofs.round.Plain.{none-is}
 use Rattle.set_text.proofs.round.UserLines.{AreUsers}
-use Rattle.set_text.proofs.round.Values.{AllFit, fit-both, fit-first, fit-second, rises-fit, fit-rises, values-read, values-spelled}
+use Rattle.set_text.proofs.round.Values.{AllFit, fit-both, fit-first, fit-second, rises-fit, fit-rises, values-read}
+use Rattle.set_text.proofs.round.Values.{values-spelled}
 
 -- ---- what was not found
 

@@ -1,5 +1,6 @@
 -- What users and installs decide, as policies that have a text of their own.
-use Rattle.std.proofs.Common.{◌≡◌, ℕ, ◌<◌, ◌≤◌, ◌^◌, true, decimal, List, [], ◌∷◌, map, Some, is_none, Ok, refl, ap, ◌∙◌, arith}
+use Rattle.std.proofs.Common.{◌≡◌, ℕ, ◌<◌, ◌≤◌, ◌^◌, true, decimal, List, [], ◌∷◌, map, Some, is_none, Ok, refl, ap}
+use Rattle.std.proofs.Common.{◌∙◌, arith}
 use Rattle.std.specs.List.{AllByRecursion}
 use Rattle.cynara_keys.specs.BucketName.{is_bucket_name}
 use Rattle.cynara_keys.specs.Metadata.{is_metadata}

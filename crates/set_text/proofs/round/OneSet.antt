@@ -26,8 +26,11 @@ use Rattle.set_text.proofs.round.InstallRules.{installs-spelled}
 use Rattle.set_text.proofs.round.Lists.{each-there}
 use Rattle.set_text.proofs.round.OtherLines.{stamp-spelled, template-lines-spelled}
 use Rattle.set_text.proofs.round.Reads.{IsRead, read-facts}
-use Rattle.set_text.proofs.round.SetBytes.{bytes-bucket, bytes-load, bytes-apps, bytes-buckets, bytes-stamp, bytes-template, bytes-users, same-files}
-use Rattle.set_text.proofs.round.SetNames.{bucket_names, load_names, last_names, all_names, names-are, names-rise, packages-rise, packages-named, other-names, bucket-names, load-names, odd-none, known-by-sorts}
+use Rattle.set_text.proofs.round.SetBytes.{bytes-bucket, bytes-load, bytes-apps, bytes-buckets, bytes-stamp}
+use Rattle.set_text.proofs.round.SetBytes.{bytes-template, bytes-users, same-files}
+use Rattle.set_text.proofs.round.SetNames.{bucket_names, load_names, last_names, all_names, names-are, names-rise}
+use Rattle.set_text.proofs.round.SetNames.{packages-rise, packages-named, other-names, bucket-names, load-names}
+use Rattle.set_text.proofs.round.SetNames.{odd-none, known-by-sorts}
 use Rattle.set_text.proofs.round.UserLines.{users-spelled}
 
 pub unplaced : (name : List ℕ) (policies : List Policy)

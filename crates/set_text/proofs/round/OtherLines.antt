@@ -1,5 +1,7 @@
 -- The lines of `stamp` and of `template`, written and read.
-use Rattle.std.proofs.Common.{◌≡◌, ℕ, ◌+◌, ◌≤◌, Bool, true, false, not, cond, ◌&&◌, nat_le, decimal, List, [], ◌∷◌, ◌++◌, length, Option, Some, None, Result, Ok, Err, refl, sym, ap, subst, ◌∙◌, arith, length-append, append-nil}
+use Rattle.std.proofs.Common.{◌≡◌, ℕ, ◌+◌, ◌≤◌, Bool, true, false, not, cond, ◌&&◌, nat_le, decimal, List, [], ◌∷◌}
+use Rattle.std.proofs.Common.{◌++◌, length, Option, Some, None, Result, Ok, Err, refl, sym, ap, subst, ◌∙◌, arith}
+use Rattle.std.proofs.Common.{length-append, append-nil}
 use Rattle.std.specs.Option.{option_map}
 use Rattle.std.specs.List.{AllByRecursion, list_all}
 use Rattle.std.proofs.lemmas.Bool.{le-leb, leb-true}
@@ -20,7 +22,8 @@ use Rattle.rule_templates.specs.declared.lines.TemplateLine.{TemplateLine}
 use Rattle.rule_templates.specs.declared.placeholders.Placeholder.{Placeholder}
 use Rattle.rule_templates.specs.declared.templates.TheConstants.{LINE_LIMIT}
 use Rattle.rule_templates.specs.Placeholder.{placeholder_of, begins_with_tilde}
-use Rattle.rule_templates.specs.TemplateLine.{line_text, is_label_word, word_of, change_of, line_with, line_of_words, line_of, is_kept_word, is_kept_line}
+use Rattle.rule_templates.specs.TemplateLine.{line_text, is_label_word, word_of, change_of, line_with, line_of_words}
+use Rattle.rule_templates.specs.TemplateLine.{line_of, is_kept_word, is_kept_line}
 use Rattle.rule_templates.specs.Template.{template_text, is_template}
 use Rattle.rule_templates.proofs.LineSpelled.{both, line_words, line_words-plain, line_of-line_text}
 use Rattle.desk_state.specs.declared.desks.TheConstants.{LAST_COMMIT}
@@ -33,7 +36,8 @@ use Rattle.set_text.proofs.Refusing.{some-if}
 use Rattle.set_text.proofs.Stamping.{commits-one}
 use Rattle.set_text.proofs.round.Plain.{plain-decimal}
 use Rattle.set_text.proofs.round.Results.{some-made}
-use Rattle.set_text.proofs.round.Values.{few-fit, fit-few, values-read, values-spelled, some-line, lines-text, reading, Gave}
+use Rattle.set_text.proofs.round.Values.{few-fit, fit-few, values-read, values-spelled, some-line, lines-text, reading}
+use Rattle.set_text.proofs.round.Values.{Gave}
 
 -- ---- the stamp
 

@@ -1,5 +1,6 @@
 -- The texts of fields have no semicolon and no newline in them.
-use Rattle.std.proofs.Common.{◌≡◌, ℕ, ◌<◌, ◌^◌, ◌+◌, Bool, true, false, not, cond, ltb, List, [], ◌∷◌, codes, decimal, position, Option, Some, None, is_none, refl, arith}
+use Rattle.std.proofs.Common.{◌≡◌, ℕ, ◌<◌, ◌^◌, ◌+◌, Bool, true, false, not, cond, ltb, List, [], ◌∷◌, codes, decimal}
+use Rattle.std.proofs.Common.{position, Option, Some, None, is_none, refl, arith}
 use Rattle.std.specs.Fmt.{digits, digit_glyph}
 use Rattle.std.specs.List.{AllByRecursion}
 use Rattle.std.proofs.lemmas.Bool.Decides.{nat_tests}

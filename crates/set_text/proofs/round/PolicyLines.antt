@@ -1,5 +1,6 @@
 -- The lines of the file of a bucket, written and read.
-use Rattle.std.proofs.Common.{◌≡◌, ℕ, ◌+◌, ◌≤◌, Bool, true, false, cond, ◌&&◌, ltb, List, [], ◌∷◌, ◌++◌, length, Option, Some, None, is_none, Ok, refl, sym, ap, subst, ◌∙◌, arith, length-append}
+use Rattle.std.proofs.Common.{◌≡◌, ℕ, ◌+◌, ◌≤◌, Bool, true, false, cond, ◌&&◌, ltb, List, [], ◌∷◌, ◌++◌, length, Option}
+use Rattle.std.proofs.Common.{Some, None, is_none, Ok, refl, sym, ap, subst, ◌∙◌, arith, length-append}
 use Rattle.std.specs.List.{AllByRecursion}
 use Rattle.std.specs.List.Sorted.{IsStrictlySortedBy}
 use Rattle.std.proofs.lemmas.Bool.{and_parts}
@@ -20,14 +21,16 @@ use Rattle.bucket_store.proofs.Lists.{All-weaker}
 use Rattle.bucket_store.proofs.Sound.{policy_total}
 use Rattle.text_lines.specs.Lines.{HasNoNewline}
 use Rattle.set_text.specs.Lines.{joined, fields_of, rises_above}
-use Rattle.set_text.specs.Buckets.{ruling_of, policy_line, bucket_text, is_field, key_of, key_in, policy_with, policy_of_fields, policy_of, has_target, policy_fits, policies_of}
+use Rattle.set_text.specs.Buckets.{ruling_of, policy_line, bucket_text, is_field, key_of, key_in, policy_with}
+use Rattle.set_text.specs.Buckets.{policy_of_fields, policy_of, has_target, policy_fits, policies_of}
 use Rattle.set_text.specs.IsSpelt.{IsField, IsKey, IsPolicy}
 use Rattle.set_text.specs.Numbers.{kind_text}
 use Rattle.set_text.proofs.Refusing.{some-if}
 use Rattle.set_text.proofs.round.Fields.{IsPlain, fields_of-joined, newline-joined, joined-fields_of}
 use Rattle.set_text.proofs.round.Plain.{none-is, plain-is_name, plain-wildcard, plain-kind, plain-metadata}
 use Rattle.set_text.proofs.round.Results.{ruling-read, ruling-spelled}
-use Rattle.set_text.proofs.round.Values.{fit-both, fit-first, fit-second, fit-each, each-fit, rises-fit, fit-rises, few-fit, fit-few, values-read, values-spelled}
+use Rattle.set_text.proofs.round.Values.{fit-both, fit-first, fit-second, fit-each, each-fit, rises-fit, fit-rises}
+use Rattle.set_text.proofs.round.Values.{few-fit, fit-few, values-read, values-spelled}
 
 -- ---- a field
 

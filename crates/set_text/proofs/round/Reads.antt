@@ -15,7 +15,8 @@ use Rattle.set_text.specs.Stamp.{commits_of}
 use Rattle.set_text.specs.Buckets.{headings_of}
 use Rattle.set_text.specs.Registry.{users_of, installs_of}
 use Rattle.set_text.specs.Template.{template_lines_of}
-use Rattle.set_text.specs.Reading.{odd_file, buckets_behind, layout_fault, managed_fault, fallback_fault, load_fault, only, read_of}
+use Rattle.set_text.specs.Reading.{odd_file, buckets_behind, layout_fault, managed_fault, fallback_fault, load_fault}
+use Rattle.set_text.specs.Reading.{only, read_of}
 
 -- the steps of a reading, each with what came of those before it
 pub record IsRead (set : List SetFile) (desk : DeskState) : Type 0 where

@@ -1,5 +1,6 @@
 -- The lines of `users`, written and read.
-use Rattle.std.proofs.Common.{◌≡◌, ℕ, ◌+◌, ◌≤◌, Bool, true, false, cond, ltb, find, decimal, List, [], ◌∷◌, ◌++◌, length, Option, Some, None, Ok, refl, sym, ap, subst, ◌∙◌, arith, length-append}
+use Rattle.std.proofs.Common.{◌≡◌, ℕ, ◌+◌, ◌≤◌, Bool, true, false, cond, ltb, find, decimal, List, [], ◌∷◌, ◌++◌}
+use Rattle.std.proofs.Common.{length, Option, Some, None, Ok, refl, sym, ap, subst, ◌∙◌, arith, length-append}
 use Rattle.std.specs.List.{AllByRecursion}
 use Rattle.std.specs.List.Sorted.{IsStrictlySortedBy}
 use Rattle.std.proofs.lemmas.Bool.{le-leb}
@@ -15,11 +16,13 @@ use Rattle.bucket_store.proofs.Lists.{All-weaker}
 use Rattle.text_lines.specs.Lines.{HasNoNewline}
 use Rattle.set_text.specs.Lines.{joined, fields_of, rises_above}
 use Rattle.set_text.specs.Numbers.{decimal_of}
-use Rattle.set_text.specs.Registry.{last_uid, type_word, user_line, users_text, types, type_of, user_with, user_of_fields, user_of, user_fits, users_of}
+use Rattle.set_text.specs.Registry.{last_uid, type_word, user_line, users_text, types, type_of, user_with}
+use Rattle.set_text.specs.Registry.{user_of_fields, user_of, user_fits, users_of}
 use Rattle.set_text.proofs.Numbering.{decimal_of-decimal, decimal_of-text}
 use Rattle.set_text.proofs.round.Fields.{IsPlain, fields_of-joined, newline-joined, joined-fields_of}
 use Rattle.set_text.proofs.round.Plain.{plain-name, plain-decimal}
-use Rattle.set_text.proofs.round.Values.{fit-both, fit-first, fit-second, rises-fit, fit-rises, few-fit, fit-few, values-read, values-spelled}
+use Rattle.set_text.proofs.round.Values.{fit-both, fit-first, fit-second, rises-fit, fit-rises, few-fit, fit-few}
+use Rattle.set_text.proofs.round.Values.{values-read, values-spelled}
 
 -- what was found passes the test
 pub found-passes : {X : Type 0} (test : X → Bool) (xs : List X) (x : X) → find test xs ≡ Some x → test x ≡ true

@@ -1,5 +1,7 @@
 -- What the lines of a text give, and what they have been: a text has one reading, and its values have one text.
-use Rattle.std.proofs.Common.{◌≡◌, ℕ, ◌+◌, ◌-◌, ◌≤◌, Bool, true, false, cond, ◌&&◌, ltb, List, [], ◌∷◌, ◌++◌, length, map, Option, Some, None, Result, Ok, Err, refl, sym, ap, subst, ◌∙◌, arith, append_assoc, append-nil, length-append}
+use Rattle.std.proofs.Common.{◌≡◌, ℕ, ◌+◌, ◌-◌, ◌≤◌, Bool, true, false, cond, ◌&&◌, ltb, List, [], ◌∷◌, ◌++◌, length}
+use Rattle.std.proofs.Common.{map, Option, Some, None, Result, Ok, Err, refl, sym, ap, subst, ◌∙◌, arith, append_assoc}
+use Rattle.std.proofs.Common.{append-nil, length-append}
 use Rattle.std.specs.declared.cmp.Ordering.{Ordering}
 use Rattle.std.specs.declared.cmp.Ordering.TheVariants.{Less}
 use Rattle.std.specs.Cmp.{IsTotalOrder}
@@ -11,7 +13,8 @@ use Rattle.std.proofs.lemmas.Bool.{and_parts, eqb-true, lt-ltb, ltb-true}
 use Rattle.bucket_store.proofs.Lists.{All-weaker}
 use Rattle.bucket_store.proofs.Searching.{lt-Less}
 use Rattle.text_lines.specs.Lines.{is_newline, HasNoNewline, pieces_of}
-use Rattle.set_text.specs.Lines.{text_of, whole_line, whole_lines, values_behind, values_of, at_least_one, kept, last_of, is_above, rises_above}
+use Rattle.set_text.specs.Lines.{text_of, whole_line, whole_lines, values_behind, values_of, at_least_one, kept}
+use Rattle.set_text.specs.Lines.{last_of, is_above, rises_above}
 use Rattle.set_text.proofs.RoundTrips.{ReadBack, values-text}
 
 -- ---- tests of a value in the light of those before it

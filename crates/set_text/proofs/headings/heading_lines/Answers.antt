@@ -1,4 +1,5 @@
-use Rattle.std.proofs.Common.{◌≡◌, ◌==◌, ◌<◌, ◌++◌, ◌∷◌, [], List, length, Err, false, rules, arith, subst, ap, sym, ◌∙◌, length-append}
+use Rattle.std.proofs.Common.{◌≡◌, ◌==◌, ◌<◌, ◌++◌, ◌∷◌, [], List, length, Err, false, rules, arith, subst, ap, sym}
+use Rattle.std.proofs.Common.{◌∙◌, length-append}
 use Rattle.set_text.specs.Lines.{values_of}
 use Rattle.set_text.specs.Buckets.{read_heading}
 use Rattle.bucket_store.specs.Database.{Heading}
@@ -20,11 +21,14 @@ pub returns-in-Err : goal.returns-in-Err
 returns-in-Err c =
     let before = c.loop-rest.headings.items in
     let line = c.in-Some.line.now in
-    let told = subst (λ (list : List Heading). RefusesLine c.in-Err.fault (read_heading list line)) c.deref.ensures.value c.in-Err.ensures.read in
+    let told = subst (λ (list : List Heading). RefusesLine c.in-Err.fault (read_heading list line))
+    c.deref.ensures.value c.in-Err.ensures.read in
     subst (λ fault. RefusesFile fault (values_of read_heading c.args.text.now)) (sym c.at.ensures)
-    (refuses-at c.in-Err.fault c.loop-rest.number (read_heading before line) (values_of read_heading c.args.text.now) told (λ wrong.
+    (refuses-at c.in-Err.fault c.loop-rest.number (read_heading before line)
+    (values_of read_heading c.args.text.now) told (λ wrong.
     sym c.loop-rest.invariant.taken
-    ∙ values_behind-wrong read_heading before c.loop-rest.rest.now line c.in-Some.after.now c.in-Some.ensures.cut c.in-Some.ensures.first wrong
+    ∙ values_behind-wrong read_heading before c.loop-rest.rest.now line c.in-Some.after.now c.in-Some.ensures.cut
+    c.in-Some.ensures.first wrong
     ∙ ap (λ line. Err line) (sym c.loop-rest.invariant.counted)))
 
 pub loop-rest-preserved : goal.loop-rest-preserved
@@ -32,11 +36,13 @@ loop-rest-preserved c =
     let before = c.loop-rest.headings.items in
     let heading = c.in-Ok.heading in
     let pushed : c.push.new.self.items ≡ before ++ heading ∷ [] = search rules in
-    let room : length before < 256 = subst (λ (list : List Heading). length list < 256) c.deref.ensures.value c.in-Ok.ensures.room in
+    let room : length before < 256 =
+    subst (λ (list : List Heading). length list < 256) c.deref.ensures.value c.in-Ok.ensures.room in
     record {
       counted = rw pushed (omega (arith, length-append before (heading ∷ []), c.loop-rest.invariant.counted));
       few = rw pushed (omega (arith, length-append before (heading ∷ []), room));
-      taken = rw pushed (sym (values_behind-value read_heading before c.loop-rest.rest.now c.in-Some.line.now c.in-Some.after.now heading
+      taken = rw pushed (sym
+          (values_behind-value read_heading before c.loop-rest.rest.now c.in-Some.line.now c.in-Some.after.now heading
           c.in-Some.ensures.cut c.in-Some.ensures.first (search rules))
           ∙ c.loop-rest.invariant.taken);
     }

@@ -2,7 +2,8 @@ use Rattle.std.proofs.Common.{◌≡◌, ◌∷◌, Some, ℕ, List, ap, ◌∙�
 use Rattle.set_text.specs.Lines.{fields_of}
 use Rattle.set_text.specs.Registry.{is_ident, is_author, author_of, install_of, install_of_fields}
 use Rattle.set_text.specs.parts.Rights.{rights_of}
-use Rattle.set_text.proofs.ReadingLine.{install_from, install-parts, from-no_app, from-no_rights, from-right, refuses-part}
+use Rattle.set_text.proofs.ReadingLine.{install_from, install-parts, from-no_app, from-no_rights, from-right}
+use Rattle.set_text.proofs.ReadingLine.{refuses-part}
 use Rattle.set_text.proofs.Refusing.{some-if, refuses-if}
 use Rattle.set_text.proofs.installs.install_of.Goals as goal
 
@@ -21,7 +22,8 @@ returns-in-Err-ident_of c =
     refuses-if c.in-Err-ident_of.fault (is_ident app) app (install_of c.args.line.now) c.in-Err-ident_of.ensures
     (λ wrong.
     ap install_of_fields (cut _ _ _
-    (fields_of rest) name author app c.in-Some.ensures.fields c.in-Some-cut_field.ensures.fields c.in-Some-cut_field-2.ensures.fields)
+    (fields_of rest) name author app c.in-Some.ensures.fields c.in-Some-cut_field.ensures.fields
+    c.in-Some-cut_field-2.ensures.fields)
     ∙ install-parts name author app rest ∙ from-no_app name author app (rights_of (fields_of rest)) wrong)
 
 pub returns-in-Err-rights_of : goal.returns-in-Err-rights_of
@@ -33,7 +35,8 @@ returns-in-Err-rights_of c =
     refuses-part c.in-Err-rights_of.fault (rights_of (fields_of rest))
     (install_of c.args.line.now) c.in-Err-rights_of.ensures (λ wrong.
     ap install_of_fields (cut _ _ _
-    (fields_of rest) name author app c.in-Some.ensures.fields c.in-Some-cut_field.ensures.fields c.in-Some-cut_field-2.ensures.fields)
+    (fields_of rest) name author app c.in-Some.ensures.fields c.in-Some-cut_field.ensures.fields
+    c.in-Some-cut_field-2.ensures.fields)
     ∙ install-parts name author app rest ∙ from-no_rights name author app (rights_of (fields_of rest)) wrong)
 
 pub returns : goal.returns
@@ -47,7 +50,8 @@ returns c =
     let second = some-if (is_author author) (author_of author) c.in-Ok-author_of.author c.in-Ok-author_of.ensures in
     let third = some-if (is_ident app) app c.in-Ok-ident_of.app c.in-Ok-ident_of.ensures in
     ap install_of_fields (cut _ _ _
-    (fields_of rest) name author app c.in-Some.ensures.fields c.in-Some-cut_field.ensures.fields c.in-Some-cut_field-2.ensures.fields)
+    (fields_of rest) name author app c.in-Some.ensures.fields c.in-Some-cut_field.ensures.fields
+    c.in-Some-cut_field-2.ensures.fields)
     ∙ install-parts name author app rest
     ∙ ap (install_from name author app) c.in-Ok-rights_of.ensures
     ∙ from-right name author app rights first.0 second.0 third.0

@@ -2,7 +2,8 @@ use Rattle.std.proofs.Common.{◌≡◌, ◌++◌, ◌∷◌, [], Some, true, su
 use Rattle.set_text.specs.Lines.{fields_of}
 use Rattle.set_text.specs.Registry.{are_privileges}
 use Rattle.set_text.specs.parts.Rights.{privilege_fits, privileges_of}
-use Rattle.set_text.proofs.ReadingPrivileges.{are_privileges-more, are_privileges-wrong, privileges_of-right, privileges_of-wrong}
+use Rattle.set_text.proofs.ReadingPrivileges.{are_privileges-more, are_privileges-wrong, privileges_of-right}
+use Rattle.set_text.proofs.ReadingPrivileges.{privileges_of-wrong}
 use Rattle.set_text.proofs.Refusing.{refuses-if}
 use Rattle.set_text.proofs.installs.names_of.Goals as goal
 

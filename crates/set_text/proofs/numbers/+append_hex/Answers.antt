@@ -12,7 +12,8 @@ returns t c =
     let pushed : c.push.new.self.items ≡ c.if-number-ge16.text.items ++ last ∷ [] = search rules in
     elim c.if-number-ge16.branch [
       | then-number-ge16+in_ok-append_hex w ↦
-          pushed ∙ ap (λ (text : List ℕ). text ++ last ∷ []) (ap (λ text. text.items) w.text-is ∙ w.in_ok-append_hex.ensures)
+          pushed ∙ ap (λ (text : List ℕ). text ++ last ∷ [])
+          (ap (λ text. text.items) w.text-is ∙ w.in_ok-append_hex.ensures)
           ∙ append_assoc before (digits 16 false (number / 16)) (last ∷ [])
           ∙ ap (λ ds. before ++ ds) (sym (hex_step number (omega (arith, w.if-number-ge16.true)) (search rules)))
       | else-number-ge16 w ↦

@@ -1,4 +1,5 @@
-use Rattle.std.proofs.Common.{◌≡◌, ◌<◌, ◌≤◌, ◌++◌, ◌∷◌, [], ◌/◌, ◌%◌, ◌&&◌, ◌==◌, length, ℕ, List, Bool, true, false, rules, arith, ap, sym, ◌∙◌, refl}
+use Rattle.std.proofs.Common.{◌≡◌, ◌<◌, ◌≤◌, ◌++◌, ◌∷◌, [], ◌/◌, ◌%◌, ◌&&◌, ◌==◌, length, ℕ, List, Bool, true, false}
+use Rattle.std.proofs.Common.{rules, arith, ap, sym, ◌∙◌, refl}
 use mathlib.Core.Logic.{⊎_elim}
 use Rattle.std.specs.Fmt.{digits, digit_glyph}
 use Rattle.std.proofs.lemmas.Bool.{cases_lt, ne_eqb, eq-eqb}
@@ -13,7 +14,8 @@ no-text (byte ∷ front) last = refl
 none-of : (number : ℕ) → number < 65536 → same_text (digits 16 false number) [] ≡ false
 none-of number small = ⊎_elim
     (λ low. ap (λ ds. same_text ds []) (hex_last number low))
-    (λ high. ap (λ ds. same_text ds []) (hex_step number high small) ∙ no-text (digits 16 false (number / 16)) (digit_glyph false (number % 16)))
+    (λ high. ap (λ ds. same_text ds []) (hex_step number high small)
+    ∙ no-text (digits 16 false (number / 16)) (digit_glyph false (number % 16)))
     (cases_lt number 16)
 
 and-false : (b : Bool) → (b && false) ≡ false
@@ -25,14 +27,17 @@ and-true true = refl
 and-true false = refl
 
 -- the number without its last digit
-other-last : (number : ℕ) (front : List ℕ) (last : ℕ) → number < 65536 → (digit_glyph false (number % 16) == last) ≡ false
+other-last : (number : ℕ) (front : List ℕ) (last : ℕ) → number < 65536
+    → (digit_glyph false (number % 16) == last) ≡ false
     → same_text (digits 16 false number) (front ++ last ∷ []) ≡ false
 other-last number front last small other = ⊎_elim
     (λ low. ap (λ ds. same_text ds (front ++ last ∷ [])) (hex_last number low)
-    ∙ same_text-last [] front (digit_glyph false (number % 16)) last ∙ ap (λ b. same_text [] front && b) other ∙ and-false (same_text [] front))
+    ∙ same_text-last [] front (digit_glyph false (number % 16)) last ∙ ap (λ b. same_text [] front && b) other
+    ∙ and-false (same_text [] front))
     (λ high. ap (λ ds. same_text ds (front ++ last ∷ [])) (hex_step number high small)
     ∙ same_text-last (digits 16 false (number / 16)) front (digit_glyph false (number % 16)) last
-    ∙ ap (λ b. same_text (digits 16 false (number / 16)) front && b) other ∙ and-false (same_text (digits 16 false (number / 16)) front))
+    ∙ ap (λ b. same_text (digits 16 false (number / 16)) front && b) other
+    ∙ and-false (same_text (digits 16 false (number / 16)) front))
     (cases_lt number 16)
 
 nil-of : (bytes : List ℕ) → length bytes ≡ 0 → bytes ≡ []
@@ -54,7 +59,8 @@ returns-then-last-digit t c =
     let parts = c.in-Some.ensures.cases.0 in
     sym (ap (same_text (digits 16 false number)) parts
     ∙ other-last number c.in-Some.front.now c.in-Some.last.now (search rules)
-    (ne_eqb (digit_glyph false (number % 16)) c.in-Some.last.now (λ e. c.if-last-digit.true (sym e ∙ sym c.digit.ensures))))
+    (ne_eqb (digit_glyph false (number % 16)) c.in-Some.last.now
+    (λ e. c.if-last-digit.true (sym e ∙ sym c.digit.ensures))))
 
 pub returns-then-number-lt16 : goal.returns-then-number-lt16
 returns-then-number-lt16 t c =
@@ -77,4 +83,5 @@ returns t c =
     c.is_spelt.ensures ∙ sym (ap (same_text (digits 16 false number)) c.in-Some.ensures.cases.0
     ∙ ap (λ ds. same_text ds (front ++ last ∷ [])) (hex_step number large (search rules))
     ∙ same_text-last (digits 16 false (number / 16)) front (digit_glyph false (number % 16)) last
-    ∙ ap (λ b. same_text (digits 16 false (number / 16)) front && b) same ∙ and-true (same_text (digits 16 false (number / 16)) front))
+    ∙ ap (λ b. same_text (digits 16 false (number / 16)) front && b) same
+    ∙ and-true (same_text (digits 16 false (number / 16)) front))

@@ -40,7 +40,8 @@ pub returns-then-is_decimal : goal.returns-then-is_decimal
 returns-then-is_decimal c =
     let number = c.in-Ok-parse.number in
     let most = c.args.most in
-    let same : decimal number ≡ c.args.text.now = same_text-≡ (decimal number) c.args.text.now (sym c.is_decimal.ensures ∙ c.if-is_decimal.true) in
+    let same : decimal number ≡ c.args.text.now =
+    same_text-≡ (decimal number) c.args.text.now (sym c.is_decimal.ensures ∙ c.if-is_decimal.true) in
     let small : number ≤ most = omega (arith, c.if-number-most.false) in
     let fits : number < 2 ^ 64 = omega (arith, small, c.ranges.most.fits) in
     sym (ap (decimal_of most) (sym same) ∙ decimal_of-decimal most number (le-leb number most small) fits)
@@ -54,5 +55,6 @@ returns-else-is_decimal c =
     let same : c.in-Ok.digits.now ≡ decimal n = c.in-Ok.ensures.cases.0 ∙ sym parts.0 in
     let parsed = parse-decimal 64 n c.in-Ok.digits.now c.parse.result small small same c.parse.ensures.value.0 in
     let equal : number ≡ n = cc in
-    let yes : same_text (decimal number) c.args.text.now ≡ true = ≡-same_text (decimal number) c.args.text.now (ap decimal equal ∙ parts.0) in
+    let yes : same_text (decimal number) c.args.text.now ≡ true =
+    ≡-same_text (decimal number) c.args.text.now (ap decimal equal ∙ parts.0) in
     true≢false (sym yes ∙ sym c.is_decimal.ensures ∙ c.if-is_decimal.false)))

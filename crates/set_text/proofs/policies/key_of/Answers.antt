@@ -32,7 +32,8 @@ all_fields client user privilege a b c first second third =
 pub returns-in-Err-field_of : goal.returns-in-Err-field_of
 returns-in-Err-field_of c =
     let user = c.args.user.now in
-    refuses-if c.in-Err-field_of.fault (is_field user) (field_of user) (key_in c.args.client.now user c.args.privilege.now)
+    refuses-if c.in-Err-field_of.fault (is_field user) (field_of user)
+    (key_in c.args.client.now user c.args.privilege.now)
     c.in-Err-field_of.ensures (no_user c.args.client.now user c.args.privilege.now)
 
 pub returns-in-Ok-field_of-2 : goal.returns-in-Ok-field_of-2

@@ -8,7 +8,8 @@ abbrev pub invariant-loop-rest : goal.invariant-loop-rest
 invariant-loop-rest l = record {
   counted : l.number ≡ length l.policies.items + 1;
   few : l.earlier + length l.policies.items ≤ 65536;
-  taken : values_behind (read_policy l.headings l.earlier) l.policies.items (whole_lines l.rest) ≡ policies_of l.headings l.earlier l.text;
+  taken : values_behind (read_policy l.headings l.earlier) l.policies.items (whole_lines l.rest)
+      ≡ policies_of l.headings l.earlier l.text;
 }
 
 abbrev pub decreases-loop-rest : goal.decreases-loop-rest

@@ -46,7 +46,8 @@ returns c =
     let second = (λ i. managed_fault_of files (sym c.deref-3.ensures.value i) registry)
     ∙ c.in_ok-test_managed.ensures in
     let third = (λ i. fallback_fault_of (sym c.deref-4.ensures.value i)) ∙ c.in_ok-test_fallbacks.ensures in
-    let joint = joint-load files c.args.parts.now.commit headings buckets registry template c.requires.sound.headed first second third
+    let joint = joint-load files c.args.parts.now.commit headings buckets registry template c.requires.sound.headed
+    first second third
     ∙ sym (ap (load_fault files (beside registry template)) c.requires.packages) in
     subst (λ (fault : Option Fault). MatchResult c.test_rules.result (λ done. fault ≡ None)
     (λ refusal. RefusesTest refusal fault))

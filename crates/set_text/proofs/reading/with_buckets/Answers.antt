@@ -31,7 +31,8 @@ returns-clause-read c =
     sym (ap (λ (list : List Heading). buckets_behind files list [] list) c.deref-2.ensures.value)
     ∙ c.in-Ok-buckets_in.ensures in
     c.requires.read
-    ∙ to-template files c.args.commit headings c.in-Ok-buckets_in.buckets.items c.in-Ok-registry_in.registry none read c.in-Ok-registry_in.ensures
+    ∙ to-template files c.args.commit headings c.in-Ok-buckets_in.buckets.items c.in-Ok-registry_in.registry none read
+    c.in-Ok-registry_in.ensures
 
 pub returns-clause-sound : goal.returns-clause-sound
 returns-clause-sound c =

@@ -1,4 +1,5 @@
-use Rattle.std.proofs.Common.{◌≡◌, ◌==◌, ◌++◌, ◌∷◌, [], List, length, Err, true, false, rules, arith, subst, sym, ap, ◌∙◌, length-append}
+use Rattle.std.proofs.Common.{◌≡◌, ◌==◌, ◌++◌, ◌∷◌, [], List, length, Err, true, false, rules, arith, subst, sym, ap}
+use Rattle.std.proofs.Common.{◌∙◌, length-append}
 use Rattle.app_registry.specs.Rules.{IsRegistry}
 use Rattle.app_registry.specs.declared.installs.Install.{Install}
 use Rattle.set_text.specs.Lines.{kept}
@@ -29,7 +30,8 @@ returns-in-Err-clause-read c =
     (refuses-at c.in-Err.fault c.loop-rest.number (install_of line)
     (installs_of users c.args.text.now) c.in-Err.ensures (λ wrong.
     sym c.loop-rest.invariant.taken
-    ∙ values_behind-wrong (read_install users) before c.loop-rest.rest.now line c.in-Some.after.now c.in-Some.ensures.cut c.in-Some.ensures.first
+    ∙ values_behind-wrong (read_install users) before c.loop-rest.rest.now line c.in-Some.after.now
+    c.in-Some.ensures.cut c.in-Some.ensures.first
     (ap (kept (install_fits users before)) wrong)
     ∙ ap (λ line. Err line) (sym c.loop-rest.invariant.numbered)))
 

@@ -33,7 +33,8 @@ returns-in-Err c =
     facts.position (λ file. text_cmp file.name c.args.name.now)
     (always_returns_same _ _ _ (λ a r f called. search rules)) in
     let ends =
-    searched text_total (λ (file : SetFile). file.name) c.args.name.now c.args.files.now (files-rise c.args.files.now c.requires)
+    searched text_total (λ (file : SetFile). file.name) c.args.name.now c.args.files.now
+    (files-rise c.args.files.now c.requires)
     c.binary_search_by.result facts.bound by_name in
     let absent = rw c.in-Err.is at ends.1 in
     sym (bytes-absent c.args.name.now c.args.files.now c.in-Err.field-0 absent)

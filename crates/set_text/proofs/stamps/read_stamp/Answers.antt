@@ -7,7 +7,8 @@ returns-in_default c = commits-open c.args.text.now c.in_default.ensures.none
 
 pub returns-in_default-decimal_of : goal.returns-in_default-decimal_of
 returns-in_default-decimal_of c =
-    commits-wrong c.args.text.now c.in-Some.line.now c.in-Some.rest.now c.in-Some.ensures.cut c.in-Some.ensures.first (search rules)
+    commits-wrong c.args.text.now c.in-Some.line.now c.in-Some.rest.now c.in-Some.ensures.cut c.in-Some.ensures.first
+    (search rules)
 
 pub returns-then-not-is_empty : goal.returns-then-not-is_empty
 returns-then-not-is_empty c =

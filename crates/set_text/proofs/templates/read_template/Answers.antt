@@ -23,7 +23,8 @@ returns-in-Err c =
     (refuses-at c.in-Err.fault c.loop-rest.number (read_template_line before line)
     (template_lines_of c.args.text.now) c.in-Err.ensures (λ wrong.
     sym c.loop-rest.invariant.taken
-    ∙ values_behind-wrong read_template_line before c.loop-rest.rest.now line c.in-Some.after.now c.in-Some.ensures.cut c.in-Some.ensures.first wrong
+    ∙ values_behind-wrong read_template_line before c.loop-rest.rest.now line c.in-Some.after.now c.in-Some.ensures.cut
+    c.in-Some.ensures.first wrong
     ∙ ap (λ line. Err line) (sym c.loop-rest.invariant.counted)))
 
 pub loop-rest-preserved : goal.loop-rest-preserved

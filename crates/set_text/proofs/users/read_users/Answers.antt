@@ -1,7 +1,9 @@
-use Rattle.std.proofs.Common.{◌≡◌, ◌==◌, ◌++◌, ◌∷◌, [], length, Err, true, false, rules, arith, List, ◌<◌, subst, refl, ap, sym, ◌∙◌, length-append}
+use Rattle.std.proofs.Common.{◌≡◌, ◌==◌, ◌++◌, ◌∷◌, [], length, Err, true, false, rules, arith, List, ◌<◌, subst, refl}
+use Rattle.std.proofs.Common.{ap, sym, ◌∙◌, length-append}
 use Rattle.app_registry.specs.declared.users.User.{User}
 use Rattle.set_text.specs.Registry.{read_user}
-use Rattle.set_text.proofs.TextLines.{values_behind-value, values_behind-wrong, values_behind-open, values_behind-done, some-bytes}
+use Rattle.set_text.proofs.TextLines.{values_behind-value, values_behind-wrong, values_behind-open, values_behind-done}
+use Rattle.set_text.proofs.TextLines.{some-bytes}
 use Rattle.set_text.proofs.ReadingUsers.{users-registry}
 use Rattle.set_text.proofs.users.read_users.Goals as goal
 
@@ -27,11 +29,13 @@ loop-rest-preserved c =
     let before = c.loop-rest.users.items in
     let user = c.in-Some-read_user.user in
     let pushed : c.push.new.self.items ≡ before ++ user ∷ [] = search rules in
-    let room : length before < 64 = subst (λ (users : List User). length users < 64) c.deref.ensures.value (c.in-Some-read_user.ensures.room refl) in
+    let room : length before < 64 = subst (λ (users : List User). length users < 64) c.deref.ensures.value
+    (c.in-Some-read_user.ensures.room refl) in
     record {
       counted = rw pushed (omega (arith, length-append before (user ∷ []), c.loop-rest.invariant.counted));
       few = rw pushed (omega (arith, length-append before (user ∷ []), room));
-      taken = rw pushed (sym (values_behind-value read_user before c.loop-rest.rest.now c.in-Some.line.now c.in-Some.after.now user
+      taken = rw pushed
+          (sym (values_behind-value read_user before c.loop-rest.rest.now c.in-Some.line.now c.in-Some.after.now user
           c.in-Some.ensures.cut c.in-Some.ensures.first (search rules))
           ∙ c.loop-rest.invariant.taken);
     }
