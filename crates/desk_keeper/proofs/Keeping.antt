@@ -43,7 +43,8 @@ pub stands-as : (before : DiskState) (left : FileMap) → RecoversAsAllowed befo
 stands-as before left (other, may, same) = (other, may, kept-alike left other same)
 
 -- what recovers to one of two sets stands for one of two states
-pub one-of : (before next : DeskState) (held : Option (List SetFile)) (set : List SetFile) → desk_of_set held ≡ Ok before
+pub one-of : (before next : DeskState) (held : Option (List SetFile)) (set : List SetFile)
+    → desk_of_set held ≡ Ok before
     → read_of set ≡ Ok next
     → (left : FileMap)
     → IsSetBeforeOrAfter held (Some set) left
@@ -55,9 +56,11 @@ module _ {D : Type 0} (moment : D → ℕ) (left_since : D → ℕ → FileMap �
   pub moments-stand : (before : DiskState) → LeavesOnly moment left_since old new (RecoversAsAllowed before)
       → LeavesOnly moment left_since old new (StandsAsAllowed before)
   moments-stand before leaves =
-      LeavesOnly-more moment left_since old new (RecoversAsAllowed before) (StandsAsAllowed before) (stands-as before) leaves
+      LeavesOnly-more moment left_since old new (RecoversAsAllowed before) (StandsAsAllowed before)
+      (stands-as before) leaves
 
-  pub moments-one-of : (before next : DeskState) (held : Option (List SetFile)) (set : List SetFile) → desk_of_set held ≡ Ok before
+  pub moments-one-of : (before next : DeskState) (held : Option (List SetFile)) (set : List SetFile)
+      → desk_of_set held ≡ Ok before
       → read_of set ≡ Ok next
       → LeavesOnly moment left_since old new (IsSetBeforeOrAfter held (Some set))
       → LeavesOnly moment left_since old new (IsBeforeOrAfter before next)
@@ -74,7 +77,8 @@ store-damage told Left (vault.Damaged file) damaged =
     λ before said. kept-of before.current (Err file) (damaged before said).0
 store-damage told Left (vault.Memory error) damaged = tt
 
-pub set-damage : (told : Option DiskState) (held : Option (List SetFile)) (refusal : KeeperRefusal) → RefusesSet held refusal
+pub set-damage : (told : Option DiskState) (held : Option (List SetFile)) (refusal : KeeperRefusal)
+    → RefusesSet held refusal
     → WhereTold told (λ before. recover before.current ≡ Ok held)
     → IfDamaged refusal (λ fault. WhereTold told (λ before. kept before.current ≡ Err fault))
 set-damage told held StoreFault refuses found = tt
@@ -82,7 +86,8 @@ set-damage told held (Damaged file line) refuses found =
     λ before said. kept-of before.current (Ok held) (found before said) ∙ refuses
 set-damage told held (Memory error) refuses found = tt
 
-pub at-rest-kept : (desk : DeskState) (held : Option (List SetFile)) (told : Option DiskState) → desk_of_set held ≡ Ok desk
+pub at-rest-kept : (desk : DeskState) (held : Option (List SetFile)) (told : Option DiskState)
+    → desk_of_set held ≡ Ok desk
     → EndsAtRest held told
     → EndsKept desk held told
 at-rest-kept desk held told stands (after, is, settled) = (after, is, kept-at-rest desk held after stands settled)
@@ -103,5 +108,11 @@ pub older-damage : (told : Option DiskState) (last found : DeskState) (refusal :
     (λ fault. WhereTold told (λ before. (kept before.current ≡ Err fault) ⊎ IsOlder last before.current fault))
 older-damage told last found StoreFault names older finds = tt
 older-damage told last found (Damaged file line) names older finds =
-    λ before said. inr (found, finds before said, older, ap (λ name. record { file = name; line = line }) names.0 ∙ ap (λ number. record { file = stamp; line = number }) names.1)
+    λ before said. inr (
+      found,
+      finds before said,
+      older,
+      ap (λ name. record { file = name; line = line }) names.0
+          ∙ ap (λ number. record { file = stamp; line = number }) names.1,
+    )
 older-damage told last found (Memory error) names older finds = tt

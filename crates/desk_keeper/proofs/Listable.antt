@@ -1,5 +1,6 @@
 -- The files of a policy state may stand in the list of a store.
-use Rattle.std.proofs.Common.{◌≡◌, ℕ, ◌≤◌, ◌-◌, ◌&&◌, Bool, true, false, not, cond, ltb, eqb, List, [], ◌∷◌, length, position, take, Option, Some, None, refl, ap, sym, ◌∙◌, arith, true≢false}
+use Rattle.std.proofs.Common.{◌≡◌, ℕ, ◌≤◌, ◌-◌, ◌&&◌, Bool, true, false, not, cond, ltb, eqb, List, [], ◌∷◌, length}
+use Rattle.std.proofs.Common.{position, take, Option, Some, None, refl, ap, sym, ◌∙◌, arith, true≢false}
 use Rattle.std.proofs.lemmas.Bool.{ltb-false, le-leb, ne_eqb, and_parts, not-false, not_from_false}
 use Rattle.std.proofs.Math.Bool.{and-false}
 use Rattle.std.proofs.lemmas.Bool.Decides.{nat_tests, Decides-eqb}
@@ -30,7 +31,9 @@ all-stand (byte ∷ text) none = and_true _ _ (not-false (stands byte) none.0) (
 
 all-name : (text : List ℕ) → NonePass (λ byte. not (stands byte)) text → list_all is_file_name_byte text ≡ true
 all-name [] none = refl
-all-name (byte ∷ text) none = and_true _ _ (and_parts (is_file_name_byte byte) (not (eqb byte 126)) (not-false (stands byte) none.0)).0 (all-name text none.1)
+all-name (byte ∷ text) none =
+    and_true _ _ (and_parts (is_file_name_byte byte) (not (eqb byte 126)) (not-false (stands byte) none.0)).0
+    (all-name text none.1)
 
 no-tilde : (name : List ℕ) → NonePass (λ byte. not (stands byte)) name → is_backup name ≡ false
 unfolding is_backup
@@ -56,7 +59,8 @@ bucket-parts true at h = cc
 bucket-parts false None h = (refl, refl)
 bucket-parts false (Some at) h = cc
 
-ident-parts : (a b c : Bool) (at : Option ℕ) → cond a (Some IdentEmpty) (cond b (Some IdentTooLong) (byte_fault (cond c (Some 0) at))) ≡ None
+ident-parts : (a b c : Bool) (at : Option ℕ)
+    → cond a (Some IdentEmpty) (cond b (Some IdentTooLong) (byte_fault (cond c (Some 0) at))) ≡ None
     → (b ≡ false) × (at ≡ None)
 ident-parts true b c at h = cc
 ident-parts false true c at h = cc
@@ -75,7 +79,8 @@ listable-bucket name sound =
       NonePass-weaker (λ byte. not (is_word_byte byte)) (λ byte. not (stands byte)) stands-word name
           (none_from_position (λ byte. not (is_word_byte byte)) name parts.1),
     ) in
-    and_true _ _ (and_true _ _ (and_true _ _ (not_from_false _ (ne_eqb _ 0 (λ none. omega (arith, short)))) (le-leb (length (bucket_file name)) 254 (omega (arith, short)))) (all-name (bucket_file name) bytes))
+    and_true _ _ (and_true _ _ (and_true _ _ (not_from_false _ (ne_eqb _ 0 (λ none. omega (arith, short))))
+    (le-leb (length (bucket_file name)) 254 (omega (arith, short)))) (all-name (bucket_file name) bytes))
     (and_true _ _ refl (and_true _ _ (not_from_false _ (no-tilde (bucket_file name) bytes)) refl))
 
 -- the file of a package
@@ -93,5 +98,6 @@ listable-load name sound =
             (none_from_position (λ byte. not (is_ident_byte byte)) name parts.1),
       ),
     ) in
-    and_true _ _ (and_true _ _ (and_true _ _ (not_from_false _ (ne_eqb _ 0 (λ none. omega (arith, short)))) (le-leb (length (load_file name)) 254 (omega (arith, short)))) (all-name (load_file name) bytes))
+    and_true _ _ (and_true _ _ (and_true _ _ (not_from_false _ (ne_eqb _ 0 (λ none. omega (arith, short))))
+    (le-leb (length (load_file name)) 254 (omega (arith, short)))) (all-name (load_file name) bytes))
     (and_true _ _ refl (and_true _ _ (not_from_false _ (no-tilde (load_file name) bytes)) refl))

@@ -1,5 +1,6 @@
 -- The names of the files of a policy state.
-use Rattle.std.proofs.Common.{◌≡◌, ℕ, ◌||◌, Bool, true, false, not, cond, List, [], ◌∷◌, filter, Option, Some, None, Result, Ok, is_none, ◌⊎◌, inl, inr, refl, ap, sym, ◌∙◌, subst}
+use Rattle.std.proofs.Common.{◌≡◌, ℕ, ◌||◌, Bool, true, false, not, cond, List, [], ◌∷◌, filter, Option, Some, None}
+use Rattle.std.proofs.Common.{Result, Ok, is_none, ◌⊎◌, inl, inr, refl, ap, sym, ◌∙◌, subst}
 use Rattle.std.proofs.lemmas.Bool.{and_parts, eqb-true}
 use Rattle.std.specs.Ordering.{is_eq}
 use Rattle.std.specs.List.{list_all}
@@ -20,7 +21,8 @@ use Rattle.set_text.specs.Reading.{odd_file, read_of}
 use Rattle.desk_keeper.proofs.Listable.{and_true, listable-bucket, listable-load}
 
 -- two lists of names without an odd one are the same
-odd_by-none : (order : Ordering) (first second : List ℕ) (later : Option (List ℕ)) → odd_by order first second later ≡ None
+odd_by-none : (order : Ordering) (first second : List ℕ) (later : Option (List ℕ))
+    → odd_by order first second later ≡ None
     → (order ≡ Equal) × (later ≡ None)
 odd_by-none Less first second later none = cc
 odd_by-none Greater first second later none = cc
@@ -35,7 +37,8 @@ odd-none (name ∷ names) [] none = cc
 odd-none [] (other ∷ others) none = cc
 odd-none (name ∷ names) (other ∷ others) none =
     let parts = odd_by-none (text_cmp name other) name other (odd_name names others) none in
-    ap (λ first. first ∷ names) (equal-same name other parts.0) ∙ ap (λ rest. other ∷ rest) (odd-none names others parts.1)
+    ap (λ first. first ∷ names) (equal-same name other parts.0)
+    ∙ ap (λ rest. other ∷ rest) (odd-none names others parts.1)
 
 -- a name that is neither that of a bucket nor that of a package is one of the five
 listable-other : list_all is_listable fixed_files ≡ true
@@ -90,7 +93,8 @@ all-listable : (names : List (List ℕ)) → list_all is_listable (filter is_oth
 all-listable [] others = refl
 all-listable (name ∷ names) others = with-name name names (is_other_file name) refl others (all-listable names)
 
-unless-ok : {X : Type 0} (fault : Option Fault) (later : Result X Fault) (value : X) → unless fault later ≡ Ok value → fault ≡ None
+unless-ok : {X : Type 0} (fault : Option Fault) (later : Result X Fault) (value : X) → unless fault later ≡ Ok value
+    → fault ≡ None
 unless-ok None later value reads = refl
 unless-ok (Some fault) later value reads = cc
 
@@ -99,8 +103,10 @@ map-none None none = refl
 map-none (Some name) none = cc
 
 -- each name of a set that reads may stand in a list
-pub set-listable : (set : List SetFile) (desk : DeskState) → read_of set ≡ Ok desk → list_all is_listable (names_of set) ≡ true
+pub set-listable : (set : List SetFile) (desk : DeskState) → read_of set ≡ Ok desk
+    → list_all is_listable (names_of set) ≡ true
 set-listable set desk reads =
     all-listable (names_of set) (sym (ap (list_all is_listable)
-    (odd-none fixed_files (filter is_other_file (names_of set)) (map-none _ (unless-ok (odd_file is_other_file fixed_files set) _ desk reads))))
+    (odd-none fixed_files (filter is_other_file (names_of set))
+    (map-none _ (unless-ok (odd_file is_other_file fixed_files set) _ desk reads))))
     ∙ listable-other)

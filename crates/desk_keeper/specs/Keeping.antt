@@ -14,8 +14,8 @@ use Rattle.desk_keeper.specs.declared.refusals.KeeperRefusal.TheVariants.{StoreF
 
 -- ---- at rest
 
--- The folder keeps this state, as this set or as none. A stop now leaves what stands for the state alone, and the store's
--- own names in the folder are those of the set.
+-- The folder keeps this state, as this set or as none. A stop now leaves what stands for the state alone, and the
+-- store's own names in the folder are those of the set.
 pub record IsKept (desk : DeskState) (held : Option (List SetFile)) (state : DiskState) : Type 0 where
   pub stands : desk_of_set held ≡ Ok desk
   pub settled : IsSettled held state

@@ -8,7 +8,8 @@ ghost use Rattle.desk_state.specs.Rules.{Refuses, fault};
 ghost use Rattle.set_text.specs.Files.{files};
 ghost use Rattle.desk_keeper.specs.Kept.{kept};
 ghost use Rattle.desk_keeper.specs.parts.Reading.{NamesStamp};
-ghost use Rattle.desk_keeper.specs.Keeping.{IsKept, EndsKept, StandsAsAllowed, IfDamaged, count_after_mount, IsOlder, IsBeforeOrAfter};
+ghost use Rattle.desk_keeper.specs.Keeping.{IsKept, EndsKept, StandsAsAllowed, IfDamaged, count_after_mount};
+ghost use Rattle.desk_keeper.specs.Keeping.{IsOlder, IsBeforeOrAfter};
 
 use crate::folders::{KeptDesk, desk_of, refusal_of};
 use crate::prepared::PreparedCommit;
@@ -19,8 +20,8 @@ use guard_files::{StoreFault, Vault, fixed_name};
 use set_text::write;
 use std::alloc::Global;
 
-/// The policy state of a device over a folder. It gives the last state that is known to be kept; each commit replaces the
-/// folder's files at once. Clauses see its vault, that state, and whether what the vault holds was read.
+/// The policy state of a device over a folder. It gives the last state that is known to be kept; each commit replaces
+/// the folder's files at once. Clauses see its vault, that state, and whether what the vault holds was read.
 #[derive(Drop)]
 pub struct Keeper<'d, D: Disk> {
     vault: Vault<'d, D>,
@@ -67,9 +68,9 @@ impl<'d, D: Disk> Keeper<'d, D> {
         }
     }
 
-    /// Settles what the folder keeps, as a mount does, from whatever state. Refuses as a mount does; and `Damaged`, with
-    /// the file `stamp` and line 0, where the commit found is below that of `desk`, which no stop leads to. A refusal
-    /// leaves the keeper undecided, and `desk` as it was.
+    /// Settles what the folder keeps, as a mount does, from whatever state. Refuses as a mount does; and `Damaged`,
+    /// with the file `stamp` and line 0, where the commit found is below that of `desk`, which no stop leads to. A
+    /// refusal leaves the keeper undecided, and `desk` as it was.
     pub fn remount(&mut self) -> Result<(), KeeperRefusal>
         ensures decided { OnOk result ((self.new.read && self.new.vault.decided) ≡ true) }
         ensures undecided { OnErr result ((self.new.read && self.new.vault.decided) ≡ false) }
@@ -104,8 +105,8 @@ impl<'d, D: Disk> Keeper<'d, D> {
         Ok(())
     }
 
-    /// Whether it is known what the folder keeps. After a failed commit or a refused remount only `remount` and `desk` may
-    /// be called.
+    /// Whether it is known what the folder keeps. After a failed commit or a refused remount only `remount` and `desk`
+    /// may be called.
     pub fn is_decided(&self) -> bool
         ensures { result ≡ (self.now.read && self.now.vault.decided) }
     {
@@ -159,8 +160,9 @@ impl<'d, D: Disk> Keeper<'d, D> {
         })
     }
 
-    /// Makes the folder keep the prepared state, and gives its commit number. It was prepared from what is kept now. Takes
-    /// no memory. After `StoreFault` the keeper is undecided, and the folder keeps the state before or the prepared one.
+    /// Makes the folder keep the prepared state, and gives its commit number. It was prepared from what is kept now.
+    /// Takes no memory. After `StoreFault` the keeper is undecided, and the folder keeps the state before or the
+    /// prepared one.
     pub fn commit(&mut self, prepared: PreparedCommit) -> Result<u64, StoreFault>
         requires decided { (self.old.read && self.old.vault.decided) ≡ true }
         requires prepared { prepared.save.gone ≡ gone_names self.old.vault.held prepared.save.set }
@@ -172,8 +174,8 @@ impl<'d, D: Disk> Keeper<'d, D> {
         ensures decided { OnOk result ((self.new.read && self.new.vault.decided) ≡ true) }
         ensures undecided { OnErr result ((self.new.read && self.new.vault.decided) ≡ false) }
 
-        // From a folder that keeps this state it ends with one that keeps the prepared state, and a stop at any moment of
-        // the call leaves what stands for one of the two.
+        // From a folder that keeps this state it ends with one that keeps the prepared state, and a stop at any moment
+        // of the call leaves what stands for one of the two.
         ensures settled { OnOk result (WhereTold (D.state self.old.vault.disk.now)
             (λ before. IsKept self.old.desk self.old.vault.held before
             → EndsKept self.new.desk self.new.vault.held (D.state self.new.vault.disk.now))) }

@@ -1,5 +1,5 @@
-//! The policy state of a device, kept in a folder that a stop at any moment cannot break: the folder stands for the state
-//! of the last commit, or for that of a commit then under way.
+//! The policy state of a device, kept in a folder that a stop at any moment cannot break: the folder stands for the
+//! state of the last commit, or for that of a commit then under way.
 //!
 //! The files are those of `set_text`, and `guard_files` replaces them.
 #![tactic(auto)]

@@ -4,8 +4,8 @@ use desk_state::Desk;
 use guard_files::Prepared;
 use std::marker::Model;
 
-/// A command that was accepted, with all that its commit needs beside the disk. Clauses see the commit number before, how
-/// many policies the command erases, the next state, and the save of its files.
+/// A command that was accepted, with all that its commit needs beside the disk. Clauses see the commit number before,
+/// how many policies the command erases, the next state, and the save of its files.
 #[derive(Drop)]
 pub struct PreparedCommit {
     pub(crate) base: u64,

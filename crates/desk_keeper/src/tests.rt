@@ -1,4 +1,5 @@
-// What clauses on a keeper don't say: that its calls succeed with ample memory, and what folders typed by hand stand for.
+// What clauses on a keeper don't say: that its calls succeed with ample memory, and what folders typed by hand stand
+// for.
 use crate::{Keeper, KeeperRefusal};
 use app_registry::{Ident, Install, NameSet, Scope, UserType};
 use cynara_keys::{BucketName, Filter, FilterField};

@@ -13,8 +13,8 @@ fn has(disk: &mut MemDisk, alloc: Global, name: &str) -> Result<bool, Fail> {
     )
 }
 
-/// What is prepared for erasing all policies of the root: the commit before, how many go, and the commit after. The keeper is
-/// remounted then, and gives the commit before.
+/// What is prepared for erasing all policies of the root: the commit before, how many go, and the commit after. The
+/// keeper is remounted then, and gives the commit before.
 fn prepared_erasing(alloc: Global, disk: &mut MemDisk) -> Result<(u64, u32, u64), Fail> {
     let mut keeper = Keeper::mount(alloc, disk)?;
     let prepared = keeper.prepare(&command(alloc, "erase")?)?;

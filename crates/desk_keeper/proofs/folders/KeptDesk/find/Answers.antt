@@ -6,15 +6,18 @@ use Rattle.desk_keeper.proofs.folders.KeptDesk.find.Given.{Over}
 
 pub returns-in-Err-clause-moments : goal.returns-in-Err-clause-moments
 returns-in-Err-clause-moments g c before told =
-    moments-stand g.D.Disk.moment g.D.Disk.left_since c.args.disk.now c.find.new.disk before (c.in-Err.ensures.refused.moments before told)
+    moments-stand g.D.Disk.moment g.D.Disk.left_since c.args.disk.now c.find.new.disk before
+    (c.in-Err.ensures.refused.moments before told)
 
 pub returns-in-Err-clause-damaged : goal.returns-in-Err-clause-damaged
 returns-in-Err-clause-damaged g c =
-    rw c.refusal_of.ensures (store-damage (g.D.Disk.state c.args.disk.now) _ c.in-Err.refusal c.in-Err.ensures.refused.damaged)
+    rw c.refusal_of.ensures
+    (store-damage (g.D.Disk.state c.args.disk.now) _ c.in-Err.refusal c.in-Err.ensures.refused.damaged)
 
 pub returns-in-Err-desk_of-clause-moments : goal.returns-in-Err-desk_of-clause-moments
 returns-in-Err-desk_of-clause-moments g c before told =
-    moments-stand g.D.Disk.moment g.D.Disk.left_since c.args.disk.now c.find.new.disk before (c.in-Ok.ensures.moments before told)
+    moments-stand g.D.Disk.moment g.D.Disk.left_since c.args.disk.now c.find.new.disk before
+    (c.in-Ok.ensures.moments before told)
 
 pub returns-in-Err-desk_of-clause-damaged : goal.returns-in-Err-desk_of-clause-damaged
 returns-in-Err-desk_of-clause-damaged g c =
@@ -34,4 +37,5 @@ returns-in-Ok-desk_of-clause-settled g c before told =
 
 pub returns-in-Ok-desk_of-clause-moments : goal.returns-in-Ok-desk_of-clause-moments
 returns-in-Ok-desk_of-clause-moments g c before told =
-    moments-stand g.D.Disk.moment g.D.Disk.left_since c.args.disk.now c.find.new.disk before (c.in-Ok.ensures.moments before told)
+    moments-stand g.D.Disk.moment g.D.Disk.left_since c.args.disk.now c.find.new.disk before
+    (c.in-Ok.ensures.moments before told)

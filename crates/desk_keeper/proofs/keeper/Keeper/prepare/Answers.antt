@@ -15,4 +15,5 @@ prepare-requires-clause-listable g c =
     (set-listable c.in-Ok-write.set c.in-Ok.applied.desk c.in-Ok-write.ensures.again)
 
 pub returns-in-Err-prepare-clause-refused : goal.returns-in-Err-prepare-clause-refused
-returns-in-Err-prepare-clause-refused g c = layout-allows c.args.self.now.desk c.args.command.now c.in-Ok.ensures.accepted
+returns-in-Err-prepare-clause-refused g c =
+    layout-allows c.args.self.now.desk c.args.command.now c.in-Ok.ensures.accepted

@@ -2,7 +2,8 @@ use Rattle.std.proofs.Common.{Ok, ap, sym, subst, ◌∙◌, arith}
 use Rattle.std.proofs.lemmas.Bool.Decides.{nat_tests}
 use Rattle.desk_keeper.specs.parts.Reading.{RefusesSet}
 use Rattle.desk_keeper.specs.Kept.{desk_of_set}
-use Rattle.desk_keeper.proofs.Keeping.{moments-stand, store-damage, set-damage, older-damage, first-damage, at-rest-kept, kept-of}
+use Rattle.desk_keeper.proofs.Keeping.{moments-stand, store-damage, set-damage, older-damage, first-damage}
+use Rattle.desk_keeper.proofs.Keeping.{at-rest-kept, kept-of}
 use Rattle.desk_keeper.proofs.keeper.Keeper.remount.Goals as goal
 
 pub returns-in-Err-clause-moments : goal.returns-in-Err-clause-moments
@@ -12,7 +13,8 @@ returns-in-Err-clause-moments g c before told =
 
 pub returns-in-Err-clause-damaged : goal.returns-in-Err-clause-damaged
 returns-in-Err-clause-damaged g c =
-    rw c.refusal_of.ensures (first-damage (g.D.Disk.state c.args.self.now.vault.disk.now) c.args.self.now.desk _ (store-damage (g.D.Disk.state c.args.self.now.vault.disk.now) _ c.in-Err.refusal c.in-Err.ensures.damaged))
+    rw c.refusal_of.ensures (first-damage (g.D.Disk.state c.args.self.now.vault.disk.now) c.args.self.now.desk _
+    (store-damage (g.D.Disk.state c.args.self.now.vault.disk.now) _ c.in-Err.refusal c.in-Err.ensures.damaged))
 
 pub returns-in-Err-desk_of-clause-moments : goal.returns-in-Err-desk_of-clause-moments
 returns-in-Err-desk_of-clause-moments g c before told =
@@ -21,7 +23,8 @@ returns-in-Err-desk_of-clause-moments g c before told =
 
 pub returns-in-Err-desk_of-clause-damaged : goal.returns-in-Err-desk_of-clause-damaged
 returns-in-Err-desk_of-clause-damaged g c =
-    first-damage (g.D.Disk.state c.args.self.now.vault.disk.now) c.args.self.now.desk _ (set-damage (g.D.Disk.state c.args.self.now.vault.disk.now) c.remount.new.self.held c.in-Err-desk_of.refusal
+    first-damage (g.D.Disk.state c.args.self.now.vault.disk.now) c.args.self.now.desk _
+    (set-damage (g.D.Disk.state c.args.self.now.vault.disk.now) c.remount.new.self.held c.in-Err-desk_of.refusal
     (subst (λ held. RefusesSet held c.in-Err-desk_of.refusal) c.held.ensures c.in-Err-desk_of.ensures.refused)
     c.in_default.ensures.held)
 
@@ -32,7 +35,8 @@ returns-then-commit-clause-moments g c before told =
 
 pub returns-then-commit-clause-damaged : goal.returns-then-commit-clause-damaged
 returns-then-commit-clause-damaged g c =
-    older-damage (g.D.Disk.state c.args.self.now.vault.disk.now) c.args.self.now.desk c.in-Ok.desk c.older.result c.older.ensures
+    older-damage (g.D.Disk.state c.args.self.now.vault.disk.now) c.args.self.now.desk c.in-Ok.desk c.older.result
+    c.older.ensures
     (grind (arith, c.if-commit.true, c.commit.ensures.commit, c.commit-2.ensures.commit, nat_tests))
     (λ before told. kept-of before.current (Ok c.remount.new.self.held) (c.in_default.ensures.held before told)
     ∙ ap desk_of_set (sym c.held.ensures) ∙ c.in-Ok.ensures.desk)
