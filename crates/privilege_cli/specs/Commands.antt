@@ -54,7 +54,7 @@ command_of words = if list_any is_option words then None else named words
 -- The command of the words, or that they name none. Memory may run out only where labels are to be copied.
 abbrev pub Reads : Result Command CommandRefusal → Option Command → Type 0
 Reads (Ok command) expected = expected ≡ Some command
-Reads (Err Unknown) expected = expected ≡ None
+Reads (Err (Unknown fault)) expected = expected ≡ None
 Reads (Err (Memory error)) expected =
     (subject object : List ℕ) × (asked : Modes) × (expected ≡ Some (SmackAccess subject object asked))
 

@@ -2,21 +2,23 @@
 ghost use Rattle.std.specs.Prelude.{◌≡◌, ◌≤◌, ◌<◌, ◌+◌, ◌⊎◌, ℕ, List, Option, length, MatchResult, IfOk, IfErr, IsTrue};
 ghost use Rattle.desk_ports.specs.Faults.{CountsFailure};
 ghost use Rattle.desk_ports.specs.Content.{Took};
-ghost use Rattle.line_script.specs.Answers.{answer_text};
 ghost use Rattle.smack_rules.specs.Modes.{is_request};
 ghost use Rattle.privilege_cli.specs.AccessRun.{AccessAnswers};
 ghost use Rattle.privilege_cli.specs.parts.Access.{IsRead, ReadsMore, AreLinesOf, AreLoaded, StopsAtText, ReadsRules, WritesAnswer};
 ghost use Rattle.privilege_cli.specs.parts.Local.{counts_source, counts_sink};
 ghost use Rattle.privilege_cli.specs.parts.Runs.{WritesBefore};
 ghost use Rattle.privilege_cli.specs.Program.{Reads};
+ghost use Rattle.privilege_cli.specs.Reply.{decided_text};
 ghost use Rattle.desk_ports.specs.Disk.{DiskState};
 
 use crate::ending::Ending;
+use crate::questions::print_decision;
+use crate::rule_notes::note_rules;
 use crate::zeros::zeros;
 use desk_ports::{Bytes, Sink, Source, write_all};
-use line_script::{LineAnswer, print};
-use smack_rules::{Label, LoadRefusal, MOST_TEXT_BYTES, Modes, RuleTable};
+use smack_rules::{Decision, Label, LoadRefusal, MOST_TEXT_BYTES, Modes, RuleTable};
 use std::alloc::Global;
+use std::marker::Model;
 use text_lines::split_at_newline;
 
 /// How many bytes are read at most in one call.
@@ -54,41 +56,70 @@ pub fn run_access<S: Source, K: Sink>(
           disk_faults = disk_faults;
         }) }
 {
-    let table = match read_rules(alloc, source) {
-        Ok(table) => table,
+    let rules = match read_rules(alloc, source) {
+        Ok(rules) => rules,
         Err(ending) => return ending,
     };
-    let decision = table.decide(subject, object, asked);
-    let answer = LineAnswer::Access {
-        allowed: decision.allowed,
-        rule: decision.rule,
-    };
-    match write_answer(alloc, &answer, sink) {
+    let decision = rules.table.decide(subject, object, asked);
+    match write_decision(alloc, &rules, (subject, object), decision, sink) {
         Ok(()) => Ending::Done,
         Err(ending) => ending,
     }
 }
 
-// Prints the answer, and has the sink take it.
-fn write_answer<K: Sink>(alloc: Global, answer: &LineAnswer, sink: &mut K) -> Result<(), Ending>
-    ensures written { WritesAnswer (K.taken sink.old) (K.taken sink.new) (answer_text answer.now) result }
+/// A text of rules, and the table of them.
+#[derive(Drop)]
+struct ReadRules {
+    text: Bytes,
+    table: RuleTable,
+}
+
+impl Model for ReadRules {
+    ghost use Rattle.std.specs.Prelude.{List};
+    ghost use Rattle.smack_rules.specs.declared.table.PairModes.{PairModes};
+
+    ghost Value = { List PairModes };
+
+    ghost view = { λ rules. rules.table };
+}
+
+// Tells a person of the rules, prints the decision on the pair, and has the sink take it.
+fn write_decision<K: Sink>(
+    alloc: Global,
+    rules: &ReadRules,
+    pair: (&Label, &Label),
+    decision: Decision,
+    sink: &mut K,
+) -> Result<(), Ending>
+    ensures written { WritesAnswer (K.taken sink.old) (K.taken sink.new) (decided_text decision) result }
     ensures count { K.faults sink.new ≡ counts_sink result (K.faults sink.old) }
 {
+    note_rules(
+        alloc,
+        rules.text.as_slice(),
+        &rules.table,
+        pair,
+        decision,
+        sink,
+    );
     let mut text = Bytes::new(alloc);
-    print(answer, &mut text)?;
+    print_decision(&decision, &mut text)?;
     match write_all(sink, text.as_slice()) {
         Ok(()) => Ok(()),
         Err(_) => Err(Ending::Sink),
     }
 }
 
-// The table of the rules of the source, which is read to its end or past the limit of a rule text.
-fn read_rules<S: Source>(alloc: Global, source: &mut S) -> Result<RuleTable, Ending>
+// The rules of the source, which is read to its end or past the limit of a rule text.
+fn read_rules<S: Source>(alloc: Global, source: &mut S) -> Result<ReadRules, Ending>
     ensures read { ReadsRules (S.left source.old) (S.left source.new) result }
     ensures count { S.faults source.new ≡ counts_source result (S.faults source.old) }
 {
     let text = read_text(alloc, source)?;
-    load_rules(alloc, text.as_slice())
+    match load_rules(alloc, text.as_slice()) {
+        Ok(table) => Ok(ReadRules { text, table }),
+        Err(ending) => Err(ending),
+    }
 }
 
 // The bytes of the source up to its end. Where there are more than a rule text may have, one byte more than that.

@@ -6,6 +6,7 @@ ghost use Rattle.smack_rules.specs.Label.{label_fault};
 ghost use Rattle.privilege_cli.specs.Commands.{is_option, single_of, access_of, smack_access_of, command_of};
 ghost use Rattle.privilege_cli.specs.Commands.{Reads, AsksRequest};
 
+use crate::word_faults::WordFault;
 use smack_rules::{Label, Modes, label_fault};
 use std::alloc::{AllocError, Global};
 
@@ -27,7 +28,7 @@ pub enum Command {
 /// Why words gave no command.
 #[derive(Clone, Copy, Debug, PartialEq, Eq)]
 pub enum CommandRefusal {
-    Unknown,
+    Unknown(WordFault),
     Memory(AllocError),
 }
 
@@ -38,7 +39,7 @@ impl Command {
         ensures asked { IfOk result AsksRequest }
     {
         if has_option(words) {
-            return Err(CommandRefusal::Unknown);
+            return Err(CommandRefusal::Unknown(option_fault(words)));
         }
         match words {
             [word] => read_single(word.as_bytes()),
@@ -49,7 +50,7 @@ impl Command {
                 object.as_bytes(),
                 modes.as_bytes(),
             ),
-            _ => Err(CommandRefusal::Unknown),
+            _ => Err(CommandRefusal::Unknown(count_fault(words))),
         }
     }
 }
@@ -59,6 +60,33 @@ fn has_option(words: &[String]) -> bool
     ensures { result ≡ list_any is_option words.now }
 {
     words.iter().any(|word| is_option(word))
+}
+
+// What is wrong with words of which one begins with a dash.
+fn option_fault(words: &[String]) -> WordFault {
+    match words.iter().position(|word| is_option(word)) {
+        Some(place) => WordFault::Dash { place },
+        None => WordFault::NoCommand,
+    }
+}
+
+// What is wrong with words that are too few or too many for any command.
+fn count_fault(words: &[String]) -> WordFault {
+    let Some((first, behind)) = words.split_first() else {
+        return WordFault::NoWord;
+    };
+    name_fault(first.as_bytes(), behind.len())
+}
+
+// How many words the command of this name takes behind it.
+fn words_behind(name: &[u8]) -> Option<usize> {
+    if name == b"local".as_slice() || name == b"smack-load".as_slice() {
+        return Some(0);
+    }
+    if name == b"smack-access".as_slice() {
+        return Some(3);
+    }
+    None
 }
 
 fn is_option(word: &String) -> bool
@@ -78,7 +106,15 @@ fn read_single(word: &[u8]) -> Result<Command, CommandRefusal>
     if word == b"smack-load".as_slice() {
         return Ok(Command::SmackLoad);
     }
-    Err(CommandRefusal::Unknown)
+    Err(CommandRefusal::Unknown(name_fault(word, 0)))
+}
+
+// What is wrong with this name before so many words.
+fn name_fault(name: &[u8], given: usize) -> WordFault {
+    match words_behind(name) {
+        Some(taken) => WordFault::Count { taken, given },
+        None => WordFault::NoCommand,
+    }
 }
 
 // Four words, the first of which is `smack-access`.
@@ -93,7 +129,7 @@ fn read_smack_access(
     ensures asked { IfOk result AsksRequest }
 {
     if word != b"smack-access".as_slice() {
-        return Err(CommandRefusal::Unknown);
+        return Err(CommandRefusal::Unknown(name_fault(word, 3)));
     }
     read_access(alloc, subject, object, modes)
 }
@@ -108,14 +144,17 @@ fn read_access(
     ensures command { Reads result (access_of subject.now object.now modes.now) }
     ensures asked { IfOk result AsksRequest }
 {
-    if label_fault(subject).is_some() || label_fault(object).is_some() {
-        return Err(CommandRefusal::Unknown);
+    if let Some(fault) = label_fault(subject) {
+        return Err(CommandRefusal::Unknown(WordFault::Label { place: 1, fault }));
+    }
+    if let Some(fault) = label_fault(object) {
+        return Err(CommandRefusal::Unknown(WordFault::Label { place: 2, fault }));
     }
     let Some(asked) = Modes::read(modes) else {
-        return Err(CommandRefusal::Unknown);
+        return Err(CommandRefusal::Unknown(WordFault::Modes { place: 3 }));
     };
     if !asked.is_request() {
-        return Err(CommandRefusal::Unknown);
+        return Err(CommandRefusal::Unknown(WordFault::NoRequest { place: 3 }));
     }
     copy_labels(alloc, subject, object, asked).map_err(CommandRefusal::Memory)
 }

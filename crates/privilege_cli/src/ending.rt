@@ -3,7 +3,6 @@
 ghost use Rattle.std.specs.Prelude.{◌≡◌, List, ℕ};
 ghost use Rattle.desk_ports.specs.Content.{Appended};
 
-use crate::command_words::CommandRefusal;
 use desk_keeper::KeeperRefusal;
 use desk_ports::{FileName, Sink, write_all};
 use line_script::{command_line_fault, write_damage, write_line_fault};
@@ -75,19 +74,6 @@ impl From<AllocError> for Ending {
 
     fn from(_: AllocError) -> Ending {
         Ending::Memory
-    }
-}
-
-impl From<CommandRefusal> for Ending {
-    ghost use Rattle.privilege_cli.specs.parts.Endings.{RefusesCommand};
-
-    ghost from_gives = { RefusesCommand };
-
-    fn from(refusal: CommandRefusal) -> Ending {
-        match refusal {
-            CommandRefusal::Unknown => Ending::Words,
-            CommandRefusal::Memory(_) => Ending::Memory,
-        }
     }
 }
 

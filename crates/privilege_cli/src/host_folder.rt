@@ -6,7 +6,7 @@ use std::alloc::{AllocError, Global};
 use std::env::{Env, FillError};
 
 /// The longest path that the machine takes.
-const MOST_BYTES: usize = 4_096;
+pub const MOST_BYTES: usize = 4_096;
 
 /// The variable that names the directory of the folder.
 pub const DIRECTORY: &str = "PRIVILEGE_DIR";

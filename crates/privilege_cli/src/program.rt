@@ -4,10 +4,11 @@ ghost use Rattle.privilege_cli.specs.Program.{Does, Ends};
 ghost use Rattle.privilege_cli.specs.parts.Runs.{WritesBefore};
 
 use crate::access_run::run_access;
-use crate::command_words::Command;
+use crate::command_words::{Command, CommandRefusal};
 use crate::ending::Ending;
 use crate::load_run::run_load;
 use crate::local_run::run_local;
+use crate::notes::note_words;
 use desk_ports::{Disk, Sink, Source};
 use std::alloc::Global;
 
@@ -92,6 +93,10 @@ fn run_words<S: Source, K: Sink, D: Disk>(
                 asked,
             },
         ) => run_access(alloc, &subject, &object, asked, source, sink),
-        Err(refusal) => Ending::from(refusal),
+        Err(CommandRefusal::Unknown(fault)) => {
+            note_words(alloc, words, fault, sink);
+            Ending::Words
+        }
+        Err(CommandRefusal::Memory(_)) => Ending::Memory,
     }
 }

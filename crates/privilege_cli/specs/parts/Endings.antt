@@ -4,14 +4,8 @@ use Rattle.text_lines.specs.declared.refusal.ReadRefusal.{ReadRefusal}
 use Rattle.text_lines.specs.declared.refusal.ReadRefusal.TheVariants.{PastLimit, Source as SourceFailed, Memory as NoMemory}
 use Rattle.desk_keeper.specs.declared.refusals.KeeperRefusal.{KeeperRefusal}
 use Rattle.desk_keeper.specs.declared.refusals.KeeperRefusal.TheVariants.{StoreFault, Damaged as FolderDamaged, Memory as NoMemoryForFolder}
-use Rattle.privilege_cli.specs.declared.command_words.CommandRefusal.{CommandRefusal}
-use Rattle.privilege_cli.specs.declared.command_words.CommandRefusal.TheVariants.{Unknown, Memory as NoMemoryForWords}
 use Rattle.privilege_cli.specs.declared.ending.Ending.{Ending}
-use Rattle.privilege_cli.specs.declared.ending.Ending.TheVariants.{Memory, Words, Line, Source, Disk, Damaged}
-
-abbrev pub command_ending : CommandRefusal → Ending
-command_ending Unknown = Words
-command_ending (NoMemoryForWords error) = Memory
+use Rattle.privilege_cli.specs.declared.ending.Ending.TheVariants.{Memory, Line, Source, Disk, Damaged}
 
 abbrev pub reading_ending : ReadRefusal → Ending
 reading_ending (PastLimit number) = Line number
@@ -22,9 +16,6 @@ abbrev pub folder_ending : KeeperRefusal → Ending
 folder_ending StoreFault = Disk
 folder_ending (FolderDamaged file line) = Damaged file line
 folder_ending (NoMemoryForFolder error) = Memory
-
-abbrev pub RefusesCommand : CommandRefusal → Ending → Type 0
-RefusesCommand refusal ending = ending ≡ command_ending refusal
 
 abbrev pub RefusesLine : ReadRefusal → Ending → Type 0
 RefusesLine refusal ending = ending ≡ reading_ending refusal

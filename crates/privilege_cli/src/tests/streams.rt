@@ -19,14 +19,8 @@ impl Read for BrokenReader {
 #[test]
 fn a_reader_and_a_writer_serve_as_input_and_output(rt: HostRuntime) -> Result<(), Fail> {
     let script = b"set . * * p allow\ncheck c u p\n";
-    let mut source = InputSource {
-        reader: script.as_slice(),
-        faults: 0,
-    };
-    let mut sink = OutputSink {
-        writer: Vec::new(rt.alloc()),
-        faults: 0,
-    };
+    let mut source = InputSource::over(script.as_slice());
+    let mut sink = OutputSink::over(Vec::new(rt.alloc()), Vec::new(rt.alloc()));
     assert_eq!(rt;
         status_of(rt.alloc(), &["local"], &mut source, &mut sink)?,
         0
@@ -42,14 +36,8 @@ fn a_reader_and_a_writer_serve_as_input_and_output(rt: HostRuntime) -> Result<()
 
 #[test]
 fn failing_calls_are_counted(rt: HostRuntime) -> Result<(), Fail> {
-    let mut broken = InputSource {
-        reader: BrokenReader,
-        faults: 0,
-    };
-    let mut sink = OutputSink {
-        writer: Vec::new(rt.alloc()),
-        faults: 0,
-    };
+    let mut broken = InputSource::over(BrokenReader);
+    let mut sink = OutputSink::over(Vec::new(rt.alloc()), Vec::new(rt.alloc()));
     assert_eq!(rt;
         status_of(rt.alloc(), &["local"], &mut broken, &mut sink)?,
         4
@@ -57,14 +45,8 @@ fn failing_calls_are_counted(rt: HostRuntime) -> Result<(), Fail> {
     assert_eq!(rt; (broken.faults, sink.faults), (1, 0));
     // A slice takes no more than it has room for.
     let mut room = [0; 3];
-    let mut source = InputSource {
-        reader: b"set . * * p allow\n".as_slice(),
-        faults: 0,
-    };
-    let mut full = OutputSink {
-        writer: room.as_mut_slice(),
-        faults: 0,
-    };
+    let mut source = InputSource::over(b"set . * * p allow\n".as_slice());
+    let mut full = OutputSink::over(room.as_mut_slice(), Vec::new(rt.alloc()));
     assert_eq!(rt;
         status_of(rt.alloc(), &["local"], &mut source, &mut full)?,
         5
@@ -107,20 +89,17 @@ impl<T: Write> Write for Halting<T> {
 
 #[test]
 fn interrupted_calls_are_tried_again(rt: HostRuntime) -> Result<(), Fail> {
-    let mut source = InputSource {
-        reader: Halting {
-            stream: b"status\n".as_slice(),
-            halts: false,
-        },
-        faults: 0,
-    };
-    let mut sink = OutputSink {
-        writer: Halting {
+    let mut source = InputSource::over(Halting {
+        stream: b"status\n".as_slice(),
+        halts: false,
+    });
+    let mut sink = OutputSink::over(
+        Halting {
             stream: Vec::new(rt.alloc()),
             halts: false,
         },
-        faults: 0,
-    };
+        Vec::new(rt.alloc()),
+    );
     assert_eq!(rt;
         status_of(rt.alloc(), &["local"], &mut source, &mut sink)?,
         0
@@ -184,14 +163,8 @@ const HOSTS: &[(&[&[u8]], u8, &str)] = &[
 #[test]
 fn the_words_of_a_host_are_handed_on(rt: HostRuntime) -> Result<(), Fail> {
     for (words, status, output) in HOSTS {
-        let mut source = InputSource {
-            reader: b"A B r\n".as_slice(),
-            faults: 0,
-        };
-        let mut sink = OutputSink {
-            writer: Vec::new(rt.alloc()),
-            faults: 0,
-        };
+        let mut source = InputSource::over(b"A B r\n".as_slice());
+        let mut sink = OutputSink::over(Vec::new(rt.alloc()), Vec::new(rt.alloc()));
         let mut disk = empty_disk(rt.alloc())?;
         assert_eq!(rt;
             run_on(&Words(words), rt.alloc(), &mut source, &mut sink, &mut disk),

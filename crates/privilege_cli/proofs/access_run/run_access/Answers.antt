@@ -1,18 +1,32 @@
-use Rattle.std.proofs.Common.{refl, ap}
+use Rattle.std.proofs.Common.{◌≡◌, ℕ, List, refl, ap, ◌∙◌}
+use Rattle.smack_rules.specs.Decision.{decision}
+use Rattle.smack_rules.specs.Table.{granted}
+use Rattle.smack_rules.specs.declared.decision.Decision.{Decision}
+use Rattle.smack_rules.specs.declared.modes.Modes.{Modes}
+use Rattle.smack_rules.specs.declared.table.PairModes.{PairModes}
 use Rattle.privilege_cli.specs.Reply.{decided_text}
 use Rattle.privilege_cli.proofs.Accessing.{Reads-unread, Reads-written, Reads-unwritten}
 use Rattle.privilege_cli.proofs.access_run.run_access.Goals as goal
+
+decided : (subject object : List ℕ) (asked : Modes) (kept table : List PairModes) (answer : Decision)
+    → answer ≡ decision subject object asked (granted kept subject object) → kept ≡ table
+    → decided_text answer ≡ decided_text (decision subject object asked (granted table subject object))
+decided subject object asked kept table answer is same =
+    ap decided_text (is ∙ ap (λ pairs. decision subject object asked (granted pairs subject object)) same)
 
 pub returns-in-Err : goal.returns-in-Err
 returns-in-Err g c disk moment disk_faults =
     Reads-unread _ _ _ _ _ _ _ _ disk moment disk_faults _ _ _ c.in-Err.ending c.in-Err.ensures.read c.in-Err.ensures.count refl refl
 
-pub returns-in-Ok-write_answer : goal.returns-in-Ok-write_answer
-returns-in-Ok-write_answer g c disk moment disk_faults =
-    Reads-written _ _ _ _ _ _ _ _ disk moment disk_faults _ _ _ c.in-Ok.table c.in-Ok.ensures.read _ (ap decided_text c.decide-decision.ensures.decided)
-    c.in-Ok.ensures.count c.in-Ok-write_answer.ensures.written c.in-Ok-write_answer.ensures.count
+pub returns-in-Ok-write_decision : goal.returns-in-Ok-write_decision
+returns-in-Ok-write_decision g c disk moment disk_faults =
+    Reads-written _ _ _ _ _ _ _ _ disk moment disk_faults _ _ _ c.in-Ok.rules c.in-Ok.ensures.read _
+    (decided _ _ _ c.rules.inside.table c.in-Ok.rules _ c.decide-decision.ensures.decided c.rules.view_is)
+    c.in-Ok.ensures.count c.in-Ok-write_decision.ensures.written c.in-Ok-write_decision.ensures.count
 
 pub returns : goal.returns
 returns g c disk moment disk_faults =
-    Reads-unwritten _ _ _ _ _ _ _ _ disk moment disk_faults _ _ _ c.in-Ok.table c.in-Ok.ensures.read _ (ap decided_text c.decide-decision.ensures.decided)
-    c.in-Ok.ensures.count c.in-Err-write_answer.ending c.in-Err-write_answer.ensures.written c.in-Err-write_answer.ensures.count
+    Reads-unwritten _ _ _ _ _ _ _ _ disk moment disk_faults _ _ _ c.in-Ok.rules c.in-Ok.ensures.read _
+    (decided _ _ _ c.rules.inside.table c.in-Ok.rules _ c.decide-decision.ensures.decided c.rules.view_is)
+    c.in-Ok.ensures.count c.in-Err-write_decision.ending c.in-Err-write_decision.ensures.written
+    c.in-Err-write_decision.ensures.count

@@ -1,10 +1,12 @@
-use Rattle.privilege_cli.specs.Commands.{command_of}
-use Rattle.privilege_cli.proofs.Refusing.{Does-refused}
+use Rattle.std.proofs.Common.{Err, subst}
+use Rattle.privilege_cli.specs.Commands.{Reads, command_of}
+use Rattle.privilege_cli.proofs.Refusing.{Does-without_memory}
 use Rattle.privilege_cli.proofs.program.run_words.Goals as goal
 
-pub returns-in-Err-clause-run : goal.returns-in-Err-clause-run
-returns-in-Err-clause-run g c =
-    Does-refused _ (command_of c.args.words.now) c.in-Err.refusal c.from.result _ c.in-Err.ensures.command c.from.ensures
+pub returns-in-Err-Memory-clause-run : goal.returns-in-Err-Memory-clause-run
+returns-in-Err-Memory-clause-run g c =
+    Does-without_memory _ (command_of c.args.words.now) _ c.in-Err-Memory.field-0-0
+    (subst (λ refusal. Reads (Err refusal) (command_of c.args.words.now)) c.in-Err-Memory.field-0-is c.in-Err-Memory.ensures.command)
 
 pub returns-in-Ok-SmackAccess-clause-run : goal.returns-in-Ok-SmackAccess-clause-run
 returns-in-Ok-SmackAccess-clause-run g c =
