@@ -25,7 +25,7 @@ def build():
 def over(folder, words, text):
     """What the program writes over the folder `store` in this one, and its status."""
     kept = {**os.environ, "PRIVILEGE_DIR": str(folder)}
-    done = subprocess.run([PROGRAM, *words], input=text, stdout=subprocess.PIPE, cwd=folder, env=kept)
+    done = subprocess.run([PROGRAM, *words], input=text, stdout=subprocess.PIPE, stderr=subprocess.DEVNULL, cwd=folder, env=kept)
     return done.stdout, done.returncode
 
 

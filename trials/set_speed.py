@@ -14,7 +14,8 @@ import tempfile
 from device_model import LIMITS, Device
 from script_model import ALLOW, BUCKET
 from set_model import MAIN, MANIFESTS, files_of, main_of, manifests_of
-from set_program import HERE, answers, built
+from set_program import answers, built
+from trial_crate import HERE
 
 RUNS, TIMES = 5, 3
 MOST = 3

@@ -79,7 +79,7 @@ def timed(command, file):
     with open(file, "rb") as text, tempfile.TemporaryDirectory(dir=ROOM) as folder:
         kept = {**os.environ, "PRIVILEGE_DIR": folder}
         start = time.perf_counter()
-        done = subprocess.run([*measured, *command], stdin=text, stdout=subprocess.PIPE, env=kept, check=True)
+        done = subprocess.run([*measured, *command], stdin=text, stdout=subprocess.PIPE, stderr=subprocess.DEVNULL, env=kept, check=True)
         took = time.perf_counter() - start
     memory = int(file.with_suffix(".memory").read_text()) / 1000 if measured else 0
     return took, memory, done.stdout

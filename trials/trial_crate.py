@@ -1,0 +1,43 @@
+"""Programs over the crates, for trials: each is built in a repository of its own, with copies of the crates that it stands
+on. What is proved of them is copied with them."""
+
+import pathlib
+import shutil
+import subprocess
+import sys
+
+HERE = pathlib.Path(__file__).resolve().parent
+CRATES = HERE.parent / "crates"
+
+
+def below(names):
+    """The crates of the repository at or below these, with their lines of `crates.txt`."""
+    lines = (HERE.parent / "crates.txt").read_text().splitlines()
+    needs = {name: words.split() for name, _, words in (line.partition(":") for line in lines) if words}
+    found, waiting = {}, list(names)
+    while waiting:
+        name = waiting.pop()
+        if name in needs and name not in found:
+            found[name] = f"{name}: {' '.join(needs[name])}"
+            waiting += needs[name]
+    return found
+
+
+def built(scratch, name, uses):
+    """The program `NAME.rt.txt` of this folder, which uses these crates."""
+    crates = below(uses)
+    for crate in crates:
+        # work that a proof begins with is of use only where no library is made of it yet
+        spared = shutil.ignore_patterns("incremental") if (CRATES / crate / "out" / "rlib").is_dir() else None
+        shutil.copytree(CRATES / crate, scratch / "crates" / crate, symlinks=True, ignore=spared)
+    source = scratch / "crates" / name / "src"
+    source.mkdir(parents=True)
+    shutil.copy(HERE / f"{name}.rt.txt", source / "main.rt")
+    (scratch / "crates.txt").write_text("\n".join([*crates.values(), f"{name}: {' '.join(uses)}"]) + "\n")
+    made = subprocess.run(
+        ["rt", "run"], cwd=source.parent, stdin=subprocess.DEVNULL, stdout=subprocess.PIPE, stderr=subprocess.STDOUT
+    )
+    program = source.parent / "out" / name
+    if not program.exists():
+        sys.exit(made.stdout.decode())
+    return program
