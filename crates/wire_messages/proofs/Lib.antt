@@ -1,0 +1,12 @@
+pub mod Exact
+pub mod Lengths
+pub mod Loops
+pub mod Rises
+pub mod FieldLaws
+pub mod RefusalLaws
+pub mod MessageLaws
+pub mod FrameLaws
+pub mod Streams
+pub mod Settling
+pub mod Appending
+pub mod Hearings

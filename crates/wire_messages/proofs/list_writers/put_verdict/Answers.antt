@@ -1,0 +1,25 @@
+use Rattle.std.proofs.Common.{◌++◌, ◌≡◌, rules}
+use Rattle.std.specs.Int.{w64, to_be_bytes}
+use Rattle.wire_messages.specs.Field.{ruling, bucket, optional, row}
+use Rattle.wire_messages.proofs.Appending.{then_last}
+use Rattle.wire_messages.proofs.list_writers.put_verdict.Goals as goal
+
+pub returns : goal.returns
+returns c =
+    let verdict = c.args.verdict.now in
+    let answer = verdict.answer in
+    let commit = to_be_bytes w64 verdict.commit in
+    let result = ruling.spelled (record { kind = answer.kind.0; metadata = answer.metadata }) in
+    let name = bucket.spelled answer.cause.bucket in
+    let last = (optional row).spelled answer.cause.row in
+    let out = c.args.out.now.items in
+    let one = c.put8.new.out.items in
+    let two = c.put_kind_and_metadata.new.out.items in
+    let three = c.put_text.new.out.items in
+    let all = c.put_optional_row.new.out.items in
+    let first : one ≡ out ++ commit = c.in_ok-put8.ensures in
+    let second : two ≡ one ++ result = search rules in
+    let third : three ≡ two ++ name = search rules in
+    then_last c.put_optional_row.result out one all commit (result ++ (name ++ last)) first
+    (then_last c.put_optional_row.result one two all result (name ++ last) second
+    (then_last c.put_optional_row.result two three all name last third c.put_optional_row.ensures))

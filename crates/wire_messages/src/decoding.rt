@@ -1,0 +1,82 @@
+ghost use Rattle.std.specs.Prelude.{◌≡◌, ◌+◌, ◌≤◌, Ok, length, IfOk};
+ghost use Rattle.wire_messages.specs.Frame.{length_of, length_fault, body_of, frame_of, spelling};
+ghost use Rattle.wire_messages.specs.Frame.{Answers, BeginsRight, IsKnown};
+ghost use Rattle.wire_messages.specs.Left.{OnMemory};
+ghost use Rattle.wire_messages.specs.Hearing.{IsHeard};
+ghost use Rattle.wire_messages.specs.declared.messages.Framed.{Framed};
+
+use crate::fields::Fields;
+use crate::limits::{LEAST_LENGTH, MOST_LENGTH};
+use crate::message_readers::message;
+use crate::{Framed, Heard, Operation, WireRefusal};
+use std::alloc::Global;
+
+/// Reads a frame, whose length is the number of the bytes behind it. Refuses at its first fault: `TooShort` and
+/// `TooLong` by the length, then `BadOperation`, `BadField` or `Trailing`, whichever comes first. Fields are kept as
+/// they are read, so `Memory` may come where a field that is not yet read is wrong.
+pub fn decode(alloc: Global, heard: Heard, frame: &[u8]) -> Result<Framed, WireRefusal>
+    requires { length frame.now ≡ length_of frame.now + 4 }
+    // Which message it is, or which fault.
+    ensures exact { Answers result (frame_of heard frame.now) }
+    // What is read is spelled so.
+    ensures found { IfOk result (λ framed. IsHeard heard framed × (frame.now ≡ spelling framed)) }
+    // What is spelled so is read, unless memory runs out.
+    ensures only { (framed : Framed) → IsHeard heard framed → frame.now ≡ spelling framed
+        → Answers result (Ok framed) }
+    // Memory runs out only behind a right length and a known operation; a later field may then be wrong.
+    ensures memory { OnMemory result (BeginsRight heard frame.now) }
+{
+    read(alloc, heard, frame)
+}
+
+fn read(alloc: Global, heard: Heard, frame: &[u8]) -> Result<Framed, WireRefusal>
+    requires { length frame.now ≡ length_of frame.now + 4 }
+    ensures answer { Answers result (frame_of heard frame.now) }
+    ensures memory { OnMemory result (BeginsRight heard frame.now) }
+{
+    if let Some(fault) = length_fault(length_of(frame)) {
+        return Err(fault);
+    }
+    let mut fields = Fields::of(frame);
+    fields.skip_length();
+    body(alloc, heard, &mut fields)
+}
+
+/// The length that stands in front of bytes.
+pub fn length_of(bytes: &[u8]) -> u32
+    requires { 4 ≤ length bytes.now }
+    ensures { result ≡ length_of bytes.now }
+{
+    u32::from_be_bytes([bytes[0], bytes[1], bytes[2], bytes[3]])
+}
+
+/// The fault of a frame's length.
+pub fn length_fault(length: u32) -> Option<WireRefusal>
+    ensures { result ≡ length_fault length }
+{
+    if length < LEAST_LENGTH {
+        return Some(WireRefusal::TooShort(length));
+    }
+    if length > MOST_LENGTH {
+        return Some(WireRefusal::TooLong(length));
+    }
+    None
+}
+
+// what follows the length
+#[tactic(auto, unfolding(crate::specs::Frame::body_of))]
+fn body(alloc: Global, heard: Heard, fields: &mut Fields) -> Result<Framed, WireRefusal>
+    ensures answer { Answers result (body_of heard fields.old) }
+    ensures memory { OnMemory result (IsKnown heard fields.old.rest) }
+{
+    let sequence = fields.number2()?;
+    let number = fields.number1()?;
+    let Some(operation) = Operation::of(heard, number) else {
+        return Err(WireRefusal::BadOperation(number));
+    };
+    let message = message(alloc, operation, fields)?;
+    if !fields.is_empty() {
+        return Err(WireRefusal::Trailing(fields.place()));
+    }
+    Ok(Framed { sequence, message })
+}

@@ -1,0 +1,60 @@
+ghost use Rattle.std.specs.Prelude.{◌≡◌, ◌≤◌, ◌++◌, ◌∷◌, [], length, IfOk, OnOk, IfErr, OnErr};
+ghost use Rattle.wire_messages.specs.Frame.{body, spelling, frame_of, IsTooLong};
+ghost use Rattle.wire_messages.specs.Hearing.{IsHeard};
+ghost use Rattle.wire_messages.specs.declared.operations.Heard.{Heard};
+
+use crate::limits::MOST_LENGTH;
+use crate::message_writers::{operation, put_fields};
+use crate::writers::{put1, put2};
+use crate::{EncodeRefusal, Framed};
+use byteorder::{BigEndian, ByteOrder};
+use desk_ports::Bytes;
+use std::alloc::{AllocError, Global};
+
+/// Spells a message with its sequence number, as a frame. Refuses `TooLong` where the frame's length would be above
+/// 1,048,576, and gives that length.
+pub fn encode(alloc: Global, framed: &Framed) -> Result<Bytes, EncodeRefusal>
+    ensures spelled { IfOk result (λ frame. frame ≡ spelling framed.now) }
+    // What is spelled is read again, by the side that knows the operation.
+    ensures again { IfOk result
+        (λ frame. (heard : Heard) → IsHeard heard framed.now → frame_of heard frame ≡ Ok framed.now) }
+    ensures fits { OnOk result (length (body framed.now) ≤ MOST_LENGTH) }
+    ensures refused { IfErr result (IsTooLong framed.now) }
+{
+    let mut frame = Vec::new(alloc);
+    encode_into(&mut frame, framed)?;
+    Ok(Bytes::of(frame))
+}
+
+/// Spells a message as `encode` does, into a buffer in place of what it held. The buffer keeps its memory, so that one
+/// serves many messages without asking for more. It is empty after a refusal.
+pub fn encode_into(frame: &mut Vec<u8>, framed: &Framed) -> Result<(), EncodeRefusal>
+    ensures spelled { OnOk result (frame.new.items ≡ spelling framed.now) }
+    ensures emptied { OnErr result (frame.new.items ≡ []) }
+    ensures fits { OnOk result (length (body framed.now) ≤ MOST_LENGTH) }
+    ensures refused { IfErr result (IsTooLong framed.now) }
+{
+    frame.clear();
+    if let Err(error) = put_frame(frame, framed) {
+        frame.clear();
+        return Err(EncodeRefusal::Memory(error));
+    }
+    let length = frame.len() - 4;
+    if length > MOST_LENGTH as usize {
+        frame.clear();
+        return Err(EncodeRefusal::TooLong(length as u64));
+    }
+    BigEndian::write_u32(frame, length as u32);
+    Ok(())
+}
+
+// a length of 0 and what follows it
+fn put_frame(out: &mut Vec<u8>, framed: &Framed) -> Result<(), AllocError>
+    requires { out.old.items ≡ [] }
+    ensures { OnOk result (out.new.items ≡ (0 ∷ 0 ∷ 0 ∷ 0 ∷ []) ++ body framed.now) }
+{
+    out.extend_from_slice(&[0; 4])?;
+    put2(out, framed.sequence)?;
+    put1(out, operation(&framed.message).number())?;
+    put_fields(out, &framed.message)
+}

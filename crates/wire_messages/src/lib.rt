@@ -1,0 +1,44 @@
+//! Frames: how launchers, installers and agents speak to the service.
+//!
+//! A frame is a length, a sequence number, the number of an operation and the operation's fields; all numbers have
+//! their highest byte first. Each message has one spelling, which is read back as the message, in whatever pieces it
+//! comes. The frames are this project's profile.
+#![tactic(auto)]
+
+mod boxed_verdicts;
+mod commands;
+mod decoding;
+mod encoding;
+mod feeding;
+mod fields;
+mod laws;
+mod limits;
+mod list_readers;
+mod list_writers;
+mod message_readers;
+mod message_writers;
+mod messages;
+mod operations;
+mod readers;
+mod refusal_readers;
+mod refusals;
+mod right_fields;
+mod rules;
+mod writers;
+
+pub use boxed_verdicts::BoxedVerdict;
+pub use commands::{command_of, message_of, refused_of};
+pub use decoding::decode;
+pub use encoding::{encode, encode_into};
+pub use feeding::Feeder;
+pub use laws::{
+    one_reading, one_spelling, pieces_do_not_matter, what_is_heard_is_spelled,
+    what_is_spelled_is_heard,
+};
+pub use limits::{LEAST_LENGTH, MOST_FRAME_BYTES, MOST_LENGTH};
+pub use messages::{Framed, Message};
+pub use operations::{Heard, Operation};
+pub use refusals::{EncodeRefusal, WireRefusal};
+
+#[cfg(test)]
+mod tests;

@@ -1,0 +1,174 @@
+// Lists of fields, verdicts, installs and refusals, appended to a frame.
+ghost use Rattle.std.specs.Prelude.{◌∷◌, []};
+ghost use Rattle.wire_messages.specs.Format as format;
+ghost use Rattle.wire_messages.specs.Field as field;
+ghost use Rattle.wire_messages.specs.Refused as refused;
+ghost use Rattle.wire_messages.specs.Appended.{Appended};
+
+use crate::writers::{
+    put_author, put_bucket, put_count, put_ident, put_key, put_kind_and_metadata, put_name,
+    put_ruling, put_scope, put_text, put1, put8,
+};
+use app_registry::Install;
+use bucket_eval::{Row, Verdict};
+use bucket_store::Change;
+use cynara_keys::{Counted, Name};
+use desk_state::Refusal;
+use std::alloc::AllocError;
+
+pub fn put_change(out: &mut Vec<u8>, change: &Change) -> Result<(), AllocError>
+    ensures { Appended result out.old.items out.new.items (field.change.spelled change.now) }
+{
+    match change {
+        Change::Set {
+            bucket,
+            key,
+            result: ruling,
+        } => {
+            put1(out, 1)?;
+            put_bucket(out, bucket)?;
+            put_key(out, key)?;
+            put_ruling(out, ruling)
+        }
+        Change::Delete { bucket, key } => {
+            put1(out, 0)?;
+            put_bucket(out, bucket)?;
+            put_key(out, key)
+        }
+    }
+}
+
+pub fn put_changes(out: &mut Vec<u8>, changes: &[Change]) -> Result<(), AllocError>
+    ensures { Appended result out.old.items out.new.items ((format.counted field.change).spelled changes.now) }
+{
+    put_count(out, changes.len())?;
+    for change in changes {
+        put_change(out, change)?;
+    }
+    Ok(())
+}
+
+pub fn put_names(out: &mut Vec<u8>, names: &[Name]) -> Result<(), AllocError>
+    ensures { Appended result out.old.items out.new.items (field.privileges.spelled names.now) }
+{
+    put_count(out, names.len())?;
+    for name in names {
+        put_name(out, name)?;
+    }
+    Ok(())
+}
+
+pub fn put_install(out: &mut Vec<u8>, install: &Install) -> Result<(), AllocError>
+    ensures { Appended result out.old.items out.new.items (field.install.spelled install.now) }
+{
+    put_ident(out, &install.package)?;
+    put_author(out, &install.author)?;
+    put_ident(out, &install.app)?;
+    put_scope(out, install.scope)?;
+    put_names(out, install.privileges.as_slice())
+}
+
+pub fn put_verdict(out: &mut Vec<u8>, verdict: &Verdict) -> Result<(), AllocError>
+    ensures { Appended result out.old.items out.new.items (field.verdict.spelled verdict.now) }
+{
+    let answer = &verdict.answer;
+    put8(out, verdict.commit)?;
+    put_kind_and_metadata(out, answer.kind, answer.metadata.as_slice())?;
+    put_text(out, answer.cause.bucket.as_slice())?;
+    put_optional_row(out, &answer.cause.row)
+}
+
+fn put_optional_row(out: &mut Vec<u8>, row: &Option<Row>) -> Result<(), AllocError>
+    ensures { Appended result out.old.items out.new.items ((field.optional field.row).spelled row.now) }
+{
+    match row {
+        None => put1(out, 0),
+        Some(row) => {
+            put1(out, 1)?;
+            put_row(out, row)
+        }
+    }
+}
+
+fn put_row(out: &mut Vec<u8>, row: &Row) -> Result<(), AllocError>
+    ensures { Appended result out.old.items out.new.items (field.row.spelled row.now) }
+{
+    put_text(out, row.client.as_slice())?;
+    put_text(out, row.user.as_slice())?;
+    put_text(out, row.privilege.as_slice())
+}
+
+/// A refusal that is not want of memory.
+pub fn put_refusal(out: &mut Vec<u8>, refusal: &Refusal) -> Result<(), AllocError>
+    ensures { Appended result out.old.items out.new.items (refused.refusal_spelled refusal.now) }
+{
+    match refusal {
+        Refusal::Reserved(name) => {
+            put1(out, 1)?;
+            put_bucket(out, name)?;
+            put8(out, 0)
+        }
+        Refusal::LayoutThere => put_plain(out, 2),
+        Refusal::NoLayout => put_plain(out, 3),
+        Refusal::NoBucket(name) => {
+            put1(out, 4)?;
+            put_bucket(out, name)?;
+            put8(out, 0)
+        }
+        Refusal::RootBucket => put_plain(out, 5),
+        Refusal::BadKind(kind) => put_number(out, 6, u64::from(kind.0)),
+        Refusal::UnknownUser(uid) => put_number(out, 7, u64::from(*uid)),
+        Refusal::OtherPackage(name) => {
+            put1(out, 8)?;
+            put_ident(out, name)?;
+            put8(out, 0)
+        }
+        Refusal::OtherAuthor(author) => {
+            put1(out, 9)?;
+            put_author(out, author)?;
+            put8(out, 0)
+        }
+        Refusal::NotInstalled => put_plain(out, 10),
+        Refusal::Limit(counted, limit) => {
+            put1(out, 11)?;
+            put_counted(out, *counted)?;
+            put8(out, *limit)
+        }
+        Refusal::Cycle(name) => {
+            put1(out, 12)?;
+            put_bucket(out, name)?;
+            put8(out, 0)
+        }
+        Refusal::Memory(_) => Ok(()),
+    }
+}
+
+// a rule without text and value
+fn put_plain(out: &mut Vec<u8>, rule: u8) -> Result<(), AllocError>
+    ensures { Appended result out.old.items out.new.items (rule ∷ refused.plain.spelled ([], 0)) }
+{
+    put_number(out, rule, 0)
+}
+
+// a rule with a value alone
+fn put_number(out: &mut Vec<u8>, rule: u8, value: u64) -> Result<(), AllocError>
+    ensures { Appended result out.old.items out.new.items (rule ∷ refused.plain.spelled ([], value)) }
+{
+    put1(out, rule)?;
+    put_text(out, b"")?;
+    put8(out, value)
+}
+
+fn put_counted(out: &mut Vec<u8>, counted: Counted) -> Result<(), AllocError>
+    ensures { Appended result out.old.items out.new.items (refused.which.spelled counted) }
+{
+    match counted {
+        Counted::Commits => put_text(out, b"commits"),
+        Counted::Users => put_text(out, b"users"),
+        Counted::Packages => put_text(out, b"packages"),
+        Counted::Installs => put_text(out, b"installs"),
+        Counted::Grants => put_text(out, b"grants"),
+        Counted::Buckets => put_text(out, b"buckets"),
+        Counted::Policies => put_text(out, b"policies"),
+    }
+}

@@ -1,0 +1,163 @@
+// The fields of each message, appended to a frame.
+ghost use Rattle.std.specs.Prelude.{◌≡◌};
+ghost use Rattle.wire_messages.specs.Appended.{Appended};
+ghost use Rattle.wire_messages.specs.Message as words;
+
+use crate::list_writers::{put_changes, put_install, put_refusal, put_verdict};
+use crate::writers::{
+    put_bucket, put_file_name, put_filter, put_flag, put_ident, put_kind, put_policy, put_question,
+    put_ruling, put_scope, put_template, put_user_type, put4, put8,
+};
+use crate::{Message, Operation};
+use cynara_keys::Kind;
+use std::alloc::AllocError;
+
+/// The operation of a message.
+pub fn operation(message: &Message) -> Operation
+    ensures { result ≡ words.operation message.now }
+{
+    match message {
+        Message::Check { .. } => Operation::Check,
+        Message::SimpleCheck { .. } => Operation::SimpleCheck,
+        Message::SetBucket { .. } => Operation::SetBucket,
+        Message::RemoveBucket { .. } => Operation::RemoveBucket,
+        Message::SetPolicies { .. } => Operation::SetPolicies,
+        Message::Erase { .. } => Operation::Erase,
+        Message::Layout => Operation::Layout,
+        Message::SetTemplate { .. } => Operation::SetTemplate,
+        Message::UserSet { .. } => Operation::UserSet,
+        Message::UserRemove { .. } => Operation::UserRemove,
+        Message::Install { .. } => Operation::Install,
+        Message::Uninstall { .. } => Operation::Uninstall,
+        Message::Listing { .. } => Operation::Listing,
+        Message::AdminCheck { .. } => Operation::AdminCheck,
+        Message::Stop => Operation::Stop,
+        Message::Register { .. } => Operation::Register,
+        Message::AgentAnswer { .. } => Operation::AgentAnswer,
+        Message::Judged { .. } => Operation::Judged,
+        Message::FromAgent { .. } => Operation::FromAgent,
+        Message::NotResolved { .. } => Operation::NotResolved,
+        Message::NoAgent { .. } => Operation::NoAgent,
+        Message::AgentGone { .. } => Operation::AgentGone,
+        Message::AgentFull { .. } => Operation::AgentFull,
+        Message::Done { .. } => Operation::Done,
+        Message::Refused { .. } => Operation::Refused,
+        Message::ListRow { .. } => Operation::ListRow,
+        Message::ListEnd { .. } => Operation::ListEnd,
+        Message::StoreFault => Operation::StoreFault,
+        Message::StoreDamaged { .. } => Operation::StoreDamaged,
+        Message::Registered { .. } => Operation::Registered,
+        Message::KindTaken { .. } => Operation::KindTaken,
+        Message::AgentQuestion { .. } => Operation::AgentQuestion,
+        Message::UnknownNumber { .. } => Operation::UnknownNumber,
+    }
+}
+
+/// Appends the fields of a message.
+pub fn put_fields(out: &mut Vec<u8>, message: &Message) -> Result<(), AllocError>
+    ensures { Appended result out.old.items out.new.items (words.fields message.now) }
+{
+    match message {
+        Message::Check { question } => put_question(out, question),
+        Message::SimpleCheck { question } => put_question(out, question),
+        Message::SetBucket { bucket, fallback } => {
+            put_bucket(out, bucket)?;
+            put_ruling(out, fallback)
+        }
+        Message::RemoveBucket { bucket } => put_bucket(out, bucket),
+        Message::SetPolicies { changes } => put_changes(out, changes.as_slice()),
+        Message::Erase { bucket, filter } => {
+            put_bucket(out, bucket)?;
+            put_filter(out, filter)
+        }
+        Message::Layout => Ok(()),
+        Message::SetTemplate { template } => put_template(out, template),
+        Message::UserSet { uid, kind } => {
+            put4(out, *uid)?;
+            put_user_type(out, *kind)
+        }
+        Message::UserRemove { uid } => put4(out, *uid),
+        Message::Install { install } => put_install(out, install),
+        Message::Uninstall { app, scope } => {
+            put_ident(out, app)?;
+            put_scope(out, *scope)
+        }
+        Message::Listing { bucket, filter } => {
+            put_bucket(out, bucket)?;
+            put_filter(out, filter)
+        }
+        Message::AdminCheck {
+            bucket,
+            recursive,
+            question,
+        } => {
+            put_bucket(out, bucket)?;
+            put_flag(out, *recursive)?;
+            put_question(out, question)
+        }
+        Message::Stop => Ok(()),
+        Message::Register { kind } => put_kind(out, *kind),
+        Message::AgentAnswer { number, allowed } => {
+            put4(out, *number)?;
+            put_flag(out, *allowed)
+        }
+        Message::Judged { verdict } => put_verdict(out, verdict.verdict()),
+        Message::FromAgent {
+            commit,
+            kind,
+            number,
+            allowed,
+        } => {
+            put8(out, *commit)?;
+            put_kind(out, *kind)?;
+            put4(out, *number)?;
+            put_flag(out, *allowed)
+        }
+        Message::NotResolved { commit, kind } => {
+            put8(out, *commit)?;
+            put_kind(out, *kind)
+        }
+        Message::NoAgent { commit, kind } => {
+            put8(out, *commit)?;
+            put_kind(out, *kind)
+        }
+        Message::AgentGone { commit, number } => { put_commit_and_count(out, *commit, *number) }
+        Message::AgentFull { commit, kind, most } => { put_agent_full(out, *commit, *kind, *most) }
+        Message::Done { commit, erased } => { put_commit_and_count(out, *commit, *erased) }
+        Message::Refused { refusal } => put_refusal(out, refusal),
+        Message::ListRow { policy } => put_policy(out, policy),
+        Message::ListEnd { count } => put4(out, *count),
+        Message::StoreFault => Ok(()),
+        Message::StoreDamaged { file, line } => {
+            put_file_name(out, file)?;
+            put4(out, *line)
+        }
+        Message::Registered { kind } => put_kind(out, *kind),
+        Message::KindTaken { kind } => put_kind(out, *kind),
+        Message::AgentQuestion {
+            number,
+            question,
+            result,
+        } => {
+            put4(out, *number)?;
+            put_question(out, question)?;
+            put_ruling(out, result)
+        }
+        Message::UnknownNumber { number } => put4(out, *number),
+    }
+}
+
+fn put_agent_full(out: &mut Vec<u8>, commit: u64, kind: Kind, most: u32) -> Result<(), AllocError>
+    ensures { Appended result out.old.items out.new.items (words.fields (Message.AgentFull commit kind most)) }
+{
+    put8(out, commit)?;
+    put_kind(out, kind)?;
+    put4(out, most)
+}
+
+fn put_commit_and_count(out: &mut Vec<u8>, commit: u64, count: u32) -> Result<(), AllocError>
+    ensures { Appended result out.old.items out.new.items (words.fields (Message.Done commit count)) }
+{
+    put8(out, commit)?;
+    put4(out, count)
+}

@@ -1,0 +1,154 @@
+use crate::BoxedVerdict;
+use app_registry::{Ident, Install, Scope, UserType};
+use bucket_store::Changes;
+use cynara_keys::{BucketName, Filter, Kind, Policy, PolicyResult, Question};
+use desk_ports::FileName;
+use desk_state::Refusal;
+use rule_templates::Template;
+
+/// What a client, an administrator or an agent says, and what they are answered.
+#[derive(Debug, Drop)]
+pub enum Message {
+    /// A client asks whether the use of a privilege is granted; an agent may be asked.
+    Check {
+        question: Question,
+    },
+    /// A client asks the same, and no agent is asked.
+    SimpleCheck {
+        question: Question,
+    },
+    SetBucket {
+        bucket: BucketName,
+        fallback: PolicyResult,
+    },
+    RemoveBucket {
+        bucket: BucketName,
+    },
+    SetPolicies {
+        changes: Changes,
+    },
+    Erase {
+        bucket: BucketName,
+        filter: Filter,
+    },
+    Layout,
+    SetTemplate {
+        template: Template,
+    },
+    UserSet {
+        uid: u32,
+        kind: UserType,
+    },
+    UserRemove {
+        uid: u32,
+    },
+    Install {
+        install: Install,
+    },
+    Uninstall {
+        app: Ident,
+        scope: Scope,
+    },
+    /// An administrator asks for the policies of a bucket that a filter admits.
+    Listing {
+        bucket: BucketName,
+        filter: Filter,
+    },
+    /// An administrator asks what a bucket answers, with the buckets that it points to or by its own policies alone.
+    AdminCheck {
+        bucket: BucketName,
+        recursive: bool,
+        question: Question,
+    },
+    Stop,
+    /// An agent says what kind it answers.
+    Register {
+        kind: Kind,
+    },
+    /// An agent answers the question of a number.
+    AgentAnswer {
+        number: u32,
+        allowed: bool,
+    },
+    /// The policies decide.
+    Judged {
+        verdict: BoxedVerdict,
+    },
+    /// An agent decided.
+    FromAgent {
+        commit: u64,
+        kind: Kind,
+        number: u32,
+        allowed: bool,
+    },
+    /// An agent would have to be asked.
+    NotResolved {
+        commit: u64,
+        kind: Kind,
+    },
+    /// No agent of the kind is there.
+    NoAgent {
+        commit: u64,
+        kind: Kind,
+    },
+    /// The agent left before it answered.
+    AgentGone {
+        commit: u64,
+        number: u32,
+    },
+    /// No further question can be put to an agent.
+    AgentFull {
+        commit: u64,
+        kind: Kind,
+        most: u32,
+    },
+    /// The command is accepted, or the service stops.
+    Done {
+        commit: u64,
+        erased: u32,
+    },
+    /// The command is refused by a rule.
+    Refused {
+        refusal: Refusal,
+    },
+    /// One policy that was asked for.
+    ListRow {
+        policy: Policy,
+    },
+    /// The end of the policies that were asked for, and how many there were.
+    ListEnd {
+        count: u32,
+    },
+    /// The disk failed.
+    StoreFault,
+    /// The line of the file is damaged, or the file as a whole where the line is 0.
+    StoreDamaged {
+        file: FileName,
+        line: u32,
+    },
+    /// The agent is registered.
+    Registered {
+        kind: Kind,
+    },
+    /// Another agent of the kind is there.
+    KindTaken {
+        kind: Kind,
+    },
+    /// An agent is asked.
+    AgentQuestion {
+        number: u32,
+        question: Question,
+        result: PolicyResult,
+    },
+    /// No question of the number waits for an answer.
+    UnknownNumber {
+        number: u32,
+    },
+}
+
+/// A message with its sequence number. A reply carries that of its question.
+#[derive(Debug, Drop)]
+pub struct Framed {
+    pub sequence: u16,
+    pub message: Message,
+}

@@ -1,0 +1,259 @@
+// The fields of messages, read from the front of what is left of a frame.
+ghost use Rattle.wire_messages.specs.Left.{Gives};
+ghost use Rattle.wire_messages.specs.Format as format;
+ghost use Rattle.wire_messages.specs.Field as field;
+
+use crate::WireRefusal;
+use crate::fields::Fields;
+use app_registry::{Ident, IdentRefusal, Scope, UserType};
+use cynara_keys::{
+    BucketName, BucketNameRefusal, Field, Filter, FilterField, Key, Kind, Metadata,
+    MetadataRefusal, Name, NameRefusal, Policy, PolicyResult, Question,
+};
+use desk_ports::{FileName, FileNameRefusal};
+use rule_templates::{Template, TemplateRefusal};
+use std::alloc::Global;
+
+pub fn name(alloc: Global, fields: &mut Fields) -> Result<Name, WireRefusal>
+    ensures { Gives result fields.new (field.name.read fields.old) }
+{
+    let place = fields.place();
+    let text = fields.text()?;
+    match Name::read(alloc, text) {
+        Ok(name) => Ok(name),
+        Err(NameRefusal::Memory(error)) => Err(WireRefusal::Memory(error)),
+        Err(_) => Err(WireRefusal::BadField(place)),
+    }
+}
+
+pub fn bucket(alloc: Global, fields: &mut Fields) -> Result<BucketName, WireRefusal>
+    ensures { Gives result fields.new (field.bucket.read fields.old) }
+{
+    let place = fields.place();
+    let text = fields.text()?;
+    match BucketName::read(alloc, text) {
+        Ok(name) => Ok(name),
+        Err(BucketNameRefusal::Memory(error)) => Err(WireRefusal::Memory(error)),
+        Err(_) => Err(WireRefusal::BadField(place)),
+    }
+}
+
+// `*` or a name
+pub fn key_field(alloc: Global, fields: &mut Fields) -> Result<Field, WireRefusal>
+    ensures { Gives result fields.new (field.field.read fields.old) }
+{
+    let place = fields.place();
+    let text = fields.text()?;
+    match Field::read(alloc, text) {
+        Ok(field) => Ok(field),
+        Err(NameRefusal::Memory(error)) => Err(WireRefusal::Memory(error)),
+        Err(_) => Err(WireRefusal::BadField(place)),
+    }
+}
+
+// `#`, `*` or a name
+pub fn filter_field(alloc: Global, fields: &mut Fields) -> Result<FilterField, WireRefusal>
+    ensures { Gives result fields.new (field.filter_field.read fields.old) }
+{
+    let place = fields.place();
+    let text = fields.text()?;
+    match FilterField::read(alloc, text) {
+        Ok(field) => Ok(field),
+        Err(NameRefusal::Memory(error)) => Err(WireRefusal::Memory(error)),
+        Err(_) => Err(WireRefusal::BadField(place)),
+    }
+}
+
+pub fn question(alloc: Global, fields: &mut Fields) -> Result<Question, WireRefusal>
+    ensures { Gives result fields.new (field.question.read fields.old) }
+{
+    let client = name(alloc, fields)?;
+    let user = name(alloc, fields)?;
+    let privilege = name(alloc, fields)?;
+    Ok(Question {
+        client,
+        user,
+        privilege,
+    })
+}
+
+pub fn key(alloc: Global, fields: &mut Fields) -> Result<Key, WireRefusal>
+    ensures { Gives result fields.new (field.key.read fields.old) }
+{
+    let client = key_field(alloc, fields)?;
+    let user = key_field(alloc, fields)?;
+    let privilege = key_field(alloc, fields)?;
+    Ok(Key {
+        client,
+        user,
+        privilege,
+    })
+}
+
+pub fn filter(alloc: Global, fields: &mut Fields) -> Result<Filter, WireRefusal>
+    ensures { Gives result fields.new (field.filter.read fields.old) }
+{
+    let client = filter_field(alloc, fields)?;
+    let user = filter_field(alloc, fields)?;
+    let privilege = filter_field(alloc, fields)?;
+    Ok(Filter {
+        client,
+        user,
+        privilege,
+    })
+}
+
+pub fn flag(fields: &mut Fields) -> Result<bool, WireRefusal>
+    ensures { Gives result fields.new (format.flag.read fields.old) }
+{
+    let place = fields.place();
+    match fields.number1()? {
+        0 => Ok(false),
+        1 => Ok(true),
+        _ => Err(WireRefusal::BadField(place)),
+    }
+}
+
+pub fn kind(fields: &mut Fields) -> Result<Kind, WireRefusal>
+    ensures { Gives result fields.new (field.kind.read fields.old) }
+{
+    Ok(Kind(fields.number2()?))
+}
+
+pub fn agent_kind(fields: &mut Fields) -> Result<Kind, WireRefusal>
+    ensures { Gives result fields.new (field.agent_kind.read fields.old) }
+{
+    let place = fields.place();
+    let kind = kind(fields)?;
+    if !kind.is_agent() {
+        return Err(WireRefusal::BadField(place));
+    }
+    Ok(kind)
+}
+
+// how many open questions there may be, or how many numbers of questions
+pub fn most(fields: &mut Fields) -> Result<u32, WireRefusal>
+    ensures { Gives result fields.new (field.most.read fields.old) }
+{
+    let place = fields.place();
+    let most = fields.number4()?;
+    if most != 1024 && most != 4_294_967_295 {
+        return Err(WireRefusal::BadField(place));
+    }
+    Ok(most)
+}
+
+// the metadata that a result of this kind may have, and the result
+fn ruling_of(alloc: Global, kind: Kind, fields: &mut Fields) -> Result<PolicyResult, WireRefusal>
+    ensures { Gives result fields.new
+        ((format.seen (λ metadata. record { kind = kind.0; metadata = metadata }) (λ ruling. ruling.metadata)
+        (field.metadata_of kind.0)).read fields.old) }
+{
+    let place = fields.place();
+    let text = fields.text()?;
+    let metadata = match Metadata::read(alloc, text) {
+        Ok(metadata) => metadata,
+        Err(MetadataRefusal::Memory(error)) => return Err(WireRefusal::Memory(error)),
+        Err(_) => return Err(WireRefusal::BadField(place)),
+    };
+    match PolicyResult::of(kind, metadata) {
+        Ok(ruling) => Ok(ruling),
+        Err(_) => Err(WireRefusal::BadField(place)),
+    }
+}
+
+pub fn ruling(alloc: Global, fields: &mut Fields) -> Result<PolicyResult, WireRefusal>
+    ensures { Gives result fields.new (field.ruling.read fields.old) }
+{
+    let kind = kind(fields)?;
+    ruling_of(alloc, kind, fields)
+}
+
+pub fn policy(alloc: Global, fields: &mut Fields) -> Result<Policy, WireRefusal>
+    ensures { Gives result fields.new (field.policy.read fields.old) }
+{
+    let key = key(alloc, fields)?;
+    let result = ruling(alloc, fields)?;
+    Ok(Policy { key, result })
+}
+
+pub fn user_type(fields: &mut Fields) -> Result<UserType, WireRefusal>
+    ensures { Gives result fields.new (field.user_type.read fields.old) }
+{
+    let place = fields.place();
+    match fields.number1()? {
+        0 => Ok(UserType::System),
+        1 => Ok(UserType::Admin),
+        2 => Ok(UserType::Normal),
+        3 => Ok(UserType::Guest),
+        _ => Err(WireRefusal::BadField(place)),
+    }
+}
+
+pub fn ident(alloc: Global, fields: &mut Fields) -> Result<Ident, WireRefusal>
+    ensures { Gives result fields.new (field.ident.read fields.old) }
+{
+    let place = fields.place();
+    let text = fields.text()?;
+    match Ident::read(alloc, text) {
+        Ok(ident) => Ok(ident),
+        Err(IdentRefusal::Memory(error)) => Err(WireRefusal::Memory(error)),
+        Err(_) => Err(WireRefusal::BadField(place)),
+    }
+}
+
+// an author, and no bytes for none
+pub fn author(alloc: Global, fields: &mut Fields) -> Result<Option<Ident>, WireRefusal>
+    ensures { Gives result fields.new (field.author.read fields.old) }
+{
+    let place = fields.place();
+    let text = fields.text()?;
+    if text.is_empty() {
+        return Ok(None);
+    }
+    match Ident::read(alloc, text) {
+        Ok(ident) => Ok(Some(ident)),
+        Err(IdentRefusal::Memory(error)) => Err(WireRefusal::Memory(error)),
+        Err(_) => Err(WireRefusal::BadField(place)),
+    }
+}
+
+pub fn scope(fields: &mut Fields) -> Result<Scope, WireRefusal>
+    ensures { Gives result fields.new (field.scope.read fields.old) }
+{
+    if flag(fields)? {
+        Ok(Scope::One(fields.number4()?))
+    } else {
+        Ok(Scope::Everyone)
+    }
+}
+
+pub fn file_name(alloc: Global, fields: &mut Fields) -> Result<FileName, WireRefusal>
+    ensures { Gives result fields.new (field.file_name.read fields.old) }
+{
+    let place = fields.place();
+    let text = fields.text()?;
+    match FileName::read(alloc, text) {
+        Ok(name) => Ok(name),
+        Err(FileNameRefusal::Memory(error)) => Err(WireRefusal::Memory(error)),
+        Err(_) => Err(WireRefusal::BadField(place)),
+    }
+}
+
+// a template in its one spelling
+pub fn template(alloc: Global, fields: &mut Fields) -> Result<Template, WireRefusal>
+    ensures { Gives result fields.new (field.template.read fields.old) }
+{
+    let place = fields.place();
+    let text = fields.text()?;
+    let template = match Template::read(alloc, text) {
+        Ok(template) => template,
+        Err(TemplateRefusal::Memory(error)) => return Err(WireRefusal::Memory(error)),
+        Err(_) => return Err(WireRefusal::BadField(place)),
+    };
+    match template.text() {
+        Ok(spelled) if spelled.as_slice() == text => Ok(template),
+        Ok(_) => Err(WireRefusal::BadField(place)),
+        Err(error) => Err(WireRefusal::Memory(error)),
+    }
+}

@@ -1,0 +1,171 @@
+// The refusal of a command, read from the front of what is left of a frame.
+ghost use Rattle.std.specs.Prelude.{◌≡◌};
+ghost use Rattle.wire_messages.specs.Left.{Gives};
+ghost use Rattle.wire_messages.specs.Format.{made};
+ghost use Rattle.wire_messages.specs.Refused.{no_text, zero_value, value_below, which, counted_of, read_rule};
+ghost use Rattle.wire_messages.specs.Refused.{refused, plain};
+
+use crate::WireRefusal;
+use crate::fields::Fields;
+use crate::readers::{author, bucket, ident};
+use crate::rules::Rule;
+use cynara_keys::{Counted, Kind};
+use desk_state::Refusal;
+use std::alloc::Global;
+
+pub fn refusal(alloc: Global, fields: &mut Fields) -> Result<Refusal, WireRefusal>
+    ensures { Gives result fields.new (refused.read fields.old) }
+{
+    let place = fields.place();
+    let number = fields.number1()?;
+    match Rule::of(number) {
+        Some(rule) => refusal_by(alloc, rule, fields),
+        None => Err(WireRefusal::BadField(place)),
+    }
+}
+
+// the text and the value of a refusal by the rule
+fn refusal_by(alloc: Global, rule: Rule, fields: &mut Fields) -> Result<Refusal, WireRefusal>
+    ensures { Gives result fields.new (read_rule rule fields.old) }
+{
+    match rule {
+        Rule::Reserved => {
+            let name = bucket(alloc, fields)?;
+            zero(fields)?;
+            Ok(Refusal::Reserved(name))
+        }
+        Rule::LayoutThere => {
+            nothing_more(fields)?;
+            Ok(Refusal::LayoutThere)
+        }
+        Rule::NoLayout => {
+            nothing_more(fields)?;
+            Ok(Refusal::NoLayout)
+        }
+        Rule::NoBucket => {
+            let name = bucket(alloc, fields)?;
+            zero(fields)?;
+            Ok(Refusal::NoBucket(name))
+        }
+        Rule::RootBucket => {
+            nothing_more(fields)?;
+            Ok(Refusal::RootBucket)
+        }
+        Rule::BadKind => {
+            empty(fields)?;
+            Ok(Refusal::BadKind(Kind(kind_value(fields)?)))
+        }
+        Rule::UnknownUser => {
+            empty(fields)?;
+            Ok(Refusal::UnknownUser(uid_value(fields)?))
+        }
+        Rule::OtherPackage => {
+            let name = ident(alloc, fields)?;
+            zero(fields)?;
+            Ok(Refusal::OtherPackage(name))
+        }
+        Rule::OtherAuthor => {
+            let name = author(alloc, fields)?;
+            zero(fields)?;
+            Ok(Refusal::OtherAuthor(name))
+        }
+        Rule::NotInstalled => {
+            nothing_more(fields)?;
+            Ok(Refusal::NotInstalled)
+        }
+        Rule::Limit => {
+            let counted = counted(fields)?;
+            Ok(Refusal::Limit(counted, fields.number8()?))
+        }
+        Rule::Cycle => {
+            let name = bucket(alloc, fields)?;
+            zero(fields)?;
+            Ok(Refusal::Cycle(name))
+        }
+    }
+}
+
+// an empty text and a value of 0
+fn nothing_more(fields: &mut Fields) -> Result<(), WireRefusal>
+    ensures { Gives result fields.new (made (λ x. tt) plain fields.old) }
+{
+    empty(fields)?;
+    zero(fields)
+}
+
+fn empty(fields: &mut Fields) -> Result<(), WireRefusal>
+    ensures { Gives result fields.new (made (λ x. tt) no_text fields.old) }
+{
+    let place = fields.place();
+    let text = fields.text()?;
+    if !text.is_empty() {
+        return Err(WireRefusal::BadField(place));
+    }
+    Ok(())
+}
+
+fn zero(fields: &mut Fields) -> Result<(), WireRefusal>
+    ensures { Gives result fields.new (made (λ x. tt) zero_value fields.old) }
+{
+    let place = fields.place();
+    if fields.number8()? != 0 {
+        return Err(WireRefusal::BadField(place));
+    }
+    Ok(())
+}
+
+fn kind_value(fields: &mut Fields) -> Result<u16, WireRefusal>
+    ensures { Gives result fields.new ((value_below 65536).read fields.old) }
+{
+    let place = fields.place();
+    let value = fields.number8()?;
+    if value >= 65536 {
+        return Err(WireRefusal::BadField(place));
+    }
+    Ok(value as u16)
+}
+
+fn uid_value(fields: &mut Fields) -> Result<u32, WireRefusal>
+    ensures { Gives result fields.new ((value_below 4294967296).read fields.old) }
+{
+    let place = fields.place();
+    let value = fields.number8()?;
+    if value >= 4_294_967_296 {
+        return Err(WireRefusal::BadField(place));
+    }
+    Ok(value as u32)
+}
+
+// the word of what a limit counts
+fn counted(fields: &mut Fields) -> Result<Counted, WireRefusal>
+    ensures { Gives result fields.new (which.read fields.old) }
+{
+    let place = fields.place();
+    let text = fields.text()?;
+    match counted_of(text) {
+        Some(counted) => Ok(counted),
+        None => Err(WireRefusal::BadField(place)),
+    }
+}
+
+fn counted_of(text: &[u8]) -> Option<Counted>
+    ensures { result ≡ counted_of text.now }
+{
+    if text == b"commits".as_slice() {
+        Some(Counted::Commits)
+    } else if text == b"users".as_slice() {
+        Some(Counted::Users)
+    } else if text == b"packages".as_slice() {
+        Some(Counted::Packages)
+    } else if text == b"installs".as_slice() {
+        Some(Counted::Installs)
+    } else if text == b"grants".as_slice() {
+        Some(Counted::Grants)
+    } else if text == b"buckets".as_slice() {
+        Some(Counted::Buckets)
+    } else if text == b"policies".as_slice() {
+        Some(Counted::Policies)
+    } else {
+        None
+    }
+}
