@@ -3,6 +3,7 @@ pub mod Numbers
 pub mod WordForms
 pub mod Verbs
 pub mod Block
+pub mod Spots
 pub mod Grammar
 pub mod Turn
 pub mod Refusals

@@ -19,6 +19,7 @@ mod questions;
 mod reader;
 mod results;
 mod rules_broken;
+mod spots;
 mod steps;
 #[cfg(test)]
 mod tests;
@@ -27,6 +28,9 @@ mod word_forms;
 
 pub use answers::{LineAnswer, command_line_fault, print};
 pub use last_lines::{write_damage, write_line_fault};
+pub use numbers::read_number;
 pub use reader::Reader;
 pub use rules_broken::RuleBroken;
+pub use spots::Spot;
 pub use steps::{LineRefusal, Step};
+pub use verbs::Verb;

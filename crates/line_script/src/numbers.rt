@@ -9,7 +9,7 @@ ghost use Rattle.line_script.specs.Numbers.{is_number, number_that};
 use std::str;
 
 /// Reads a decimal number up to 4294967295, without a sign and without a leading zero. `None` for every other text.
-pub(crate) fn read_number(text: &[u8]) -> Option<u32>
+pub fn read_number(text: &[u8]) -> Option<u32>
     ensures number { result ≡ number_that (λ number. nat_le number 4294967295) text.now }
     // What a number is printed as is read as that number.
     ensures again { (number : ℕ) → number < 2 ^ 32 → text.now ≡ decimal number → result ≡ Some number }

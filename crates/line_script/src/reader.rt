@@ -1,9 +1,11 @@
 ghost use Rattle.std.specs.Prelude.{◌≡◌, ◌≢◌, [], IfOk, MatchBool};
 ghost use Rattle.line_script.specs.Block.{outside, batch, template, failed};
 ghost use Rattle.line_script.specs.Grammar.{is_skipped, outside_at, batch_at, template_at, step_at};
+ghost use Rattle.line_script.specs.Spots.{spot_of};
 ghost use Rattle.line_script.specs.Turn.{Turns, is_in_block, AsksRequest};
 
 use crate::lines::{lone_change, lone_step};
+use crate::spots::Spot;
 use crate::steps::{LineRefusal, Step};
 use bucket_store::{Change, Changes};
 use desk_state::Command;
@@ -53,6 +55,22 @@ impl Reader {
         ensures { result ≡ is_in_block self.now }
     {
         matches!(self.place, Place::Batch(_) | Place::Template(_))
+    }
+
+    /// Where the next line stands. `None` once a line was refused, so who wants to say why asks before each line; that
+    /// costs no more than a look.
+    #[inline]
+    pub fn spot(&self) -> Option<Spot>
+        ensures { result ≡ spot_of self.now }
+    {
+        match &self.place {
+            Place::Outside => Some(Spot::Outside),
+            Place::Batch(_) => Some(Spot::Batch),
+            Place::Template(template) => Some(Spot::Template {
+                is_full: template.is_full(),
+            }),
+            Place::Failed => None,
+        }
     }
 
     /// Reads one line, given without its newline. Refuses `Syntax` exactly where the line is outside the grammar, unless

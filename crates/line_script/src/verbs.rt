@@ -3,7 +3,7 @@ ghost use Rattle.line_script.specs.Verbs.{verb_text, verb_at};
 
 /// What the first word of a line says, in the order in which words are compared: the most frequent first.
 #[derive(Clone, Copy, Debug)]
-pub(crate) enum Verb {
+pub enum Verb {
     Set,
     Check,
     Unset,
@@ -42,7 +42,7 @@ const VERBS: [Verb; 15] = [
 
 impl Verb {
     /// The word.
-    fn text(self) -> &'static [u8]
+    pub fn text(self) -> &'static [u8]
         ensures { result.now ≡ verb_text self }
     {
         match self {
@@ -66,7 +66,7 @@ impl Verb {
 
     /// What a word says as the first of a line, `None` for every other word.
     #[tactic(auto, unfolding(crate::specs::Verbs::verb_at))]
-    pub(crate) fn of_word(word: &[u8]) -> Option<Verb>
+    pub fn of_word(word: &[u8]) -> Option<Verb>
         ensures { result ≡ verb_at word.now }
     {
         VERBS.iter().copied().find(|verb| word == verb.text())

@@ -39,6 +39,10 @@ template_text lines = flat_map (λ line. line_text line ++ 10 ∷ []) lines
 abbrev pub is_template : List TemplateLine → Bool
 is_template lines = nat_le (length lines) LINE_LIMIT && list_all is_kept_line lines
 
+-- a further line would be one too many
+abbrev pub is_full : List TemplateLine → Bool
+is_full lines = nat_lt LINE_LIMIT (length lines + 1)
+
 -- the lines of a template and one more line, or why it is none
 abbrev pub with_one_more : List TemplateLine → List ℕ → Result (List TemplateLine) TemplateRefusal
 with_one_more lines line = with_front lines (with_line (length lines + 1) (line_of line) (Ok []))

@@ -16,7 +16,7 @@ mod usual;
 
 pub use expansion::expand;
 pub use labels::{author_label, read_only_label};
-pub use lines::{Change, TemplateLine, Word};
+pub use lines::{Change, LineFault, TemplateLine, Word};
 pub use placeholders::Placeholder;
 pub use templates::{LINE_LIMIT, Template, TemplateRefusal};
 pub use usual::USUAL_TEXT;

@@ -35,7 +35,7 @@ pub struct TemplateLine {
 
 /// What is wrong with the bytes of a line.
 #[derive(Clone, Copy, Debug, PartialEq, Eq)]
-pub(crate) enum LineFault {
+pub enum LineFault {
     /// It is no rule, whatever its placeholders are.
     Form,
     /// It would be right but for a word that begins with `~` and is no placeholder.

@@ -69,7 +69,7 @@ impl Template {
     ghost use Rattle.std.specs.List.{list_all};
     ghost use Rattle.smack_rules.specs.RuleText.{rules_of};
     ghost use Rattle.rule_templates.specs.TemplateLine.{is_fixed_line};
-    ghost use Rattle.rule_templates.specs.Template.{is_template, template_text, with_one_more};
+    ghost use Rattle.rule_templates.specs.Template.{is_template, is_full, template_text, with_one_more};
     ghost use Rattle.rule_templates.specs.TemplateRead.{ReadsAs, Pushes};
     ghost use Rattle.rule_templates.specs.Expansion.{expansion};
 
@@ -153,6 +153,13 @@ impl Template {
             lines.push(line.copy()?)?;
         }
         Ok(Template { lines })
+    }
+
+    /// Whether a further line would be one too many.
+    pub fn is_full(&self) -> bool
+        ensures { result ≡ is_full self.now }
+    {
+        self.lines.len() as u32 + 1 > LINE_LIMIT
     }
 
     /// The allocator of the template's memory, for what is made beside it.
