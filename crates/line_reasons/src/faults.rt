@@ -1,0 +1,62 @@
+//! Why a line was refused.
+
+ghost use Rattle.std.specs.Prelude.{◌≡◌, Some};
+ghost use Rattle.std.specs.Result.{result_ok};
+ghost use Rattle.smack_rules.specs.Rule.{line_rule};
+ghost use Rattle.line_script.specs.Block.{Block};
+ghost use Rattle.line_script.specs.Spots.{spot_of};
+ghost use Rattle.line_script.specs.Grammar.{step_at};
+ghost use Rattle.line_reasons.specs.FirstFault.{Explains};
+ghost use Rattle.line_reasons.specs.parts.Places.{Finds};
+
+use crate::grounds::Ground;
+use crate::places::longest_front;
+use crate::reasons::Reason;
+use crate::wording::reason_at;
+use line_script::Spot;
+use std::alloc::{AllocError, Global};
+use std::fmt;
+
+/// The first fault of a line.
+#[derive(Debug, Drop)]
+pub struct LineFault {
+    /// How many bytes of the line a known line can begin with: the fault is the byte behind them, or that the line ends.
+    pub place: usize,
+    pub reason: Reason,
+}
+
+impl fmt::Display for LineFault {
+    /// Writes `byte N: WORDS`, N counted from 1.
+    fn fmt<W: fmt::Write>(&self, f: &mut fmt::Formatter<W>) -> fmt::Result {
+        let number = self.place.saturating_add(1);
+        write!(f, "byte {number}: {}", self.reason)
+    }
+}
+
+/// Why a line of a script is outside the grammar, where it stands: the first fault. `None` exactly where it is within.
+/// Fails only for lack of memory, for the bytes that a reason shows.
+pub fn script_fault(alloc: Global, spot: Spot, line: &[u8]) -> Result<Option<LineFault>, AllocError>
+    ensures { (block : Block) → spot_of block ≡ Some spot → Explains (step_at block) line.now result }
+{
+    fault_at(alloc, Ground::of(spot), line)
+}
+
+/// Why a line of a text of Smack rules is none. `None` exactly where it is a rule, or blank.
+pub fn rule_fault(alloc: Global, line: &[u8]) -> Result<Option<LineFault>, AllocError>
+    ensures { Explains (λ line. result_ok (line_rule line)) line.now result }
+{
+    fault_at(alloc, Ground::Rules, line)
+}
+
+fn fault_at(alloc: Global, ground: Ground, line: &[u8]) -> Result<Option<LineFault>, AllocError>
+    ensures { Finds ground line.now result }
+{
+    if ground.is_line(line) {
+        return Ok(None);
+    }
+    let place = longest_front(ground, line);
+    match reason_at(alloc, ground, line, place) {
+        Ok(reason) => Ok(Some(LineFault { place, reason })),
+        Err(error) => Err(error),
+    }
+}

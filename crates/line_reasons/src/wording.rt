@@ -1,0 +1,209 @@
+//! Which reason a fault has. The place is proved, the reason is tested.
+
+ghost use Rattle.std.specs.Prelude.{◌≤◌, length};
+
+use crate::forms::Form;
+use crate::grounds::{Ground, RULE_FORMS, TEMPLATE_FORMS, forms_of};
+use crate::reasons::Reason;
+use crate::stands::run;
+use crate::usages::usage_of;
+use crate::word_tests::cut_at;
+use crate::words_wrong::word_reason;
+use desk_ports::shown_bytes;
+use line_script::Verb;
+use std::alloc::{AllocError, Global};
+
+/// The most bytes of a line that a reason shows.
+const MOST_SHOWN: usize = 40;
+
+const RULE_USAGE: &str = "SUBJECT OBJECT MODES, or SUBJECT OBJECT ADDED REMOVED";
+
+/// A front that a known line can begin with, and what follows it in the line.
+#[derive(Clone, Copy)]
+struct Fault<'t> {
+    front: &'t [u8],
+    rest: &'t [u8],
+}
+
+/// The reason for the fault at the place.
+pub(crate) fn reason_at(
+    alloc: Global,
+    ground: Ground,
+    line: &[u8],
+    place: usize,
+) -> Result<Reason, AllocError>
+    requires { place ≤ length line.now }
+{
+    let (front, rest) = line.split_at(place);
+    let fault = Fault { front, rest };
+    if let [b'\r', ..] = rest {
+        return Ok(Reason::CarriageReturn);
+    }
+    if line.starts_with(b"\xef\xbb\xbf") {
+        return Ok(Reason::ByteOrderMark);
+    }
+    match ground {
+        Ground::Outside => script_reason(alloc, false, line, fault),
+        Ground::Batch => script_reason(alloc, true, line, fault),
+        Ground::Template { is_full } => template_reason(alloc, is_full, line, fault),
+        Ground::Rules => rule_reason(alloc, line, fault),
+    }
+}
+
+// ---- scripts
+
+fn script_reason(
+    alloc: Global,
+    in_batch: bool,
+    line: &[u8],
+    fault: Fault,
+) -> Result<Reason, AllocError> {
+    match fault.rest {
+        [b'\t', ..] => return Ok(Reason::Tab),
+        [b' ', ..] => match fault.front {
+            [] => return Ok(Reason::SpaceInFront),
+            [.., b' '] => return Ok(Reason::TwoSpaces),
+            _ => {}
+        },
+        _ => {}
+    }
+    match cut_at(fault.front, b' ') {
+        None => first_word_reason(alloc, in_batch, line, fault),
+        Some((first, behind)) => match forms_of(in_batch, first) {
+            Some(forms) => {
+                let fault = Fault {
+                    front: behind,
+                    rest: fault.rest,
+                };
+                words_reason(alloc, false, forms, usage_of(first), fault)
+            }
+            None => first_word(alloc, first),
+        },
+    }
+}
+
+fn first_word_reason(
+    alloc: Global,
+    in_batch: bool,
+    line: &[u8],
+    fault: Fault,
+) -> Result<Reason, AllocError> {
+    let word = match cut_at(line, b' ') {
+        Some((word, _)) => word,
+        None => line,
+    };
+    if is_alone(in_batch, word) {
+        return Ok(surplus(usage_of(word), fault.rest));
+    }
+    if forms_of(in_batch, word).is_some() {
+        if fault.rest.is_empty() {
+            return Ok(Reason::TooFewWords(usage_of(word)));
+        }
+        return Ok(surplus(usage_of(word), fault.rest));
+    }
+    if in_batch && is_known_outside(word) {
+        return Ok(Reason::NotInBatch);
+    }
+    if word == b"end".as_slice() {
+        return Ok(Reason::NoBlock);
+    }
+    first_word(alloc, word)
+}
+
+/// A word that opens or ends a block here, and is a line by itself.
+fn is_alone(in_batch: bool, word: &[u8]) -> bool {
+    if in_batch {
+        word == b"end".as_slice()
+    } else {
+        word == b"batch".as_slice() || word == b"template".as_slice()
+    }
+}
+
+fn is_known_outside(word: &[u8]) -> bool {
+    Verb::of_word(word).is_some() || is_alone(false, word)
+}
+
+fn first_word(alloc: Global, word: &[u8]) -> Result<Reason, AllocError> {
+    match shown_bytes(alloc, word, MOST_SHOWN) {
+        Ok(shown) => Ok(Reason::FirstWord(shown)),
+        Err(error) => Err(error),
+    }
+}
+
+/// More than a line that is whole.
+fn surplus(usage: &'static str, rest: &[u8]) -> Reason {
+    if are_spaces(rest) {
+        Reason::SpaceAtEnd
+    } else {
+        Reason::TooManyWords(usage)
+    }
+}
+
+fn are_spaces(bytes: &[u8]) -> bool {
+    bytes.iter().all(|byte| *byte == b' ')
+}
+
+// ---- words behind one another
+
+fn words_reason(
+    alloc: Global,
+    blanks: bool,
+    forms: &'static [Form],
+    usage: &'static str,
+    fault: Fault,
+) -> Result<Reason, AllocError> {
+    let Some(at) = run(blanks, forms, fault.front) else {
+        return Ok(Reason::TooManyWords(usage));
+    };
+    match at.forms {
+        [] => Ok(surplus(usage, fault.rest)),
+        [form, ..] => {
+            let whole = form.is_word(at.part);
+            match fault.rest {
+                [] => {
+                    if whole || at.part.is_empty() {
+                        return Ok(Reason::TooFewWords(usage));
+                    }
+                }
+                [b' ' | b'\t', ..] => {
+                    if whole {
+                        return Ok(surplus(usage, fault.rest));
+                    }
+                }
+                _ => {}
+            }
+            word_reason(alloc, *form, at.part, fault.rest.first().copied())
+        }
+    }
+}
+
+// ---- rules
+
+fn template_reason(
+    alloc: Global,
+    is_full: bool,
+    line: &[u8],
+    fault: Fault,
+) -> Result<Reason, AllocError> {
+    if are_blanks(line) {
+        return Ok(Reason::EmptyLine);
+    }
+    if is_full {
+        return Ok(Reason::TemplateFull);
+    }
+    if let [b'#', ..] = line {
+        return Ok(Reason::Comment);
+    }
+    words_reason(alloc, true, &TEMPLATE_FORMS, RULE_USAGE, fault)
+}
+
+fn rule_reason(alloc: Global, line: &[u8], fault: Fault) -> Result<Reason, AllocError> {
+    if let [b'#', ..] = line {
+        return Ok(Reason::Comment);
+    }
+    words_reason(alloc, true, &RULE_FORMS, RULE_USAGE, fault)
+}
+
+fn are_blanks(bytes: &[u8]) -> bool {
+    bytes.iter().all(|byte| matches!(byte, b' ' | b'\t'))
+}
