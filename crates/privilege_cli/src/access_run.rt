@@ -12,6 +12,7 @@ ghost use Rattle.privilege_cli.specs.Reply.{decided_text};
 ghost use Rattle.desk_ports.specs.Disk.{DiskState};
 
 use crate::ending::Ending;
+use crate::line_notes::note_rule_line;
 use crate::questions::print_decision;
 use crate::rule_notes::note_rules;
 use crate::zeros::zeros;
@@ -56,7 +57,7 @@ pub fn run_access<S: Source, K: Sink>(
           disk_faults = disk_faults;
         }) }
 {
-    let rules = match read_rules(alloc, source) {
+    let rules = match read_rules(alloc, source, sink) {
         Ok(rules) => rules,
         Err(ending) => return ending,
     };
@@ -110,15 +111,24 @@ fn write_decision<K: Sink>(
     }
 }
 
-// The rules of the source, which is read to its end or past the limit of a rule text.
-fn read_rules<S: Source>(alloc: Global, source: &mut S) -> Result<ReadRules, Ending>
+// The rules of the source, which is read to its end or past the limit of a rule text. A person is told why a line is none.
+fn read_rules<S: Source, K: Sink>(
+    alloc: Global,
+    source: &mut S,
+    sink: &mut K,
+) -> Result<ReadRules, Ending>
     ensures read { ReadsRules (S.left source.old) (S.left source.new) result }
     ensures count { S.faults source.new ≡ counts_source result (S.faults source.old) }
+    ensures taken { K.taken sink.new ≡ K.taken sink.old }
+    ensures sink { K.faults sink.new ≡ K.faults sink.old }
 {
     let text = read_text(alloc, source)?;
     match load_rules(alloc, text.as_slice()) {
         Ok(table) => Ok(ReadRules { text, table }),
-        Err(ending) => Err(ending),
+        Err(ending) => {
+            note_rule_line(alloc, text.as_slice(), &ending, sink);
+            Err(ending)
+        }
     }
 }
 

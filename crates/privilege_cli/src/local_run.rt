@@ -10,6 +10,7 @@ ghost use Rattle.privilege_cli.specs.parts.Runs.{WritesBefore, Finishes};
 
 use crate::ending::Ending;
 use crate::limits::{MOST_LINE_BYTES, MOST_SCRIPT_BYTES};
+use crate::line_notes::note_open_block;
 use crate::local_script::LocalScript;
 use desk_keeper::{Keeper, KeptDesk};
 use desk_ports::{Disk, Sink, Source};
@@ -117,7 +118,9 @@ fn answer_script<S: Source, K: Sink, D: Disk>(
     'lines: while script.answer_next(&mut lines, keeper, source, sink)? {}
     if script.reader.in_block() {
         // The line behind the last one should have ended the block.
-        return Err(Ending::Line(lines.number() + 1));
+        let number = lines.number() + 1;
+        note_open_block(alloc, number, sink);
+        return Err(Ending::Line(number));
     }
     Ok(())
 }

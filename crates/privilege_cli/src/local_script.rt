@@ -10,6 +10,7 @@ ghost use Rattle.privilege_cli.specs.Reply.{reply, after, access_reply};
 
 use crate::ending::Ending;
 use crate::folded_rules::FoldedRules;
+use crate::line_notes::{note_past_limit, note_script_line};
 use crate::questions::{print_decision, print_done, print_from, print_list, print_refusal};
 use cynara_keys::BucketName;
 use desk_keeper::Keeper;
@@ -74,7 +75,14 @@ impl LocalScript {
         ensures same_disk { keeper.new.vault.disk.ghost_name ≡ keeper.old.vault.disk.ghost_name }
     {
         self.hand_over(lines, sink)?;
-        if !lines.next(source)? {
+        let has_line = match lines.next(source) {
+            Ok(has_line) => has_line,
+            Err(refusal) => {
+                note_past_limit(self.alloc, refusal, sink);
+                return Err(Ending::from(refusal));
+            }
+        };
+        if !has_line {
             return Ok(false);
         }
         self.answer_line(lines.line(), lines.number(), keeper, sink)?;
@@ -117,9 +125,13 @@ impl LocalScript {
         ensures disk { D.faults keeper.new.vault.disk.now ≡ counts_disk result (D.faults keeper.old.vault.disk.now) }
         ensures same_disk { keeper.new.vault.disk.ghost_name ≡ keeper.old.vault.disk.ghost_name }
     {
+        let spot = self.reader.spot();
         match self.reader.line(line) {
             Ok(step) => self.answer_step(&step, keeper, sink),
-            Err(LineRefusal::Syntax) => Err(Ending::Line(number)),
+            Err(LineRefusal::Syntax) => {
+                note_script_line(self.alloc, number, spot, line, sink);
+                Err(Ending::Line(number))
+            }
             Err(LineRefusal::Memory(_)) => Err(Ending::Memory),
         }
     }

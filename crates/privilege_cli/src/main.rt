@@ -8,6 +8,7 @@ mod folded_rules;
 mod host_folder;
 mod host_words;
 mod limits;
+mod line_notes;
 mod load_run;
 mod local_run;
 mod local_script;

@@ -33,6 +33,16 @@ pub fn note_words<K: Sink>(alloc: Global, words: &[String], fault: WordFault, si
     }
 }
 
+/// Tells what there was memory for.
+pub fn note_text<K: Sink>(text: Result<String, AllocError>, sink: &mut K)
+    ensures taken { K.taken sink.new ≡ K.taken sink.old }
+    ensures count { K.faults sink.new ≡ K.faults sink.old }
+{
+    if let Ok(text) = text {
+        sink.note(text.as_str());
+    }
+}
+
 // The word that is wrong, and why.
 fn word_text(alloc: Global, words: &[String], fault: WordFault) -> Result<String, AllocError> {
     let Some((place, word)) = wrong_word(words, fault) else {

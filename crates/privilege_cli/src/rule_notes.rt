@@ -1,7 +1,7 @@
 // What a person is told of rules beside the decision: what they may have overlooked in them.
 ghost use Rattle.std.specs.Prelude.{◌≡◌};
 
-use crate::notes::MOST_SHOWN_BYTES;
+use crate::notes::{MOST_SHOWN_BYTES, note_text};
 use desk_ports::{Sink, shown_bytes};
 use smack_rules::{Decision, Label, Modes, RuleTable, split_word};
 use std::alloc::{AllocError, Global};
@@ -58,16 +58,6 @@ pub fn note_rules<K: Sink>(
     }
     if let Some(line) = seen.last {
         note_text(granted_text(alloc, table, subject, object, line), sink);
-    }
-}
-
-// Tells what there was memory for.
-fn note_text<K: Sink>(text: Result<String, AllocError>, sink: &mut K)
-    ensures taken { K.taken sink.new ≡ K.taken sink.old }
-    ensures count { K.faults sink.new ≡ K.faults sink.old }
-{
-    if let Ok(text) = text {
-        sink.note(text.as_str());
     }
 }
 

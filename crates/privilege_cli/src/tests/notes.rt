@@ -130,6 +130,17 @@ const RULES: &[(&str, [&str; 3], &str)] = &[
     // The cases that look at no rule.
     ("A B r\n", ["*", "B", "r"], ""),
     ("A B r\n", ["C", "C", "r"], ""),
+    // Lines that are no rule.
+    (
+        "A B r\n\nA B w,x\n? B r\n",
+        ["A", "B", "r"],
+        "privilege: line 3, byte 6: no modes: at most 64 of the letters rwxatlb, or -\n",
+    ),
+    (
+        "A B",
+        ["A", "B", "r"],
+        "privilege: line 1, byte 4: too few words: SUBJECT OBJECT MODES, or SUBJECT OBJECT ADDED REMOVED\n",
+    ),
 ];
 
 #[test]
@@ -138,6 +149,35 @@ fn what_may_be_overlooked_in_rules(rt: HostRuntime) -> Result<(), Fail> {
         let words = ["smack-access", *subject, *object, *modes];
         let told = told(rt.alloc(), &words, rules)?;
         assert_eq!(rt; told.as_slice(), want.as_bytes(), "{rules}");
+    }
+    Ok(())
+}
+
+// Scripts with a wrong line, and what is told of it.
+const SCRIPTS: &[(&str, &str)] = &[
+    (
+        "layout\ncheck c  u p\nstatus\n",
+        "privilege: line 2, byte 9: two spaces between words\n",
+    ),
+    (
+        "batch\nset . c u p allow\nstatus\nend\n",
+        "privilege: line 3, byte 2: within a batch stand `set` and `unset` lines, and `end`\n",
+    ),
+    (
+        "template\nA ~PROCESS~ r\n\nend\n",
+        "privilege: line 3, byte 1: an empty line, where a rule or `end` must stand\n",
+    ),
+    (
+        "batch\nset . c u p allow",
+        "privilege: line 3: a block that is not ended: `end` is missing\n",
+    ),
+];
+
+#[test]
+fn why_a_line_was_refused(rt: HostRuntime) -> Result<(), Fail> {
+    for (script, want) in SCRIPTS {
+        let told = told(rt.alloc(), &["local"], *script)?;
+        assert_eq!(rt; told.as_slice(), want.as_bytes(), "{script}");
     }
     Ok(())
 }

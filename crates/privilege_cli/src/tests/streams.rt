@@ -2,6 +2,7 @@
 
 use super::runs::{empty_disk, status_of};
 use crate::standard_streams::{InputSource, OutputSink, run_on};
+use std::alloc::Global;
 use std::env::{Env, FillError};
 use std::io::{self, ErrorKind, Read, Write};
 use std::test::Fail;
@@ -43,15 +44,22 @@ fn failing_calls_are_counted(rt: HostRuntime) -> Result<(), Fail> {
         4
     );
     assert_eq!(rt; (broken.faults, sink.faults), (1, 0));
+    Ok(())
+}
+
+// Runs `local` over a writer with this room. The status, and how many calls of the source and of the sink failed.
+fn run_in(alloc: Global, room: &mut [u8]) -> Result<(u8, u64, u64), Fail> {
+    let mut source = InputSource::over(b"set . * * p allow\n".as_slice());
+    let mut full = OutputSink::over(room, Vec::new(alloc));
+    let status = status_of(alloc, &["local"], &mut source, &mut full)?;
+    Ok((status, source.faults, full.faults))
+}
+
+#[test]
+fn a_full_writer_fails(rt: HostRuntime) -> Result<(), Fail> {
     // A slice takes no more than it has room for.
     let mut room = [0; 3];
-    let mut source = InputSource::over(b"set . * * p allow\n".as_slice());
-    let mut full = OutputSink::over(room.as_mut_slice(), Vec::new(rt.alloc()));
-    assert_eq!(rt;
-        status_of(rt.alloc(), &["local"], &mut source, &mut full)?,
-        5
-    );
-    assert_eq!(rt; (source.faults, full.faults), (0, 1));
+    assert_eq!(rt; run_in(rt.alloc(), room.as_mut_slice())?, (5, 0, 1));
     assert_eq!(rt; room, *b"ok ");
     Ok(())
 }

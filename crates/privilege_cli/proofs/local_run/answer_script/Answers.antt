@@ -1,4 +1,4 @@
-use Rattle.std.proofs.Common.{subst, sym, refl, ap, ◌∙◌, ◌+◌, Ok}
+use Rattle.std.proofs.Common.{List, ℕ, Option, Bool, false, subst, sym, refl, ap, ◌∙◌, ◌+◌, Ok}
 use Rattle.std.proofs.lemmas.Result.{err_from_is_err_and}
 use Rattle.privilege_cli.specs.parts.Keeping.{KeepsSteps, KeepsSoFar}
 use Rattle.privilege_cli.specs.parts.Local.{Turns, AreFolded}
@@ -95,13 +95,14 @@ returns-then-in_block-clause-answered g c =
     let first = c.args.keeper.now in
     let mid = c.lines.keeper in
     let new = c.answer_next.new.keeper in
-    let turn = subst (λ found. Turns (g.S.Source.left c.lines.source) (g.S.Source.left c.answer_next.new.source)
-    (g.K.Sink.taken c.lines.sink) (g.K.Sink.taken c.answer_next.new.sink) c.lines.script c.answer_next.new.self
-    mid.desk new.desk c.lines.lines c.answer_next.new.lines (Ok found))
-    c.if-branch.false c.in_ok-answer_next.ensures.turn in
+    let Turned : Option (List ℕ) → Bool → Type 0 = λ taken found. Turns (g.S.Source.left c.lines.source)
+    (g.S.Source.left c.answer_next.new.source) (g.K.Sink.taken c.lines.sink) taken c.lines.script c.answer_next.new.self
+    mid.desk new.desk c.lines.lines c.answer_next.new.lines (Ok found) in
+    let turn = subst (λ taken. Turned taken false) (sym c.note_open_block.ensures.taken)
+    (subst (Turned (g.K.Sink.taken c.answer_next.new.sink)) c.if-branch.false c.in_ok-answer_next.ensures.turn) in
     Answers-unended
     (KeepsSteps g.D.Disk.state g.D.Disk.moment g.D.Disk.left_since first.vault.disk.now new.vault.disk.now first.desk first.vault.held)
-    first.desk goes.0 turn (c.number.result + 1) (ap (λ number. number + 1) c.number.ensures)
+    first.desk goes.0 turn (c.number-number.result + 1) (ap (λ number. number + 1) c.number-number.ensures)
     (sym c.in_block.ensures ∙ c.if-in_block.true)
     (keeps-rest g.D.Disk.state g.D.Disk.moment g.D.Disk.left_since first.vault.disk.now new.vault.disk.now first.desk
     first.vault.held new.vault.held new.desk goes.0.steps
