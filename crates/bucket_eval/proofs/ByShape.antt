@@ -203,7 +203,7 @@ first_least-alone : {X : Type 0} (cmp : X → X → Ordering) (made : Option X)
 first_least-alone cmp None = refl
 first_least-alone cmp (Some x) = refl
 
-first_least-cons_option : {X : Type 0} (cmp : X → X → Ordering) (made : Option X) (others : List X)
+pub first_least-cons_option : {X : Type 0} (cmp : X → X → Ordering) (made : Option X) (others : List X)
     → first_least cmp (cons_option made others) ≡ combined cmp made (first_least cmp others)
 first_least-cons_option cmp None others = refl
 first_least-cons_option cmp (Some made) others = refl

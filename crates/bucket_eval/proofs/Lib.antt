@@ -3,6 +3,7 @@ pub mod Buckets
 mod Lesser
 mod ByShape
 mod Offers
+mod InTurn
 mod Held
 pub mod Places
 mod Targets

@@ -68,7 +68,7 @@ between : (buckets : List Bucket) (made rest : Option Contribution) (offer other
 between buckets made rest offer other true is offers rest_is = after buckets made rest offer other is offers rest_is
 between buckets made rest offer other false is offers rest_is = instead buckets made rest offer other is offers rest_is
 
-chosen-offers : (buckets : List Bucket) (made rest : Option Contribution) (offer : Offer) (best : Option Offer)
+pub chosen-offers : (buckets : List Bucket) (made rest : Option Contribution) (offer : Offer) (best : Option Offer)
     → Offers buckets made (Some offer) → Offers buckets rest best
     → Offers buckets (combined contribution_cmp made rest) (Some (chosen offer best))
 chosen-offers buckets made rest offer None offers rest_is = only buckets made rest offer offers rest_is

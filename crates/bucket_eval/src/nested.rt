@@ -17,6 +17,9 @@ use crate::shapes::{SHAPES, place_of_shape};
 use bucket_store::Bucket;
 use cynara_keys::{Key, Kind, Policy, PolicyResult, Question};
 
+/// Up to so many policies a pass costs less than a search for each shape.
+const FEW: usize = 64;
+
 /// What a bucket answers: where it was found, and the result there.
 #[derive(Clone, Copy)]
 pub struct Held<'a> {
@@ -62,9 +65,54 @@ pub fn within<'a>(asked: Asked<'a>, at: usize, left: usize) -> Held<'a>
     }
 }
 
-// The least contribution of the bucket's policies: of those that match the question, one a shape of key at most.
+// The least contribution of the bucket's policies.
 #[cycle(evaluation)]
 fn least_offer<'a>(
+    asked: Asked<'a>,
+    at: usize,
+    bucket: &'a Bucket,
+    most: usize,
+) -> Option<Offer<'a>>
+    requires kept { IsKept asked.buckets.now }
+    requires there { slice_get asked.buckets.now at ≡ Some bucket.now }
+    ensures { Offers asked.entry.buckets.now (first_least contribution_cmp (filter_map
+        (offered asked.entry.buckets.now asked.entry.question.now asked.entry.deep most bucket.now.name)
+        bucket.now.policies)) result }
+{
+    if bucket.policies().len() <= FEW {
+        return least_in_turn(asked, at, bucket, most);
+    }
+    least_by_shape(asked, at, bucket, most)
+}
+
+// The same, by a pass over the policies.
+#[cycle(evaluation)]
+fn least_in_turn<'a>(
+    asked: Asked<'a>,
+    at: usize,
+    bucket: &'a Bucket,
+    most: usize,
+) -> Option<Offer<'a>>
+    requires kept { IsKept asked.buckets.now }
+    requires there { slice_get asked.buckets.now at ≡ Some bucket.now }
+    ensures { Offers asked.entry.buckets.now (first_least contribution_cmp (filter_map
+        (offered asked.entry.buckets.now asked.entry.question.now asked.entry.deep most bucket.now.name)
+        bucket.now.policies)) result }
+{
+    let policies = bucket.policies();
+    let mut best: Option<Offer<'a>> = None;
+    for place in (0..policies.len()).rev() {
+        let policy = &policies[place];
+        if let Some(offer) = offer_of(asked, at, bucket, place, policy, most) {
+            best = Some(least_of(offer, best));
+        }
+    }
+    best
+}
+
+// The same, by the policies that match the question alone: one a shape of key at most.
+#[cycle(evaluation)]
+fn least_by_shape<'a>(
     asked: Asked<'a>,
     at: usize,
     bucket: &'a Bucket,

@@ -1,4 +1,4 @@
-use Rattle.std.proofs.Common.{◌≡◌, ℕ, ◌+◌, zero, suc, List, [], ◌∷◌, slice_get, slice_index_or, get_or, None, Some}
+use Rattle.std.proofs.Common.{◌≡◌, ℕ, ◌+◌, ◌-◌, zero, suc, List, [], ◌∷◌, slice_get, slice_index_or, get_or, None, Some}
 use Rattle.std.proofs.Common.{IfSome, refl, sym, ap, ◌∙◌, subst, arith}
 use Rattle.std.specs.List.{AllByRecursion}
 use Rattle.std.specs.List.Sorted.{IsStrictlySortedBy}
@@ -8,14 +8,15 @@ use Rattle.bucket_store.specs.Database.{database_of}
 use Rattle.bucket_store.specs.Order.{policy_cmp}
 use Rattle.bucket_store.specs.Walk.{target}
 use Rattle.bucket_eval.specs.Evaluation.{answer_within}
-use Rattle.bucket_eval.specs.parts.Buckets.{IsHeld, Offers}
+use Rattle.bucket_eval.specs.parts.Buckets.{IsHeld, Offers, offered}
 use Rattle.bucket_eval.specs.parts.Shapes.{FitsAt}
 use Rattle.bucket_eval.proofs.Held.{followed-holds, end-held, fallback-answers, offer-answers}
+use Rattle.bucket_eval.proofs.InTurn.{least_from, least_from-down, least_from-offer}
 use Rattle.bucket_eval.proofs.Offers.{least_below, least_below-first, least_below-some, least_below-none}
 use Rattle.bucket_eval.proofs.Offers.{least_below-last, offers-one, offers-none}
 use Rattle.bucket_eval.proofs.Targets.{target-there, target-at}
 use Rattle.bucket_eval.proofs.nested.+evaluation.Goals as goal
-use Rattle.bucket_eval.proofs.nested.+evaluation.Goals.{least_offer-in-Some, least_offer-in_default}
+use Rattle.bucket_eval.proofs.nested.+evaluation.Goals.{least_by_shape-in-Some, least_by_shape-in_default}
 
 -- what holds of the element at the place
 if-at : {X : Type 0} (P : X → Type 0) (xs : List X) (at : ℕ) (x : X) → slice_get xs at ≡ Some x → P x
@@ -60,15 +61,30 @@ rising-at (first ∷ buckets) zero bucket all is =
     let same : first ≡ bucket = cc in subst (λ (b : Bucket). IsStrictlySortedBy policy_cmp b.policies) same all.0
 rising-at (first ∷ buckets) (suc at) bucket all is = rising-at buckets at bucket all.1 is
 
+-- the lesser of the offer and the best of those behind it
+pub least_in_turn-loop-place-preserved-in-Some : goal.least_in_turn-loop-place-preserved-in-Some
+least_in_turn-loop-place-preserved-in-Some t c =
+    let buckets = c.args.asked.buckets.now in
+    let of_policy = offered buckets c.args.asked.question.now c.args.asked.deep c.args.most c.args.bucket.now.name in
+    subst (λ best. Offers buckets (least_from buckets of_policy c.policies-policies.result.now (c.loop-place.place - 1))
+    (Some best))
+    (sym c.least_of.ensures)
+    (least_from-offer buckets of_policy c.policies-policies.result.now (c.loop-place.place - 1)
+    c.index-policies-place.result
+    c.in-Some.offer c.loop-place.best (omega arith) c.index-policies-place.is
+    (subst (Offers buckets (of_policy c.index-policies-place.result)) c.in-Some.is c.offer_of.ensures)
+    (least_from-down buckets of_policy c.policies-policies.result.now c.loop-place.place _ _ c.loop-place-test.true
+    refl c.loop-place.invariant))
+
 -- no shape is looked at yet
-pub least_offer-loop-shape-init : goal.least_offer-loop-shape-init
-least_offer-loop-shape-init t c =
+pub least_by_shape-loop-shape-init : goal.least_by_shape-loop-shape-init
+least_by_shape-loop-shape-init t c =
     least_below-first c.args.asked.buckets.now c.args.asked.question.now c.args.asked.deep c.args.most
     c.args.bucket.now.name c.args.bucket.now.policies
 
 -- the lesser of the offer in this shape and the best of those below, or the best of those below
-pub least_offer-loop-shape-preserved : goal.least_offer-loop-shape-preserved
-least_offer-loop-shape-preserved t c =
+pub least_by_shape-loop-shape-preserved : goal.least_by_shape-loop-shape-preserved
+least_by_shape-loop-shape-preserved t c =
     let buckets = c.args.asked.buckets.now in
     let question = c.args.asked.question.now in
     let bucket = c.args.bucket.now in
@@ -76,12 +92,12 @@ least_offer-loop-shape-preserved t c =
     let rising = rising-at buckets c.args.at bucket c.requires.kept.keys_rise c.requires.there in
     let least = least_below buckets question c.args.asked.deep c.args.most bucket.name bucket.policies in
     elim c.match-offer_in_shape.branch [
-      | least_offer-in-Some w ↦
+      | least_by_shape-in-Some w ↦
           subst (Offers buckets (least (shape + 1))) (sym (w.best-is ∙ ap Some w.least_of.ensures))
           (least_below-some buckets question c.args.asked.deep c.args.most bucket.name bucket.policies shape
           w.in-Some.offer c.loop-shape.best rising (subst (Offers buckets _) w.in-Some.is c.offer_in_shape.ensures)
           c.loop-shape.invariant)
-      | least_offer-in_default w ↦
+      | least_by_shape-in_default w ↦
           subst (Offers buckets (least (shape + 1))) (sym w.best-is)
           (least_below-none buckets question c.args.asked.deep c.args.most bucket.name bucket.policies shape
           c.loop-shape.best rising (subst (Offers buckets _) w.in_default.is c.offer_in_shape.ensures)
@@ -89,8 +105,8 @@ least_offer-loop-shape-preserved t c =
     ]
 
 -- all shapes are looked at
-pub least_offer-returns : goal.least_offer-returns
-least_offer-returns t c =
+pub least_by_shape-returns : goal.least_by_shape-returns
+least_by_shape-returns t c =
     let bucket = c.args.bucket.now in
     least_below-last c.args.asked.buckets.now c.args.asked.question.now c.args.asked.deep c.args.most bucket.name
     bucket.policies c.loop-shape.shape c.loop-shape.best (omega arith) c.loop-shape.invariant
