@@ -1,16 +1,35 @@
 -- The search for the least contribution, from the last policy of a bucket to its first.
-use Rattle.std.proofs.Common.{◌≡◌, ℕ, ◌+◌, ◌-◌, ◌<◌, List, ◌∷◌, length, drop, get_or, Option, Some, sym, ap, ◌∙◌, subst, arith}
+use Rattle.std.proofs.Common.{◌≡◌, ℕ, zero, suc, ◌+◌, ◌-◌, ◌<◌, ◌≤◌, false, List, [], ◌∷◌, length, drop, get_or, Option, None, Some, inl, inr, refl, sym, ap, ◌∙◌, subst, arith}
 use Rattle.std.specs.List.{filter_map}
 use Rattle.std.proofs.lemmas.List.{at_drop_more}
 use Rattle.cynara_keys.specs.Minimum.{first_least}
 use Rattle.cynara_keys.specs.declared.keys.Policy.{Policy}
+use Rattle.cynara_keys.specs.declared.keys.Question.{Question}
 use Rattle.bucket_store.specs.Bucket.{Bucket}
 use Rattle.bucket_eval.specs.Evaluation.{Contribution, contribution_cmp}
 use Rattle.bucket_eval.specs.parts.Buckets.{Offers, chosen}
+use Rattle.bucket_eval.specs.parts.Windows.{FailsOutside, matches}
+use Rattle.bucket_eval.specs.declared.windows.Window.{Window}
 use Rattle.bucket_eval.specs.declared.nested.Offer.{Offer}
 use Rattle.bucket_eval.proofs.Lesser.{combined}
 use Rattle.bucket_eval.proofs.ByShape.{first_least-cons_option}
 use Rattle.bucket_eval.proofs.Offers.{chosen-offers}
+
+drop-past : {X : Type 0} (xs : List X) (at : ℕ) → length xs ≤ at → drop at xs ≡ []
+drop-past [] zero past = refl
+drop-past [] (suc at) past = refl
+drop-past (x ∷ xs) zero past = let no : ⊥ = omega arith in absurd no
+drop-past (x ∷ xs) (suc at) past = drop-past xs at (omega arith)
+
+-- an element of a list that has one at a place
+some-of : {X : Type 0} (xs : List X) (at : ℕ) → at < length xs → X
+some-of [] at within = let no : ⊥ = omega arith in absurd no
+some-of (x ∷ xs) at within = x
+
+get_or-again : {X : Type 0} (xs : List X) (at : ℕ) (d : X) → get_or xs at d ≡ get_or xs at (get_or xs at d)
+get_or-again [] at d = refl
+get_or-again (x ∷ xs) zero d = refl
+get_or-again (x ∷ xs) (suc at) d = get_or-again xs at d
 
 module _ (buckets : List Bucket) (offered : Policy → Option Contribution) where
   -- the least contribution of the policies from a place on
@@ -47,3 +66,43 @@ module _ (buckets : List Bucket) (offered : Policy → Option Contribution) wher
   least_from-offer policies at policy offer best lt is made rest =
       more policies at policy (Some (chosen offer best)) lt is
       (chosen-offers buckets (offered policy) (least_from policies (at + 1)) offer best made rest)
+
+  -- ---- places at which nothing is offered
+
+  least_from-skip : (policies : List Policy) (at count : ℕ) → at + count ≤ length policies
+      → ((place : ℕ) (d : Policy) → at ≤ place → place < at + count → offered (get_or policies place d) ≡ None)
+      → least_from policies at ≡ least_from policies (at + count)
+  least_from-skip policies at zero within silent = ap (least_from policies) (omega arith)
+  least_from-skip policies at (suc count) within silent =
+      let first = some-of policies at (omega arith) in
+      least_from-more policies at (get_or policies at first) (omega arith) (get_or-again policies at first)
+      ∙ ap (λ made. combined contribution_cmp made (least_from policies (at + 1)))
+      (silent at first (omega arith) (omega arith))
+      ∙ least_from-skip policies (at + 1) count (omega arith)
+      (λ place d le lt. silent place d (omega arith) (omega arith))
+      ∙ ap (least_from policies) (omega arith)
+
+  module _ (question : Question) (silent : (policy : Policy) → matches question policy ≡ false → offered policy ≡ None)
+      (policies : List Policy) (window : Window) (within : window.end ≤ length policies) (order : window.start ≤ window.end)
+      (outside : FailsOutside (matches question) window policies) where
+    -- no policy is looked at yet
+    pub least_from-first : Offers buckets (least_from policies window.end) None
+    least_from-first =
+        let left : ℕ = length policies - window.end in
+        let all : window.end + left ≡ length policies = omega arith in
+        subst (λ made. Offers buckets made None)
+        (sym (least_from-skip policies window.end left (omega arith)
+        (λ place d le lt. silent (get_or policies place d) (outside place d (omega arith) (inr le)))
+        ∙ ap (λ others. first_least contribution_cmp (filter_map offered others))
+        (drop-past policies (window.end + left) (omega arith))))
+        tt
+
+    -- all that match are looked at
+    pub least_from-last : (best : Option Offer) → Offers buckets (least_from policies window.start) best
+        → Offers buckets (first_least contribution_cmp (filter_map offered policies)) best
+    least_from-last best offers =
+        subst (λ made. Offers buckets made best)
+        (sym (least_from-skip policies 0 window.start (omega arith)
+        (λ place d le lt. silent (get_or policies place d) (outside place d (omega arith) (inl (omega arith))))
+        ∙ ap (least_from policies) (omega arith)))
+        offers

@@ -4,6 +4,7 @@ mod Lesser
 mod ByShape
 mod Offers
 mod InTurn
+mod Outside
 mod Held
 pub mod Places
 mod Targets

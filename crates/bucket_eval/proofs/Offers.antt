@@ -87,7 +87,7 @@ counted-key key (Some outcome) = told (outcome.result.kind == none)
     told true = tt
     told false = refl
 
-IsOwn-offered : (buckets : List Bucket) (question : Question) (deep : Bool) (most : ℕ) (name : List ℕ)
+pub IsOwn-offered : (buckets : List Bucket) (question : Question) (deep : Bool) (most : ℕ) (name : List ℕ)
     → IsOwn question (offered buckets question deep most name)
 IsOwn-offered buckets question deep most name =
     let outcome : Policy → Option Outcome =

@@ -1,3 +1,4 @@
 -- What only this crate's own functions cite.
 pub mod Buckets
 pub mod Shapes
+pub mod Windows

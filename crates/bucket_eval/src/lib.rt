@@ -15,6 +15,7 @@ mod answers;
 mod evaluations;
 mod nested;
 mod shapes;
+mod windows;
 
 pub use answers::{Answer, Cause, Found, Row, Verdict};
 use cynara_keys::{Kind, Policy, Question};

@@ -1,5 +1,5 @@
 // Nested evaluation as a plain recursion over the buckets.
-ghost use Rattle.std.specs.Prelude.{◌≡◌, ◌<◌, length, slice_get, IfSome, Some};
+ghost use Rattle.std.specs.Prelude.{◌≡◌, ◌<◌, ◌≤◌, length, slice_get, IfSome, Some};
 ghost use Rattle.std.specs.List.{filter_map, position};
 ghost use Rattle.std.specs.List.Sorted.{IsStrictlySortedBy};
 ghost use Rattle.cynara_keys.specs.Minimum.{first_least};
@@ -11,13 +11,15 @@ ghost use Rattle.bucket_store.specs.WellFormed.{IsKept};
 ghost use Rattle.bucket_eval.specs.Evaluation.{contribution_cmp, outcome_of, answer_within};
 ghost use Rattle.bucket_eval.specs.parts.Buckets.{IsHeld, Holds, Offers, offered, chosen, comes_after};
 ghost use Rattle.bucket_eval.specs.parts.Shapes.{in_shape};
+ghost use Rattle.bucket_eval.specs.parts.Windows.{FailsOutside, matches};
 
 use crate::answers::Found;
 use crate::shapes::{SHAPES, place_of_shape};
+use crate::windows::{Window, window_of};
 use bucket_store::Bucket;
 use cynara_keys::{Key, Kind, Policy, PolicyResult, Question};
 
-/// Up to so many policies a pass costs less than a search for each shape.
+/// A pass over so many policies costs less than a search for each shape.
 const FEW: usize = 64;
 
 /// What a bucket answers: where it was found, and the result there.
@@ -79,29 +81,34 @@ fn least_offer<'a>(
         (offered asked.entry.buckets.now asked.entry.question.now asked.entry.deep most bucket.now.name)
         bucket.now.policies)) result }
 {
-    if bucket.policies().len() <= FEW {
-        return least_in_turn(asked, at, bucket, most);
+    let window = window_of(bucket.policies(), asked.question, FEW);
+    if window.end - window.start <= FEW {
+        return least_in_turn(asked, at, bucket, window, most);
     }
     least_by_shape(asked, at, bucket, most)
 }
 
-// The same, by a pass over the policies.
+// The same, by a pass over a window outside of which no policy matches.
 #[cycle(evaluation)]
 fn least_in_turn<'a>(
     asked: Asked<'a>,
     at: usize,
     bucket: &'a Bucket,
+    window: Window,
     most: usize,
 ) -> Option<Offer<'a>>
     requires kept { IsKept asked.buckets.now }
     requires there { slice_get asked.buckets.now at ≡ Some bucket.now }
+    requires order { window.start ≤ window.end }
+    requires within { window.end ≤ length bucket.now.policies }
+    requires outside { FailsOutside (matches asked.question.now) window bucket.now.policies }
     ensures { Offers asked.entry.buckets.now (first_least contribution_cmp (filter_map
         (offered asked.entry.buckets.now asked.entry.question.now asked.entry.deep most bucket.now.name)
         bucket.now.policies)) result }
 {
     let policies = bucket.policies();
     let mut best: Option<Offer<'a>> = None;
-    for place in (0..policies.len()).rev() {
+    for place in (window.start..window.end).rev() {
         let policy = &policies[place];
         if let Some(offer) = offer_of(asked, at, bucket, place, policy, most) {
             best = Some(least_of(offer, best));

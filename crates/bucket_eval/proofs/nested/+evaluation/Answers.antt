@@ -1,4 +1,4 @@
-use Rattle.std.proofs.Common.{◌≡◌, ℕ, ◌+◌, ◌-◌, zero, suc, List, [], ◌∷◌, slice_get, slice_index_or, get_or, None, Some}
+use Rattle.std.proofs.Common.{◌≡◌, ℕ, ◌+◌, ◌-◌, ◌≤◌, zero, suc, List, [], ◌∷◌, slice_get, slice_index_or, get_or, None, Some}
 use Rattle.std.proofs.Common.{IfSome, refl, sym, ap, ◌∙◌, subst, arith}
 use Rattle.std.specs.List.{AllByRecursion}
 use Rattle.std.specs.List.Sorted.{IsStrictlySortedBy}
@@ -7,13 +7,14 @@ use Rattle.bucket_store.specs.Bucket.{Bucket}
 use Rattle.bucket_store.specs.Database.{database_of}
 use Rattle.bucket_store.specs.Order.{policy_cmp}
 use Rattle.bucket_store.specs.Walk.{target}
+use Rattle.cynara_keys.specs.declared.keys.Policy.{Policy}
 use Rattle.bucket_eval.specs.Evaluation.{answer_within}
 use Rattle.bucket_eval.specs.parts.Buckets.{IsHeld, Offers, offered}
 use Rattle.bucket_eval.specs.parts.Shapes.{FitsAt}
 use Rattle.bucket_eval.proofs.Held.{followed-holds, end-held, fallback-answers, offer-answers}
-use Rattle.bucket_eval.proofs.InTurn.{least_from, least_from-down, least_from-offer}
+use Rattle.bucket_eval.proofs.InTurn.{least_from, least_from-down, least_from-offer, least_from-first, least_from-last}
 use Rattle.bucket_eval.proofs.Offers.{least_below, least_below-first, least_below-some, least_below-none}
-use Rattle.bucket_eval.proofs.Offers.{least_below-last, offers-one, offers-none}
+use Rattle.bucket_eval.proofs.Offers.{least_below-last, offers-one, offers-none, IsOwn-offered}
 use Rattle.bucket_eval.proofs.Targets.{target-there, target-at}
 use Rattle.bucket_eval.proofs.nested.+evaluation.Goals as goal
 use Rattle.bucket_eval.proofs.nested.+evaluation.Goals.{least_by_shape-in-Some, least_by_shape-in_default}
@@ -61,20 +62,68 @@ rising-at (first ∷ buckets) zero bucket all is =
     let same : first ≡ bucket = cc in subst (λ (b : Bucket). IsStrictlySortedBy policy_cmp b.policies) same all.0
 rising-at (first ∷ buckets) (suc at) bucket all is = rising-at buckets at bucket all.1 is
 
+-- no policy is looked at yet
+pub least_in_turn-loop-place-init : goal.least_in_turn-loop-place-init
+least_in_turn-loop-place-init t c =
+    let buckets = c.args.asked.buckets.now in
+    let question = c.args.asked.question.now in
+    let bucket = c.args.bucket.now in (
+      c.requires.order,
+      least_from-first buckets (offered buckets question c.args.asked.deep c.args.most bucket.name) question
+          (IsOwn-offered buckets question c.args.asked.deep c.args.most bucket.name).silent bucket.policies c.args.window
+          c.requires.within c.requires.order c.requires.outside,
+    )
+
+-- the policy at the place
+policy-at : (policies result : List Policy) (place : ℕ) (policy : Policy) → result ≡ policies
+    → policy ≡ get_or result place policy → policy ≡ get_or policies place policy
+policy-at policies result place policy same is = subst (λ policies. policy ≡ get_or policies place policy) same is
+
+pub least_in_turn-offer_of-requires : goal.least_in_turn-offer_of-requires
+least_in_turn-offer_of-requires t c =
+    let policy = c.index-policies-place.result in
+    let at = c.loop-place.place - 1 in (
+      omega arith,
+      (
+        c.requires.kept,
+        (
+          c.requires.there,
+          slice_get-get_or c.args.bucket.now.policies at policy (omega arith)
+              ∙ ap Some (sym (policy-at c.args.bucket.now.policies _ at policy c.policies-policies.ensures c.index-policies-place.is)),
+        ),
+      ),
+    )
+
 -- the lesser of the offer and the best of those behind it
 pub least_in_turn-loop-place-preserved-in-Some : goal.least_in_turn-loop-place-preserved-in-Some
 least_in_turn-loop-place-preserved-in-Some t c =
     let buckets = c.args.asked.buckets.now in
+    let policies = c.args.bucket.now.policies in
+    let policy = c.index-policies-place.result in
+    let at = c.loop-place.place - 1 in
     let of_policy = offered buckets c.args.asked.question.now c.args.asked.deep c.args.most c.args.bucket.now.name in
-    subst (λ best. Offers buckets (least_from buckets of_policy c.policies-policies.result.now (c.loop-place.place - 1))
-    (Some best))
-    (sym c.least_of.ensures)
-    (least_from-offer buckets of_policy c.policies-policies.result.now (c.loop-place.place - 1)
-    c.index-policies-place.result
-    c.in-Some.offer c.loop-place.best (omega arith) c.index-policies-place.is
-    (subst (Offers buckets (of_policy c.index-policies-place.result)) c.in-Some.is c.offer_of.ensures)
-    (least_from-down buckets of_policy c.policies-policies.result.now c.loop-place.place _ _ c.loop-place-test.true
-    refl c.loop-place.invariant))
+    let lower : c.args.window.start ≤ at = omega arith in (
+      lower,
+      subst (λ best. Offers buckets (least_from buckets of_policy policies at) (Some best)) (sym c.least_of.ensures)
+          (least_from-offer buckets of_policy policies at policy c.in-Some.offer c.loop-place.best (omega arith)
+          (policy-at policies _ at policy c.policies-policies.ensures c.index-policies-place.is)
+          (subst (Offers buckets (of_policy policy)) c.in-Some.is c.offer_of.ensures)
+          (least_from-down buckets of_policy policies c.loop-place.place _ _ (omega arith) refl c.loop-place.invariant.1)),
+    )
+
+-- all that match are looked at
+pub least_in_turn-returns : goal.least_in_turn-returns
+least_in_turn-returns t c =
+    let buckets = c.args.asked.buckets.now in
+    let question = c.args.asked.question.now in
+    let bucket = c.args.bucket.now in
+    let of_policy = offered buckets question c.args.asked.deep c.args.most bucket.name in
+    let first : c.loop-place.place ≡ c.args.window.start = omega arith in
+    least_from-last buckets of_policy question
+    (IsOwn-offered buckets question c.args.asked.deep c.args.most bucket.name).silent bucket.policies c.args.window
+    c.requires.within c.requires.order c.requires.outside c.loop-place.best
+    (subst (λ place. Offers buckets (least_from buckets of_policy bucket.policies place) c.loop-place.best) first
+    c.loop-place.invariant.1)
 
 -- no shape is looked at yet
 pub least_by_shape-loop-shape-init : goal.least_by_shape-loop-shape-init

@@ -1,4 +1,4 @@
-use Rattle.std.proofs.Common.{◌+◌, ◌*◌}
+use Rattle.std.proofs.Common.{◌+◌, ◌*◌, ◌≤◌}
 use Rattle.bucket_eval.specs.parts.Buckets.{Offers, offered}
 use Rattle.bucket_eval.proofs.InTurn.{least_from}
 use Rattle.bucket_eval.proofs.Offers.{least_below}
@@ -29,7 +29,8 @@ decreases-answered l = 6 * l.most + 1
 abbrev pub invariant-least_in_turn-loop-place : goal.invariant-least_in_turn-loop-place
 invariant-least_in_turn-loop-place l =
     let of_policy = offered l.asked.buckets.now l.asked.question.now l.asked.deep l.most l.bucket.name in
-    Offers l.asked.buckets.now (least_from l.asked.buckets.now of_policy l.policies l.place) l.best
+    (l.place-start ≤ l.place)
+    × Offers l.asked.buckets.now (least_from l.asked.buckets.now of_policy l.bucket.policies l.place) l.best
 
 -- the best offer is the least of the policies whose shape is below this one
 abbrev pub invariant-least_by_shape-loop-shape : goal.invariant-least_by_shape-loop-shape
