@@ -1,6 +1,7 @@
-// Bytes that do not change, which is what names, buckets' names and metadata keep. They stand in one place that all
-// copies share, in any thread, so a copy asks for no memory, and a copy and a move are one machine word or two.
-ghost use Rattle.std.specs.Prelude.{◌≡◌, [], IfOk};
+// Bytes that do not change, which is what names, buckets' names and metadata keep. They stand in a block that all copies
+// share, in any thread, and several texts may, so a copy asks for no memory, and a copy and a move are a few machine words.
+ghost use Rattle.std.specs.Prelude.{◌≡◌, ◌<◌, ◌≤◌, ◌+◌, [], length, IfOk, take, drop};
+ghost use Rattle.std.specs.Arc.{arc_slice_items};
 
 use std::alloc::{AllocError, Global};
 use std::fmt;
@@ -10,17 +11,30 @@ use std::sync::ArcSlice;
 #[derive(Drop)]
 pub struct Shared {
     // None for no bytes, which take no memory.
-    held: Option<ArcSlice<u8>>,
+    block: Option<ArcSlice<u8>>,
+    // Where the bytes stand in the block, and how many they are.
+    start: u16,
+    count: u16,
 }
 
 impl Model for Shared {
-    ghost use Rattle.std.specs.Prelude.{List, ℕ, []};
+    ghost use Rattle.std.specs.Prelude.{List, ℕ, [], ◌+◌, ◌≤◌, length, take, drop};
     ghost use Rattle.std.specs.Arc.{arc_slice_items};
     ghost use Rattle.std.specs.Option.{option_map_or};
 
     ghost Value = { List ℕ };
 
-    ghost view = { λ shared. option_map_or arc_slice_items shared.held [] };
+    ghost view = { λ shared. take shared.count (drop shared.start (option_map_or arc_slice_items shared.block [])) };
+
+    ghost invariant = { λ shared. shared.start + shared.count ≤ length (option_map_or arc_slice_items shared.block []) };
+}
+
+/// Three texts.
+#[derive(Drop)]
+pub struct Three {
+    pub first: Shared,
+    pub second: Shared,
+    pub third: Shared,
 }
 
 impl Shared {
@@ -28,24 +42,74 @@ impl Shared {
     pub fn empty() -> Shared
         ensures { result ≡ [] }
     {
-        Shared { held: None }
+        Shared {
+            block: None,
+            start: 0,
+            count: 0,
+        }
     }
 
     pub fn of(alloc: Global, bytes: &[u8]) -> Result<Shared, AllocError>
+        requires { length bytes.now < 65536 }
         ensures { IfOk result (λ shared. shared ≡ bytes.now) }
     {
         if bytes.is_empty() {
             return Ok(Shared::empty());
         }
-        let held = ArcSlice::from_slice(alloc, bytes)?;
-        Ok(Shared { held: Some(held) })
+        let block = ArcSlice::from_slice(alloc, bytes)?;
+        Ok(Shared {
+            block: Some(block),
+            start: 0,
+            count: bytes.len() as u16,
+        })
+    }
+
+    // Three texts in one block.
+    pub fn three(
+        alloc: Global,
+        first: &[u8],
+        second: &[u8],
+        third: &[u8],
+    ) -> Result<Three, AllocError>
+        requires { length first.now + (length second.now + length third.now) < 65536 }
+        ensures first { IfOk result (λ three. three.first ≡ first.now) }
+        ensures second { IfOk result (λ three. three.second ≡ second.now) }
+        ensures third { IfOk result (λ three. three.third ≡ third.now) }
+    {
+        let mut bytes = Vec::with_capacity(alloc, first.len() + second.len() + third.len())?;
+        bytes.extend_from_slice(first)?;
+        bytes.extend_from_slice(second)?;
+        bytes.extend_from_slice(third)?;
+        let block = ArcSlice::from_vec(bytes)?;
+        let behind = first.len() + second.len();
+        Ok(Three {
+            first: Shared::part(block.clone()?, 0, first.len()),
+            second: Shared::part(block.clone()?, first.len(), second.len()),
+            third: Shared::part(block, behind, third.len()),
+        })
+    }
+
+    // So many bytes of the block, from a place on.
+    fn part(block: ArcSlice<u8>, start: usize, count: usize) -> Shared
+        requires within { start + count ≤ length (arc_slice_items block) }
+        requires short { start + count < 65536 }
+        ensures { result ≡ take count (drop start (arc_slice_items block)) }
+    {
+        Shared {
+            block: Some(block),
+            start: start as u16,
+            count: count as u16,
+        }
     }
 
     pub fn as_slice(&self) -> &[u8]
         ensures { result.now ≡ self.now }
     {
-        match &self.held {
-            Some(bytes) => bytes.as_slice(),
+        match &self.block {
+            Some(block) => {
+                let start = self.start as usize;
+                &block.as_slice()[start..start + self.count as usize]
+            }
             None => &[],
         }
     }
@@ -54,12 +118,15 @@ impl Shared {
     pub fn copy(&self) -> Result<Shared, AllocError>
         ensures { IfOk result (λ copy. copy ≡ self.now) }
     {
-        match &self.held {
-            Some(bytes) => Ok(Shared {
-                held: Some(bytes.clone()?),
-            }),
-            None => Ok(Shared { held: None }),
-        }
+        let block = match &self.block {
+            Some(block) => Some(block.clone()?),
+            None => None,
+        };
+        Ok(Shared {
+            block,
+            start: self.start,
+            count: self.count,
+        })
     }
 }
 
