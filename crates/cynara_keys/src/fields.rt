@@ -1,4 +1,4 @@
-ghost use Rattle.std.specs.Prelude.{◌≡◌, IfOk, IfErr, OnOk, None};
+ghost use Rattle.std.specs.Prelude.{◌≡◌, IfOk, IfErr, IfSome, OnOk, None};
 ghost use Rattle.cynara_keys.specs.Name.{Refuses};
 ghost use Rattle.cynara_keys.specs.Field.{field_text, field_of, field_fault, field_matches, field_cmp, same_field};
 ghost use Rattle.cynara_keys.specs.Field.{field_admits, filter_field_text, filter_field_of, filter_field_fault};
@@ -7,7 +7,8 @@ ghost use Rattle.std.specs.Ordering.{as_partial_cmp};
 ghost use Rattle.std.specs.Cmp.{partial_order_from_own_ties};
 ghost use Rattle.std.specs.Cmp.Rules.{comparing};
 
-use crate::{Name, NameRefusal};
+use crate::shared::Shared;
+use crate::{Name, NameRefusal, name_fault};
 use std::alloc::{AllocError, Global};
 use std::cmp::Ordering;
 
@@ -16,6 +17,17 @@ use std::cmp::Ordering;
 pub enum Field {
     Any,
     Exact(Name),
+}
+
+/// The first rule of a name that a text other than `*` breaks. `None` where it is `*` or a name. Takes no memory.
+pub fn field_fault(text: &[u8]) -> Option<NameRefusal>
+    ensures fault { result ≡ field_fault text.now }
+    ensures refuses { IfSome result (λ refusal. Refuses refusal (field_fault text.now)) }
+{
+    if text == b"*".as_slice() {
+        return None;
+    }
+    name_fault(text)
 }
 
 impl Field {
@@ -30,6 +42,17 @@ impl Field {
             return Ok(Field::Any);
         }
         Ok(Field::Exact(Name::read(alloc, text)?))
+    }
+
+    // The field of a text.
+    pub(crate) fn of(text: Shared) -> Field
+        requires { field_fault text ≡ None }
+        ensures { result ≡ field_of text }
+    {
+        if text.as_slice() == b"*".as_slice() {
+            return Field::Any;
+        }
+        Field::Exact(Name::of(text))
     }
 
     /// The one text of the field: `*` for the wildcard, and else the name. It reads back as this field.

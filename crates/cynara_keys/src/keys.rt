@@ -1,4 +1,6 @@
-ghost use Rattle.std.specs.Prelude.{◌≡◌, IfOk};
+ghost use Rattle.std.specs.Prelude.{◌≡◌, None, IfOk};
+ghost use Rattle.cynara_keys.specs.Name.{name_fault};
+ghost use Rattle.cynara_keys.specs.Field.{field_of, field_fault};
 ghost use Rattle.cynara_keys.specs.Key.{key_matches, filter_admits};
 ghost use Rattle.cynara_keys.specs.Key.{key_cmp, same_key};
 ghost use Rattle.std.proofs.Common.{rules};
@@ -6,8 +8,9 @@ ghost use Rattle.std.specs.Ordering.{as_partial_cmp};
 ghost use Rattle.std.specs.Cmp.{partial_order_from_own_ties, both_tied};
 ghost use Rattle.std.specs.Cmp.Rules.{comparing};
 
+use crate::shared::Shared;
 use crate::{Field, FilterField, Name, PolicyResult};
-use std::alloc::AllocError;
+use std::alloc::{AllocError, Global};
 use std::cmp::Ordering;
 
 /// What a policy is kept under: a client, a user and a privilege, each a name or the wildcard. Keys are ordered by the
@@ -50,6 +53,27 @@ impl Key {
         self.client.matches(&question.client)
             && self.user.matches(&question.user)
             && self.privilege.matches(&question.privilege)
+    }
+
+    /// The key of these texts, each `*` or a name. Their bytes are copied into one block of memory, which the names share.
+    pub fn of(
+        alloc: Global,
+        client: &[u8],
+        user: &[u8],
+        privilege: &[u8],
+    ) -> Result<Key, AllocError>
+        requires client { field_fault client.now ≡ None }
+        requires user { field_fault user.now ≡ None }
+        requires privilege { field_fault privilege.now ≡ None }
+        ensures { IfOk result (λ key. key ≡
+            record { client = field_of client.now; user = field_of user.now; privilege = field_of privilege.now }) }
+    {
+        let three = Shared::three(alloc, client, user, privilege)?;
+        Ok(Key {
+            client: Field::of(three.first),
+            user: Field::of(three.second),
+            privilege: Field::of(three.third),
+        })
     }
 
     /// An equal key, which shares the names' bytes. Refused only as `Name::copy` is.
@@ -128,6 +152,27 @@ impl Filter {
 }
 
 impl Question {
+    /// The question of these names. Their bytes are copied into one block of memory, which the names share.
+    pub fn of(
+        alloc: Global,
+        client: &[u8],
+        user: &[u8],
+        privilege: &[u8],
+    ) -> Result<Question, AllocError>
+        requires client { name_fault client.now ≡ None }
+        requires user { name_fault user.now ≡ None }
+        requires privilege { name_fault privilege.now ≡ None }
+        ensures { IfOk result (λ question. question ≡
+            record { client = client.now; user = user.now; privilege = privilege.now }) }
+    {
+        let three = Shared::three(alloc, client, user, privilege)?;
+        Ok(Question {
+            client: Name::of(three.first),
+            user: Name::of(three.second),
+            privilege: Name::of(three.third),
+        })
+    }
+
     /// An equal question, which shares the names' bytes. Refused only as `Name::copy` is.
     pub fn copy(&self) -> Result<Question, AllocError>
         ensures { IfOk result (λ copy. copy ≡ self.now) }

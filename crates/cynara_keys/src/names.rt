@@ -1,4 +1,4 @@
-ghost use Rattle.std.specs.Prelude.{◌≡◌, IfOk, IfErr, OnOk};
+ghost use Rattle.std.specs.Prelude.{◌≡◌, None, IfOk, IfErr, IfSome, OnOk};
 ghost use Rattle.cynara_keys.specs.Name.{name_fault, Refuses};
 ghost use Rattle.cynara_keys.specs.Text.{same_text, text_cmp};
 ghost use Rattle.std.specs.Prelude.{refl};
@@ -50,6 +50,27 @@ impl Model for Name {
     ghost invariant = { λ name. name_fault name.bytes ≡ None };
 }
 
+/// The first rule of a name that the bytes break: `Empty`, `TooLong`, `BadByte` or `Reserved`. `None` where they are a name.
+/// Takes no memory. One pass.
+pub fn name_fault(bytes: &[u8]) -> Option<NameRefusal>
+    ensures fault { result ≡ name_fault bytes.now }
+    ensures refuses { IfSome result (λ refusal. Refuses refusal (name_fault bytes.now)) }
+{
+    if bytes.is_empty() {
+        return Some(NameRefusal::Empty);
+    }
+    if bytes.len() > MOST_NAME_BYTES {
+        return Some(NameRefusal::TooLong);
+    }
+    if let Some(at) = first_not_visible(bytes) {
+        return Some(NameRefusal::BadByte(at));
+    }
+    if matches!(bytes, b"*" | b"#") {
+        return Some(NameRefusal::Reserved);
+    }
+    None
+}
+
 impl Name {
     /// Reads a name from its bytes, all of them. Refuses, in this order, `Empty`, `TooLong`, `BadByte` and `Reserved`, and
     /// `Memory` only for bytes that are a name. One pass.
@@ -58,20 +79,19 @@ impl Name {
         ensures accepted { OnOk result (name_fault bytes.now ≡ None) }
         ensures refused { IfErr result (λ refusal. Refuses refusal (name_fault bytes.now)) }
     {
-        if bytes.is_empty() {
-            return Err(NameRefusal::Empty);
-        }
-        if bytes.len() > MOST_NAME_BYTES {
-            return Err(NameRefusal::TooLong);
-        }
-        if let Some(at) = first_not_visible(bytes) {
-            return Err(NameRefusal::BadByte(at));
-        }
-        if matches!(bytes, b"*" | b"#") {
-            return Err(NameRefusal::Reserved);
+        if let Some(refusal) = name_fault(bytes) {
+            return Err(refusal);
         }
         let bytes = Shared::of(alloc, bytes).map_err(NameRefusal::Memory)?;
         Ok(Name { bytes })
+    }
+
+    // The name that the bytes are.
+    pub(crate) fn of(bytes: Shared) -> Name
+        requires { name_fault bytes ≡ None }
+        ensures { result ≡ bytes }
+    {
+        Name { bytes }
     }
 
     /// The bytes of the name, as they were read.
