@@ -1,21 +1,15 @@
 -- How policies decide.
-use Rattle.std.proofs.Common.{◌≡◌, ℕ, ◌≤◌, Bool, true, false, List, Option, None, Some, IfSome, IfNone, slice_get, refl}
-use Rattle.std.proofs.Common.{sym, ap, ◌∙◌, subst, arith}
+use Rattle.std.proofs.Common.{◌≡◌, ℕ, ◌≤◌, true, false, List, Option, None, Some, IfSome, IfNone, slice_get}
+use Rattle.std.proofs.Common.{sym, subst, arith}
 use Rattle.std.specs.List.{All, filter}
-use Rattle.std.specs.declared.cmp.Ordering.{Ordering}
-use Rattle.std.specs.declared.cmp.Ordering.TheVariants.{Less, Equal, Greater}
 use Rattle.std.specs.Cmp.{IsTotalOrder}
-use Rattle.std.specs.Ordering.{is_gt, is_eq, ordering_then, ordering_reverse, min_by_ordering}
-use Rattle.std.proofs.lemmas.Cmp.{on_total, then_total, upto}
-use Rattle.std.proofs.lemmas.Bool.{true_from_ne_false, false≢true}
-use Rattle.cynara_keys.specs.Key.{key_cmp, same_key}
-use Rattle.cynara_keys.specs.Minimum.{lesser}
-use Rattle.cynara_keys.specs.PolicyResult.{result_cmp}
+use Rattle.std.specs.Ordering.{is_gt}
+use Rattle.std.proofs.lemmas.Cmp.{on_total, then_total}
 use Rattle.cynara_keys.specs.declared.keys.Policy.{Policy}
 use Rattle.cynara_keys.specs.declared.keys.Question.{Question}
-use Rattle.cynara_keys.proofs.Order.{result_total, key_total, key_cmp-equal}
+use Rattle.cynara_keys.proofs.Order.{result_total, key_total}
 use Rattle.bucket_eval.specs.Least.{counts, decision_cmp, least_policy, DecidesAmong, NoneCounts}
-use Rattle.bucket_eval.proofs.Best.{min-after, min-before, IsBest, best_of-counts, best_of-before, best_of-none}
+use Rattle.bucket_eval.proofs.Best.{IsBest, best_of-counts, best_of-before, best_of-none}
 
 pub decision_total : IsTotalOrder decision_cmp
 decision_total =

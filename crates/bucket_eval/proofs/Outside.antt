@@ -1,5 +1,5 @@
 -- The places of a bucket's policies that a question can match.
-use Rattle.std.proofs.Common.{◌≡◌, ℕ, zero, suc, ◌+◌, ◌<◌, ◌≤◌, Bool, true, false, not, ◌&&◌, List, [], ◌∷◌, length, get_or, refl, sym, ap, ◌∙◌, subst, arith}
+use Rattle.std.proofs.Common.{◌≡◌, ℕ, ◌<◌, ◌≤◌, Bool, true, false, not, ◌&&◌, List, [], ◌∷◌, length, get_or, refl, sym, ap, ◌∙◌, subst, arith}
 use mathlib.Core.Logic.{⊎_elim}
 use Rattle.std.specs.declared.cmp.Ordering.{Ordering}
 use Rattle.std.specs.declared.cmp.Ordering.TheVariants.{Less, Equal, Greater}
@@ -9,7 +9,6 @@ use Rattle.std.proofs.lemmas.Bool.{cases_lt, true_from_ne_false, true≢false, f
 use Rattle.std.proofs.lemmas.Cmp.{upto}
 use Rattle.std.proofs.lemmas.Map.Keys.{Less-from_sorted}
 use Rattle.cynara_keys.specs.Field.{field_text, field_matches, wildcard}
-use Rattle.cynara_keys.specs.Key.{key_matches}
 use Rattle.cynara_keys.specs.Text.{same_text, text_cmp}
 use Rattle.cynara_keys.specs.declared.fields.Field.{Field}
 use Rattle.cynara_keys.specs.declared.fields.Field.TheVariants.{Any, Exact}
@@ -17,7 +16,7 @@ use Rattle.cynara_keys.specs.declared.keys.Policy.{Policy}
 use Rattle.cynara_keys.specs.declared.keys.Question.{Question}
 use Rattle.cynara_keys.proofs.Order.{text_total, text_cmp-equal}
 use Rattle.bucket_store.specs.Order.{policy_cmp}
-use Rattle.bucket_eval.specs.parts.Windows.{IsOutside, FailsOutside, Covers, client_of, has_client, matches, comes_before, comes_behind, is_up_to}
+use Rattle.bucket_eval.specs.parts.Windows.{FailsOutside, Covers, client_of, has_client, matches, comes_before, is_up_to}
 use Rattle.bucket_eval.specs.declared.windows.Window.{Window}
 
 -- ---- clients rise

@@ -1,12 +1,9 @@
 -- Reading up to the next line, one reading after another.
-use Rattle.std.proofs.Common.{◌≡◌, ◌<◌, ◌+◌, ◌-◌, ◌⊎◌, ◌||◌, inl, inr, ℕ, Bool, true, false, cond, List, [], ◌++◌, length, Option, Result, Ok, Err, refl, sym, ap, ◌∙◌, subst, arith, append_assoc, append-nil, length-append}
-use Rattle.desk_ports.specs.Faults.{next_count}
-use Rattle.desk_ports.specs.Content.{Took, ReadToEnd}
-use Rattle.desk_ports.proofs.Readings.{Took-then, Took-nothing, ReadToEnd-then}
+use Rattle.std.proofs.Common.{◌+◌, ◌-◌, ℕ, cond, List, [], ◌++◌, length, Option, Err, refl, sym, ap, ◌∙◌, subst, arith, append_assoc, append-nil}
+use Rattle.desk_ports.proofs.Readings.{Took-then, Took-nothing}
 use Rattle.text_lines.specs.Lines.{HasNoNewline}
-use Rattle.text_lines.specs.LineReader.{LineReading, Keeps, IsUnfinished, GoesPast, EndsReading, CountsReading, needs_no_reading, has_line}
-use Rattle.text_lines.specs.parts.Windows.{ComesFromOutside}
-use Rattle.text_lines.specs.parts.Gathering.{Gathers, IsPastLimit, ReadsMore, FailsToRead}
+use Rattle.text_lines.specs.LineReader.{LineReading, Keeps, IsUnfinished, GoesPast}
+use Rattle.text_lines.specs.parts.Gathering.{Gathers, IsPastLimit, FailsToRead}
 use Rattle.text_lines.specs.declared.refusal.ReadRefusal.{ReadRefusal}
 use Rattle.text_lines.specs.declared.refusal.ReadRefusal.TheVariants.{PastLimit, Source, Memory}
 

@@ -1,9 +1,8 @@
 -- A line is handed out from what waits.
-use Rattle.std.proofs.Common.{◌≡◌, ◌≢◌, ◌<◌, ◌≤◌, ◌+◌, ◌||◌, inl, inr, ℕ, Bool, true, false, length, List, [], ◌∷◌, ◌++◌, take, drop, Option, Result, Ok, Err, ap, ◌∙◌, subst, sym, arith, append_assoc, append-nil, length-append}
+use Rattle.std.proofs.Common.{◌≡◌, ◌<◌, ◌≤◌, ◌+◌, ◌||◌, inl, inr, ℕ, Bool, true, false, length, List, [], ◌∷◌, ◌++◌, take, drop, Option, Result, Ok, Err, ap, ◌∙◌, subst, sym, arith, append_assoc, append-nil, length-append}
 use Rattle.std.proofs.Math.Seq.{take-length}
 use Rattle.std.proofs.lemmas.List.{length-take-le, drop_all}
-use Rattle.std.specs.List.{list_any}
-use Rattle.text_lines.specs.Lines.{HasNoNewline, is_newline}
+use Rattle.text_lines.specs.Lines.{HasNoNewline}
 use Rattle.text_lines.specs.LineReader.{LineReading, Keeps, IsHandedOut, HandsOutNext, followed_by, needs_no_reading}
 use Rattle.text_lines.specs.parts.Gathering.{IsCut, HandsOutWaiting}
 use Rattle.text_lines.specs.declared.refusal.ReadRefusal.{ReadRefusal}

@@ -6,7 +6,7 @@ use Rattle.std.specs.List.{onto_first}
 use Rattle.text_lines.specs.Lines.{HasNoNewline, pieces_of, line_of, is_newline}
 use Rattle.text_lines.specs.LineReader.{GoesPast}
 use Rattle.text_lines.specs.parts.Gathering.{IsCut}
-use Rattle.text_lines.proofs.Pieces.{pieces_of-newline, line_of-newline}
+use Rattle.text_lines.proofs.Pieces.{pieces_of-newline, line_of-newline, line_of-last}
 
 -- the first piece of the text has at least so many bytes, without its newline too
 record FirstPiece (count : ℕ) (text : List ℕ) : Type 0 where
@@ -104,4 +104,16 @@ GoesPast-cut longest room bytes line piece cut past =
           let all : take line bytes ≡ bytes = ap (λ n. take n bytes) last.0 ∙ take-length bytes in
           GoesPast-unfinished longest room bytes (subst HasNoNewline all cut.no_newline)
           (elim past [ inl h ↦ inl (omega (arith, last.0, last.1)) | inr h ↦ inr (omega (arith, last.0)) ])
+    ]
+
+-- how long the first line is of bytes that are cut
+pub length-line_of-cut : (bytes : List ℕ) (line piece : ℕ) → IsCut bytes line piece → length (line_of bytes) ≡ line
+length-line_of-cut bytes line piece cut =
+    elim cut.either [
+      | inl whole ↦
+          let first = line_of-newline (take line bytes) (drop piece bytes) cut.no_newline in
+          ap length (ap line_of whole.0 ∙ first) ∙ length-take-le line bytes (omega (arith, whole.2))
+      | inr last ↦
+          let all : take line bytes ≡ bytes = ap (λ n. take n bytes) last.0 ∙ take-length bytes in
+          ap length (line_of-last bytes (subst HasNoNewline all cut.no_newline)) ∙ sym last.0
     ]

@@ -1,6 +1,6 @@
 ghost use Rattle.std.specs.Prelude.{◌≡◌, ◌≤◌, ◌<◌, ◌+◌, ◌||◌, true, false, ℕ, List, [], ◌∷◌, ◌++◌, length, take, nat_lt, IfOk, IfErr, OnOk, MatchResult};
 ghost use Rattle.std.specs.List.{list_any};
-ghost use Rattle.text_lines.specs.Lines.{HasNoNewline, is_newline};
+ghost use Rattle.text_lines.specs.Lines.{HasNoNewline, is_newline, line_of};
 ghost use Rattle.text_lines.specs.declared.TheConstants.{NEWLINE};
 ghost use Rattle.desk_ports.specs.Content.{Took};
 ghost use Rattle.text_lines.specs.LineReader.{has_line, needs_no_reading};
@@ -87,6 +87,15 @@ impl LineReader {
         let waiting = &self.window.as_slice()[self.taken..];
         self.scanned = scan(waiting, self.scanned);
         self.scanned < waiting.len()
+    }
+
+    /// Whether the line that waits has more bytes than a line may have, as far as it is read: which of the two limits it
+    /// is that `PastLimit` speaks of.
+    pub fn is_line_too_long(&self) -> bool
+        ensures { result ≡ nat_lt self.now.longest (length (line_of self.now.waiting)) }
+    {
+        let waiting = &self.window.as_slice()[self.taken..];
+        cut_line(waiting, self.scanned).line > self.longest
     }
 
     /// Hands out the next line, which is then in hand. `Ok(false)` where no line is left. Reads from the source as

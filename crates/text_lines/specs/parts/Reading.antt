@@ -1,5 +1,5 @@
 -- How the reading of a text lies in a window.
-use Rattle.std.specs.Prelude.{ℕ, List, ◌+◌, ◌≤◌, length, take, drop}
+use Rattle.std.specs.Prelude.{◌+◌, ◌≤◌, length, take, drop}
 use Rattle.text_lines.specs.Lines.{HasNoNewline}
 use Rattle.text_lines.specs.LineReader.{LineReading}
 use Rattle.text_lines.specs.declared.line_reader.LineReader.TheInside.{Inside}

@@ -1,4 +1,4 @@
-use Rattle.std.proofs.Common.{◌≡◌, ◌<◌, ◌≤◌, ◌+◌, ◌⊎◌, inl, inr, ℕ, List, refl, ap, ◌∙◌, subst, sym, length, take, drop, arith}
+use Rattle.std.proofs.Common.{◌<◌, ◌+◌, ◌⊎◌, inl, inr, refl, ap, ◌∙◌, subst, take, drop, arith}
 use Rattle.std.proofs.lemmas.List.{take_rest}
 use Rattle.text_lines.specs.parts.Gathering.{IsCut}
 use Rattle.text_lines.proofs.Limits.{GoesPast-cut}

@@ -1,4 +1,4 @@
-use Rattle.std.proofs.Common.{ap, ◌∙◌, length, drop, nat_lt, subst, ◌≡◌, ℕ, List}
+use Rattle.std.proofs.Common.{ap, ◌∙◌, drop}
 use Rattle.std.proofs.lemmas.List.{take_rest}
 use Rattle.std.specs.List.{list_any}
 use Rattle.text_lines.specs.Lines.{is_newline}

@@ -1,4 +1,4 @@
-use Rattle.std.proofs.Common.{◌≡◌, ◌≤◌, ◌<◌, ◌+◌, ◌-◌, ◌⊎◌, inl, inr, ap, length, drop, arith, length-drop}
+use Rattle.std.proofs.Common.{◌≡◌, ◌<◌, ◌+◌, ◌-◌, ◌⊎◌, inl, inr, ap, length, arith, length-drop}
 use Rattle.text_lines.proofs.Newlines.{none-list_any}
 use Rattle.text_lines.proofs.Limits.{GoesPast-unfinished}
 use Rattle.text_lines.proofs.line_reader.LineReader.within_limits.Goals as goal
