@@ -1,0 +1,15 @@
+use Rattle.std.proofs.Common.{◌≡◌, ◌++◌, map, OnOk, subst}
+use Rattle.cynara_keys.specs.declared.fields.Field.TheVariants.{Exact}
+use Rattle.app_registry.specs.Label.{install_label}
+use Rattle.app_registry.specs.Manifest.{grant, install_grants, scope_field}
+use Rattle.app_registry.proofs.manifests.push_grants.Goals as goal
+
+pub returns : goal.returns
+returns c =
+    let label : c.in_ok-install_client.field-0 ≡ install_label c.args.install.now = c.in_ok-install_client.ensures in
+    let user : c.in_ok-user.user ≡ scope_field c.args.install.now.scope = c.in_ok-user.ensures in
+    let same : map (grant (Exact c.in_ok-install_client.field-0) c.in_ok-user.user) c.as_slice.result.now
+    ≡ install_grants c.args.install.now =
+    λ i. map (grant (Exact (label i)) (user i)) (c.as_slice.ensures.names i) in
+    subst (λ granted. OnOk c.push_each.result (c.push_each.new.rows.items ≡ c.args.rows.now.items ++ granted)) same
+    c.push_each.ensures
