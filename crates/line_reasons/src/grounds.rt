@@ -10,7 +10,7 @@ ghost use Rattle.line_reasons.specs.parts.Grounds as grounds;
 use crate::forms::Form;
 use crate::stands::{begins_line_of, is_line_of, may_end};
 use crate::word_tests::{begins, cut_at};
-use line_script::{Spot, Verb};
+use line_script::{Spot, VERBS, Verb};
 
 /// What decides which lines are known.
 #[derive(Clone, Copy, Debug, PartialEq, Eq)]
@@ -30,24 +30,6 @@ pub(crate) const TEMPLATE_FORMS: [Form; 4] = [
 ];
 
 pub(crate) const RULE_FORMS: [Form; 4] = [Form::Label, Form::Label, Form::Modes, Form::MoreModes];
-
-const VERBS: [Verb; 15] = [
-    Verb::Set,
-    Verb::Check,
-    Verb::Unset,
-    Verb::Bucket,
-    Verb::Drop,
-    Verb::Erase,
-    Verb::List,
-    Verb::From,
-    Verb::Layout,
-    Verb::User,
-    Verb::NoUser,
-    Verb::Install,
-    Verb::Remove,
-    Verb::Access,
-    Verb::Status,
-];
 
 impl Ground {
     /// Where a line of a script stands.

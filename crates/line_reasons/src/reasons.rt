@@ -66,8 +66,10 @@ pub enum Reason {
     /// A word of a single byte more would be right, as the name of a bucket.
     #[error("{0} is missing")]
     Missing(&'static str),
-    #[error("a line has at most 65535 bytes, and a script at most 16777216")]
-    PastLimit,
+    #[error("a line has at most 65535 bytes")]
+    LinePastLimit,
+    #[error("a script has at most 16777216 bytes")]
+    ScriptPastLimit,
     #[error("a text of rules has at most 16777216 bytes")]
     RulesPastLimit,
     #[error("a block that is not ended: `end` is missing")]

@@ -9,33 +9,25 @@ use crate::line_words::Words;
 use crate::phrases::key_words;
 use crate::results::result_word;
 use crate::steps::{LineRefusal, Step};
-use crate::word_forms::{bucket_word, end_word, field_word};
+use crate::word_forms::{bucket_word, end_word};
 use bucket_store::{Change, Changes};
-use cynara_keys::Key;
 use desk_state::Command;
 use std::alloc::{AllocError, Global};
 
-/// `set BUCKET CLIENT USER PRIVILEGE RESULT`. As a frequent line it is read without a helper for the key, which would move
-/// the names once more.
-#[tactic(auto, unfolding(crate::specs::Grammar::key_at, crate::specs::Grammar::set_at))]
+/// `set BUCKET CLIENT USER PRIVILEGE RESULT`.
+#[tactic(auto, unfolding(crate::specs::Grammar::set_at))]
 pub(crate) fn set_line(alloc: Global, words: &mut Words) -> Result<Change, LineRefusal>
     ensures { Gives result (set_at words.old) }
 {
     let bucket = bucket_word(alloc, words)?;
-    let client = field_word(alloc, words)?;
-    let user = field_word(alloc, words)?;
-    let privilege = field_word(alloc, words)?;
+    let key = key_words(alloc, words)?;
     let result = result_word(alloc, words)?;
     let Some(()) = end_word(words) else {
         return Err(LineRefusal::Syntax);
     };
     Ok(Change::Set {
         bucket,
-        key: Key {
-            client,
-            user,
-            privilege,
-        },
+        key,
         result,
     })
 }

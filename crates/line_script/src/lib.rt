@@ -33,4 +33,4 @@ pub use reader::Reader;
 pub use rules_broken::RuleBroken;
 pub use spots::Spot;
 pub use steps::{LineRefusal, Step};
-pub use verbs::Verb;
+pub use verbs::{VERBS, Verb};

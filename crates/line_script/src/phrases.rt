@@ -5,7 +5,7 @@ ghost use Rattle.line_script.specs.parts.Reading.{GivesWord};
 
 use crate::line_words::Words;
 use crate::steps::LineRefusal;
-use crate::word_forms::{field_word, filter_word, name_word};
+use crate::word_forms::{field_text, filter_word, name_text};
 use cynara_keys::{Filter, Key, Question};
 use std::alloc::Global;
 
@@ -14,14 +14,10 @@ use std::alloc::Global;
 pub(crate) fn key_words(alloc: Global, words: &mut Words) -> Result<Key, LineRefusal>
     ensures { GivesWord result words.new (key_at words.old) }
 {
-    let client = field_word(alloc, words)?;
-    let user = field_word(alloc, words)?;
-    let privilege = field_word(alloc, words)?;
-    Ok(Key {
-        client,
-        user,
-        privilege,
-    })
+    let client = field_text(words)?;
+    let user = field_text(words)?;
+    let privilege = field_text(words)?;
+    Key::of(alloc, client, user, privilege).map_err(LineRefusal::Memory)
 }
 
 /// `CLIENT USER PRIVILEGE` of a question.
@@ -29,14 +25,10 @@ pub(crate) fn key_words(alloc: Global, words: &mut Words) -> Result<Key, LineRef
 pub(crate) fn question_words(alloc: Global, words: &mut Words) -> Result<Question, LineRefusal>
     ensures { GivesWord result words.new (question_at words.old) }
 {
-    let client = name_word(alloc, words)?;
-    let user = name_word(alloc, words)?;
-    let privilege = name_word(alloc, words)?;
-    Ok(Question {
-        client,
-        user,
-        privilege,
-    })
+    let client = name_text(words)?;
+    let user = name_text(words)?;
+    let privilege = name_text(words)?;
+    Question::of(alloc, client, user, privilege).map_err(LineRefusal::Memory)
 }
 
 /// `FILTER FILTER FILTER`.

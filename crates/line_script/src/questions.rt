@@ -8,8 +8,7 @@ ghost use Rattle.line_script.specs.parts.Reading.{Gives};
 use crate::line_words::Words;
 use crate::phrases::{filter_words, question_words};
 use crate::steps::{LineRefusal, Step};
-use crate::word_forms::{bucket_word, depth_word, end_word, label_word, name_word, request_word};
-use cynara_keys::Question;
+use crate::word_forms::{bucket_word, depth_word, end_word, label_word, request_word};
 use std::alloc::Global;
 
 /// `list BUCKET FILTER FILTER FILTER`.
@@ -27,25 +26,18 @@ pub(crate) fn list_line(alloc: Global, words: &mut Words) -> Result<Step, LineRe
     Ok(Step::List { bucket, filter })
 }
 
-/// `check CLIENT USER PRIVILEGE`. As the most frequent line it is read without a helper, which would move the names once
-/// more.
-#[tactic(auto, unfolding(crate::specs::Grammar::question_at, crate::specs::Grammar::check_at))]
+/// `check CLIENT USER PRIVILEGE`.
+#[tactic(auto, unfolding(crate::specs::Grammar::check_at))]
 #[inline(always)]
 pub(crate) fn check_line(alloc: Global, words: &mut Words) -> Result<Step, LineRefusal>
     ensures step { Gives result (check_at words.old) }
     ensures asked { IfOk result AsksRequest }
 {
-    let client = name_word(alloc, words)?;
-    let user = name_word(alloc, words)?;
-    let privilege = name_word(alloc, words)?;
+    let question = question_words(alloc, words)?;
     let Some(()) = end_word(words) else {
         return Err(LineRefusal::Syntax);
     };
-    Ok(Step::Check(Question {
-        client,
-        user,
-        privilege,
-    }))
+    Ok(Step::Check(question))
 }
 
 /// `from BUCKET MODE CLIENT USER PRIVILEGE`.

@@ -21,8 +21,8 @@ pub enum Verb {
     Status,
 }
 
-/// All of them.
-const VERBS: [Verb; 15] = [
+/// All of them, in that order.
+pub const VERBS: [Verb; 15] = [
     Verb::Set,
     Verb::Check,
     Verb::Unset,

@@ -1,17 +1,21 @@
 //! What single words say. Each function takes the next word of a line.
 
-ghost use Rattle.std.specs.Prelude.{◌≡◌, IsTrue, IfOk};
+ghost use Rattle.std.specs.Prelude.{◌≡◌, None, IsTrue, IfOk};
+ghost use Rattle.cynara_keys.specs.Name.{name_fault};
+ghost use Rattle.cynara_keys.specs.Field.{field_of, field_fault};
 ghost use Rattle.smack_rules.specs.Modes.{is_request};
 ghost use Rattle.line_script.specs.Words.{word, end_of};
 ghost use Rattle.line_script.specs.WordForms.{bucket_at, name_at, field_at, filter_field_at, depth_at};
 ghost use Rattle.line_script.specs.WordForms.{uid_at, user_type_at, scope_at, ident_at, author_at, label_at, request_at};
-ghost use Rattle.line_script.specs.parts.Reading.{GivesWord};
+ghost use Rattle.line_script.specs.parts.Reading.{GivesWord, GivesText};
 
 use crate::line_words::Words;
 use crate::numbers::read_number;
 use crate::steps::LineRefusal;
 use app_registry::{Ident, IdentRefusal, Scope, UserType};
-use cynara_keys::{BucketName, BucketNameRefusal, Field, FilterField, Name, NameRefusal};
+use cynara_keys::{
+    BucketName, BucketNameRefusal, FilterField, NameRefusal, field_fault, name_fault,
+};
 use smack_rules::{Label, LabelRefusal, Modes};
 use std::alloc::Global;
 
@@ -46,31 +50,25 @@ pub(crate) fn bucket_word(alloc: Global, words: &mut Words) -> Result<BucketName
     }
 }
 
-/// A name.
-pub(crate) fn name_word(alloc: Global, words: &mut Words) -> Result<Name, LineRefusal>
-    ensures { GivesWord result words.new (word name_at words.old) }
+/// The bytes of a name, which stay in the line.
+pub(crate) fn name_text<'a>(words: &mut Words<'a>) -> Result<&'a [u8], LineRefusal>
+    ensures text { GivesText (λ text. text) result words.new (word name_at words.old) }
+    ensures name { IfOk result (λ text. name_fault text.now ≡ None) }
 {
-    let Some(text) = words.next() else {
-        return Err(LineRefusal::Syntax);
-    };
-    match Name::read(alloc, text) {
-        Ok(name) => Ok(name),
-        Err(NameRefusal::Memory(error)) => Err(LineRefusal::Memory(error)),
-        Err(_) => Err(LineRefusal::Syntax),
+    match words.next() {
+        Some(text) if name_fault(text).is_none() => Ok(text),
+        _ => Err(LineRefusal::Syntax),
     }
 }
 
-/// `*` or a name.
-pub(crate) fn field_word(alloc: Global, words: &mut Words) -> Result<Field, LineRefusal>
-    ensures { GivesWord result words.new (word field_at words.old) }
+/// The bytes of `*` or of a name.
+pub(crate) fn field_text<'a>(words: &mut Words<'a>) -> Result<&'a [u8], LineRefusal>
+    ensures text { GivesText field_of result words.new (word field_at words.old) }
+    ensures field { IfOk result (λ text. field_fault text.now ≡ None) }
 {
-    let Some(text) = words.next() else {
-        return Err(LineRefusal::Syntax);
-    };
-    match Field::read(alloc, text) {
-        Ok(field) => Ok(field),
-        Err(NameRefusal::Memory(error)) => Err(LineRefusal::Memory(error)),
-        Err(_) => Err(LineRefusal::Syntax),
+    match words.next() {
+        Some(text) if field_fault(text).is_none() => Ok(text),
+        _ => Err(LineRefusal::Syntax),
     }
 }
 

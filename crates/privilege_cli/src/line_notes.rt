@@ -8,7 +8,7 @@ use line_reasons::{Reason, rule_fault, script_fault};
 use line_script::Spot;
 use smack_rules::MOST_TEXT_BYTES;
 use std::alloc::{AllocError, Global};
-use text_lines::{ReadRefusal, split_line};
+use text_lines::{LineReader, ReadRefusal, split_line};
 
 /// Tells why the line of a script with this number, which stood at this spot, is outside the grammar.
 pub fn note_script_line<K: Sink>(
@@ -37,13 +37,23 @@ pub fn note_open_block<K: Sink>(alloc: Global, number: u32, sink: &mut K)
     note_text(line_text(alloc, number, Reason::OpenBlock), sink);
 }
 
-/// Tells of a line of a script that goes past a limit, where that is why it was not handed out.
-pub fn note_past_limit<K: Sink>(alloc: Global, refusal: ReadRefusal, sink: &mut K)
+/// Tells which limit the next line of a script goes past, where that is why it was not handed out.
+pub fn note_past_limit<K: Sink>(
+    alloc: Global,
+    refusal: ReadRefusal,
+    lines: &LineReader,
+    sink: &mut K,
+)
     ensures taken { K.taken sink.new ≡ K.taken sink.old }
     ensures count { K.faults sink.new ≡ K.faults sink.old }
 {
     if let ReadRefusal::PastLimit(number) = refusal {
-        note_text(line_text(alloc, number, Reason::PastLimit), sink);
+        let reason = if lines.is_line_too_long() {
+            Reason::LinePastLimit
+        } else {
+            Reason::ScriptPastLimit
+        };
+        note_text(line_text(alloc, number, reason), sink);
     }
 }
 

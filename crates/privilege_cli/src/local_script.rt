@@ -78,7 +78,7 @@ impl LocalScript {
         let has_line = match lines.next(source) {
             Ok(has_line) => has_line,
             Err(refusal) => {
-                note_past_limit(self.alloc, refusal, sink);
+                note_past_limit(self.alloc, refusal, lines, sink);
                 return Err(Ending::from(refusal));
             }
         };

@@ -1,5 +1,8 @@
 // The fields of messages, read from the front of what is left of a frame.
-ghost use Rattle.wire_messages.specs.Left.{Gives};
+ghost use Rattle.std.specs.Prelude.{◌≡◌, None, IfOk};
+ghost use Rattle.cynara_keys.specs.Name.{name_fault};
+ghost use Rattle.cynara_keys.specs.Field.{field_fault};
+ghost use Rattle.wire_messages.specs.Left.{Gives, GivesText};
 ghost use Rattle.wire_messages.specs.Format as format;
 ghost use Rattle.wire_messages.specs.Field as field;
 
@@ -7,8 +10,8 @@ use crate::WireRefusal;
 use crate::fields::Fields;
 use app_registry::{Ident, IdentRefusal, Scope, UserType};
 use cynara_keys::{
-    BucketName, BucketNameRefusal, Field, Filter, FilterField, Key, Kind, Metadata,
-    MetadataRefusal, Name, NameRefusal, Policy, PolicyResult, Question,
+    BucketName, BucketNameRefusal, Filter, FilterField, Key, Kind, Metadata, MetadataRefusal, Name,
+    NameRefusal, Policy, PolicyResult, Question, field_fault, name_fault,
 };
 use desk_ports::{FileName, FileNameRefusal};
 use rule_templates::{Template, TemplateRefusal};
@@ -38,17 +41,30 @@ pub fn bucket(alloc: Global, fields: &mut Fields) -> Result<BucketName, WireRefu
     }
 }
 
-// `*` or a name
-pub fn key_field(alloc: Global, fields: &mut Fields) -> Result<Field, WireRefusal>
-    ensures { Gives result fields.new (field.field.read fields.old) }
+// the bytes of a name, which are not copied
+fn name_text<'a>(fields: &mut Fields<'a>) -> Result<&'a [u8], WireRefusal>
+    ensures text { GivesText result fields.new (field.name.read fields.old) }
+    ensures name { IfOk result (λ text. name_fault text.now ≡ None) }
 {
     let place = fields.place();
     let text = fields.text()?;
-    match Field::read(alloc, text) {
-        Ok(field) => Ok(field),
-        Err(NameRefusal::Memory(error)) => Err(WireRefusal::Memory(error)),
-        Err(_) => Err(WireRefusal::BadField(place)),
+    if name_fault(text).is_some() {
+        return Err(WireRefusal::BadField(place));
     }
+    Ok(text)
+}
+
+// the same of `*` or a name
+fn key_field_text<'a>(fields: &mut Fields<'a>) -> Result<&'a [u8], WireRefusal>
+    ensures text { GivesText result fields.new (field.field_text.read fields.old) }
+    ensures field { IfOk result (λ text. field_fault text.now ≡ None) }
+{
+    let place = fields.place();
+    let text = fields.text()?;
+    if field_fault(text).is_some() {
+        return Err(WireRefusal::BadField(place));
+    }
+    Ok(text)
 }
 
 // `#`, `*` or a name
@@ -67,27 +83,19 @@ pub fn filter_field(alloc: Global, fields: &mut Fields) -> Result<FilterField, W
 pub fn question(alloc: Global, fields: &mut Fields) -> Result<Question, WireRefusal>
     ensures { Gives result fields.new (field.question.read fields.old) }
 {
-    let client = name(alloc, fields)?;
-    let user = name(alloc, fields)?;
-    let privilege = name(alloc, fields)?;
-    Ok(Question {
-        client,
-        user,
-        privilege,
-    })
+    let client = name_text(fields)?;
+    let user = name_text(fields)?;
+    let privilege = name_text(fields)?;
+    Question::of(alloc, client, user, privilege).map_err(WireRefusal::Memory)
 }
 
 pub fn key(alloc: Global, fields: &mut Fields) -> Result<Key, WireRefusal>
     ensures { Gives result fields.new (field.key.read fields.old) }
 {
-    let client = key_field(alloc, fields)?;
-    let user = key_field(alloc, fields)?;
-    let privilege = key_field(alloc, fields)?;
-    Ok(Key {
-        client,
-        user,
-        privilege,
-    })
+    let client = key_field_text(fields)?;
+    let user = key_field_text(fields)?;
+    let privilege = key_field_text(fields)?;
+    Key::of(alloc, client, user, privilege).map_err(WireRefusal::Memory)
 }
 
 pub fn filter(alloc: Global, fields: &mut Fields) -> Result<Filter, WireRefusal>

@@ -1,5 +1,6 @@
 -- What reading gives.
 use Rattle.std.specs.Prelude.{◌≡◌, ℕ, List, Option, Some, None, Result, Ok, Err}
+use Rattle.std.specs.Borrow.{Bor}
 use Rattle.line_script.specs.declared.steps.LineRefusal.{LineRefusal}
 use Rattle.line_script.specs.declared.steps.LineRefusal.TheVariants.{Syntax, Memory}
 
@@ -16,3 +17,8 @@ Gives (Err refusal) reading = Refuses refusal reading
 abbrev pub GivesWord : {A : Type 0} → Result A LineRefusal → List (List ℕ) → Option (A × List (List ℕ)) → Type 0
 GivesWord (Ok value) left reading = reading ≡ Some (value, left)
 GivesWord (Err refusal) left reading = Refuses refusal reading
+
+-- the same for bytes that stay in the line, and are read as a value
+abbrev pub GivesText : {A : Type 0} → (List ℕ → A) → Result (Bor (List ℕ)) LineRefusal → List (List ℕ) → Option (A × List (List ℕ)) → Type 0
+GivesText value (Ok text) left reading = reading ≡ Some (value text.now, left)
+GivesText value (Err refusal) left reading = Refuses refusal reading
