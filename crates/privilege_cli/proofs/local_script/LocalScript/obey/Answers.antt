@@ -3,7 +3,7 @@ use Rattle.std.proofs.lemmas.Result.{err_from_is_err_and}
 use Rattle.desk_state.specs.DeskState.{DeskState}
 use Rattle.line_script.specs.declared.steps.Step.TheVariants.{Command}
 use Rattle.privilege_cli.specs.Reply.{done_text}
-use Rattle.privilege_cli.proofs.Obeying.{hands-all, refused-rule, answers-refusal, answers-command, refuses-unflushed, disk-unflushed}
+use Rattle.privilege_cli.proofs.Obeying.{hands-all, hands-none, refused-rule, answers-refusal, answers-command, refuses-unflushed, disk-unflushed}
 use Rattle.privilege_cli.proofs.local_script.LocalScript.obey.Goals as goal
 
 pub returns-in-Err-clause-step : goal.returns-in-Err-clause-step
@@ -13,6 +13,14 @@ returns-in-Err-clause-step g c =
     (refused-rule c.args.keeper.now.desk c.args.command.now c.in-Err.refusal c.in_ok-print_refusal-in-Err.ensures.rule
     c.in-Err.ensures.refused)
     c.in_ok-print_refusal-in-Err.ensures.ok
+
+pub returns-in_err-print_refusal-in-Err-clause-step : goal.returns-in_err-print_refusal-in-Err-clause-step
+returns-in_err-print_refusal-in-Err-clause-step g c =
+    let exit = err_from_is_err_and c.from_residual.result c.from_residual.ensures.1 in
+    rw (exit.1, exit.2) (
+      hands-none (g.K.Sink.taken c.args.sink.now) c.args.self.now.answers _ c.in_err-print_refusal-in-Err.ensures.err,
+      refl,
+    )
 
 pub returns-in_err-flush-clause-step : goal.returns-in_err-flush-clause-step
 returns-in_err-flush-clause-step g c =
