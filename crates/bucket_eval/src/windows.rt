@@ -1,5 +1,6 @@
 // The places of a bucket's policies that a question can match, as far as halving tells.
-ghost use Rattle.std.specs.Prelude.{◌≡◌, ◌≤◌, ℕ, true, false, length};
+ghost use Rattle.std.specs.Prelude.{◌≡◌, ◌≤◌, ℕ, true, false, not, length};
+ghost use Rattle.std.specs.List.{position};
 ghost use Rattle.std.specs.List.Sorted.{IsStrictlySortedBy, IsPartitionPoint};
 ghost use Rattle.bucket_store.specs.Order.{policy_cmp};
 ghost use Rattle.bucket_eval.specs.parts.Windows as windows;
@@ -15,7 +16,7 @@ pub struct Window {
 }
 
 /// A window outside of which no policy matches the question: from the first policy of its client or of any client to the
-/// last. Of few policies it is all.
+/// last, or longer where these are not few. Of few policies it is all.
 pub fn window_of(policies: &[Policy], question: &Question, few: usize) -> Window
     requires { IsStrictlySortedBy policy_cmp policies.now }
     ensures order { result.start ≤ result.end }
@@ -28,22 +29,40 @@ pub fn window_of(policies: &[Policy], question: &Question, few: usize) -> Window
             end: policies.len(),
         };
     }
-    let own = window_of_client(policies, question.client.as_slice());
-    let any = window_of_client(policies, b"*");
+    let own = window_of_client(policies, question.client.as_slice(), few);
+    let any = window_of_client(policies, b"*", few);
     covering(own, any)
 }
 
-// The policies of this client.
-fn window_of_client(policies: &[Policy], client: &[u8]) -> Window
+// The policies of this client, or all from the first of them on, where they are not few.
+fn window_of_client(policies: &[Policy], client: &[u8], few: usize) -> Window
     requires { IsStrictlySortedBy policy_cmp policies.now }
     ensures order { result.start ≤ result.end }
     ensures within { result.end ≤ length policies.now }
     ensures outside { FailsOutside (windows.has_client client.now) result policies.now }
 {
-    Window {
-        start: count_before(policies, client),
-        end: count_up_to(policies, client),
+    let start = count_before(policies, client);
+    let behind = &policies[start..];
+    let near = &behind[..behind.len().min(few)];
+    match first_of_another(near, client) {
+        Some(count) => Window {
+            start,
+            end: start + count,
+        },
+        None => Window {
+            start,
+            end: policies.len(),
+        },
     }
+}
+
+// The place of the first policy of another client.
+fn first_of_another(policies: &[Policy], client: &[u8]) -> Option<usize>
+    ensures { result ≡ position (λ policy. not (windows.has_client client.now policy)) policies.now }
+{
+    policies
+        .iter()
+        .position(|policy| policy.key.client.as_slice() != client)
 }
 
 // The smallest window that covers both.
@@ -74,34 +93,23 @@ fn covering(one: Window, other: Window) -> Window
     }
 }
 
-// How many policies are of clients before this one.
+// How many policies are of clients before this one. Often none is, which the first tells.
 fn count_before(policies: &[Policy], client: &[u8]) -> usize
     requires { IsStrictlySortedBy policy_cmp policies.now }
     ensures within { result ≤ length policies.now }
     ensures parted { IsPartitionPoint (λ policy. windows.comes_before client.now policy ≡ true)
         (λ policy. windows.comes_before client.now policy ≡ false) policies.now result }
 {
-    policies.partition_point(|policy| comes_before(policy, client))
-}
-
-// How many policies are of clients before this one, or of this one.
-fn count_up_to(policies: &[Policy], client: &[u8]) -> usize
-    requires { IsStrictlySortedBy policy_cmp policies.now }
-    ensures within { result ≤ length policies.now }
-    ensures parted { IsPartitionPoint (λ policy. windows.is_up_to client.now policy ≡ true)
-        (λ policy. windows.is_up_to client.now policy ≡ false) policies.now result }
-{
-    policies.partition_point(|policy| !comes_behind(policy, client))
+    match policies.first() {
+        Some(first) if comes_before(first, client) => {
+            policies.partition_point(|policy| comes_before(policy, client))
+        }
+        _ => 0,
+    }
 }
 
 fn comes_before(policy: &Policy, client: &[u8]) -> bool
     ensures { result ≡ windows.comes_before client.now policy.now }
 {
     client.cmp(policy.key.client.as_slice()).is_gt()
-}
-
-fn comes_behind(policy: &Policy, client: &[u8]) -> bool
-    ensures { result ≡ windows.comes_behind client.now policy.now }
-{
-    policy.key.client.as_slice().cmp(client).is_gt()
 }

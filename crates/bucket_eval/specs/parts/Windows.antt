@@ -1,5 +1,5 @@
 -- The places of a bucket's policies that a question can match.
-use Rattle.std.specs.Prelude.{◌≡◌, ◌<◌, ◌≤◌, ◌⊎◌, ℕ, Bool, false, not, List, length, get_or}
+use Rattle.std.specs.Prelude.{◌≡◌, ◌<◌, ◌≤◌, ◌⊎◌, ℕ, Bool, false, List, length, get_or}
 use Rattle.std.specs.Ordering.{is_gt}
 use Rattle.cynara_keys.specs.Field.{field_text}
 use Rattle.cynara_keys.specs.Key.{key_matches}
@@ -34,9 +34,3 @@ Covers window one other = (place : ℕ) → IsOutside window place → IsOutside
 
 abbrev pub comes_before : List ℕ → Policy → Bool
 comes_before client policy = is_gt (text_cmp client (client_of policy))
-
-abbrev pub comes_behind : List ℕ → Policy → Bool
-comes_behind client policy = is_gt (text_cmp (client_of policy) client)
-
-abbrev pub is_up_to : List ℕ → Policy → Bool
-is_up_to client policy = not (comes_behind client policy)
