@@ -5,6 +5,7 @@ pub mod Names
 pub mod Filters
 pub mod Counts
 pub mod Search
+pub mod Packages
 pub mod Changes
 pub mod Grants
 mod Undoing

@@ -64,7 +64,7 @@ module _ (name : List ℕ) (installs : List Install) (rises : IsStrictlySortedBy
       → is_of_package name install ≡ false
   not_of install o at apart = sym (text_cmp-equal install.«package» name) ∙ ap is_eq at ∙ apart
 
-  not_of-before : (install : Install) → comes_before name install ≡ true → is_of_package name install ≡ false
+  pub not_of-before : (install : Install) → comes_before name install ≡ true → is_of_package name install ≡ false
   not_of-before install before = not_of install Less (is_lt-Less (text_cmp install.«package» name) before) refl
 
   -- a search ends at an install of the package, which is the first
@@ -86,7 +86,7 @@ module _ (name : List ℕ) (installs : List Install) (rises : IsStrictlySortedBy
   above Greater first second = refl
 
   -- an install behind one whose package comes behind the name is not of the package either
-  not_of-behind : (a b : Install) (same : Bool) → is_of_package name b ≡ same → install_cmp a b ≡ Less
+  pub not_of-behind : (a b : Install) (same : Bool) → is_of_package name b ≡ same → install_cmp a b ≡ Less
       → text_cmp a.«package» name ≡ Greater → same ≡ false
   not_of-behind a b true is order greater =
       let tied = is_eq-Equal (text_cmp b.«package» name) (text_cmp-equal b.«package» name ∙ is) in

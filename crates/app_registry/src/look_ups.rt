@@ -1,5 +1,5 @@
 // What is found in lists of users and of installs.
-ghost use Rattle.std.specs.Prelude.{◌≡◌, ◌≤◌, true, false, find, length};
+ghost use Rattle.std.specs.Prelude.{◌≡◌, ◌≤◌, true, false, not, filter, find, length};
 ghost use Rattle.std.specs.List.Sorted.{IsPartitionPoint, IsStrictlySortedBy};
 ghost use Rattle.std.specs.Option.{option_copied};
 ghost use Rattle.std.specs.List.{list_any};
@@ -23,6 +23,16 @@ pub fn first_of_package<'a>(installs: &'a [Install], package: &Ident) -> Option<
     } else {
         None
     }
+}
+
+/// The installs of the package, which stand together and are found by binary searches.
+pub fn of_package<'a>(installs: &'a [Install], package: &Ident) -> &'a [Install]
+    requires { IsStrictlySortedBy install_cmp installs.now }
+    ensures { result.now ≡ filter (is_of_package «package».now) installs.now }
+{
+    let behind = &installs[place_of_package(installs, package)..];
+    let count = behind.partition_point(|install| install.package == *package);
+    &behind[..count]
 }
 
 // How many installs are of packages before this one.
@@ -52,11 +62,19 @@ pub fn elsewhere<'a>(installs: &'a [Install], install: &Install) -> Option<&'a I
 
 /// The first install of the same package by another author.
 pub fn by_another<'a>(installs: &'a [Install], install: &Install) -> Option<&'a Install>
+    requires { IsStrictlySortedBy install_cmp installs.now }
     ensures { option_copied result ≡ find (is_by_another install.now) installs.now }
 {
-    installs.iter().find(|other| {
-        other.package == install.package && !same_author(&other.author, &install.author)
-    })
+    by_another_than(of_package(installs, &install.package), &install.author)
+}
+
+// The first install that has not this author.
+fn by_another_than<'a>(installs: &'a [Install], author: &Option<Ident>) -> Option<&'a Install>
+    ensures { option_copied result ≡ find (λ other. not (same_author other.author author.now)) installs.now }
+{
+    installs
+        .iter()
+        .find(|other| !same_author(&other.author, author))
 }
 
 fn same_author(author: &Option<Ident>, other: &Option<Ident>) -> bool

@@ -1,6 +1,7 @@
 //! The users and the installs of a device.
 
-ghost use Rattle.std.specs.Prelude.{◌≡◌, IfOk, IfErr, OnOk, None};
+ghost use Rattle.std.specs.Prelude.{◌≡◌, IfOk, IfErr, OnOk, None, filter};
+ghost use Rattle.app_registry.specs.Install.{is_of_package};
 ghost use Rattle.std.specs.List.{All, Contains};
 ghost use Rattle.std.specs.List.Sorted.{IsStrictlySortedBy};
 ghost use Rattle.std.specs.Option.{option_copied};
@@ -21,7 +22,7 @@ use crate::lists::{
     copies, with_install, with_user, without_install, without_installs_for, without_user,
 };
 use crate::look_ups::{
-    by_another, elsewhere, first_of_app, first_of_package, has_install, has_user,
+    by_another, elsewhere, first_of_app, first_of_package, has_install, has_user, of_package,
 };
 use crate::manifests::manifest_rows;
 use crate::{Ident, Install, RegistryRefusal, Scope, User, UserType};
@@ -74,6 +75,13 @@ impl Registry {
         ensures registry { IsRegistry self.now.users self.now.installs }
     {
         &self.installs
+    }
+
+    /// The installs of the package, which stand together. Two binary searches find them.
+    pub fn installs_of(&self, package: &Ident) -> &[Install]
+        ensures { result.now ≡ filter (is_of_package «package».now) self.now.installs }
+    {
+        of_package(&self.installs, package)
     }
 
     /// Whether the package has an install.

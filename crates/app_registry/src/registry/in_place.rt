@@ -4,13 +4,13 @@ ghost use Rattle.std.specs.Prelude.{◌≡◌, None, IsTrue, IsFalse, not, false
 ghost use Rattle.std.specs.List.{list_any};
 ghost use Rattle.std.specs.List.Sorted.{IsStrictlySortedBy};
 ghost use Rattle.app_registry.specs.Install.{install_cmp, is_install_of};
-ghost use Rattle.app_registry.specs.Refusal.{install_fault, installs_limit};
+ghost use Rattle.app_registry.specs.Refusal.{owner_fault, install_fault, installs_limit};
 ghost use Rattle.app_registry.specs.Registry.{with_install, without_install};
 ghost use Rattle.app_registry.specs.Rising.{placed};
 
 use crate::limits::installs_limit;
 use crate::lists::{is_install_of, place_of_install};
-use crate::look_ups::has_install;
+use crate::look_ups::{has_install, of_package};
 use crate::{Ident, Install, Registry, Scope};
 
 impl Registry {
@@ -23,17 +23,26 @@ impl Registry {
         ensures taken_back { IsTrue result → without_install self.new install.now.app install.now.scope ≡ self.old }
         ensures kept { IsFalse result → self.new ≡ self.old }
     {
-        if has_install(&self.installs, &install.app, install.scope) {
-            return false;
-        }
         match self.check_owner(install) {
             Ok(()) => {}
             Err(_) => return false,
+        }
+        if self.has_install(install) {
+            return false;
         }
         if !put_new(&mut self.installs, install) {
             return false;
         }
         true
+    }
+
+    // Whether the application is installed for the scope. As no other package has it, its own installs are gone over.
+    fn has_install(&self, install: &Install) -> bool
+        requires { owner_fault self.now install.now ≡ None }
+        ensures { result ≡ list_any (is_install_of install.now.app install.now.scope) self.now.installs }
+    {
+        let own = of_package(&self.installs, &install.package);
+        has_install(own, &install.app, install.scope)
     }
 
     /// Takes the install of the application for the scope out of this registry, if it is there.
