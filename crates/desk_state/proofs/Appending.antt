@@ -29,6 +29,27 @@ changes-more allowed test installs old rows new i install within at before after
     ∙ append_assoc old (grant_changes allowed test (take i installs)) (grant_changes allowed test (install ∷ []))
     ∙ ap (λ list. old ++ list) (sym one_more)
 
+-- the same of all installs
+pub granted-more : (allowed : Bool) (installs : List Install) (old rows new : List Change) (i : ℕ) (install : Install)
+    → i < length installs → install ≡ get_or installs i install
+    → rows ≡ old ++ map (grant_change allowed) (grants (take i installs))
+    → new ≡ rows ++ map (grant_change allowed) (install_grants install)
+    → new ≡ old ++ map (grant_change allowed) (grants (take (i + 1) installs))
+granted-more allowed installs old rows new i install within at before after =
+    let here : map (grant_change allowed) (grants (get_or installs i install ∷ []))
+    ≡ map (grant_change allowed) (install_grants install) =
+    ap (map (grant_change allowed)) (append-nil (install_grants (get_or installs i install)) ∙ ap install_grants (sym at)) in
+    let one_more : map (grant_change allowed) (grants (take (i + 1) installs))
+    ≡ map (grant_change allowed) (grants (take i installs)) ++ map (grant_change allowed) (install_grants install) =
+    ap (λ list. map (grant_change allowed) (grants list)) (take_more installs i install within)
+    ∙ ap (map (grant_change allowed)) (flat_map-append install_grants (take i installs) (get_or installs i install ∷ []))
+    ∙ map-append (grant_change allowed) (grants (take i installs)) (grants (get_or installs i install ∷ []))
+    ∙ ap (λ last. map (grant_change allowed) (grants (take i installs)) ++ last) here in
+    after ∙ ap (λ list. list ++ map (grant_change allowed) (install_grants install)) before
+    ∙ append_assoc old (map (grant_change allowed) (grants (take i installs)))
+    (map (grant_change allowed) (install_grants install))
+    ∙ ap (λ list. old ++ list) (sym one_more)
+
 -- one install, by whether it passes
 pub changes-none : (allowed : Bool) (test : Install → Bool) (install : Install) → test install ≡ false
     → grant_changes allowed test (install ∷ []) ≡ []

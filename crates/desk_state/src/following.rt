@@ -8,11 +8,11 @@ ghost use Rattle.cynara_keys.specs.Name.{name_fault};
 ghost use Rattle.cynara_keys.specs.PolicyResult as ruling;
 ghost use Rattle.app_registry.specs.Install.{is_of_package, is_for_user};
 ghost use Rattle.app_registry.specs.Label.{install_label};
-ghost use Rattle.app_registry.specs.Manifest.{grant, install_grants, scope_field};
+ghost use Rattle.app_registry.specs.Manifest.{grant, install_grants, grants, scope_field};
 ghost use Rattle.desk_state.specs.parts.Following as following;
 
 use crate::names::{MAIN, MANIFESTS, type_bucket};
-use app_registry::{Ident, Install, Scope, UserType, package_label, user_name};
+use app_registry::{Ident, Install, Registry, Scope, UserType, package_label, user_name};
 use bucket_store::Change;
 use cynara_keys::{
     BucketName, BucketNameRefusal, Field, Key, Kind, Metadata, MetadataRefusal, Name, NameRefusal,
@@ -85,32 +85,28 @@ pub fn change_package(
     alloc: Global,
     changes: &mut Vec<Change>,
     allowed: bool,
-    installs: &[Install],
+    registry: &Registry,
     package: &Ident,
 ) -> Result<(), AllocError>
-    ensures { OnOk result (changes.new.items
-        ≡ changes.old.items ++ following.grant_changes allowed (is_of_package «package».now) installs.now) }
+    ensures { OnOk result (changes.new.items ≡ changes.old.items
+        ++ following.grant_changes allowed (is_of_package «package».now) registry.now.installs) }
 {
-    for install in installs {
-        change_of_package(alloc, changes, allowed, install, package)?;
-    }
-    Ok(())
+    change_installs(alloc, changes, allowed, registry.installs_of(package))
 }
 
-fn change_of_package(
+// What these installs grant.
+fn change_installs(
     alloc: Global,
     changes: &mut Vec<Change>,
     allowed: bool,
-    install: &Install,
-    package: &Ident,
+    installs: &[Install],
 ) -> Result<(), AllocError>
     ensures { OnOk result (changes.new.items
-        ≡ changes.old.items ++ following.grant_changes allowed (is_of_package «package».now) (install.now ∷ [])) }
+        ≡ changes.old.items ++ map (following.grant_change allowed) (grants installs.now)) }
 {
-    if install.package != *package {
-        return Ok(());
+    for install in installs {
+        change_install(alloc, changes, allowed, install)?;
     }
-    change_install(alloc, changes, allowed, install)?;
     Ok(())
 }
 

@@ -59,10 +59,9 @@ impl Desk {
             Ok(registry) => registry,
             Err(refusal) => return Err(self.refused_by_registry(refusal)),
         };
-        let before = self.registry().installs();
-        let after = registry.installs();
         let alloc = self.template().allocator();
-        let changes = match package_changes(alloc, before, after, &install.package) {
+        let before = self.registry();
+        let changes = match package_changes(alloc, before, &registry, &install.package) {
             Ok(changes) => changes,
             Err(error) => return Err(Refusal::Memory(error)),
         };
@@ -77,10 +76,8 @@ impl Desk {
             Ok(registry) => registry,
             Err(refusal) => return Err(self.refused_by_registry(refusal)),
         };
-        let before = self.registry().installs();
-        let after = registry.installs();
         let alloc = self.template().allocator();
-        let changes = match app_changes(alloc, before, after, app) {
+        let changes = match app_changes(alloc, self.registry(), &registry, app) {
             Ok(changes) => changes,
             Err(error) => return Err(Refusal::Memory(error)),
         };
@@ -150,11 +147,12 @@ fn user_remove_changes(
 
 fn package_changes(
     alloc: Global,
-    before: &[Install],
-    after: &[Install],
+    before: &Registry,
+    after: &Registry,
     package: &Ident,
 ) -> Result<Vec<Change>, AllocError>
-    ensures { IfOk result (λ changes. changes.items ≡ following.package_changes «package».now before.now after.now) }
+    ensures { IfOk result (λ changes. changes.items
+        ≡ following.package_changes «package».now before.now.installs after.now.installs) }
 {
     let mut changes = Vec::new(alloc);
     change_package(alloc, &mut changes, false, before, package)?;
@@ -165,14 +163,14 @@ fn package_changes(
 // The changes of the application's package, where it is installed.
 fn app_changes(
     alloc: Global,
-    before: &[Install],
-    after: &[Install],
+    before: &Registry,
+    after: &Registry,
     app: &Ident,
 ) -> Result<Vec<Change>, AllocError>
     ensures { IfOk result (λ changes. changes.items
-        ≡ following.app_changes (find (is_of_app app.now) before.now) before.now after.now) }
+        ≡ following.app_changes (find (is_of_app app.now) before.now.installs) before.now.installs after.now.installs) }
 {
-    match first_of_app(before, app) {
+    match first_of_app(before.installs(), app) {
         Some(install) => {
             let changes = package_changes(alloc, before, after, &install.package)?;
             Ok(changes)

@@ -110,7 +110,7 @@ fn grants_lost(
         ≡ grant_changes false (is_of_package «package».now) registry.now.installs) }
 {
     let mut changes = Vec::new(alloc);
-    change_package(alloc, &mut changes, false, registry.installs(), package)?;
+    change_package(alloc, &mut changes, false, registry, package)?;
     Ok(changes)
 }
 
@@ -124,7 +124,7 @@ fn follow(database: &mut Database, lost: Vec<Change>, registry: &Registry, packa
 {
     let mut changes = lost;
     let alloc = *changes.allocator();
-    match change_package(alloc, &mut changes, true, registry.installs(), package) {
+    match change_package(alloc, &mut changes, true, registry, package) {
         Ok(()) => {}
         Err(_) => return false,
     }
