@@ -6,12 +6,12 @@ ghost use Rattle.wire_messages.specs.Field as field;
 ghost use Rattle.std.specs.Option.{option_copied};
 
 use crate::fields::Fields;
-use crate::readers::{author, bucket, flag, ident, key, name, ruling, scope};
+use crate::readers::{author, bucket, flag, ident, key, key_field_text, name, ruling, scope};
 use crate::{BoxedVerdict, WireRefusal};
 use app_registry::{Install, NameSet};
 use bucket_eval::{Answer, Cause, Row, Verdict};
 use bucket_store::{Change, Changes};
-use cynara_keys::{Field, Name, NameRefusal, Short};
+use cynara_keys::{Name, Short};
 use std::alloc::Global;
 
 pub fn change(alloc: Global, fields: &mut Fields) -> Result<Change, WireRefusal>
@@ -96,7 +96,7 @@ pub fn verdict(alloc: Global, fields: &mut Fields) -> Result<BoxedVerdict, WireR
     let commit = fields.number8()?;
     let ruling = ruling(alloc, fields)?;
     let bucket = bucket(alloc, fields)?;
-    let row = optional_row(alloc, fields)?;
+    let row = optional_row(fields)?;
     let answer = Answer {
         kind: ruling.kind(),
         metadata: Short::of(ruling.metadata().as_slice()),
@@ -111,22 +111,22 @@ pub fn verdict(alloc: Global, fields: &mut Fields) -> Result<BoxedVerdict, WireR
     }
 }
 
-fn optional_row(alloc: Global, fields: &mut Fields) -> Result<Option<Row>, WireRefusal>
+fn optional_row(fields: &mut Fields) -> Result<Option<Row>, WireRefusal>
     ensures { Gives result fields.new ((field.optional field.row).read fields.old) }
 {
     if flag(fields)? {
-        Ok(Some(row(alloc, fields)?))
+        Ok(Some(row(fields)?))
     } else {
         Ok(None)
     }
 }
 
-fn row(alloc: Global, fields: &mut Fields) -> Result<Row, WireRefusal>
+fn row(fields: &mut Fields) -> Result<Row, WireRefusal>
     ensures { Gives result fields.new (field.row.read fields.old) }
 {
-    let client = short_field(alloc, fields)?;
-    let user = short_field(alloc, fields)?;
-    let privilege = short_field(alloc, fields)?;
+    let client = short_field(fields)?;
+    let user = short_field(fields)?;
+    let privilege = short_field(fields)?;
     Ok(Row {
         client,
         user,
@@ -135,14 +135,8 @@ fn row(alloc: Global, fields: &mut Fields) -> Result<Row, WireRefusal>
 }
 
 // `*` or a name
-fn short_field(alloc: Global, fields: &mut Fields) -> Result<Short, WireRefusal>
+fn short_field(fields: &mut Fields) -> Result<Short, WireRefusal>
     ensures { Gives result fields.new (field.field_text.read fields.old) }
 {
-    let place = fields.place();
-    let text = fields.text()?;
-    match Field::read(alloc, text) {
-        Ok(field) => Ok(Short::of(field.as_slice())),
-        Err(NameRefusal::Memory(error)) => Err(WireRefusal::Memory(error)),
-        Err(_) => Err(WireRefusal::BadField(place)),
-    }
+    Ok(Short::of(key_field_text(fields)?))
 }

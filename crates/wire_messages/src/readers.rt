@@ -55,7 +55,7 @@ fn name_text<'a>(fields: &mut Fields<'a>) -> Result<&'a [u8], WireRefusal>
 }
 
 // the same of `*` or a name
-fn key_field_text<'a>(fields: &mut Fields<'a>) -> Result<&'a [u8], WireRefusal>
+pub fn key_field_text<'a>(fields: &mut Fields<'a>) -> Result<&'a [u8], WireRefusal>
     ensures text { GivesText result fields.new (field.field_text.read fields.old) }
     ensures field { IfOk result (λ text. field_fault text.now ≡ None) }
 {

@@ -1,5 +1,5 @@
 // The fields of messages, appended to a frame in their one spelling.
-ghost use Rattle.std.specs.Prelude.{◌∷◌, []};
+ghost use Rattle.std.specs.Prelude.{◌≡◌, ◌∷◌, [], length};
 ghost use Rattle.std.specs.Int.{w16, w32, w64, to_be_bytes};
 ghost use Rattle.wire_messages.specs.Format as format;
 ghost use Rattle.wire_messages.specs.Field as field;
@@ -26,7 +26,16 @@ pub fn put2(out: &mut Vec<u8>, n: u16) -> Result<(), AllocError>
 {
     let mut bytes = [0; 2];
     BigEndian::write_u16(&mut bytes, n);
-    out.extend_from_slice(&bytes)
+    put_pair(out, &bytes)
+}
+
+// Two bytes, one after the other, which costs less than a list of them.
+fn put_pair(out: &mut Vec<u8>, bytes: &[u8]) -> Result<(), AllocError>
+    requires { length bytes.now ≡ 2 }
+    ensures { Appended result out.old.items out.new.items bytes.now }
+{
+    put1(out, bytes[0])?;
+    put1(out, bytes[1])
 }
 
 pub fn put4(out: &mut Vec<u8>, n: u32) -> Result<(), AllocError>
@@ -72,7 +81,7 @@ fn put_size(out: &mut Vec<u8>, count: usize) -> Result<(), AllocError>
 {
     let mut bytes = [0; 8];
     BigEndian::write_u64(&mut bytes, count as u64);
-    out.extend_from_slice(&bytes[6..])
+    put_pair(out, &bytes[6..])
 }
 
 pub fn put_text(out: &mut Vec<u8>, text: &[u8]) -> Result<(), AllocError>
