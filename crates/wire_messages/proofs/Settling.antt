@@ -171,7 +171,7 @@ step_ok heard partial front left bytes after waiting then_waiting failed is sett
 
 pub step_err : (heard : Heard) (partial front left bytes after : List ℕ) (waiting then_waiting : List Framed)
     (failed : Option WireRefusal) (refusal : WireRefusal) → bytes ≡ front ++ left
-    → Unsettled heard (partial ++ front) after waiting then_waiting refusal
+    → Unsettled heard (partial ++ front) waiting then_waiting refusal
     → Unstepped (feeding heard waiting partial failed) (feeding heard then_waiting after failed) bytes refusal
 step_err heard partial front left bytes after waiting then_waiting failed refusal is unsettled = record {
   messages = [];

@@ -1,5 +1,5 @@
 ghost use Rattle.std.specs.Prelude.{◌≡◌, ◌≤◌, ◌<◌, ◌+◌, ◌∷◌, [], Some, None, length};
-ghost use Rattle.std.specs.Prelude.{Err, IfOk, IfErr, OnOk, MatchOption};
+ghost use Rattle.std.specs.Prelude.{Err, IfOk, IfErr, OnOk, MatchOption, if◌then◌else◌};
 ghost use Rattle.wire_messages.specs.Frame.{length_of, length_fault};
 ghost use Rattle.wire_messages.specs.Stream.{Fed, Failed, unfed, IsOpen};
 ghost use Rattle.wire_messages.specs.parts.Feeding.{IsUpTo, Settled, Unsettled, Stepped, Unstepped};
@@ -105,8 +105,39 @@ impl Feeder {
         Ok(())
     }
 
-    // takes what is wanted of the bytes, as far as it is there, and gives what is behind it
+    // takes the bytes of one frame, as far as they are there, and gives what is behind them
     fn step<'a>(&mut self, bytes: &'a [u8]) -> Result<&'a [u8], WireRefusal>
+        requires { 0 < length bytes.now }
+        ensures fewer { IfOk result (λ left. length left.now < length bytes.now) }
+        ensures stepped { IfOk result (λ left. Stepped self.old self.new bytes.now left.now) }
+        ensures refused { IfErr result (Unstepped self.old self.new bytes.now) }
+    {
+        if self.partial.len() == 0 {
+            self.step_in_place(bytes)
+        } else {
+            self.step_behind(bytes)
+        }
+    }
+
+    // where no frame is begun: one that stands whole in the bytes is read there, without a copy
+    fn step_in_place<'a>(&mut self, bytes: &'a [u8]) -> Result<&'a [u8], WireRefusal>
+        requires some { 0 < length bytes.now }
+        requires empty { self.old.partial ≡ [] }
+        ensures fewer { IfOk result (λ left. length left.now < length bytes.now) }
+        ensures stepped { IfOk result (λ left. Stepped self.old self.new bytes.now left.now) }
+        ensures refused { IfErr result (Unstepped self.old self.new bytes.now) }
+    {
+        let count = frame_size(bytes).min(bytes.len());
+        let (front, left) = bytes.split_at(count);
+        let is_heard = settle(self.alloc, self.heard, front, &mut self.waiting)?;
+        if !is_heard && let Err(error) = self.partial.append(front) {
+            return Err(WireRefusal::Memory(error));
+        }
+        Ok(left)
+    }
+
+    // behind the bytes of a frame that is begun
+    fn step_behind<'a>(&mut self, bytes: &'a [u8]) -> Result<&'a [u8], WireRefusal>
         requires { 0 < length bytes.now }
         ensures fewer { IfOk result (λ left. length left.now < length bytes.now) }
         ensures stepped { IfOk result (λ left. Stepped self.old self.new bytes.now left.now) }
@@ -117,8 +148,18 @@ impl Feeder {
         if let Err(error) = self.partial.append(front) {
             return Err(WireRefusal::Memory(error));
         }
-        if let Err(refusal) = settle(self.alloc, self.heard, &mut self.partial, &mut self.waiting) {
-            return Err(refusal);
+        match settle(
+            self.alloc,
+            self.heard,
+            self.partial.as_slice(),
+            &mut self.waiting,
+        ) {
+            Ok(true) => self.partial.clear(),
+            Ok(false) => {}
+            Err(refusal) => {
+                self.partial.clear();
+                return Err(refusal);
+            }
         }
         Ok(left)
     }
@@ -138,33 +179,42 @@ impl Feeder {
     }
 }
 
-// Hears the frame if it is whole.
+// How many bytes the frame at the front has, as far as its length is there.
+fn frame_size(bytes: &[u8]) -> usize
+    ensures short { length bytes.now < 4 → result ≡ length bytes.now }
+    ensures whole { 4 ≤ length bytes.now → result ≡ length_of bytes.now + 4 }
+{
+    if bytes.len() < 4 {
+        return bytes.len();
+    }
+    length_of(bytes) as usize + 4
+}
+
+// Hears the frame if it is whole, and says whether it was.
 fn settle(
     alloc: Global,
     heard: Heard,
-    partial: &mut Bytes,
+    bytes: &[u8],
     waiting: &mut VecDeque<Framed>,
-) -> Result<(), WireRefusal>
-    requires { IsUpTo partial.old }
-    ensures settled { OnOk result (Settled heard partial.old partial.new waiting.old.items waiting.new.items) }
-    ensures refused { IfErr result (Unsettled heard partial.old partial.new waiting.old.items waiting.new.items) }
+) -> Result<bool, WireRefusal>
+    requires { IsUpTo bytes.now }
+    ensures settled { IfOk result (λ is_heard. Settled heard bytes.now (if is_heard then [] else bytes.now)
+        waiting.old.items waiting.new.items) }
+    ensures refused { IfErr result (Unsettled heard bytes.now waiting.old.items waiting.new.items) }
 {
-    if partial.len() < 4 {
-        return Ok(());
+    if bytes.len() < 4 {
+        return Ok(false);
     }
-    let length = length_of(partial.as_slice());
+    let length = length_of(bytes);
     if let Some(fault) = length_fault(length) {
-        partial.clear();
         return Err(fault);
     }
-    if partial.len() < length as usize + 4 {
-        return Ok(());
+    if bytes.len() < length as usize + 4 {
+        return Ok(false);
     }
-    let decoded = decode(alloc, heard, partial.as_slice());
-    partial.clear();
-    match decoded {
+    match decode(alloc, heard, bytes) {
         Ok(framed) => match waiting.push_back(framed) {
-            Ok(()) => Ok(()),
+            Ok(()) => Ok(true),
             Err(failed) => Err(WireRefusal::from(failed)),
         },
         Err(refusal) => Err(refusal),

@@ -17,11 +17,9 @@ pub record Settled (heard : Heard) (bytes left : List ℕ) (old new : List Frame
   pub hears : Hears heard bytes messages left
   pub unfinished : IsOpen heard left
 
-pub record Unsettled (heard : Heard) (bytes left : List ℕ) (old new : List Framed) (refusal : WireRefusal) : Type 0
-  where
-    pub waiting : new ≡ old
-    pub wrong : BeginsWrong heard bytes refusal
-    pub emptied : left ≡ []
+pub record Unsettled (heard : Heard) (bytes : List ℕ) (old new : List Framed) (refusal : WireRefusal) : Type 0 where
+  pub waiting : new ≡ old
+  pub wrong : BeginsWrong heard bytes refusal
 
 -- the state after some bytes, of which these are left
 pub record Stepped (old new : Feeding) (bytes left : List ℕ) : Type 0 where

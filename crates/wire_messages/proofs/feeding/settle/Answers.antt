@@ -11,25 +11,24 @@ use Rattle.wire_messages.proofs.feeding.settle.Goals as goal
 
 pub returns-then-len-lt4-clause-settled : goal.returns-then-len-lt4-clause-settled
 returns-then-len-lt4-clause-settled c =
-    let bytes = c.args.partial.now in
+    let bytes = c.args.bytes.now in
     let short : length bytes < 4 = omega arith in
     kept c.args.heard bytes c.args.waiting.now.items (short_open c.args.heard bytes short)
 
 pub returns-in-Some-clause-refused : goal.returns-in-Some-clause-refused
 returns-in-Some-clause-refused c =
-    let bytes = c.args.partial.now in
+    let bytes = c.args.bytes.now in
     let long : 4 ≤ length bytes = omega arith in
     let fault : length_fault (length_of bytes) ≡ Some c.in-Some.fault = search rules in
     record {
       waiting = refl;
       wrong = begins_wrong c.args.heard bytes c.in-Some.fault
           (length_wrong c.args.heard bytes c.in-Some.fault long fault);
-      emptied = c.clear.ensures;
     }
 
 pub returns-then-len-length-clause-settled : goal.returns-then-len-length-clause-settled
 returns-then-len-length-clause-settled c =
-    let bytes = c.args.partial.now in
+    let bytes = c.args.bytes.now in
     let long : 4 ≤ length bytes = omega arith in
     let none : length_fault (length_of bytes) ≡ None = search rules in
     let size : c.length_of-length.result ≡ length_of bytes = search rules in
@@ -38,7 +37,7 @@ returns-then-len-length-clause-settled c =
 
 pub returns-in-Ok-push_back-clause-settled : goal.returns-in-Ok-push_back-clause-settled
 returns-in-Ok-push_back-clause-settled c =
-    let bytes = c.args.partial.now in
+    let bytes = c.args.bytes.now in
     let long : 4 ≤ length bytes = omega arith in
     let none : length_fault (length_of bytes) ≡ None = search rules in
     let size : c.length_of-length.result ≡ length_of bytes = search rules in
@@ -47,11 +46,11 @@ returns-in-Ok-push_back-clause-settled c =
     let whole : first_of c.args.heard bytes ≡ Whole c.in-Ok.framed [] =
     finished c.args.heard bytes long none same ∙ ap (λ (r : Result Framed WireRefusal). front_of r []) read in
     let pushed : c.push_back.new.self.items ≡ c.args.waiting.now.items ++ c.in-Ok.framed ∷ [] = search rules in
-    rw (c.clear-2.ensures, pushed) (heard_whole c.args.heard bytes c.in-Ok.framed c.args.waiting.now.items whole)
+    rw pushed (heard_whole c.args.heard bytes c.in-Ok.framed c.args.waiting.now.items whole)
 
 pub returns-in-Err-clause-refused : goal.returns-in-Err-clause-refused
 returns-in-Err-clause-refused c =
-    let bytes = c.args.partial.now in
+    let bytes = c.args.bytes.now in
     let long : 4 ≤ length bytes = omega arith in
     let none : length_fault (length_of bytes) ≡ None = search rules in
     let size : c.length_of-length.result ≡ length_of bytes = search rules in
@@ -60,5 +59,4 @@ returns-in-Err-clause-refused c =
     record {
       waiting = refl;
       wrong = refused_whole c.args.heard bytes c.in-Err.refusal (finished c.args.heard bytes long none same) refused;
-      emptied = c.clear-2.ensures;
     }
