@@ -154,10 +154,13 @@ module _ {A : Type 0} (reading : List ℕ → Option A) (ground : Ground) (reads
   pub known_line : (line : List ℕ) → is_line ground line ≡ true → IsSome (reading line)
   known_line line is = some_of (reading line) (reads line ∙ is)
 
+  pub no_line : (line : List ℕ) → is_line ground line ≡ false → reading line ≡ None
+  no_line line wrong = none_of (reading line) (reads line ∙ wrong)
+
   pub first_fault : (line : List ℕ) (place : ℕ) → is_line ground line ≡ false → place ≤ length line → begins_line ground (take place line) ≡ true
       → (place < length line → begins_line ground (take (place + 1) line) ≡ false) → IsFirstFault reading line place
   first_fault line place wrong within begun parts = record {
-    wrong = none_of (reading line) (reads line ∙ wrong);
+    wrong = no_line line wrong;
     within = within;
     begun = (let found = (ground_fronts ground).rest_of (take place line) begun in (found.0, known_line (take place line ++ found.0) found.1));
     parts = λ below rest. none_of (reading (take (place + 1) line ++ rest))

@@ -14,8 +14,8 @@ pub record IsFirstFault {A : Type 0} (reading : List ℕ → Option A) (line : L
   pub begun : CanBegin reading (take place line)
   pub parts : place < length line → (rest : List ℕ) → reading (take (place + 1) line ++ rest) ≡ None
 
--- no fault exactly for a line that is known, and else the first one; memory may run out
+-- no fault exactly for a line that is known, and else the first one; memory may run out for a line that is not
 abbrev pub Explains : {A E : Type 0} → (List ℕ → Option A) → List ℕ → Result (Option LineFault) E → Type 0
 Explains reading line (Ok None) = IsSome (reading line)
 Explains reading line (Ok (Some fault)) = IsFirstFault reading line fault.place
-Explains reading line (Err error) = Unit {0}
+Explains reading line (Err error) = reading line ≡ None

@@ -15,23 +15,30 @@ pub enum Reason {
     Tab,
     #[error("a space in front of the first word")]
     SpaceInFront,
+    #[error("spaces alone: an empty line has none")]
+    SpacesAlone,
     #[error("a space at the end of the line")]
     SpaceAtEnd,
     #[error("two spaces between words")]
     TwoSpaces,
-    #[error("an empty line, where a rule or `end` must stand")]
+    #[error("a line without words, where a rule or `end` must stand")]
     EmptyLine,
-    #[error("no comment: in a rule `#` begins a label")]
+    #[error("neither a rule nor a comment: here `#` begins a label")]
     Comment,
     /// The first word, as it is shown.
     #[error("`{0}` is no first word of a line")]
     FirstWord(String),
+    /// The first 40 bytes of a longer first word, as they are shown.
+    #[error("no first word of a line begins with `{0}`")]
+    LongFirstWord(String),
     #[error("within a batch stand `set` and `unset` lines, and `end`")]
     NotInBatch,
     #[error("`end` where no block is open")]
     NoBlock,
     #[error("a template has at most 64 lines: `end` must stand")]
     TemplateFull,
+    #[error("`end` stands alone on its line, without a space or a tab")]
+    EndNotAlone,
     /// The form of the line.
     #[error("too few words: {0}")]
     TooFewWords(&'static str),
@@ -40,19 +47,29 @@ pub enum Reason {
     /// The word, `*` or `#`.
     #[error("`{0}` alone is no name, and a name must stand")]
     Wildcard(&'static str),
+    #[error("`#` alone is no name: `*` or a name must stand")]
+    HashAlone,
+    /// A word of a single byte, and what it stands for.
+    #[error("`{word}` stands alone, for {what}")]
+    StandsAlone {
+        word: &'static str,
+        what: &'static str,
+    },
     #[error("no result: deny, none, allow, bucket:BUCKET or agent:KIND:METADATA, KIND from 2 to 65533")]
     BadResult,
+    #[error("no bucket behind `bucket:`: `.` for the root, or at most 64 letters, digits, `_` and `-`")]
+    BadTarget,
     #[error("no mode of evaluation: deep or flat")]
     BadDepth,
     #[error("no type of users: system, admin, normal or guest")]
     BadUserType,
     #[error("no user: a number from 0 to 4294967295 without a sign or leading zeros")]
     BadUser,
-    #[error("no scope: `*` or the number of a user")]
+    #[error("no scope: `*`, or the number of a user from 0 to 4294967295 without a sign or leading zeros")]
     BadScope,
-    #[error("no modes: at most 64 of the letters rwxatlb, or -")]
+    #[error("no modes: at most 64 of the letters rwxatlb and of -")]
     BadModes,
-    #[error("no modes to ask for: letters of rwxatl, at least one, and no b")]
+    #[error("no modes to ask for: at most 64 of the letters rwxatl and of -, a letter among them")]
     BadRequest,
     #[error("no placeholder: ~PROCESS~, ~PATH_RW~, ~PATH_RO~ or ~AUTHOR~")]
     BadPlaceholder,
@@ -60,12 +77,15 @@ pub enum Reason {
     SpecialLabel,
     /// The byte, as it is shown, and what it stands in.
     #[error("the byte {byte} may not stand here in {what}")]
-    BadByte { byte: String, what: &'static str },
+    BadByte {
+        byte: String,
+        what: &'static str,
+    },
     #[error("{what} has at most {most} bytes")]
-    TooLong { what: &'static str, most: u32 },
-    /// A word of a single byte more would be right, as the name of a bucket.
-    #[error("{0} is missing")]
-    Missing(&'static str),
+    TooLong {
+        what: &'static str,
+        most: u32,
+    },
     #[error("a line has at most 65535 bytes")]
     LinePastLimit,
     #[error("a script has at most 16777216 bytes")]

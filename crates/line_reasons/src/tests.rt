@@ -9,7 +9,7 @@ use std::test::Fail;
 type Row = (&'static [u8], &'static str);
 
 /// Lines outside a block: what an editor hides, and first words.
-const FRONTS: [Row; 20] = [
+const FRONTS: [Row; 27] = [
     (
         b"check System 0 camera\r",
         "byte 22: a carriage return, \\x0d: a line ends with a newline alone",
@@ -31,7 +31,23 @@ const FRONTS: [Row; 20] = [
         "byte 8: a tab: one space parts words",
     ),
     (b" status", "byte 1: a space in front of the first word"),
-    (b" ", "byte 1: a space in front of the first word"),
+    (b" ", "byte 1: spaces alone: an empty line has none"),
+    (b"  ", "byte 1: spaces alone: an empty line has none"),
+    (b"set . c u  ", "byte 11: a space at the end of the line"),
+    (b"status \r", "byte 7: a space at the end of the line"),
+    (
+        b"install pk - a1 * ",
+        "byte 19: a space at the end of the line",
+    ),
+    (b"end\r", "byte 2: `end` where no block is open"),
+    (
+        b"aaaaaaaaaaaaaaaaaaaaaaaaaaaaaaaaaaaaaaa\x80",
+        "byte 2: `aaaaaaaaaaaaaaaaaaaaaaaaaaaaaaaaaaaaaaa\\x80` is no first word of a line",
+    ),
+    (
+        b"aaaaaaaaaaaaaaaaaaaaaaaaaaaaaaaaaaaaaaa\x80a",
+        "byte 2: no first word of a line begins with `aaaaaaaaaaaaaaaaaaaaaaaaaaaaaaaaaaaaaaa\\x80`",
+    ),
     (b"set  . c u p allow", "byte 5: two spaces between words"),
     (b"check a  b c", "byte 9: two spaces between words"),
     (b"status ", "byte 7: a space at the end of the line"),
@@ -93,7 +109,7 @@ const COUNTS: [Row; 20] = [
     ),
     (
         b"from . deep c u",
-        "byte 16: too few words: from BUCKET MODE CLIENT USER PRIVILEGE",
+        "byte 16: too few words: from BUCKET deep|flat CLIENT USER PRIVILEGE",
     ),
     (b"user 1", "byte 7: too few words: user UID TYPE"),
     (b"nouser", "byte 7: too few words: nouser UID"),
@@ -123,14 +139,22 @@ const COUNTS: [Row; 20] = [
 ];
 
 /// Wrong words.
-const WORDS: [Row; 15] = [
+const WORDS: [Row; 19] = [
     (
         b"set . c u p ALLOW",
         "byte 13: no result: deny, none, allow, bucket:BUCKET or agent:KIND:METADATA, KIND from 2 to 65533",
     ),
     (
         b"set . c u p bucket:",
-        "byte 20: no result: deny, none, allow, bucket:BUCKET or agent:KIND:METADATA, KIND from 2 to 65533",
+        "byte 20: no bucket behind `bucket:`: `.` for the root, or at most 64 letters, digits, `_` and `-`",
+    ),
+    (
+        b"set . c u p bucket:a/b",
+        "byte 21: no bucket behind `bucket:`: `.` for the root, or at most 64 letters, digits, `_` and `-`",
+    ),
+    (
+        b"set . c u p agent:5:a;b",
+        "byte 22: the byte ; may not stand here in the metadata of an agent",
     ),
     (
         b"set . c u p agent:1:",
@@ -158,7 +182,7 @@ const WORDS: [Row; 15] = [
     ),
     (
         b"set . # u p allow",
-        "byte 8: `#` alone is no name, and a name must stand",
+        "byte 8: `#` alone is no name: `*` or a name must stand",
     ),
     (
         b"set . c u \x80 allow",
@@ -170,7 +194,15 @@ const WORDS: [Row; 15] = [
     ),
     (
         b"set .. c u p allow",
-        "byte 6: the byte . may not stand here in the name of a bucket",
+        "byte 6: `.` stands alone, for the root bucket",
+    ),
+    (
+        b"install pk -x a1 *",
+        "byte 13: `-` stands alone, for no author",
+    ),
+    (
+        b"check # u p",
+        "byte 8: `#` alone is no name, and a name must stand",
     ),
     (
         b"set B. c u p allow",
@@ -222,15 +254,15 @@ const MORE_WORDS: [Row; 14] = [
     ),
     (
         b"remove a1 x",
-        "byte 11: no scope: `*` or the number of a user",
+        "byte 11: no scope: `*`, or the number of a user from 0 to 4294967295 without a sign or leading zeros",
     ),
     (
         b"access A X -",
-        "byte 13: no modes to ask for: letters of rwxatl, at least one, and no b",
+        "byte 13: no modes to ask for: at most 64 of the letters rwxatl and of -, a letter among them",
     ),
     (
         b"access A X rb",
-        "byte 13: no modes to ask for: letters of rwxatl, at least one, and no b",
+        "byte 13: no modes to ask for: at most 64 of the letters rwxatl and of -, a letter among them",
     ),
     (
         b"access A/B X r",
@@ -244,7 +276,7 @@ const MORE_WORDS: [Row; 14] = [
 ];
 
 /// Lines within a batch.
-const IN_BATCH: [Row; 6] = [
+const IN_BATCH: [Row; 8] = [
     (
         b"check c u p",
         "byte 1: within a batch stand `set` and `unset` lines, and `end`",
@@ -263,22 +295,41 @@ const IN_BATCH: [Row; 6] = [
         "byte 12: too few words: unset BUCKET CLIENT USER PRIVILEGE",
     ),
     (b"foo", "byte 1: `foo` is no first word of a line"),
+    (
+        b"status\r",
+        "byte 2: within a batch stand `set` and `unset` lines, and `end`",
+    ),
+    (
+        b"check\tc u p",
+        "byte 1: within a batch stand `set` and `unset` lines, and `end`",
+    ),
 ];
 
 /// Lines within a template.
-const IN_TEMPLATE: [Row; 7] = [
+const IN_TEMPLATE: [Row; 9] = [
     (
         b"",
-        "byte 1: an empty line, where a rule or `end` must stand",
+        "byte 1: a line without words, where a rule or `end` must stand",
     ),
     (
         b" \t",
-        "byte 3: an empty line, where a rule or `end` must stand",
+        "byte 3: a line without words, where a rule or `end` must stand",
     ),
-    (b"# x", "byte 4: no comment: in a rule `#` begins a label"),
+    (
+        b"# x",
+        "byte 4: neither a rule nor a comment: here `#` begins a label",
+    ),
     (
         b"A B",
-        "byte 4: too few words: SUBJECT OBJECT MODES, or SUBJECT OBJECT ADDED REMOVED",
+        "byte 4: too few words: SUBJECT OBJECT MODES, or SUBJECT OBJECT ALLOW DENY",
+    ),
+    (
+        b"end ",
+        "byte 5: `end` stands alone on its line, without a space or a tab",
+    ),
+    (
+        b" end",
+        "byte 5: `end` stands alone on its line, without a space or a tab",
     ),
     (
         b"A ~OTHER~ r",
@@ -295,28 +346,38 @@ const IN_TEMPLATE: [Row; 7] = [
 ];
 
 /// Lines within a template of 64 lines.
-const IN_FULL_TEMPLATE: [Row; 1] = [(
-    b"A B r",
-    "byte 1: a template has at most 64 lines: `end` must stand",
-)];
+const IN_FULL_TEMPLATE: [Row; 3] = [
+    (
+        b"A B r",
+        "byte 1: a template has at most 64 lines: `end` must stand",
+    ),
+    (
+        b"",
+        "byte 1: a template has at most 64 lines: `end` must stand",
+    ),
+    (
+        b"end ",
+        "byte 4: `end` stands alone on its line, without a space or a tab",
+    ),
+];
 
 /// Lines of a text of rules.
 const RULES: [Row; 9] = [
     (
         b"A",
-        "byte 2: too few words: SUBJECT OBJECT MODES, or SUBJECT OBJECT ADDED REMOVED",
+        "byte 2: too few words: SUBJECT OBJECT MODES, or SUBJECT OBJECT ALLOW DENY",
     ),
     (
         b"A B",
-        "byte 4: too few words: SUBJECT OBJECT MODES, or SUBJECT OBJECT ADDED REMOVED",
+        "byte 4: too few words: SUBJECT OBJECT MODES, or SUBJECT OBJECT ALLOW DENY",
     ),
     (
         b"A B z",
-        "byte 5: no modes: at most 64 of the letters rwxatlb, or -",
+        "byte 5: no modes: at most 64 of the letters rwxatlb and of -",
     ),
     (
         b"A B r w x",
-        "byte 9: too many words: SUBJECT OBJECT MODES, or SUBJECT OBJECT ADDED REMOVED",
+        "byte 9: too many words: SUBJECT OBJECT MODES, or SUBJECT OBJECT ALLOW DENY",
     ),
     (
         b"A\tB  r\r",
@@ -324,7 +385,7 @@ const RULES: [Row; 9] = [
     ),
     (
         b"# a comment",
-        "byte 5: no comment: in a rule `#` begins a label",
+        "byte 5: neither a rule nor a comment: here `#` begins a label",
     ),
     (
         b"-A B r",

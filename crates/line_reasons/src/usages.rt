@@ -34,7 +34,7 @@ fn usage_of_policies(first: &[u8]) -> Option<&'static str> {
         return Some("check CLIENT USER PRIVILEGE");
     }
     if first == b"from".as_slice() {
-        return Some("from BUCKET MODE CLIENT USER PRIVILEGE");
+        return Some("from BUCKET deep|flat CLIENT USER PRIVILEGE");
     }
     None
 }

@@ -5,7 +5,7 @@ ghost use Rattle.std.specs.Prelude.{◌≤◌, length};
 use crate::forms::Form;
 use crate::grounds::{Ground, RULE_FORMS, TEMPLATE_FORMS, forms_of};
 use crate::reasons::Reason;
-use crate::stands::run;
+use crate::stands::{may_end, run};
 use crate::usages::usage_of;
 use crate::word_tests::cut_at;
 use crate::words_wrong::word_reason;
@@ -16,7 +16,7 @@ use std::alloc::{AllocError, Global};
 /// The most bytes of a line that a reason shows.
 const MOST_SHOWN: usize = 40;
 
-const RULE_USAGE: &str = "SUBJECT OBJECT MODES, or SUBJECT OBJECT ADDED REMOVED";
+const RULE_USAGE: &str = "SUBJECT OBJECT MODES, or SUBJECT OBJECT ALLOW DENY";
 
 /// A front that a known line can begin with, and what follows it in the line.
 #[derive(Clone, Copy)]
@@ -58,14 +58,8 @@ fn script_reason(
     line: &[u8],
     fault: Fault,
 ) -> Result<Reason, AllocError> {
-    match fault.rest {
-        [b'\t', ..] => return Ok(Reason::Tab),
-        [b' ', ..] => match fault.front {
-            [] => return Ok(Reason::SpaceInFront),
-            [.., b' '] => return Ok(Reason::TwoSpaces),
-            _ => {}
-        },
-        _ => {}
+    if let Some(reason) = blank_reason(fault) {
+        return Ok(reason);
     }
     match cut_at(fault.front, b' ') {
         None => first_word_reason(alloc, in_batch, line, fault),
@@ -82,16 +76,33 @@ fn script_reason(
     }
 }
 
+/// A blank where none may stand.
+fn blank_reason(fault: Fault) -> Option<Reason> {
+    match (fault.front, fault.rest) {
+        (_, [b'\t', ..]) => Some(Reason::Tab),
+        ([], [b' ', ..]) => {
+            if are_spaces(fault.rest) {
+                return Some(Reason::SpacesAlone);
+            }
+            Some(Reason::SpaceInFront)
+        }
+        ([.., b' '], [b' ', ..]) => {
+            if are_spaces(fault.rest) {
+                return Some(Reason::SpaceAtEnd);
+            }
+            Some(Reason::TwoSpaces)
+        }
+        _ => None,
+    }
+}
+
 fn first_word_reason(
     alloc: Global,
     in_batch: bool,
     line: &[u8],
     fault: Fault,
 ) -> Result<Reason, AllocError> {
-    let word = match cut_at(line, b' ') {
-        Some((word, _)) => word,
-        None => line,
-    };
+    let word = first_word_of(line);
     if is_alone(in_batch, word) {
         return Ok(surplus(usage_of(word), fault.rest));
     }
@@ -110,6 +121,17 @@ fn first_word_reason(
     first_word(alloc, word)
 }
 
+/// The bytes in front of the first blank or carriage return.
+fn first_word_of(line: &[u8]) -> &[u8] {
+    match line
+        .iter()
+        .position(|byte| matches!(byte, b' ' | b'\t' | b'\r'))
+    {
+        Some(at) => &line[..at],
+        None => line,
+    }
+}
+
 /// A word that opens or ends a block here, and is a line by itself.
 fn is_alone(in_batch: bool, word: &[u8]) -> bool {
     if in_batch {
@@ -124,15 +146,16 @@ fn is_known_outside(word: &[u8]) -> bool {
 }
 
 fn first_word(alloc: Global, word: &[u8]) -> Result<Reason, AllocError> {
-    match shown_bytes(alloc, word, MOST_SHOWN) {
-        Ok(shown) => Ok(Reason::FirstWord(shown)),
-        Err(error) => Err(error),
+    if word.len() > MOST_SHOWN {
+        let shown = shown_bytes(alloc, &word[..MOST_SHOWN], 4 * MOST_SHOWN)?;
+        return Ok(Reason::LongFirstWord(shown));
     }
+    Ok(Reason::FirstWord(shown_bytes(alloc, word, 4 * MOST_SHOWN)?))
 }
 
 /// More than a line that is whole.
 fn surplus(usage: &'static str, rest: &[u8]) -> Reason {
-    if are_spaces(rest) {
+    if are_blank_to_the_end(rest) {
         Reason::SpaceAtEnd
     } else {
         Reason::TooManyWords(usage)
@@ -141,6 +164,13 @@ fn surplus(usage: &'static str, rest: &[u8]) -> Reason {
 
 fn are_spaces(bytes: &[u8]) -> bool {
     bytes.iter().all(|byte| *byte == b' ')
+}
+
+/// Spaces and what else an editor hides at the end of a line.
+fn are_blank_to_the_end(bytes: &[u8]) -> bool {
+    bytes
+        .iter()
+        .all(|byte| matches!(byte, b' ' | b'\t' | b'\r'))
 }
 
 // ---- words behind one another
@@ -161,6 +191,9 @@ fn words_reason(
             let whole = form.is_word(at.part);
             match fault.rest {
                 [] => {
+                    if at.part.is_empty() && may_end(at.forms) {
+                        return Ok(Reason::SpaceAtEnd);
+                    }
                     if whole || at.part.is_empty() {
                         return Ok(Reason::TooFewWords(usage));
                     }
@@ -185,11 +218,14 @@ fn template_reason(
     line: &[u8],
     fault: Fault,
 ) -> Result<Reason, AllocError> {
-    if are_blanks(line) {
-        return Ok(Reason::EmptyLine);
+    if is_end_with_blanks(line) {
+        return Ok(Reason::EndNotAlone);
     }
     if is_full {
         return Ok(Reason::TemplateFull);
+    }
+    if are_blanks(line) {
+        return Ok(Reason::EmptyLine);
     }
     if let [b'#', ..] = line {
         return Ok(Reason::Comment);
@@ -202,6 +238,18 @@ fn rule_reason(alloc: Global, line: &[u8], fault: Fault) -> Result<Reason, Alloc
         return Ok(Reason::Comment);
     }
     words_reason(alloc, true, &RULE_FORMS, RULE_USAGE, fault)
+}
+
+/// Whether `end` is the one word of a line.
+fn is_end_with_blanks(line: &[u8]) -> bool {
+    let mut rest = line;
+    while let [b' ' | b'\t', behind @ ..] = rest {
+        rest = behind;
+    }
+    match rest {
+        [b'e', b'n', b'd', behind @ ..] => are_blank_to_the_end(behind),
+        _ => false,
+    }
 }
 
 fn are_blanks(bytes: &[u8]) -> bool {

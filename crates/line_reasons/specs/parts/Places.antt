@@ -13,4 +13,4 @@ pub record IsPlace (ground : Ground) (line : List ℕ) (place : ℕ) : Type 0 wh
 abbrev pub Finds : {E : Type 0} → Ground → List ℕ → Result (Option LineFault) E → Type 0
 Finds ground line (Ok None) = is_line ground line ≡ true
 Finds ground line (Ok (Some fault)) = IsPlace ground line fault.place
-Finds ground line (Err error) = Unit {0}
+Finds ground line (Err error) = is_line ground line ≡ false

@@ -134,12 +134,12 @@ const RULES: &[(&str, [&str; 3], &str)] = &[
     (
         "A B r\n\nA B w,x\n? B r\n",
         ["A", "B", "r"],
-        "privilege: line 3, byte 6: no modes: at most 64 of the letters rwxatlb, or -\n",
+        "privilege: line 3, byte 6: no modes: at most 64 of the letters rwxatlb and of -\n",
     ),
     (
         "A B",
         ["A", "B", "r"],
-        "privilege: line 1, byte 4: too few words: SUBJECT OBJECT MODES, or SUBJECT OBJECT ADDED REMOVED\n",
+        "privilege: line 1, byte 4: too few words: SUBJECT OBJECT MODES, or SUBJECT OBJECT ALLOW DENY\n",
     ),
 ];
 
@@ -165,7 +165,7 @@ const SCRIPTS: &[(&str, &str)] = &[
     ),
     (
         "template\nA ~PROCESS~ r\n\nend\n",
-        "privilege: line 3, byte 1: an empty line, where a rule or `end` must stand\n",
+        "privilege: line 3, byte 1: a line without words, where a rule or `end` must stand\n",
     ),
     (
         "batch\nset . c u p allow",
