@@ -146,11 +146,13 @@ fn is_known_outside(word: &[u8]) -> bool {
 }
 
 fn first_word(alloc: Global, word: &[u8]) -> Result<Reason, AllocError> {
-    if word.len() > MOST_SHOWN {
-        let shown = shown_bytes(alloc, &word[..MOST_SHOWN], 4 * MOST_SHOWN)?;
-        return Ok(Reason::LongFirstWord(shown));
+    let (front, behind) = word.split_at(word.len().min(MOST_SHOWN));
+    let shown = shown_bytes(alloc, front, 4 * MOST_SHOWN)?;
+    if behind.is_empty() {
+        Ok(Reason::FirstWord(shown))
+    } else {
+        Ok(Reason::LongFirstWord(shown))
     }
-    Ok(Reason::FirstWord(shown_bytes(alloc, word, 4 * MOST_SHOWN)?))
 }
 
 /// More than a line that is whole.
@@ -242,11 +244,10 @@ fn rule_reason(alloc: Global, line: &[u8], fault: Fault) -> Result<Reason, Alloc
 
 /// Whether `end` is the one word of a line.
 fn is_end_with_blanks(line: &[u8]) -> bool {
-    let mut rest = line;
-    while let [b' ' | b'\t', behind @ ..] = rest {
-        rest = behind;
-    }
-    match rest {
+    let Some(at) = line.iter().position(|byte| !matches!(byte, b' ' | b'\t')) else {
+        return false;
+    };
+    match &line[at..] {
         [b'e', b'n', b'd', behind @ ..] => are_blank_to_the_end(behind),
         _ => false,
     }
