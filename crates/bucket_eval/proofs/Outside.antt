@@ -56,7 +56,7 @@ module _ (client : List ℕ) (policies : List Policy) (rises : IsStrictlySortedB
   none-before first = (
     λ k d le lt. absurd (omega arith),
     λ k d le lt. false_from_ne_true _
-    (λ before. true≢false (sym (before-parted 0 k d (omega arith) lt before) ∙ first d (omega arith))),
+        (λ before. true≢false (sym (before-parted 0 k d (omega arith) lt before) ∙ first d (omega arith))),
   )
 
   not-true : (b : Bool) → not b ≡ true → b ≡ false
