@@ -32,12 +32,9 @@ settle-requires c =
     let has : has_layout desk.database ≡ true = laid_known (has_layout desk.database) c.requires.known in
     let registries : c.in-Ok.registry ≡ with_install desk.registry c.args.install.now =
     c.in-Ok.ensures.registry ∙ ap (λ (lists : RegistryLists). with_install lists c.args.install.now) c.registry.ensures.registry in
-    let before : c.installs-before.result.now ≡ desk.registry.installs =
-    c.installs-before.ensures.installs ∙ ap (λ (lists : RegistryLists). lists.installs) c.registry-2.ensures.registry in
-    let after : c.installs-after.result.now ≡ (with_install desk.registry c.args.install.now).installs =
-    c.installs-after.ensures.installs ∙ ap (λ (lists : RegistryLists). lists.installs) registries in
+    let before : c.registry-before.result.now ≡ desk.registry = c.registry-before.ensures.registry in
     let changes : c.deref.result.now ≡ package_changes c.args.install.now.package desk.registry.installs (with_install desk.registry c.args.install.now).installs =
-    c.deref.ensures.value ∙ c.in-Ok-package_changes.ensures ∙ (λ i. package_changes c.args.install.now.package (before i) (after i)) in
+    c.deref.ensures.value ∙ c.in-Ok-package_changes.ensures ∙ (λ i. package_changes c.args.install.now.package (before i).installs (registries i).installs) in
     record {
       laid = has;
       named = subst (λ list. no_bucket (flat_map named_by list) desk.database ≡ None) (sym changes) (named-install desk is has c.args.install.now);

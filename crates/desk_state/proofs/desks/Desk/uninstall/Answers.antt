@@ -33,16 +33,13 @@ settle-requires c =
     let has : has_layout desk.database ≡ true = laid_known (has_layout desk.database) c.requires.known in
     let registries : c.in-Ok.registry ≡ without_install desk.registry c.args.app.now c.args.scope =
     c.in-Ok.ensures.registry ∙ ap (λ (lists : RegistryLists). without_install lists c.args.app.now c.args.scope) c.registry.ensures.registry in
-    let before : c.installs-before.result.now ≡ desk.registry.installs =
-    c.installs-before.ensures.installs ∙ ap (λ (lists : RegistryLists). lists.installs) c.registry-2.ensures.registry in
-    let after : c.installs-after.result.now ≡ (without_install desk.registry c.args.app.now c.args.scope).installs =
-    c.installs-after.ensures.installs ∙ ap (λ (lists : RegistryLists). lists.installs) registries in
+    let before : c.registry-2.result.now ≡ desk.registry = c.registry-2.ensures.registry in
     let accepted : registry.uninstall_fault desk.registry c.args.app.now c.args.scope ≡ None =
     subst (λ (lists : RegistryLists). registry.uninstall_fault lists c.args.app.now c.args.scope ≡ None) c.registry.ensures.registry c.in-Ok.ensures.accepted in
     let installed = was_installed (list_any (is_install_of c.args.app.now c.args.scope) desk.registry.installs) accepted in
     let changes : c.deref.result.now ≡ app_changes (find (is_of_app c.args.app.now) desk.registry.installs) desk.registry.installs (without_install desk.registry c.args.app.now c.args.scope).installs =
     c.deref.ensures.value ∙ c.in-Ok-app_changes.ensures
-    ∙ (λ i. app_changes (find (is_of_app c.args.app.now) (before i)) (before i) (after i)) in
+    ∙ (λ i. app_changes (find (is_of_app c.args.app.now) (before i).installs) (before i).installs (registries i).installs) in
     record {
       laid = has;
       named = subst (λ list. no_bucket (flat_map named_by list) desk.database ≡ None) (sym changes) (named-uninstall desk is has c.args.app.now c.args.scope);
