@@ -10,7 +10,7 @@ use Rattle.bucket_store.specs.Refusal.{named_by, no_bucket}
 use Rattle.bucket_store.specs.WellFormed.{IsWellFormed}
 use Rattle.bucket_store.specs.declared.policy_changes.Change.{Change}
 use Rattle.app_registry.specs.Refusal as registry
-use Rattle.app_registry.specs.Registry.{RegistryLists, with_install}
+use Rattle.app_registry.specs.Registry.{RegistryLists, with_install, without_install}
 use Rattle.app_registry.specs.Rules.{IsRegistry}
 use Rattle.app_registry.specs.declared.installs.Install.{Install}
 use Rattle.desk_state.specs.DeskState.{DeskState}
@@ -21,9 +21,9 @@ use Rattle.desk_state.specs.declared.commands.Command.TheVariants.{Install as In
 use Rattle.desk_state.specs.declared.desks.Applied.{Applied}
 use Rattle.desk_state.specs.declared.desks.TheConstants.{LAST_COMMIT}
 use Rattle.desk_state.specs.declared.refusals.Refusal.TheVariants.{Limit}
-use Rattle.desk_state.specs.parts.Following.{package_changes}
+use Rattle.desk_state.specs.parts.Following.{install_changes}
 use Rattle.desk_state.specs.parts.Stepping.{IsAllowed, IsApplied, IsArranged, Becomes, moved}
-use Rattle.desk_state.proofs.Commanding.{arranged, named-install, follows-install}
+use Rattle.desk_state.proofs.Commanding.{arranged, named-new-install, follows-new-install}
 use Rattle.desk_state.proofs.Deciding.{on_install, stepped_by_registry, settles, laid_known}
 use Rattle.desk_state.proofs.Keeping.{keeps-set_policies}
 
@@ -53,11 +53,12 @@ set-desk desk changes database is allowed apart next well =
     (subst (λ (other : Database). IsArranged (moved desk other desk.registry desk.template)) (sym next)
     (keeps-set_policies desk changes is allowed.unreserved (subst IsWellFormed next well)))
 
--- an install, and the changes of `MANIFESTS` by it
+-- an install that takes the place of no other, and the changes of `MANIFESTS` by it
 pub record IsInstalled (desk : DeskState) (install : Install) (lists : RegistryLists) (changes : List Change) : Type 0 where
   pub lists_is : lists ≡ with_install desk.registry install
   pub accepted : registry.install_fault desk.registry install ≡ None
-  pub changes_is : changes ≡ package_changes install.package desk.registry.installs lists.installs
+  pub taken_back : without_install lists install.app install.scope ≡ desk.registry
+  pub changes_is : changes ≡ install_changes install
 
 module _ (desk : DeskState) (install : Install) (is : IsDesk desk) (allowed : IsAllowed desk (InstallCommand install))
     (apart : desk.commit ≡ LAST_COMMIT → ⊥) (lists : RegistryLists) (changes : List Change)
@@ -65,14 +66,15 @@ module _ (desk : DeskState) (install : Install) (is : IsDesk desk) (allowed : Is
   has : has_layout desk.database ≡ true
   has = laid_known (has_layout desk.database) allowed.known
 
-  whole : changes ≡ package_changes install.package desk.registry.installs (with_install desk.registry install).installs
-  whole = made.changes_is ∙ ap (λ (other : RegistryLists). package_changes install.package desk.registry.installs other.installs) made.lists_is
-
   named : no_bucket (flat_map named_by changes) desk.database ≡ None
-  named = subst (λ list. no_bucket (flat_map named_by list) desk.database ≡ None) (sym whole) (named-install desk is has install)
+  named = subst (λ list. no_bucket (flat_map named_by list) desk.database ≡ None) (sym made.changes_is) (named-new-install desk is has install)
 
   follows : with_changes changes desk.database ≡ settled (with_install desk.registry install) desk.database
-  follows = ap (λ list. with_changes list desk.database) whole ∙ follows-install desk is has install
+  follows =
+      ap (λ list. with_changes list desk.database) made.changes_is
+      ∙ follows-new-install desk is has install
+      (subst (λ (other : RegistryLists). without_install other install.app install.scope ≡ desk.registry) made.lists_is
+      made.taken_back)
 
   pub install-desk : (database : Database) → database ≡ with_changes changes desk.database → IsWellFormed database
       → IsRegistry lists.users lists.installs → IsDesk (moved desk database lists desk.template)

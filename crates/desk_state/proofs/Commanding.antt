@@ -15,7 +15,7 @@ use Rattle.bucket_store.specs.declared.policy_changes.Change.{Change}
 use Rattle.bucket_store.specs.declared.refusals.StoreRefusal.TheVariants.{NoBucket}
 use Rattle.bucket_store.proofs.Lists.{All-append}
 use Rattle.app_registry.specs.Install.{is_of_package, is_of_app, is_install_of, is_for_user}
-use Rattle.app_registry.specs.Manifest.{grants}
+use Rattle.app_registry.specs.Manifest.{grants, install_grants}
 use Rattle.app_registry.specs.Registry.{RegistryLists, with_user, without_user, with_install, without_install}
 use Rattle.app_registry.specs.declared.installs.Install.{Install}
 use Rattle.app_registry.specs.declared.installs.Scope.{Scope}
@@ -26,14 +26,15 @@ use Rattle.rule_templates.specs.declared.lines.TemplateLine.{TemplateLine}
 use Rattle.desk_state.specs.DeskState.{DeskState}
 use Rattle.desk_state.specs.IsDesk.{IsBare, IsLaidOut, IsDesk}
 use Rattle.desk_state.specs.Layout.{main, manifests, type_bucket, built_in, has_layout, settled, main_policies}
-use Rattle.desk_state.specs.parts.Following.{grant_change, grant_changes, set_user, delete_user, package_changes, removal_changes, app_changes}
+use Rattle.desk_state.specs.parts.Following.{grant_change, grant_changes, set_user, delete_user, install_changes, package_changes, removal_changes, app_changes}
 use Rattle.desk_state.specs.parts.Stepping.{IsArranged, moved}
 use Rattle.desk_state.proofs.Filters.{filter-within, filter-outside}
+use Rattle.desk_state.proofs.Gaining.{is_own, none-before, others-stay, one-after}
 use Rattle.desk_state.proofs.Granting.{IsFollowing, manifests-follow, settled-around}
 use Rattle.desk_state.proofs.Keeping.{laid-owned, Denies}
 use Rattle.desk_state.proofs.Linking.{main-set, main-removed}
 use Rattle.desk_state.proofs.Owning.{own, in_bucket, IsOwned, IsOwned-settled, settled-IsOwned, own-apart}
-use Rattle.desk_state.proofs.Settling.{fold-rises}
+use Rattle.desk_state.proofs.Settling.{fold-rises, hits}
 use Rattle.desk_state.proofs.Touching.{package-apart, user-apart, scopes-fit, install-rest, uninstall-rest, app-found}
 
 -- a desk whose buckets are there has the layout
@@ -224,6 +225,37 @@ module _ (desk : DeskState) (is : IsDesk desk) (has : has_layout desk.database �
   follows-install install =
       package-follows install.package (with_install desk.registry install) refl
       (install-rest install desk.registry.installs is.registry.installs_rise)
+
+  -- an install that takes the place of no other
+
+  pub named-new-install : (install : Install) → no_bucket (flat_map named_by (install_changes install)) desk.database ≡ None
+  named-new-install install =
+      none-absent desk.database (flat_map named_by (install_changes install))
+      (grants-named desk.database there.buckets.1.0 true (install_grants install))
+
+  pub follows-new-install : (install : Install)
+      → without_install (with_install desk.registry install) install.app install.scope ≡ desk.registry
+      → with_changes (install_changes install) desk.database ≡ settled (with_install desk.registry install) desk.database
+  follows-new-install install taken_back =
+      let before = desk.registry.installs in
+      let after : RegistryLists = with_install desk.registry install in
+      let test : Install → Bool = is_own install before in
+      let back = ap (λ (lists : RegistryLists). lists.installs) taken_back in
+      let none = none-before install before back in
+      let all : List Change = grant_changes false test before ++ grant_changes true test after.installs in
+      let changes_are : all ≡ install_changes install =
+      (λ i. map (grant_change false) (grants (none i)) ++ map (grant_change true) (grants (one-after install before back i)))
+      ∙ ap (map (grant_change true)) (append-none (install_grants install)) in
+      follow after desk.database (install_changes install) (grants-following true (install_grants install))
+      is.database.keys_rise (record {
+        main = own-grants true (install_grants install) desk.database.policies ∙ owned.main;
+        manifests =
+            ap (λ changes. own manifests (fold after_change desk.database.policies changes)) (sym changes_are)
+            ∙ manifests-follow desk.registry after test desk.database.policies owned.manifests
+            (others-stay install before back)
+            (λ key any. absurd (true≢false (sym any ∙ ap (λ list. list_any (hits key) (grants list)) none)))
+            (fold-rises desk.database.policies all is.database.keys_rise);
+      })
 
   named-app : (first : Option Install) (after : List Install)
       → no_bucket (flat_map named_by (app_changes first desk.registry.installs after)) desk.database ≡ None

@@ -12,4 +12,5 @@ pub mod Touching
 pub mod Commanding
 pub mod Laying
 pub mod Expanding
+mod Gaining
 mod Becoming

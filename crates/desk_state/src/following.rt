@@ -151,8 +151,8 @@ fn is_for_user(scope: Scope, uid: u32) -> bool
     }
 }
 
-// What one install grants.
-fn change_install(
+/// Appends changes that allow, or take away, what an install grants.
+pub fn change_install(
     alloc: Global,
     changes: &mut Vec<Change>,
     allowed: bool,

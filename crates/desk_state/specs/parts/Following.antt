@@ -6,7 +6,7 @@ use Rattle.cynara_keys.specs.declared.keys.Key.{Key}
 use Rattle.bucket_store.specs.declared.policy_changes.Change.{Change}
 use Rattle.bucket_store.specs.declared.policy_changes.Change.TheVariants.{Set, Delete}
 use Rattle.app_registry.specs.Install.{is_of_package, is_for_user}
-use Rattle.app_registry.specs.Manifest.{grants}
+use Rattle.app_registry.specs.Manifest.{grants, install_grants}
 use Rattle.app_registry.specs.declared.installs.Install.{Install}
 use Rattle.app_registry.specs.declared.users.UserType.{UserType}
 use Rattle.desk_state.specs.Layout.{main, manifests, type_bucket}
@@ -29,6 +29,10 @@ grant_change allowed key =
 -- the same for all grants of those installs that pass a test
 abbrev pub grant_changes : Bool → (Install → Bool) → List Install → List Change
 grant_changes allowed test installs = map (grant_change allowed) (grants (filter test installs))
+
+-- what an install grants is allowed: all that changes where it takes the place of no other
+abbrev pub install_changes : Install → List Change
+install_changes install = map (grant_change true) (install_grants install)
 
 -- what the installs of a package granted is taken away, and then allowed what they grant now
 abbrev pub package_changes : List ℕ → List Install → List Install → List Change

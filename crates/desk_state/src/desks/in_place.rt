@@ -1,20 +1,17 @@
 //! Commands that change a state itself, where nothing else shares the lists that they change.
 
-ghost use Rattle.std.specs.Prelude.{◌≡◌, ◌++◌, None, true, false, IsTrue, IsFalse, IfOk, IfErr, OnOk, OnErr};
-ghost use Rattle.bucket_store.specs.Change.{with_changes};
-ghost use Rattle.bucket_store.specs.Refusal as store;
-ghost use Rattle.app_registry.specs.Install.{is_of_package};
+ghost use Rattle.std.specs.Prelude.{◌≡◌, None, IsTrue, IsFalse, IfOk, IfErr, OnOk, OnErr};
 ghost use Rattle.desk_state.specs.Next.{next, erased_by};
 ghost use Rattle.desk_state.specs.Rules.{Refuses, fault};
 ghost use Rattle.desk_state.specs.declared.commands.Command.TheVariants.{Install as InstallCommand, SetPolicies};
-ghost use Rattle.desk_state.specs.parts.Following.{grant_changes};
+ghost use Rattle.desk_state.specs.parts.Following.{install_changes};
 ghost use Rattle.desk_state.specs.parts.Stepping.{IsAllowed, Becomes};
 
 use crate::desks::{Applied, Desk, LAST_COMMIT};
-use crate::following::change_package;
+use crate::following::change_install;
 use crate::{Command, Refusal};
-use app_registry::{Ident, Install, Registry};
-use bucket_store::{Change, Changes, Database};
+use app_registry::Install;
+use bucket_store::{Change, Changes};
 use std::alloc::{AllocError, Global};
 
 impl Desk {
@@ -81,14 +78,13 @@ impl Desk {
         if self.commit == LAST_COMMIT {
             return false;
         }
-        let Ok(lost) = grants_lost(self.template.allocator(), &self.registry, &install.package)
-        else {
+        let Ok(gained) = grants_gained(self.template.allocator(), install) else {
             return false;
         };
         if !self.registry.install_in_place(install) {
             return false;
         }
-        if !follow(&mut self.database, lost, &self.registry, &install.package) {
+        if !self.database.change_in_place(&gained) {
             self.registry
                 .uninstall_in_place(&install.app, install.scope);
             return false;
@@ -100,36 +96,11 @@ impl Desk {
     }
 }
 
-// The changes that take away what the package's installs grant.
-fn grants_lost(
-    alloc: Global,
-    registry: &Registry,
-    package: &Ident,
-) -> Result<Vec<Change>, AllocError>
-    ensures { IfOk result (λ changes. changes.items
-        ≡ grant_changes false (is_of_package «package».now) registry.now.installs) }
+// The changes that allow what the install grants. They are all where it takes the place of no other.
+fn grants_gained(alloc: Global, install: &Install) -> Result<Vec<Change>, AllocError>
+    ensures { IfOk result (λ changes. changes.items ≡ install_changes install.now) }
 {
     let mut changes = Vec::new(alloc);
-    change_package(alloc, &mut changes, false, registry, package)?;
+    change_install(alloc, &mut changes, true, install)?;
     Ok(changes)
-}
-
-// Makes these changes in the database, and those that allow what the package's installs grant. Says whether it did.
-fn follow(database: &mut Database, lost: Vec<Change>, registry: &Registry, package: &Ident) -> bool
-    ensures next { IsTrue result → database.new ≡ with_changes
-        (lost.items ++ grant_changes true (is_of_package «package».now) registry.now.installs) database.old }
-    ensures accepted { IsTrue result → store.fault database.old (store.set_policies
-        (lost.items ++ grant_changes true (is_of_package «package».now) registry.now.installs) database.old) ≡ None }
-    ensures kept { IsFalse result → database.new ≡ database.old }
-{
-    let mut changes = lost;
-    let alloc = *changes.allocator();
-    match change_package(alloc, &mut changes, true, registry, package) {
-        Ok(()) => {}
-        Err(_) => return false,
-    }
-    if !database.change_in_place(&changes) {
-        return false;
-    }
-    true
 }
