@@ -1,6 +1,7 @@
 -- What the bytes of a frame are while it comes, and once it is whole.
 use Rattle.std.proofs.Common.{◌≡◌, ℕ, ◌+◌, ◌<◌, ◌≤◌, Bool, true, false, cond, ltb, List, [], ◌∷◌, ◌++◌, length, take}
 use Rattle.std.proofs.Common.{drop, Option, Some, None, Result, Ok, Err, refl, sym, ap, subst, ◌∙◌, arith}
+use Rattle.std.specs.declared.alloc.AllocError.{AllocError}
 use Rattle.std.specs.Int.{w32, from_be_bytes}
 use Rattle.std.proofs.lemmas.Bool.{ltb-false, ltb-true, le-ltb, lt-ltb}
 use Rattle.std.proofs.lemmas.List.{take-append-le, length-append, append-nil, append_assoc, take_all, drop_all}
@@ -181,6 +182,23 @@ step_err heard partial front left bytes after waiting then_waiting failed refusa
   wrong = subst (λ (all : List ℕ). BeginsWrong heard all refusal)
       (append_assoc partial front left ∙ ap (λ (b : List ℕ). partial ++ b) (sym is))
       (wrong_more heard (partial ++ front) left refusal unsettled.wrong);
+  side = refl;
+  failed = refl;
+}
+
+-- no memory for what is kept of a frame
+pub step_lost : (heard : Heard) (partial front left bytes kept after : List ℕ) (waiting then_waiting : List Framed)
+    (failed : Option WireRefusal) (error : AllocError) → bytes ≡ front ++ left
+    → Settled heard (partial ++ front) kept waiting then_waiting
+    → Unstepped (feeding heard waiting partial failed) (feeding heard then_waiting after failed) bytes (Memory error)
+step_lost heard partial front left bytes kept after waiting then_waiting failed error is settled = record {
+  messages = settled.messages;
+  behind = kept ++ left;
+  waiting = settled.waiting;
+  hears = subst (λ (all : List ℕ). Hears heard all settled.messages (kept ++ left))
+      (append_assoc partial front left ∙ ap (λ (b : List ℕ). partial ++ b) (sym is))
+      (hears_more heard (partial ++ front) left settled.messages kept settled.hears);
+  wrong = tt;
   side = refl;
   failed = refl;
 }

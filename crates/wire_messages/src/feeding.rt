@@ -119,7 +119,7 @@ impl Feeder {
         }
     }
 
-    // where no frame is begun: one that stands whole in the bytes is read there, without a copy
+    // where no frame is begun: one that stands whole in the bytes is read there, without a copy of it
     fn step_in_place<'a>(&mut self, bytes: &'a [u8]) -> Result<&'a [u8], WireRefusal>
         requires some { 0 < length bytes.now }
         requires empty { self.old.partial ≡ [] }
@@ -129,11 +129,16 @@ impl Feeder {
     {
         let count = frame_size(bytes).min(bytes.len());
         let (front, left) = bytes.split_at(count);
-        let is_heard = settle(self.alloc, self.heard, front, &mut self.waiting)?;
-        if !is_heard && let Err(error) = self.partial.append(front) {
-            return Err(WireRefusal::Memory(error));
+        match settle(self.alloc, self.heard, front, &mut self.waiting) {
+            Ok(true) => Ok(left),
+            Ok(false) => {
+                if let Err(error) = self.partial.append(front) {
+                    return Err(WireRefusal::Memory(error));
+                }
+                Ok(left)
+            }
+            Err(refusal) => Err(refusal),
         }
-        Ok(left)
     }
 
     // behind the bytes of a frame that is begun
@@ -154,14 +159,16 @@ impl Feeder {
             self.partial.as_slice(),
             &mut self.waiting,
         ) {
-            Ok(true) => self.partial.clear(),
-            Ok(false) => {}
+            Ok(true) => {
+                self.partial.clear();
+                Ok(left)
+            }
+            Ok(false) => Ok(left),
             Err(refusal) => {
                 self.partial.clear();
-                return Err(refusal);
+                Err(refusal)
             }
         }
-        Ok(left)
     }
 
     // how many bytes are wanted until the length is there, or else the whole frame

@@ -9,8 +9,8 @@ use Rattle.wire_messages.proofs.Settling.{kept, short_open, begins_wrong, length
 use Rattle.wire_messages.proofs.Settling.{heard_whole, refused_whole}
 use Rattle.wire_messages.proofs.feeding.settle.Goals as goal
 
-pub returns-then-len-lt4-clause-settled : goal.returns-then-len-lt4-clause-settled
-returns-then-len-lt4-clause-settled c =
+pub returns-then-bytes-lt4-clause-settled : goal.returns-then-bytes-lt4-clause-settled
+returns-then-bytes-lt4-clause-settled c =
     let bytes = c.args.bytes.now in
     let short : length bytes < 4 = omega arith in
     kept c.args.heard bytes c.args.waiting.now.items (short_open c.args.heard bytes short)
@@ -26,8 +26,8 @@ returns-in-Some-clause-refused c =
           (length_wrong c.args.heard bytes c.in-Some.fault long fault);
     }
 
-pub returns-then-len-length-clause-settled : goal.returns-then-len-length-clause-settled
-returns-then-len-length-clause-settled c =
+pub returns-then-bytes-length-clause-settled : goal.returns-then-bytes-length-clause-settled
+returns-then-bytes-length-clause-settled c =
     let bytes = c.args.bytes.now in
     let long : 4 ≤ length bytes = omega arith in
     let none : length_fault (length_of bytes) ≡ None = search rules in
