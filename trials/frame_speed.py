@@ -5,8 +5,9 @@ choose the inputs whose names have them all: `trials/frame_speed.py verdicts rea
 
 The program in `frame_codec.rt.txt`, over `wire_messages`, and the peer in `frame_peer.rs`, the same work in Rust
 without proofs, run in turn on the same bytes, which are made here from the table in docs/PROTOCOL.md. Prints the best of
-several runs each as frames a second, and the program's over the peer's. Ends with status 1 where one is below 0.9, which
-is wanted. Needs `rt` and `rustc`."""
+several runs each as frames a second, and the program's over the peer's. What is spelled are a few messages, again and
+again: a service spells what it has just made, and messages that fill more than the caches would time the memory. Ends with
+status 1 where a quotient is below 0.9, which is wanted. Needs `rt` and `rustc`."""
 
 import pathlib
 import shutil
@@ -34,16 +35,16 @@ def inputs():
     """Name, side, bytes, what is asked of them, and how often."""
     short = b"".join(map(text, (b"c", b"u", b"p")))
     names = b"".join(map(text, (CLIENT, USER, PRIVILEGE)))
-    checks = 50_000 * frame(0x01, names)
-    verdicts = 50_000 * frame(0x81, struct.pack(">QH", 2, 0) + text(b"") + text(b"MANIFESTS") + b"\1" + names)
+    check = frame(0x01, names)
+    verdict = frame(0x81, struct.pack(">QH", 2, 0) + text(b"") + text(b"MANIFESTS") + b"\1" + names)
     change = b"\1" + text(b"") + b"".join(map(text, (b"c00001", b"u", b"p"))) + struct.pack(">H", 65535) + text(b"")
     count = (1_048_576 - 7) // len(change)
     policies = frame(0x12, struct.pack(">I", count) + count * change)
     yield "checks of short names, read", "client", 100_000 * frame(0x01, short), "read", 10
-    yield "checks of longer names, read", "client", checks, "read", 10
-    yield "checks of longer names, spelled", "client", checks, "spell", 20
-    yield "verdicts, spelled", "replies", verdicts, "spell", 20
-    yield "verdicts, read", "replies", verdicts, "read", 10
+    yield "checks of longer names, read", "client", 50_000 * check, "read", 10
+    yield "checks of longer names, spelled", "client", 500 * check, "spell", 2_000
+    yield "verdicts, spelled", "replies", 500 * verdict, "spell", 2_000
+    yield "verdicts, read", "replies", 50_000 * verdict, "read", 10
     yield "changes of policies, a mebibyte, read", "admin", policies, "read", 20
     yield "changes of policies, a mebibyte, read byte by byte", "admin", policies, "bytes", 20
     yield "changes of policies, a mebibyte, spelled", "admin", policies, "spell", 40
