@@ -1,6 +1,7 @@
 #!/usr/bin/env python3
 """device_speed.py PEER [N]: times the script of a device with N applications, 1,000 where none is said: some commands for
-each, and then four checks for each. Takes a second, and the time of a build.
+each, and then four checks for each. Takes a second, and the time of a first build of `line_script` and the crates below it,
+which is many minutes where nothing of them is kept.
 
 The program in `device_script.rt.txt`, which keeps the policy state in memory, and the program PEER, which does the same
 work without proofs as `PEER sample N`, run in turn; `PEER script N` writes the script. Prints the best of several runs of
