@@ -172,3 +172,17 @@ module _ (q : Install → Bool) where
       (both-none
       (over-fits Installs INSTALL_LIMIT (length installs) (length (filter q installs)) others_fit.0 (length-filter-le q installs))
       (over-fits Grants GRANT_LIMIT (grant_count installs) (grant_count (filter q installs)) others_fit.1 (grants-filter installs)))
+
+-- what fits grants no more than there is room for
+pub grants-fit : (installs : List Install) → installs_limit installs ≡ None → grant_count installs ≤ GRANT_LIMIT
+grants-fit installs fits =
+    let packages_fit = or-none (over Packages PACKAGE_LIMIT (length (packages installs))) _ fits in
+    let others_fit = or-none (over Installs INSTALL_LIMIT (length installs)) _ packages_fit.1 in
+    ltb-false _ _ (within Grants GRANT_LIMIT (ltb GRANT_LIMIT (grant_count installs)) others_fit.1)
+
+pub fits-from_parts : (installs : List Install) → over Packages PACKAGE_LIMIT (length (packages installs)) ≡ None
+    → over Installs INSTALL_LIMIT (length installs) ≡ None → grant_count installs ≤ GRANT_LIMIT
+    → installs_limit installs ≡ None
+fits-from_parts installs packages_fit installs_fit room =
+    let still : ltb GRANT_LIMIT (grant_count installs) ≡ false = grind (arith, nat_tests, room) in
+    both-none packages_fit (both-none installs_fit (ap (λ b. cond b (Some (Limit Grants GRANT_LIMIT)) None) still))

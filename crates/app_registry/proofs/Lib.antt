@@ -8,4 +8,5 @@ pub mod Search
 pub mod Packages
 pub mod Changes
 pub mod Grants
+mod Indexing
 mod Undoing

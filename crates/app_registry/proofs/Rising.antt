@@ -13,7 +13,12 @@ use Rattle.std.proofs.lemmas.List.Sorted.{searchable_from_sorted, All-permutatio
 use Rattle.std.proofs.lemmas.List.Filters.{All-dedup}
 use Rattle.std.proofs.lemmas.List.Kept.{IsStrictlySortedBy-dedup}
 use Rattle.std.proofs.lemmas.Map.Keys.{sorted_head, sorted_tail, Less-from_sorted}
+use Rattle.cynara_keys.proofs.Search.{none_equal}
 use Rattle.app_registry.specs.Rising.{placed, rising}
+
+pub or_true : (b : Bool) → (b || true) ≡ true
+or_true true = refl
+or_true false = refl
 
 pub AllByRecursion-append : {X : Type 0} (P : X → Type 0) (xs ys : List X) → AllByRecursion P xs → AllByRecursion P ys
     → AllByRecursion P (xs ++ ys)
@@ -225,6 +230,36 @@ module _ {X : Type 0} {R : X → X → Ordering} (order : IsTotalOrder R) where
   has-rising (x ∷ xs) q =
       has-placed x (rising R xs) q (rising_rises xs) ∙ ap (λ b. is_eq (R q x) || b) (has-rising xs q)
 
+  is_eq-reverse : (o : Ordering) → is_eq (ordering_reverse o) ≡ is_eq o
+  is_eq-reverse Less = refl
+  is_eq-reverse Equal = refl
+  is_eq-reverse Greater = refl
+
+  eq-back : (x y : X) → is_eq (R x y) ≡ is_eq (R y x)
+  eq-back x y = ap is_eq (order.antisymm x y) ∙ is_eq-reverse (R y x)
+
+  tied-has : (x : X) (ys : List X) (at : ℕ) → at < length ys → HoldsAt (λ y. R y x ≡ Equal) ys at → has ys x ≡ true
+  tied-has x [] at within tied = absurd (omega arith)
+  tied-has x (y ∷ ys) zero within tied = ap (λ b. b || has ys x) (eq-back x y ∙ ap is_eq (tied y))
+  tied-has x (y ∷ ys) (suc at) within tied =
+      ap (λ b. is_eq (R x y) || b) (tied-has x ys at (omega arith) tied) ∙ or_true (is_eq (R x y))
+
+  untied-has : (x : X) (ys : List X) → ((k : ℕ) (d : X) → k < length ys → is_eq (R (get_or ys k d) x) ≡ false)
+      → has ys x ≡ false
+  untied-has x [] untied = refl
+  untied-has x (y ∷ ys) untied =
+      ap (λ b. b || has ys x) (eq-back x y ∙ untied 0 y (omega arith))
+      ∙ untied-has x ys (λ k d lt. untied (suc k) d (omega arith))
+
+  -- what a search for an element tells: it is there, or it is not and belongs where the search ends
+  pub searched-has : (x : X) (xs : List X) → IsStrictlySortedBy R xs → (r : Result ℕ ℕ) → IsSearchInRange r (length xs)
+      → IsBinarySearchResult (λ y. R y x) xs r
+      → MatchResult r (λ at. has xs x ≡ true) (λ at. (has xs x ≡ false) × (insert xs at x ≡ placed R x xs))
+  searched-has x xs rises (Ok at) range tied = tied-has x xs at range tied
+  searched-has x xs rises (Err at) range parted =
+      let split = parted (searchable_from_sorted order (λ y. y) xs x (rises_sorted xs rises)) in
+      (untied-has x xs (none_equal (λ y. R y x) xs at split), insert-placed x xs at range split rises)
+
   -- ---- rising lists with the same elements
 
   -- the elements at the same places tie
@@ -328,10 +363,6 @@ module _ {X : Type 0} {R : X → X → Ordering} (order : IsTotalOrder R) where
   Contains-has P same [] q all own h = absurd (true≢false (sym h))
   Contains-has P same (y ∷ ys) q all own h =
       Contains-has-at P same q y ys (R q y) refl own all.0 (Contains-has P same ys q all.1 own) h
-
-  or_true : (b : Bool) → (b || true) ≡ true
-  or_true true = refl
-  or_true false = refl
 
   has_later : (y : X) (ys : List X) (q : X) → has ys q ≡ true → has (y ∷ ys) q ≡ true
   has_later y ys q h = ap (λ b. is_eq (R q y) || b) h ∙ or_true (is_eq (R q y))

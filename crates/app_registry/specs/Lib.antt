@@ -7,3 +7,4 @@ pub mod Refusal
 pub mod Rules
 pub mod Label
 pub mod Manifest
+pub mod parts

@@ -6,6 +6,7 @@
 #![tactic(auto)]
 
 mod idents;
+mod install_lists;
 mod installs;
 mod labels;
 mod limits;

@@ -36,8 +36,8 @@ pub fn installs_limit(installs: &[Install]) -> Option<RegistryRefusal>
     None
 }
 
-// No count is needed where there are not even as many installs.
-fn has_too_many_packages(installs: &[Install]) -> bool
+/// Whether there are more packages than there is room for. No count is needed where there are not even as many installs.
+pub fn has_too_many_packages(installs: &[Install]) -> bool
     ensures { result ≡ nat_lt PACKAGE_LIMIT (length (packages installs.now)) }
 {
     if installs.len() <= PACKAGE_LIMIT {

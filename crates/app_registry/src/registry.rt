@@ -16,13 +16,14 @@ ghost use Rattle.app_registry.specs.Registry.{with_user, without_user, with_inst
 mod in_place;
 mod made;
 
+use crate::install_lists::InstallList;
 use crate::labels::install_label;
 use crate::limits::{installs_limit, users_limit};
 use crate::lists::{
     copies, with_install, with_user, without_install, without_installs_for, without_user,
 };
 use crate::look_ups::{
-    by_another, elsewhere, first_of_app, first_of_package, has_install, has_user, of_package,
+    by_another, first_of_app, first_of_package, has_install, has_user, of_package,
 };
 use crate::manifests::manifest_rows;
 use crate::{Ident, Install, RegistryRefusal, Scope, User, UserType};
@@ -36,7 +37,7 @@ use std::marker::Model;
 #[derive(Debug, Drop)]
 pub struct Registry {
     users: Vec<User>,
-    installs: Vec<Install>,
+    installs: InstallList,
 }
 
 impl Model for Registry {
@@ -45,9 +46,9 @@ impl Model for Registry {
 
     ghost Value = { RegistryLists };
 
-    ghost view = { λ registry. record { users = registry.users.items; installs = registry.installs.items } };
+    ghost view = { λ registry. record { users = registry.users.items; installs = registry.installs } };
 
-    ghost invariant = { λ registry. IsRegistry registry.users.items registry.installs.items };
+    ghost invariant = { λ registry. IsRegistry registry.users.items registry.installs };
 }
 
 impl Registry {
@@ -57,7 +58,7 @@ impl Registry {
     {
         Registry {
             users: Vec::new(alloc),
-            installs: Vec::new(alloc),
+            installs: InstallList::of(Vec::new(alloc)),
         }
     }
 
@@ -74,28 +75,28 @@ impl Registry {
         ensures installs { result.now ≡ self.now.installs }
         ensures registry { IsRegistry self.now.users self.now.installs }
     {
-        &self.installs
+        self.installs.as_slice()
     }
 
     /// The installs of the package, which stand together. Two binary searches find them.
     pub fn installs_of(&self, package: &Ident) -> &[Install]
         ensures { result.now ≡ filter (is_of_package «package».now) self.now.installs }
     {
-        of_package(&self.installs, package)
+        of_package(self.installs.as_slice(), package)
     }
 
     /// Whether the package has an install.
     pub fn has_package(&self, package: &Ident) -> bool
         ensures { result ≡ has_package self.now «package».now }
     {
-        first_of_package(&self.installs, package).is_some()
+        first_of_package(self.installs.as_slice(), package).is_some()
     }
 
     /// The author of the package, where it is installed and has one.
     pub fn author_of(&self, package: &Ident) -> Option<&Ident>
         ensures { option_copied result ≡ author_of self.now «package».now }
     {
-        let install = first_of_package(&self.installs, package)?;
+        let install = first_of_package(self.installs.as_slice(), package)?;
         install.author.as_ref()
     }
 
@@ -111,7 +112,10 @@ impl Registry {
             return Err(fault);
         }
         let installs = self.installs_copy().map_err(RegistryRefusal::Memory)?;
-        Ok(Registry { users, installs })
+        Ok(Registry {
+            users,
+            installs: InstallList::of(installs),
+        })
     }
 
     /// The registry without the user, and without the installs for this user alone. Refuses `UnknownUser`.
@@ -124,10 +128,13 @@ impl Registry {
             return Err(RegistryRefusal::UnknownUser(uid));
         }
         let users = without_user(self.alloc(), &self.users, uid).map_err(RegistryRefusal::Memory)?;
-        let installs = without_installs_for(self.alloc(), &self.installs, uid).map_err(
+        let installs = without_installs_for(self.alloc(), self.installs.as_slice(), uid).map_err(
             RegistryRefusal::Memory,
         )?;
-        Ok(Registry { users, installs })
+        Ok(Registry {
+            users,
+            installs: InstallList::of(installs),
+        })
     }
 
     /// The registry with this install, in place of one of the same application and scope. Refuses, in this order,
@@ -140,14 +147,17 @@ impl Registry {
         ensures refused { IfErr result (λ refusal. Refuses refusal (install_fault self.now install.now)) }
     {
         self.check_owner(install)?;
-        let installs = with_install(self.alloc(), &self.installs, install).map_err(
+        let installs = with_install(self.alloc(), self.installs.as_slice(), install).map_err(
             RegistryRefusal::Memory,
         )?;
         if let Some(fault) = installs_limit(&installs) {
             return Err(fault);
         }
         let users = self.users_copy().map_err(RegistryRefusal::Memory)?;
-        Ok(Registry { users, installs })
+        Ok(Registry {
+            users,
+            installs: InstallList::of(installs),
+        })
     }
 
     /// The registry without the install of the application for the scope. Refuses `NotInstalled`.
@@ -156,14 +166,17 @@ impl Registry {
         ensures accepted { OnOk result (uninstall_fault self.now app.now scope ≡ None) }
         ensures refused { IfErr result (λ refusal. Refuses refusal (uninstall_fault self.now app.now scope)) }
     {
-        if !has_install(&self.installs, app, scope) {
+        if !has_install(self.installs.as_slice(), app, scope) {
             return Err(RegistryRefusal::NotInstalled);
         }
-        let installs = without_install(self.alloc(), &self.installs, app, scope).map_err(
+        let installs = without_install(self.alloc(), self.installs.as_slice(), app, scope).map_err(
             RegistryRefusal::Memory,
         )?;
         let users = self.users_copy().map_err(RegistryRefusal::Memory)?;
-        Ok(Registry { users, installs })
+        Ok(Registry {
+            users,
+            installs: InstallList::of(installs),
+        })
     }
 
     /// What the installs grant: for each privilege of each install the key of the install's label, the number of the
@@ -174,14 +187,14 @@ impl Registry {
         ensures granted { IfOk result (λ rows. All (Contains (grants self.now.installs)) rows.items) }
         ensures all_there { IfOk result (λ rows. All (Contains rows.items) (grants self.now.installs)) }
     {
-        manifest_rows(self.alloc(), &self.installs)
+        manifest_rows(self.alloc(), self.installs.as_slice())
     }
 
     /// The label with which the application runs, where it is installed.
     pub fn label_of(&self, app: &Ident) -> Result<Option<Label>, AllocError>
         ensures { IfOk result (λ label. label ≡ label_of self.now app.now) }
     {
-        match first_of_app(&self.installs, app) {
+        match first_of_app(self.installs.as_slice(), app) {
             Some(install) => Ok(Some(install_label(self.alloc(), install)?)),
             None => Ok(None),
         }
@@ -193,12 +206,12 @@ impl Registry {
     {
         Ok(Registry {
             users: Vec::from_slice(self.alloc(), &self.users)?,
-            installs: self.installs_copy()?,
+            installs: InstallList::of(self.installs_copy()?),
         })
     }
 
     fn alloc(&self) -> Global {
-        *self.installs.allocator()
+        *self.users.allocator()
     }
 
     fn users_copy(&self) -> Result<Vec<User>, AllocError>
@@ -210,7 +223,8 @@ impl Registry {
     fn installs_copy(&self) -> Result<Vec<Install>, AllocError>
         ensures { IfOk result (λ copies. copies.items ≡ self.now.installs) }
     {
-        copies(self.alloc(), &self.installs, self.installs.len())
+        let installs = self.installs.as_slice();
+        copies(self.alloc(), installs, installs.len())
     }
 
     // What stands against an install of this application, whatever is counted.
@@ -223,11 +237,11 @@ impl Registry {
                 return Err(RegistryRefusal::UnknownUser(uid));
             }
         }
-        if let Some(other) = elsewhere(&self.installs, install) {
+        if let Some(other) = self.installs.elsewhere(install) {
             let package = other.package.copy().map_err(RegistryRefusal::Memory)?;
             return Err(RegistryRefusal::OtherPackage(package));
         }
-        if let Some(other) = by_another(&self.installs, install) {
+        if let Some(other) = by_another(self.installs.as_slice(), install) {
             let author = other.author_copy().map_err(RegistryRefusal::Memory)?;
             return Err(RegistryRefusal::OtherAuthor(author));
         }

@@ -1,15 +1,11 @@
 //! Changes that are made in a registry itself.
 
-ghost use Rattle.std.specs.Prelude.{◌≡◌, None, IsTrue, IsFalse, not, false, filter};
+ghost use Rattle.std.specs.Prelude.{◌≡◌, None, IsTrue, IsFalse};
 ghost use Rattle.std.specs.List.{list_any};
-ghost use Rattle.std.specs.List.Sorted.{IsStrictlySortedBy};
-ghost use Rattle.app_registry.specs.Install.{install_cmp, is_install_of};
-ghost use Rattle.app_registry.specs.Refusal.{owner_fault, install_fault, installs_limit};
+ghost use Rattle.app_registry.specs.Install.{is_install_of};
+ghost use Rattle.app_registry.specs.Refusal.{owner_fault, install_fault};
 ghost use Rattle.app_registry.specs.Registry.{with_install, without_install};
-ghost use Rattle.app_registry.specs.Rising.{placed};
 
-use crate::limits::installs_limit;
-use crate::lists::{is_install_of, place_of_install};
 use crate::look_ups::{has_install, of_package};
 use crate::{Ident, Install, Registry, Scope};
 
@@ -30,7 +26,7 @@ impl Registry {
         if self.has_install(install) {
             return false;
         }
-        if !put_new(&mut self.installs, install) {
+        if !self.installs.put_new(install) {
             return false;
         }
         true
@@ -41,7 +37,7 @@ impl Registry {
         requires { owner_fault self.now install.now ≡ None }
         ensures { result ≡ list_any (is_install_of install.now.app install.now.scope) self.now.installs }
     {
-        let own = of_package(&self.installs, &install.package);
+        let own = of_package(self.installs.as_slice(), &install.package);
         has_install(own, &install.app, install.scope)
     }
 
@@ -49,40 +45,6 @@ impl Registry {
     pub fn uninstall_in_place(&mut self, app: &Ident, scope: Scope)
         ensures { self.new ≡ without_install self.old app.now scope }
     {
-        take_out(&mut self.installs, app, scope);
+        self.installs.take_out(app, scope);
     }
-}
-
-// Takes the install of the application for the scope out of the list.
-fn take_out(installs: &mut Vec<Install>, app: &Ident, scope: Scope)
-    ensures { installs.new.items ≡ filter (λ install. not (is_install_of app.now scope install)) installs.old.items }
-{
-    installs.retain(|install| !is_install_of(app, scope, install));
-}
-
-// Puts the install at its place, if none has it, and there is room and memory. Says whether it did.
-fn put_new(installs: &mut Vec<Install>, install: &Install) -> bool
-    requires { IsStrictlySortedBy install_cmp installs.old.items }
-    ensures put { IsTrue result → installs.new.items ≡ placed install_cmp install.now installs.old.items }
-    ensures fits { IsTrue result → installs_limit (placed install_cmp install.now installs.old.items) ≡ None }
-    ensures taken_back { IsTrue result → list_any (is_install_of install.now.app install.now.scope) installs.old.items ≡ false
-        → filter (λ other. not (is_install_of install.now.app install.now.scope other)) installs.new.items
-        ≡ installs.old.items }
-    ensures kept { IsFalse result → installs.new.items ≡ installs.old.items }
-{
-    let Err(at) = place_of_install(installs, install) else {
-        return false;
-    };
-    let Ok(own) = install.copy() else {
-        return false;
-    };
-    match installs.insert(at, own) {
-        Ok(()) => {}
-        Err(_) => return false,
-    }
-    let Some(_) = installs_limit(installs) else {
-        return true;
-    };
-    let _ = installs.remove(at);
-    false
 }

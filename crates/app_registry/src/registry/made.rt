@@ -3,6 +3,7 @@
 ghost use Rattle.std.specs.Prelude.{◌≡◌};
 ghost use Rattle.app_registry.specs.Rules.{IsRegistry};
 
+use crate::install_lists::InstallList;
 use crate::{Install, Registry, User};
 
 impl Registry {
@@ -11,6 +12,9 @@ impl Registry {
         requires { IsRegistry users.items installs.items }
         ensures { result ≡ record { users = users.items; installs = installs.items } }
     {
-        Registry { users, installs }
+        Registry {
+            users,
+            installs: InstallList::of(installs),
+        }
     }
 }

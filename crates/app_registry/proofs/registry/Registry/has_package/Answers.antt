@@ -6,8 +6,8 @@ use Rattle.app_registry.proofs.registry.Registry.has_package.Goals as goal
 
 pub returns : goal.returns
 returns c =
-    let found : is_some c.first_of_package.result ≡ list_any (is_of_package c.args.package.now) c.deref.result.now =
+    let found : is_some c.first_of_package.result ≡ list_any (is_of_package c.args.package.now) c.as_slice.result.now =
     is_some-copied c.first_of_package.result ∙ ap is_some c.first_of_package.ensures
-    ∙ is_some-find (is_of_package c.args.package.now) c.deref.result.now in
-    let same : c.deref.result.now ≡ c.args.self.now.installs = search rules in
+    ∙ is_some-find (is_of_package c.args.package.now) c.as_slice.result.now in
+    let same : c.as_slice.result.now ≡ c.args.self.now.installs = search rules in
     c.is_some.ensures ∙ found ∙ ap (list_any (is_of_package c.args.package.now)) same

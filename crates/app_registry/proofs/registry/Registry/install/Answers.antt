@@ -7,8 +7,8 @@ use Rattle.app_registry.proofs.registry.Registry.install.Goals as goal
 
 pub invariant_of-result : goal.invariant_of-result
 invariant_of-result c =
-    let sound : owner_fault (record { users = c.self.inside.users.items; installs = c.self.inside.installs.items }) c.args.install.now
+    let sound : owner_fault (record { users = c.self.inside.users.items; installs = c.self.inside.installs }) c.args.install.now
     ≡ None =
     search rules in
-    let fits : installs_limit (placed install_cmp c.args.install.now c.self.inside.installs.items) ≡ None = search rules in
+    let fits : installs_limit (placed install_cmp c.args.install.now c.self.inside.installs) ≡ None = search rules in
     IsRegistry-same (IsRegistry-with_install c.self.invariant c.args.install.now sound fits) (search rules) (search rules)
