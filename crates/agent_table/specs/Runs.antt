@@ -1,7 +1,7 @@
 -- Whole runs of calls on a table: what was put under a number, and what was answered to it.
 use Rattle.std.specs.Prelude.{◌≡◌, ℕ, Bool, ◌&&◌, ◌==◌, if◌then◌else◌, List, [], ◌∷◌, Option, Some, None, is_none}
 use Rattle.cynara_keys.specs.declared.results.Kind.{Kind}
-use Rattle.cynara_keys.specs.declared.keys.Question.{Question}
+use Rattle.cynara_keys.specs.Key.{Question}
 use Rattle.agent_table.specs.declared.table.Taken.{Taken}
 use Rattle.agent_table.specs.OpenQuestion.{numbered, first_waiting, is_owed_by}
 use Rattle.agent_table.specs.Table.{Table, fresh, after_register, after_put, after_next, after_answer}

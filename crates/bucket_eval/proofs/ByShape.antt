@@ -19,7 +19,7 @@ use Rattle.cynara_keys.specs.declared.fields.Field.{Field}
 use Rattle.cynara_keys.specs.declared.fields.Field.TheVariants.{Any, Exact}
 use Rattle.cynara_keys.specs.declared.keys.Key.{Key}
 use Rattle.cynara_keys.specs.declared.keys.Policy.{Policy}
-use Rattle.cynara_keys.specs.declared.keys.Question.{Question}
+use Rattle.cynara_keys.specs.Key.{Question}
 use Rattle.cynara_keys.proofs.Minimum.{first_least-all}
 use Rattle.cynara_keys.proofs.Order.{text_cmp-equal, key_total, result_total}
 use Rattle.bucket_store.specs.Order.{policy_cmp}

@@ -4,7 +4,7 @@ use Rattle.std.specs.List.{filter_map}
 use Rattle.std.proofs.lemmas.List.{at_drop_more}
 use Rattle.cynara_keys.specs.Minimum.{first_least}
 use Rattle.cynara_keys.specs.declared.keys.Policy.{Policy}
-use Rattle.cynara_keys.specs.declared.keys.Question.{Question}
+use Rattle.cynara_keys.specs.Key.{Question}
 use Rattle.bucket_store.specs.Bucket.{Bucket}
 use Rattle.bucket_eval.specs.Evaluation.{Contribution, contribution_cmp}
 use Rattle.bucket_eval.specs.parts.Buckets.{Offers, chosen}

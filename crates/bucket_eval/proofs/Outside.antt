@@ -16,7 +16,7 @@ use Rattle.cynara_keys.specs.Text.{same_text, text_cmp}
 use Rattle.cynara_keys.specs.declared.fields.Field.{Field}
 use Rattle.cynara_keys.specs.declared.fields.Field.TheVariants.{Any, Exact}
 use Rattle.cynara_keys.specs.declared.keys.Policy.{Policy}
-use Rattle.cynara_keys.specs.declared.keys.Question.{Question}
+use Rattle.cynara_keys.specs.Key.{Question}
 use Rattle.cynara_keys.proofs.Order.{text_total, text_cmp-equal}
 use Rattle.bucket_store.specs.Order.{policy_cmp}
 use Rattle.bucket_eval.specs.parts.Windows.{FailsOutside, Covers, client_of, has_client, matches, comes_before}

@@ -13,7 +13,7 @@ use Rattle.cynara_keys.specs.PolicyResult.{Ruling, deny, none, result_cmp}
 use Rattle.cynara_keys.specs.Text.{same_text}
 use Rattle.cynara_keys.specs.declared.keys.Key.{Key}
 use Rattle.cynara_keys.specs.declared.keys.Policy.{Policy}
-use Rattle.cynara_keys.specs.declared.keys.Question.{Question}
+use Rattle.cynara_keys.specs.Key.{Question}
 use Rattle.bucket_store.specs.Database.{Database, Heading}
 use Rattle.bucket_store.specs.Walk.{points, target}
 

@@ -6,7 +6,7 @@ use Rattle.cynara_keys.specs.Key.{key_matches, key_cmp}
 use Rattle.cynara_keys.specs.Minimum.{first_least}
 use Rattle.cynara_keys.specs.PolicyResult.{none, result_cmp}
 use Rattle.cynara_keys.specs.declared.keys.Policy.{Policy}
-use Rattle.cynara_keys.specs.declared.keys.Question.{Question}
+use Rattle.cynara_keys.specs.Key.{Question}
 
 -- whether a policy has a say: it matches the question, and its result isn't NONE
 abbrev pub counts : Question → Policy → Bool

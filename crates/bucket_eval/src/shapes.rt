@@ -9,7 +9,7 @@ ghost use Rattle.bucket_store.specs.parts.Search.{StandsAt, BelongsAt};
 ghost use Rattle.bucket_eval.specs.parts.Shapes as shapes;
 ghost use Rattle.bucket_eval.specs.parts.Shapes.{FitsAt};
 
-use cynara_keys::{Field, Key, Name, Policy, Question};
+use cynara_keys::{Field, Key, Policy, Question};
 use std::cmp::Ordering;
 
 /// How many shapes there are: each of three fields is the wildcard or a name.
@@ -48,18 +48,18 @@ fn place_of_sought(policies: &[Policy], question: &Question, shape: usize) -> Re
 fn compare(key: &Key, question: &Question, shape: usize) -> Ordering
     ensures { result ≡ key_cmp key.now (shapes.sought question.now shape) }
 {
-    compare_field(&key.client, &question.client, shape >= 4)
-        .then_with(|| compare_field(&key.user, &question.user, shape % 4 >= 2))
-        .then_with(|| compare_field(&key.privilege, &question.privilege, shape % 2 == 1))
+    compare_field(&key.client, question.client(), shape >= 4)
+        .then_with(|| compare_field(&key.user, question.user(), shape % 4 >= 2))
+        .then_with(|| compare_field(&key.privilege, question.privilege(), shape % 2 == 1))
 }
 
-fn compare_field(field: &Field, name: &Name, wild: bool) -> Ordering
+fn compare_field(field: &Field, name: &[u8], wild: bool) -> Ordering
     ensures { result ≡ field_cmp field.now (shapes.sought_field wild name.now) }
 {
     if wild {
         return field.as_slice().cmp(b"*".as_slice());
     }
-    field.as_slice().cmp(name.as_slice())
+    field.as_slice().cmp(name)
 }
 
 // Whether the policy's key has this shape and matches the question.

@@ -41,11 +41,10 @@ fn policies(alloc: Global, rows: &[Row<'_>]) -> Result<Vec<Policy>, Fail> {
 }
 
 fn question(alloc: Global, [client, user, privilege]: [&str; 3]) -> Result<Question, Fail> {
-    Ok(Question {
-        client: Name::read(alloc, client.as_bytes())?,
-        user: Name::read(alloc, user.as_bytes())?,
-        privilege: Name::read(alloc, privilege.as_bytes())?,
-    })
+    let client = Name::read(alloc, client.as_bytes())?;
+    let user = Name::read(alloc, user.as_bytes())?;
+    let privilege = Name::read(alloc, privilege.as_bytes())?;
+    Ok(Question::of(alloc, client.as_slice(), user.as_slice(), privilege.as_slice())?)
 }
 
 // The place that decides whether `c` may use `p` for `u`.

@@ -29,7 +29,7 @@ pub fn window_of(policies: &[Policy], question: &Question, few: usize) -> Window
             end: policies.len(),
         };
     }
-    let own = window_of_client(policies, question.client.as_slice(), few);
+    let own = window_of_client(policies, question.client(), few);
     let any = window_of_client(policies, b"*", few);
     covering(own, any)
 }

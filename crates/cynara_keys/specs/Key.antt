@@ -1,11 +1,17 @@
 -- Keys of policies, the questions that they match, and the filters that admit them, as in the Cynara wiki.
-use Rattle.std.specs.Prelude.{Bool, ◌&&◌}
+use Rattle.std.specs.Prelude.{Bool, ◌&&◌, ℕ, List}
 use Rattle.std.specs.declared.cmp.Ordering.{Ordering}
 use Rattle.std.specs.Ordering.{on, then_cmp, eq_of_both}
+use Rattle.cynara_keys.specs.Text.{same_text}
 use Rattle.cynara_keys.specs.Field.{field_matches, field_admits, field_cmp, same_field}
 use Rattle.cynara_keys.specs.declared.keys.Key.{Key}
 use Rattle.cynara_keys.specs.declared.keys.Filter.{Filter}
-use Rattle.cynara_keys.specs.declared.keys.Question.{Question}
+
+-- a question: whether the client may use the privilege for the user
+pub record Question : Type 0 where
+  pub client : List ℕ
+  pub user : List ℕ
+  pub privilege : List ℕ
 
 -- a key matches a question where each field is `*` or the question's
 abbrev pub key_matches : Key → Question → Bool
@@ -29,3 +35,8 @@ abbrev pub same_key : Key → Key → Bool
 same_key =
     eq_of_both (on (λ key. key.client) same_field)
     (eq_of_both (on (λ key. key.user) same_field) (on (λ key. key.privilege) same_field))
+
+abbrev pub same_question : Question → Question → Bool
+same_question =
+    eq_of_both (on (λ question. question.client) same_text)
+    (eq_of_both (on (λ question. question.user) same_text) (on (λ question. question.privilege) same_text))

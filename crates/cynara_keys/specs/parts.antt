@@ -1,2 +1,3 @@
 -- What only this crate's own functions cite.
+pub mod Named
 pub mod Short

@@ -67,13 +67,13 @@ impl Field {
         }
     }
 
-    /// Whether the field is the wildcard or this name.
-    pub fn matches(&self, name: &Name) -> bool
+    /// Whether the field is the wildcard or the name of these bytes.
+    pub fn matches(&self, name: &[u8]) -> bool
         ensures { result ≡ field_matches self.now name.now }
     {
         match self {
             Field::Any => true,
-            Field::Exact(own) => own.as_slice() == name.as_slice(),
+            Field::Exact(own) => own.as_slice() == name,
         }
     }
 

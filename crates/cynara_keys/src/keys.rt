@@ -1,5 +1,4 @@
 ghost use Rattle.std.specs.Prelude.{◌≡◌, None, IfOk};
-ghost use Rattle.cynara_keys.specs.Name.{name_fault};
 ghost use Rattle.cynara_keys.specs.Field.{field_of, field_fault};
 ghost use Rattle.cynara_keys.specs.Key.{key_matches, filter_admits};
 ghost use Rattle.cynara_keys.specs.Key.{key_cmp, same_key};
@@ -9,7 +8,7 @@ ghost use Rattle.std.specs.Cmp.{partial_order_from_own_ties, both_tied};
 ghost use Rattle.std.specs.Cmp.Rules.{comparing};
 
 use crate::shared::Shared;
-use crate::{Field, FilterField, Name, PolicyResult};
+use crate::{Field, FilterField, PolicyResult, Question};
 use std::alloc::{AllocError, Global};
 use std::cmp::Ordering;
 
@@ -30,14 +29,6 @@ pub struct Filter {
     pub privilege: FilterField,
 }
 
-/// What a check asks: whether this client may use this privilege for this user.
-#[derive(Debug, Drop, PartialEq, Eq)]
-pub struct Question {
-    pub client: Name,
-    pub user: Name,
-    pub privilege: Name,
-}
-
 /// A policy: the result that stands under a key.
 #[derive(Debug, Drop, PartialEq, Eq)]
 pub struct Policy {
@@ -50,9 +41,9 @@ impl Key {
     pub fn matches(&self, question: &Question) -> bool
         ensures { result ≡ key_matches self.now question.now }
     {
-        self.client.matches(&question.client)
-            && self.user.matches(&question.user)
-            && self.privilege.matches(&question.privilege)
+        self.client.matches(question.client())
+            && self.user.matches(question.user())
+            && self.privilege.matches(question.privilege())
     }
 
     /// The key of these texts, each `*` or a name. Their bytes are copied into one block of memory, which the names share.
@@ -144,40 +135,6 @@ impl Filter {
         ensures { IfOk result (λ copy. copy ≡ self.now) }
     {
         Ok(Filter {
-            client: self.client.copy()?,
-            user: self.user.copy()?,
-            privilege: self.privilege.copy()?,
-        })
-    }
-}
-
-impl Question {
-    /// The question of these names. Their bytes are copied into one block of memory, which the names share.
-    pub fn of(
-        alloc: Global,
-        client: &[u8],
-        user: &[u8],
-        privilege: &[u8],
-    ) -> Result<Question, AllocError>
-        requires client { name_fault client.now ≡ None }
-        requires user { name_fault user.now ≡ None }
-        requires privilege { name_fault privilege.now ≡ None }
-        ensures { IfOk result (λ question. question ≡
-            record { client = client.now; user = user.now; privilege = privilege.now }) }
-    {
-        let three = Shared::three(alloc, client, user, privilege)?;
-        Ok(Question {
-            client: Name::of(three.first),
-            user: Name::of(three.second),
-            privilege: Name::of(three.third),
-        })
-    }
-
-    /// An equal question, which shares the names' bytes. Refused only as `Name::copy` is.
-    pub fn copy(&self) -> Result<Question, AllocError>
-        ensures { IfOk result (λ copy. copy ≡ self.now) }
-    {
-        Ok(Question {
             client: self.client.copy()?,
             user: self.user.copy()?,
             privilege: self.privilege.copy()?,

@@ -11,18 +11,20 @@ mod keys;
 mod limits;
 mod metadata_texts;
 mod names;
+mod questions;
 mod results;
 mod shared;
 mod short_texts;
 
 pub use bucket_names::{BucketName, BucketNameRefusal};
 pub use fields::{Field, FilterField, field_fault};
-pub use keys::{Filter, Key, Policy, Question};
+pub use keys::{Filter, Key, Policy};
 pub use limits::{
     Counted, MOST_BUCKET_NAME_BYTES, MOST_METADATA_BYTES, MOST_NAME_BYTES, MOST_SHORT_BYTES,
 };
 pub use metadata_texts::{Metadata, MetadataRefusal};
 pub use names::{Name, NameRefusal, name_fault};
+pub use questions::Question;
 pub use results::{Kind, PolicyResult};
 pub use short_texts::Short;
 

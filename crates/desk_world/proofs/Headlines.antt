@@ -4,7 +4,7 @@ use Rattle.std.specs.Prelude.{slice_get}
 use Rattle.std.proofs.lemmas.List.Elements.{All-weaker}
 use Rattle.std.proofs.lemmas.Option.{same_Some}
 use Rattle.std.proofs.Math.Nat.{le-max_left, le-max_right}
-use Rattle.cynara_keys.specs.declared.keys.Question.{Question}
+use Rattle.cynara_keys.specs.Key.{Question}
 use Rattle.desk_state.specs.DeskState.{DeskState}
 use Rattle.desk_world.specs.World.{World, fresh, client_of}
 use Rattle.desk_world.specs.Clients.{new_ask, asked}

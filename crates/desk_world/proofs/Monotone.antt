@@ -3,7 +3,7 @@ use Rattle.std.proofs.Common.{◌≡◌, ℕ, ◌≤◌, ◌==◌, false, List, 
 use Rattle.std.specs.Prelude.{All, unwrap_or}
 use Rattle.std.proofs.lemmas.List.Elements.{All-nil, All-weaker}
 use Rattle.std.proofs.lemmas.Option.{none-some}
-use Rattle.cynara_keys.specs.declared.keys.Question.{Question}
+use Rattle.cynara_keys.specs.Key.{Question}
 use Rattle.cynara_keys.specs.declared.results.Kind.{Kind}
 use Rattle.desk_state.specs.DeskState.{DeskState}
 use Rattle.desk_world.specs.Client.{Client}

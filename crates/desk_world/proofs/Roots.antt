@@ -6,7 +6,7 @@ use Rattle.std.proofs.Math.Numerals.{one-add}
 use Rattle.std.proofs.lemmas.Bool.{ltb-true, ltb-false, false≢true}
 use Rattle.std.specs.Cmp.Lexicographic.{same_text as same_bytes}
 use Rattle.cynara_keys.specs.Text.{same_text}
-use Rattle.cynara_keys.specs.declared.keys.Question.{Question}
+use Rattle.cynara_keys.specs.Key.{Question}
 use Rattle.bucket_store.specs.Database.{Database, Heading, root}
 use Rattle.bucket_eval.specs.Evaluation.{Outcome, answer}
 use Rattle.desk_state.specs.DeskState.{DeskState}

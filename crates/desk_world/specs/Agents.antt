@@ -2,7 +2,7 @@
 use Rattle.std.specs.Prelude.{ℕ, Bool, true, false, not, ◌&&◌, ◌||◌, ◌==◌, nat_le, nat_lt, if◌then◌else◌, List, [], ◌∷◌, ◌++◌, map, filter, Option, Some, None, slice_get}
 use Rattle.std.specs.List.{list_any, count_by}
 use Rattle.cynara_keys.specs.PolicyResult.{is_agent}
-use Rattle.cynara_keys.specs.declared.keys.Question.{Question}
+use Rattle.cynara_keys.specs.Key.{Question}
 use Rattle.cynara_keys.specs.declared.results.Kind.{Kind}
 use Rattle.desk_world.specs.World.{World, with_link, entry_at}
 use Rattle.desk_world.specs.Clients.{when, with_some}

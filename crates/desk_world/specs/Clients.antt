@@ -1,7 +1,7 @@
 -- What clients do: dial, ask, answer from the cache, send, receive, find the link closed, and be told of a commit.
 use Rattle.std.specs.Prelude.{ℕ, Bool, true, not, ◌&&◌, ◌==◌, nat_le, if◌then◌else◌, List, [], ◌∷◌, ◌++◌, length, max, Option, Some, None, is_none, slice_get}
 use Rattle.cynara_keys.specs.Text.{same_text}
-use Rattle.cynara_keys.specs.declared.keys.Question.{Question}
+use Rattle.cynara_keys.specs.Key.{Question}
 use Rattle.desk_world.specs.World.{World, with_client, with_link, client_of}
 use Rattle.desk_world.specs.declared.known.Known.{Known}
 use Rattle.desk_world.specs.declared.links.Asked.{Asked}

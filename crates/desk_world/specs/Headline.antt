@@ -2,7 +2,7 @@
 -- not, is the bucket evaluation of one committed state no older than any commit acknowledged before its question was
 -- asked, or the agent's reply to that very question.
 use Rattle.std.specs.Prelude.{◌≡◌, ◌≤◌, ℕ, Bool, List, length, Some, Ok, All}
-use Rattle.cynara_keys.specs.declared.keys.Question.{Question}
+use Rattle.cynara_keys.specs.Key.{Question}
 use Rattle.desk_state.specs.DeskState.{DeskState}
 use Rattle.desk_world.specs.World.{World, fresh, history, desk_at, root_answer, client_of}
 use Rattle.desk_world.specs.Clients.{asked}

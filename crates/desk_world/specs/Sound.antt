@@ -1,7 +1,7 @@
 -- When a reply that a client was given is right.
 use Rattle.std.specs.Prelude.{◌≡◌, ◌≤◌, ℕ, true, Some, All, slice_get}
 use Rattle.cynara_keys.specs.PolicyResult.{is_agent}
-use Rattle.cynara_keys.specs.declared.keys.Question.{Question}
+use Rattle.cynara_keys.specs.Key.{Question}
 use Rattle.cynara_keys.specs.declared.results.Kind.{Kind}
 use Rattle.desk_state.specs.DeskState.{DeskState}
 use Rattle.desk_world.specs.World.{World, history, desk_at, root_outcome, root_answer, entry_at}

@@ -1,7 +1,7 @@
 -- All that freshness depends on: the committed policy states, the connections with what is on its way, the clients with
 -- their caches, and the agents' log.
 use Rattle.std.specs.Prelude.{ℕ, true, ◌==◌, ◌&&◌, if◌then◌else◌, List, [], ◌∷◌, ◌++◌, Option, None, find, slice_set}
-use Rattle.cynara_keys.specs.declared.keys.Question.{Question}
+use Rattle.cynara_keys.specs.Key.{Question}
 use Rattle.bucket_store.specs.Database.{root}
 use Rattle.bucket_eval.specs.Evaluation.{Outcome, answer}
 use Rattle.bucket_eval.specs.Found.{answer_of}

@@ -6,7 +6,7 @@ use Rattle.std.proofs.lemmas.List.Folds.{list_any_at}
 use Rattle.std.proofs.lemmas.List.Quantifiers.{position-Some}
 use Rattle.std.proofs.lemmas.Option.{slice_get-get_or}
 use Rattle.cynara_keys.specs.Text.{same_text}
-use Rattle.cynara_keys.specs.declared.keys.Question.{Question}
+use Rattle.cynara_keys.specs.Key.{Question}
 use Rattle.cynara_keys.proofs.Order.{same_text-≡}
 use Rattle.bucket_store.specs.Database.{Database, Heading, has_bucket}
 use Rattle.bucket_eval.specs.Evaluation.{answer}

@@ -111,9 +111,9 @@ fn is_worked(list: &[Framed]) -> bool {
         return false;
     };
     framed.sequence == 1
-        && question.client.as_slice() == b"c".as_slice()
-        && question.user.as_slice() == b"u".as_slice()
-        && question.privilege.as_slice() == b"p".as_slice()
+        && question.client() == b"c".as_slice()
+        && question.user() == b"u".as_slice()
+        && question.privilege() == b"p".as_slice()
 }
 
 fn hears_worked(alloc: Global) -> Result<bool, Fail> {

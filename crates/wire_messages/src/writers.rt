@@ -137,9 +137,9 @@ pub fn put_filter_field(out: &mut Vec<u8>, part: &FilterField) -> Result<(), All
 pub fn put_question(out: &mut Vec<u8>, question: &Question) -> Result<(), AllocError>
     ensures { Appended result out.old.items out.new.items (field.question.spelled question.now) }
 {
-    put_name(out, &question.client)?;
-    put_name(out, &question.user)?;
-    put_name(out, &question.privilege)
+    put_text(out, question.client())?;
+    put_text(out, question.user())?;
+    put_text(out, question.privilege())
 }
 
 pub fn put_key(out: &mut Vec<u8>, key: &Key) -> Result<(), AllocError>

@@ -30,15 +30,14 @@ enum Reply {
 }
 
 fn question(alloc: Global, client: &[u8]) -> Result<Question, Fail> {
-    Ok(Question {
-        client: Name::read(alloc, client)?,
-        user: Name::read(alloc, b"u")?,
-        privilege: Name::read(alloc, b"p")?,
-    })
+    let client = Name::read(alloc, client)?;
+    let user = Name::read(alloc, b"u")?;
+    let privilege = Name::read(alloc, b"p")?;
+    Ok(Question::of(alloc, client.as_slice(), user.as_slice(), privilege.as_slice())?)
 }
 
 fn client(question: &Question) -> u8 {
-    question.client.as_slice().first().copied().unwrap_or(0)
+    question.client().first().copied().unwrap_or(0)
 }
 
 fn agent<R: Abort>(rt: &R, kind: u16) -> Kind

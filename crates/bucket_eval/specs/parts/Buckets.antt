@@ -5,7 +5,7 @@ use Rattle.cynara_keys.specs.Key.{key_cmp}
 use Rattle.cynara_keys.specs.PolicyResult.{result_cmp}
 use Rattle.std.specs.Option.{option_map}
 use Rattle.cynara_keys.specs.declared.keys.Policy.{Policy}
-use Rattle.cynara_keys.specs.declared.keys.Question.{Question}
+use Rattle.cynara_keys.specs.Key.{Question}
 use Rattle.bucket_store.specs.Bucket.{Bucket}
 use Rattle.bucket_store.specs.Database.{database_of}
 use Rattle.bucket_eval.specs.Evaluation.{Outcome, Contribution, contribution, answer_within}

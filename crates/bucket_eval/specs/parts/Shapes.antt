@@ -8,7 +8,7 @@ use Rattle.cynara_keys.specs.declared.fields.Field.{Field}
 use Rattle.cynara_keys.specs.declared.fields.Field.TheVariants.{Any, Exact}
 use Rattle.cynara_keys.specs.declared.keys.Key.{Key}
 use Rattle.cynara_keys.specs.declared.keys.Policy.{Policy}
-use Rattle.cynara_keys.specs.declared.keys.Question.{Question}
+use Rattle.cynara_keys.specs.Key.{Question}
 use Rattle.bucket_store.specs.parts.Closure.{OnlyAt}
 use Rattle.bucket_eval.specs.Evaluation.{Contribution}
 

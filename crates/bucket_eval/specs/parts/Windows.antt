@@ -5,7 +5,7 @@ use Rattle.cynara_keys.specs.Field.{field_text}
 use Rattle.cynara_keys.specs.Key.{key_matches}
 use Rattle.cynara_keys.specs.Text.{same_text, text_cmp}
 use Rattle.cynara_keys.specs.declared.keys.Policy.{Policy}
-use Rattle.cynara_keys.specs.declared.keys.Question.{Question}
+use Rattle.cynara_keys.specs.Key.{Question}
 use Rattle.bucket_eval.specs.declared.windows.Window.{Window}
 
 -- a place that is not in the window

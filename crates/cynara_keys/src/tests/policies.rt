@@ -22,11 +22,15 @@ fn filter(alloc: Global, [client, user, privilege]: Texts<'_>) -> Result<Filter,
 }
 
 fn question(alloc: Global, [client, user, privilege]: Texts<'_>) -> Result<Question, NameRefusal> {
-    Ok(Question {
-        client: Name::read(alloc, client)?,
-        user: Name::read(alloc, user)?,
-        privilege: Name::read(alloc, privilege)?,
-    })
+    let client = Name::read(alloc, client)?;
+    let user = Name::read(alloc, user)?;
+    let privilege = Name::read(alloc, privilege)?;
+    Ok(Question::of(
+        alloc,
+        client.as_slice(),
+        user.as_slice(),
+        privilege.as_slice(),
+    )?)
 }
 
 // Keys, and whether they match the question `c`, `u`, `p`.

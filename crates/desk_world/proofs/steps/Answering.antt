@@ -6,7 +6,7 @@ use Rattle.std.proofs.lemmas.List.Elements.{All-push}
 use Rattle.std.proofs.lemmas.Option.{none-some}
 use Rattle.std.specs.Cmp.Lexicographic.{same_text as same_bytes}
 use Rattle.cynara_keys.specs.Text.{same_text}
-use Rattle.cynara_keys.specs.declared.keys.Question.{Question}
+use Rattle.cynara_keys.specs.Key.{Question}
 use Rattle.desk_world.specs.Client.{Client}
 use Rattle.desk_world.specs.World.{World, root_answer, client_of}
 use Rattle.desk_world.specs.Clients.{same_question, given, hit, kept}

@@ -4,7 +4,7 @@ use Rattle.std.specs.Prelude.{slice_get, nat_le, max}
 use Rattle.std.proofs.lemmas.Bool.{leb-true}
 use Rattle.std.proofs.lemmas.List.Elements.{All-push}
 use Rattle.std.proofs.Math.Nat.{le-max_left, max-le}
-use Rattle.cynara_keys.specs.declared.keys.Question.{Question}
+use Rattle.cynara_keys.specs.Key.{Question}
 use Rattle.desk_world.specs.Client.{Client}
 use Rattle.desk_world.specs.World.{World, with_client, client_of}
 use Rattle.desk_world.specs.Clients.{new_ask, asked, kept, tell}

@@ -42,11 +42,10 @@ fn kind(words: &[&str], at: usize) -> Kind {
 }
 
 fn question(alloc: Global, words: &[&str], at: usize) -> Result<Question, Fail> {
-    Ok(Question {
-        client: Name::read(alloc, b"c")?,
-        user: Name::read(alloc, b"u")?,
-        privilege: Name::read(alloc, word(words, at).as_bytes())?,
-    })
+    let client = Name::read(alloc, b"c")?;
+    let user = Name::read(alloc, b"u")?;
+    let privilege = Name::read(alloc, word(words, at).as_bytes())?;
+    Ok(Question::of(alloc, client.as_slice(), user.as_slice(), privilege.as_slice())?)
 }
 
 // For everyone.

@@ -198,9 +198,9 @@ fn show_filter(filter: &Filter, out: &mut Bytes) -> Result<(), AllocError> {
 }
 
 fn show_question(question: &Question, out: &mut Bytes) -> Result<(), AllocError> {
-    show_text(question.client.as_slice(), out)?;
-    show_text(question.user.as_slice(), out)?;
-    show_text(question.privilege.as_slice(), out)
+    show_text(question.client(), out)?;
+    show_text(question.user(), out)?;
+    show_text(question.privilege(), out)
 }
 
 fn show_result(ruling: &PolicyResult, out: &mut Bytes) -> Result<(), AllocError> {

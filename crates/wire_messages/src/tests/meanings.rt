@@ -55,7 +55,7 @@ const MEANT: &[(Heard, &[u8], &str)] = &[
     (
         Heard::AtAdmin,
         b"\0\0\0\x0f\0\x0b\x1b\0\0\x01\0\x01c\0\x01u\0\x01p",
-        "AdminCheck { bucket: BucketName { bytes: [] }, recursive: true, question: Question { client: Name { bytes: [99] }",
+        "AdminCheck { bucket: BucketName { bytes: [] }, recursive: true, question: Question { client: [99]",
     ),
     (
         Heard::AtAgent,
@@ -95,7 +95,7 @@ const MEANT: &[(Heard, &[u8], &str)] = &[
     (
         Heard::AgentReplies,
         b"\0\0\0\x14\0\x05\xa2\0\0\0\x05\0\x01c\0\x01u\0\x01p\0\x0a\0\0",
-        "AgentQuestion { number: 5, question: Question { client: Name { bytes: [99] }, user: Name { bytes: [117] }, privil",
+        "AgentQuestion { number: 5, question: Question { client: [99], user: [117], privil",
     ),
 ];
 
