@@ -8,5 +8,5 @@ returns-clause-outside c =
     both-outside c.args.question.now c.args.policies.now c.covering.result c.window_of_client-own.result
     c.window_of_client-any.result c.covering.ensures.covers
     (subst (λ client. FailsOutside (has_client client) c.window_of_client-own.result c.args.policies.now)
-    c.as_slice.ensures.bytes c.window_of_client-own.ensures.outside)
+    c.client.ensures.bytes c.window_of_client-own.ensures.outside)
     c.window_of_client-any.ensures.outside
