@@ -44,7 +44,12 @@ fn question(alloc: Global, [client, user, privilege]: [&str; 3]) -> Result<Quest
     let client = Name::read(alloc, client.as_bytes())?;
     let user = Name::read(alloc, user.as_bytes())?;
     let privilege = Name::read(alloc, privilege.as_bytes())?;
-    Ok(Question::of(alloc, client.as_slice(), user.as_slice(), privilege.as_slice())?)
+    Ok(Question::of(
+        alloc,
+        client.as_slice(),
+        user.as_slice(),
+        privilege.as_slice(),
+    )?)
 }
 
 // The place that decides whether `c` may use `p` for `u`.

@@ -11,8 +11,9 @@ use std::alloc::Global;
 use std::collections::VecDeque;
 use std::marker::Model;
 
-/// Reads messages from bytes that come in pieces, however they were cut. A byte is copied once, into the frame that is
-/// not whole yet, and is not moved when the next piece comes. No memory is taken for bytes that are not there.
+/// Reads messages from bytes that come in pieces, however they were cut. A frame that stands whole in a piece is read
+/// there; a byte of one that does not is copied once, into the frame that is not whole yet, and is not moved when the
+/// next piece comes. No memory is taken for bytes that are not there.
 #[derive(Drop)]
 pub struct Feeder {
     alloc: Global,

@@ -33,7 +33,12 @@ fn question(alloc: Global, client: &[u8]) -> Result<Question, Fail> {
     let client = Name::read(alloc, client)?;
     let user = Name::read(alloc, b"u")?;
     let privilege = Name::read(alloc, b"p")?;
-    Ok(Question::of(alloc, client.as_slice(), user.as_slice(), privilege.as_slice())?)
+    Ok(Question::of(
+        alloc,
+        client.as_slice(),
+        user.as_slice(),
+        privilege.as_slice(),
+    )?)
 }
 
 fn client(question: &Question) -> u8 {

@@ -45,7 +45,12 @@ fn question(alloc: Global, words: &[&str], at: usize) -> Result<Question, Fail> 
     let client = Name::read(alloc, b"c")?;
     let user = Name::read(alloc, b"u")?;
     let privilege = Name::read(alloc, word(words, at).as_bytes())?;
-    Ok(Question::of(alloc, client.as_slice(), user.as_slice(), privilege.as_slice())?)
+    Ok(Question::of(
+        alloc,
+        client.as_slice(),
+        user.as_slice(),
+        privilege.as_slice(),
+    )?)
 }
 
 // For everyone.
