@@ -8,7 +8,7 @@ ghost use Rattle.std.specs.Cmp.{partial_order_from_own_ties, both_tied};
 ghost use Rattle.std.specs.Cmp.Rules.{comparing};
 
 use crate::shared::Shared;
-use crate::{Field, FilterField, PolicyResult, Question};
+use crate::{BorrowedQuestion, Field, FilterField, PolicyResult, Question};
 use std::alloc::{AllocError, Global};
 use std::cmp::Ordering;
 
@@ -39,6 +39,13 @@ pub struct Policy {
 impl Key {
     /// Whether the policy under this key speaks of the question: each field is the wildcard or the question's name.
     pub fn matches(&self, question: &Question) -> bool
+        ensures { result ≡ key_matches self.now question.now }
+    {
+        self.matches_borrowed(&question.borrowed())
+    }
+
+    /// The same of a question whose names stand elsewhere.
+    pub fn matches_borrowed(&self, question: &BorrowedQuestion<'_>) -> bool
         ensures { result ≡ key_matches self.now question.now }
     {
         self.client.matches(question.client())

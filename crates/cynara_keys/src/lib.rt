@@ -4,6 +4,7 @@
 //! texts, the numbers of the kinds and the order of keys are this project's profile.
 #![tactic(auto)]
 
+mod borrowed_questions;
 mod bucket_names;
 mod bytes;
 mod fields;
@@ -16,6 +17,7 @@ mod results;
 mod shared;
 mod short_texts;
 
+pub use borrowed_questions::BorrowedQuestion;
 pub use bucket_names::{BucketName, BucketNameRefusal};
 pub use fields::{Field, FilterField, field_fault};
 pub use keys::{Filter, Key, Policy};

@@ -4,12 +4,13 @@ ghost use Rattle.std.specs.Cmp.Rules.{comparing};
 ghost use Rattle.cynara_keys.specs.Key.{same_question};
 ghost use Rattle.cynara_keys.specs.Name.{name_fault};
 
+use crate::BorrowedQuestion;
 use std::alloc::{AllocError, Global};
 use std::fmt;
 use std::marker::Model;
 
-/// What a check asks: whether this client may use this privilege for this user. The three names stand in one block of memory,
-/// one behind the other.
+/// What a check asks: whether this client may use this privilege for this user. The three names stand in one block of
+/// memory, one behind the other.
 #[derive(Drop)]
 pub struct Question {
     names: Vec<u8>,
@@ -76,6 +77,13 @@ impl Question {
         ensures name { name_fault self.now.privilege ≡ None }
     {
         &self.names[usize::from(self.privilege)..]
+    }
+
+    /// The question, by the names that stand here.
+    pub fn borrowed(&self) -> BorrowedQuestion<'_>
+        ensures { result ≡ self.now }
+    {
+        BorrowedQuestion::of(self.client(), self.user(), self.privilege())
     }
 
     /// An equal question, with a block of its own.

@@ -11,9 +11,12 @@ named names user privilege = record {
   privilege = drop privilege names;
 }
 
+pub record HasNames (question : Question) : Type 0 where
+  pub client : name_fault question.client ≡ None
+  pub user : name_fault question.user ≡ None
+  pub privilege : name_fault question.privilege ≡ None
+
 pub record IsNamed (names : List ℕ) (user privilege : ℕ) : Type 0 where
   pub rising : user ≤ privilege
   pub within : privilege ≤ length names
-  pub client : name_fault (named names user privilege).client ≡ None
-  pub user_is : name_fault (named names user privilege).user ≡ None
-  pub privilege_is : name_fault (named names user privilege).privilege ≡ None
+  pub are_names : HasNames (named names user privilege)
