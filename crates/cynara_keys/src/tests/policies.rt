@@ -25,12 +25,13 @@ fn question(alloc: Global, [client, user, privilege]: Texts<'_>) -> Result<Quest
     let client = Name::read(alloc, client)?;
     let user = Name::read(alloc, user)?;
     let privilege = Name::read(alloc, privilege)?;
-    Ok(Question::of(
+    Question::of(
         alloc,
         client.as_slice(),
         user.as_slice(),
         privilege.as_slice(),
-    )?)
+    )
+    .map_err(NameRefusal::Memory)
 }
 
 // Keys, and whether they match the question `c`, `u`, `p`.
