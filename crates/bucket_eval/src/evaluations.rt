@@ -5,13 +5,29 @@ ghost use Rattle.bucket_eval.specs.Found.{outcome_at, answer_of, row_of};
 use crate::answers::{Answer, Cause, Found, Row};
 use crate::nested::{Asked, within};
 use bucket_store::{Bucket, Database};
-use cynara_keys::{BucketName, Key, Policy, PolicyResult, Question, Short};
+use cynara_keys::{BorrowedQuestion, BucketName, Key, Policy, PolicyResult, Question, Short};
 
 /// What the bucket at the place `start` answers to the question: of the results of its policies that match, and, if
 /// `recursive`, of the answers of the buckets that they point to, the least by kind, then by metadata and then by key
 /// that isn't NONE, and else its fallback. Takes no memory. Eight binary searches of each bucket's policies, each time
 /// that it is reached; a bucket may be reached by many ways.
 pub fn plain(database: &Database, start: usize, question: &Question, recursive: bool) -> Found
+    requires { start < length database.now.buckets }
+    ensures answer { IfSome (slice_get database.now.buckets start) (λ heading.
+        outcome_at database.now result ≡ Some (answer database.now heading.name question.now recursive)) }
+    ensures kind { IfSome (outcome_at database.now result) (λ outcome. result.kind.0 ≡ outcome.result.kind) }
+    ensures there { IsSome (outcome_at database.now result) }
+{
+    plain_borrowed(database, start, &question.borrowed(), recursive)
+}
+
+/// The same for a question whose names stand elsewhere.
+pub fn plain_borrowed(
+    database: &Database,
+    start: usize,
+    question: &BorrowedQuestion<'_>,
+    recursive: bool,
+) -> Found
     requires { start < length database.now.buckets }
     ensures answer { IfSome (slice_get database.now.buckets start) (λ heading.
         outcome_at database.now result ≡ Some (answer database.now heading.name question.now recursive)) }

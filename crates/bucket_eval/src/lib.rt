@@ -19,7 +19,7 @@ mod windows;
 
 pub use answers::{Answer, Cause, Found, Row, Verdict};
 use cynara_keys::{Kind, Policy, Question};
-pub use evaluations::{describe, plain};
+pub use evaluations::{describe, plain, plain_borrowed};
 
 /// The place of the policy that decides the question, from 0: the least by result (kind, then metadata) and then by key
 /// of the policies that match the question and whose result isn't NONE, and the first of equal ones. `None` where there

@@ -17,7 +17,7 @@ use crate::answers::Found;
 use crate::shapes::{SHAPES, place_of_shape};
 use crate::windows::{Window, window_of};
 use bucket_store::Bucket;
-use cynara_keys::{Key, Kind, Policy, PolicyResult, Question};
+use cynara_keys::{BorrowedQuestion, Key, Kind, Policy, PolicyResult};
 
 /// A pass over so many policies costs less than a search for each shape.
 const FEW: usize = 64;
@@ -41,7 +41,7 @@ pub struct Offer<'a> {
 #[derive(Clone, Copy)]
 pub struct Asked<'a> {
     pub buckets: &'a [Bucket],
-    pub question: &'a Question,
+    pub question: &'a BorrowedQuestion<'a>,
     pub deep: bool,
 }
 
@@ -180,7 +180,7 @@ fn offer_of<'a>(
         (offered asked.entry.buckets.now asked.entry.question.now asked.entry.deep most bucket.now.name policy.now)
         result }
 {
-    if !policy.key.matches(asked.question) {
+    if !policy.key.matches_borrowed(asked.question) {
         return None;
     }
     match answered(asked, at, bucket, place, policy, most) {

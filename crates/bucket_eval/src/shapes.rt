@@ -9,14 +9,18 @@ ghost use Rattle.bucket_store.specs.parts.Search.{StandsAt, BelongsAt};
 ghost use Rattle.bucket_eval.specs.parts.Shapes as shapes;
 ghost use Rattle.bucket_eval.specs.parts.Shapes.{FitsAt};
 
-use cynara_keys::{Field, Key, Policy, Question};
+use cynara_keys::{BorrowedQuestion, Field, Key, Policy};
 use std::cmp::Ordering;
 
 /// How many shapes there are: each of three fields is the wildcard or a name.
 pub const SHAPES: usize = 8;
 
 /// Where the policy stands whose key has this shape and matches the question, found by halving.
-pub fn place_of_shape(policies: &[Policy], question: &Question, shape: usize) -> Option<usize>
+pub fn place_of_shape(
+    policies: &[Policy],
+    question: &BorrowedQuestion<'_>,
+    shape: usize,
+) -> Option<usize>
     requires { IsStrictlySortedBy policy_cmp policies.now }
     ensures { FitsAt question.now shape policies.now result }
 {
@@ -32,7 +36,11 @@ pub fn place_of_shape(policies: &[Policy], question: &Question, shape: usize) ->
 }
 
 // Where the key of this shape stands, from 0, or where one belongs.
-fn place_of_sought(policies: &[Policy], question: &Question, shape: usize) -> Result<usize, usize>
+fn place_of_sought(
+    policies: &[Policy],
+    question: &BorrowedQuestion<'_>,
+    shape: usize,
+) -> Result<usize, usize>
     requires { IsStrictlySortedBy policy_cmp policies.now }
     ensures found { IfOk result
         (StandsAt (λ policy. key_cmp policy.key (shapes.sought question.now shape)) policies.now) }
@@ -45,7 +53,7 @@ fn place_of_sought(policies: &[Policy], question: &Question, shape: usize) -> Re
 }
 
 // How the key compares with the one that has the question's names, but the wildcard where the shape has it.
-fn compare(key: &Key, question: &Question, shape: usize) -> Ordering
+fn compare(key: &Key, question: &BorrowedQuestion<'_>, shape: usize) -> Ordering
     ensures { result ≡ key_cmp key.now (shapes.sought question.now shape) }
 {
     compare_field(&key.client, question.client(), shape >= 4)
@@ -63,10 +71,10 @@ fn compare_field(field: &Field, name: &[u8], wild: bool) -> Ordering
 }
 
 // Whether the policy's key has this shape and matches the question.
-fn fits(policy: &Policy, question: &Question, shape: usize) -> bool
+fn fits(policy: &Policy, question: &BorrowedQuestion<'_>, shape: usize) -> bool
     ensures { result ≡ shapes.fits question.now shape policy.now }
 {
-    policy.key.matches(question) && shape_of(&policy.key) == shape
+    policy.key.matches_borrowed(question) && shape_of(&policy.key) == shape
 }
 
 fn shape_of(key: &Key) -> usize

@@ -6,7 +6,7 @@ ghost use Rattle.bucket_store.specs.Order.{policy_cmp};
 ghost use Rattle.bucket_eval.specs.parts.Windows as windows;
 ghost use Rattle.bucket_eval.specs.parts.Windows.{FailsOutside, Covers};
 
-use cynara_keys::{Policy, Question};
+use cynara_keys::{BorrowedQuestion, Policy};
 
 /// The places from `start` on, and before `end`.
 #[derive(Clone, Copy)]
@@ -17,7 +17,7 @@ pub struct Window {
 
 /// A window outside of which no policy matches the question: from the first policy of its client or of any client to the
 /// last, or longer where these are not few. Of few policies it is all.
-pub fn window_of(policies: &[Policy], question: &Question, few: usize) -> Window
+pub fn window_of(policies: &[Policy], question: &BorrowedQuestion<'_>, few: usize) -> Window
     requires { IsStrictlySortedBy policy_cmp policies.now }
     ensures order { result.start ≤ result.end }
     ensures within { result.end ≤ length policies.now }

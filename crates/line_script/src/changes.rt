@@ -47,7 +47,7 @@ pub(crate) fn unset_line(alloc: Global, words: &mut Words) -> Result<Change, Lin
 
 /// The same two lines outside a batch.
 #[inline(never)]
-pub(crate) fn set_step(alloc: Global, words: &mut Words) -> Result<Step, LineRefusal>
+pub(crate) fn set_step<'a>(alloc: Global, words: &mut Words<'a>) -> Result<Step<'a>, LineRefusal>
     ensures step { Gives result (option_map change_step (set_at words.old)) }
     ensures asked { IfOk result AsksRequest }
 {
@@ -56,7 +56,7 @@ pub(crate) fn set_step(alloc: Global, words: &mut Words) -> Result<Step, LineRef
 }
 
 #[inline(never)]
-pub(crate) fn unset_step(alloc: Global, words: &mut Words) -> Result<Step, LineRefusal>
+pub(crate) fn unset_step<'a>(alloc: Global, words: &mut Words<'a>) -> Result<Step<'a>, LineRefusal>
     ensures step { Gives result (option_map change_step (unset_at words.old)) }
     ensures asked { IfOk result AsksRequest }
 {
@@ -65,7 +65,7 @@ pub(crate) fn unset_step(alloc: Global, words: &mut Words) -> Result<Step, LineR
 }
 
 /// One change, as a command of its own.
-fn one_change(alloc: Global, change: Change) -> Result<Step, LineRefusal>
+fn one_change<'a>(alloc: Global, change: Change) -> Result<Step<'a>, LineRefusal>
     ensures step { Gives result (Some (change_step change)) }
     ensures asked { IfOk result AsksRequest }
 {
@@ -74,5 +74,5 @@ fn one_change(alloc: Global, change: Change) -> Result<Step, LineRefusal>
         .map_err(AllocError::from)
         .map_err(LineRefusal::Memory)?;
     let changes = Changes::of(list);
-    Ok(Step::Command(Command::SetPolicies { changes }))
+    Step::of_command(alloc, Command::SetPolicies { changes })
 }

@@ -16,7 +16,7 @@ use std::alloc::Global;
 /// `bucket BUCKET RESULT`.
 #[tactic(auto, unfolding(crate::specs::Grammar::set_bucket_at))]
 #[inline(never)]
-pub(crate) fn bucket_line(alloc: Global, words: &mut Words) -> Result<Step, LineRefusal>
+pub(crate) fn bucket_line<'a>(alloc: Global, words: &mut Words<'a>) -> Result<Step<'a>, LineRefusal>
     ensures step { Gives result (set_bucket_at words.old) }
     ensures asked { IfOk result AsksRequest }
 {
@@ -25,13 +25,13 @@ pub(crate) fn bucket_line(alloc: Global, words: &mut Words) -> Result<Step, Line
     let Some(()) = end_word(words) else {
         return Err(LineRefusal::Syntax);
     };
-    Ok(Step::Command(Command::SetBucket { bucket, fallback }))
+    Step::of_command(alloc, Command::SetBucket { bucket, fallback })
 }
 
 /// `drop BUCKET`.
 #[tactic(auto, unfolding(crate::specs::Grammar::drop_at))]
 #[inline(never)]
-pub(crate) fn drop_line(alloc: Global, words: &mut Words) -> Result<Step, LineRefusal>
+pub(crate) fn drop_line<'a>(alloc: Global, words: &mut Words<'a>) -> Result<Step<'a>, LineRefusal>
     ensures step { Gives result (drop_at words.old) }
     ensures asked { IfOk result AsksRequest }
 {
@@ -39,13 +39,13 @@ pub(crate) fn drop_line(alloc: Global, words: &mut Words) -> Result<Step, LineRe
     let Some(()) = end_word(words) else {
         return Err(LineRefusal::Syntax);
     };
-    Ok(Step::Command(Command::RemoveBucket { bucket }))
+    Step::of_command(alloc, Command::RemoveBucket { bucket })
 }
 
 /// `erase BUCKET FILTER FILTER FILTER`.
 #[tactic(auto, unfolding(crate::specs::Grammar::erase_at))]
 #[inline(never)]
-pub(crate) fn erase_line(alloc: Global, words: &mut Words) -> Result<Step, LineRefusal>
+pub(crate) fn erase_line<'a>(alloc: Global, words: &mut Words<'a>) -> Result<Step<'a>, LineRefusal>
     ensures step { Gives result (erase_at words.old) }
     ensures asked { IfOk result AsksRequest }
 {
@@ -54,26 +54,26 @@ pub(crate) fn erase_line(alloc: Global, words: &mut Words) -> Result<Step, LineR
     let Some(()) = end_word(words) else {
         return Err(LineRefusal::Syntax);
     };
-    Ok(Step::Command(Command::Erase { bucket, filter }))
+    Step::of_command(alloc, Command::Erase { bucket, filter })
 }
 
 /// `layout`.
 #[tactic(auto, unfolding(crate::specs::Grammar::layout_at))]
 #[inline(never)]
-pub(crate) fn layout_line(words: &mut Words) -> Result<Step, LineRefusal>
+pub(crate) fn layout_line<'a>(alloc: Global, words: &mut Words<'a>) -> Result<Step<'a>, LineRefusal>
     ensures step { Gives result (layout_at words.old) }
     ensures asked { IfOk result AsksRequest }
 {
     let Some(()) = end_word(words) else {
         return Err(LineRefusal::Syntax);
     };
-    Ok(Step::Command(Command::Layout))
+    Step::of_command(alloc, Command::Layout)
 }
 
 /// `user UID TYPE`.
 #[tactic(auto, unfolding(crate::specs::Grammar::user_at))]
 #[inline(never)]
-pub(crate) fn user_line(words: &mut Words) -> Result<Step, LineRefusal>
+pub(crate) fn user_line<'a>(alloc: Global, words: &mut Words<'a>) -> Result<Step<'a>, LineRefusal>
     ensures step { Gives result (user_at words.old) }
     ensures asked { IfOk result AsksRequest }
 {
@@ -82,13 +82,13 @@ pub(crate) fn user_line(words: &mut Words) -> Result<Step, LineRefusal>
     let Some(()) = end_word(words) else {
         return Err(LineRefusal::Syntax);
     };
-    Ok(Step::Command(Command::UserSet { uid, kind }))
+    Step::of_command(alloc, Command::UserSet { uid, kind })
 }
 
 /// `nouser UID`.
 #[tactic(auto, unfolding(crate::specs::Grammar::nouser_at))]
 #[inline(never)]
-pub(crate) fn nouser_line(words: &mut Words) -> Result<Step, LineRefusal>
+pub(crate) fn nouser_line<'a>(alloc: Global, words: &mut Words<'a>) -> Result<Step<'a>, LineRefusal>
     ensures step { Gives result (nouser_at words.old) }
     ensures asked { IfOk result AsksRequest }
 {
@@ -96,13 +96,13 @@ pub(crate) fn nouser_line(words: &mut Words) -> Result<Step, LineRefusal>
     let Some(()) = end_word(words) else {
         return Err(LineRefusal::Syntax);
     };
-    Ok(Step::Command(Command::UserRemove { uid }))
+    Step::of_command(alloc, Command::UserRemove { uid })
 }
 
 /// `remove APP SCOPE`.
 #[tactic(auto, unfolding(crate::specs::Grammar::remove_at))]
 #[inline(never)]
-pub(crate) fn remove_line(alloc: Global, words: &mut Words) -> Result<Step, LineRefusal>
+pub(crate) fn remove_line<'a>(alloc: Global, words: &mut Words<'a>) -> Result<Step<'a>, LineRefusal>
     ensures step { Gives result (remove_at words.old) }
     ensures asked { IfOk result AsksRequest }
 {
@@ -111,5 +111,5 @@ pub(crate) fn remove_line(alloc: Global, words: &mut Words) -> Result<Step, Line
     let Some(()) = end_word(words) else {
         return Err(LineRefusal::Syntax);
     };
-    Ok(Step::Command(Command::Uninstall { app, scope }))
+    Step::of_command(alloc, Command::Uninstall { app, scope })
 }

@@ -17,7 +17,10 @@ use std::alloc::{AllocError, Global};
 /// `install PACKAGE AUTHOR APP SCOPE` and any number of privileges.
 #[tactic(auto, unfolding(crate::specs::Grammar::install_at))]
 #[inline(never)]
-pub(crate) fn install_line(alloc: Global, words: &mut Words) -> Result<Step, LineRefusal>
+pub(crate) fn install_line<'a>(
+    alloc: Global,
+    words: &mut Words<'a>,
+) -> Result<Step<'a>, LineRefusal>
     ensures step { Gives result (install_at words.old) }
     ensures asked { IfOk result AsksRequest }
 {
@@ -34,7 +37,7 @@ pub(crate) fn install_line(alloc: Global, words: &mut Words) -> Result<Step, Lin
         scope,
         privileges,
     };
-    Ok(Step::Command(Command::Install { install }))
+    Step::of_command(alloc, Command::Install { install })
 }
 
 /// The names that are left on the line.

@@ -19,7 +19,7 @@ use std::alloc::Global;
 
 /// The step of a line that stands outside a block and is neither blank nor a comment.
 #[tactic(auto, unfolding(crate::specs::Grammar::lone_step))]
-pub(crate) fn lone_step(alloc: Global, line: &[u8]) -> Result<Step, LineRefusal>
+pub(crate) fn lone_step<'a>(alloc: Global, line: &'a [u8]) -> Result<Step<'a>, LineRefusal>
     ensures step { Gives result (lone_step line.now) }
     ensures asked { IfOk result AsksRequest }
 {
@@ -59,7 +59,11 @@ fn change_behind(alloc: Global, verb: Verb, words: &mut Words) -> Result<Change,
 /// Each line but the most frequent one, `check`, has a function of its own that is not inlined: a function pays at its
 /// entry for all that it may hold.
 #[tactic(auto, unfolding(crate::specs::Grammar::line_at))]
-fn line_behind(alloc: Global, verb: Verb, words: &mut Words) -> Result<Step, LineRefusal>
+fn line_behind<'a>(
+    alloc: Global,
+    verb: Verb,
+    words: &mut Words<'a>,
+) -> Result<Step<'a>, LineRefusal>
     ensures step { Gives result (line_at verb words.old) }
     ensures asked { IfOk result AsksRequest }
 {
@@ -69,13 +73,13 @@ fn line_behind(alloc: Global, verb: Verb, words: &mut Words) -> Result<Step, Lin
         Verb::Bucket => bucket_line(alloc, words),
         Verb::Drop => drop_line(alloc, words),
         Verb::Erase => erase_line(alloc, words),
-        Verb::Layout => layout_line(words),
-        Verb::User => user_line(words),
-        Verb::NoUser => nouser_line(words),
+        Verb::Layout => layout_line(alloc, words),
+        Verb::User => user_line(alloc, words),
+        Verb::NoUser => nouser_line(alloc, words),
         Verb::Install => install_line(alloc, words),
         Verb::Remove => remove_line(alloc, words),
         Verb::List => list_line(alloc, words),
-        Verb::Check => check_line(alloc, words),
+        Verb::Check => check_line(words),
         Verb::From => from_line(alloc, words),
         Verb::Access => access_line(alloc, words),
         Verb::Status => status_line(words),

@@ -6,7 +6,7 @@ ghost use Rattle.line_script.specs.parts.Reading.{GivesWord};
 use crate::line_words::Words;
 use crate::steps::LineRefusal;
 use crate::word_forms::{field_text, filter_word, name_text};
-use cynara_keys::{Filter, Key, Question};
+use cynara_keys::{BorrowedQuestion, Filter, Key};
 use std::alloc::Global;
 
 /// `CLIENT USER PRIVILEGE` of a policy.
@@ -20,15 +20,15 @@ pub(crate) fn key_words(alloc: Global, words: &mut Words) -> Result<Key, LineRef
     Key::of(alloc, client, user, privilege).map_err(LineRefusal::Memory)
 }
 
-/// `CLIENT USER PRIVILEGE` of a question.
+/// `CLIENT USER PRIVILEGE` of a question, whose names stay in the line.
 #[tactic(auto, unfolding(crate::specs::Grammar::question_at))]
-pub(crate) fn question_words(alloc: Global, words: &mut Words) -> Result<Question, LineRefusal>
+pub(crate) fn question_words<'a>(words: &mut Words<'a>) -> Result<BorrowedQuestion<'a>, LineRefusal>
     ensures { GivesWord result words.new (question_at words.old) }
 {
     let client = name_text(words)?;
     let user = name_text(words)?;
     let privilege = name_text(words)?;
-    Question::of(alloc, client, user, privilege).map_err(LineRefusal::Memory)
+    Ok(BorrowedQuestion::of(client, user, privilege))
 }
 
 /// `FILTER FILTER FILTER`.

@@ -5,6 +5,7 @@ ghost use Rattle.line_script.specs.Grammar.{list_at, check_at, from_at, access_a
 ghost use Rattle.line_script.specs.Turn.{AsksRequest};
 ghost use Rattle.line_script.specs.parts.Reading.{Gives};
 
+use crate::Boxed;
 use crate::line_words::Words;
 use crate::phrases::{filter_words, question_words};
 use crate::steps::{LineRefusal, Step};
@@ -14,7 +15,7 @@ use std::alloc::Global;
 /// `list BUCKET FILTER FILTER FILTER`.
 #[tactic(auto, unfolding(crate::specs::Grammar::list_at))]
 #[inline(never)]
-pub(crate) fn list_line(alloc: Global, words: &mut Words) -> Result<Step, LineRefusal>
+pub(crate) fn list_line<'a>(alloc: Global, words: &mut Words<'a>) -> Result<Step<'a>, LineRefusal>
     ensures step { Gives result (list_at words.old) }
     ensures asked { IfOk result AsksRequest }
 {
@@ -23,17 +24,18 @@ pub(crate) fn list_line(alloc: Global, words: &mut Words) -> Result<Step, LineRe
     let Some(()) = end_word(words) else {
         return Err(LineRefusal::Syntax);
     };
+    let filter = Boxed::of(alloc, filter).map_err(LineRefusal::Memory)?;
     Ok(Step::List { bucket, filter })
 }
 
 /// `check CLIENT USER PRIVILEGE`.
 #[tactic(auto, unfolding(crate::specs::Grammar::check_at))]
 #[inline(always)]
-pub(crate) fn check_line(alloc: Global, words: &mut Words) -> Result<Step, LineRefusal>
+pub(crate) fn check_line<'a>(words: &mut Words<'a>) -> Result<Step<'a>, LineRefusal>
     ensures step { Gives result (check_at words.old) }
     ensures asked { IfOk result AsksRequest }
 {
-    let question = question_words(alloc, words)?;
+    let question = question_words(words)?;
     let Some(()) = end_word(words) else {
         return Err(LineRefusal::Syntax);
     };
@@ -43,13 +45,13 @@ pub(crate) fn check_line(alloc: Global, words: &mut Words) -> Result<Step, LineR
 /// `from BUCKET MODE CLIENT USER PRIVILEGE`.
 #[tactic(auto, unfolding(crate::specs::Grammar::from_at))]
 #[inline(never)]
-pub(crate) fn from_line(alloc: Global, words: &mut Words) -> Result<Step, LineRefusal>
+pub(crate) fn from_line<'a>(alloc: Global, words: &mut Words<'a>) -> Result<Step<'a>, LineRefusal>
     ensures step { Gives result (from_at words.old) }
     ensures asked { IfOk result AsksRequest }
 {
     let bucket = bucket_word(alloc, words)?;
     let deep = depth_word(words)?;
-    let question = question_words(alloc, words)?;
+    let question = question_words(words)?;
     let Some(()) = end_word(words) else {
         return Err(LineRefusal::Syntax);
     };
@@ -63,7 +65,7 @@ pub(crate) fn from_line(alloc: Global, words: &mut Words) -> Result<Step, LineRe
 /// `access SUBJECT OBJECT MODES`.
 #[tactic(auto, unfolding(crate::specs::Grammar::access_at))]
 #[inline(never)]
-pub(crate) fn access_line(alloc: Global, words: &mut Words) -> Result<Step, LineRefusal>
+pub(crate) fn access_line<'a>(alloc: Global, words: &mut Words<'a>) -> Result<Step<'a>, LineRefusal>
     ensures step { Gives result (access_at words.old) }
     ensures asked { IfOk result AsksRequest }
 {
@@ -83,7 +85,7 @@ pub(crate) fn access_line(alloc: Global, words: &mut Words) -> Result<Step, Line
 /// `status`.
 #[tactic(auto, unfolding(crate::specs::Grammar::status_at))]
 #[inline(never)]
-pub(crate) fn status_line(words: &mut Words) -> Result<Step, LineRefusal>
+pub(crate) fn status_line<'a>(words: &mut Words<'a>) -> Result<Step<'a>, LineRefusal>
     ensures step { Gives result (status_at words.old) }
     ensures asked { IfOk result AsksRequest }
 {

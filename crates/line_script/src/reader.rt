@@ -76,7 +76,7 @@ impl Reader {
     /// Reads one line, given without its newline. Refuses `Syntax` exactly where the line is outside the grammar, unless
     /// memory runs out first; every line behind a refused one is outside.
     #[tactic(auto, unfolding(crate::specs::Grammar::step_at))]
-    pub fn line(&mut self, line: &[u8]) -> Result<Step, LineRefusal>
+    pub fn line<'a>(&mut self, line: &'a [u8]) -> Result<Step<'a>, LineRefusal>
         ensures turn { Turns (step_at self.old line.now) result self.new }
         ensures asked { IfOk result AsksRequest }
     {
@@ -97,7 +97,7 @@ impl Reader {
     }
 
     #[tactic(auto, unfolding(crate::specs::Grammar::outside_at))]
-    fn line_outside(&mut self, line: &[u8]) -> Result<Step, LineRefusal>
+    fn line_outside<'a>(&mut self, line: &'a [u8]) -> Result<Step<'a>, LineRefusal>
         requires { self.old ≡ outside }
         ensures turn { Turns (outside_at line.now) result self.new }
         ensures asked { IfOk result AsksRequest }
@@ -123,7 +123,11 @@ impl Reader {
     }
 
     #[tactic(auto, unfolding(crate::specs::Grammar::batch_at))]
-    fn line_of_batch(&mut self, mut changes: Vec<Change>, line: &[u8]) -> Result<Step, LineRefusal>
+    fn line_of_batch<'a>(
+        &mut self,
+        mut changes: Vec<Change>,
+        line: &[u8],
+    ) -> Result<Step<'a>, LineRefusal>
         requires { self.old ≡ failed }
         ensures turn { Turns (batch_at changes.items line.now) result self.new }
         ensures asked { IfOk result AsksRequest }
@@ -135,7 +139,7 @@ impl Reader {
         if line == b"end".as_slice() {
             self.place = Place::Outside;
             let changes = Changes::of(changes);
-            return Ok(Step::Command(Command::SetPolicies { changes }));
+            return Step::of_command(self.alloc, Command::SetPolicies { changes });
         }
         let change = lone_change(self.alloc, line)?;
         changes
@@ -147,14 +151,18 @@ impl Reader {
     }
 
     #[tactic(auto, unfolding(crate::specs::Grammar::template_at))]
-    fn line_of_template(&mut self, mut template: Template, line: &[u8]) -> Result<Step, LineRefusal>
+    fn line_of_template<'a>(
+        &mut self,
+        mut template: Template,
+        line: &[u8],
+    ) -> Result<Step<'a>, LineRefusal>
         requires { self.old ≡ failed }
         ensures turn { Turns (template_at «template» line.now) result self.new }
         ensures asked { IfOk result AsksRequest }
     {
         if line == b"end".as_slice() {
             self.place = Place::Outside;
-            return Ok(Step::Command(Command::SetTemplate { template }));
+            return Step::of_command(self.alloc, Command::SetTemplate { template });
         }
         match template.push_line(line) {
             Ok(()) => {

@@ -1,28 +1,33 @@
-use cynara_keys::{BucketName, Filter, Question};
+ghost use Rattle.std.specs.Prelude.{Some};
+ghost use Rattle.line_script.specs.declared.steps.Step.TheVariants as step;
+ghost use Rattle.line_script.specs.parts.Reading.{Gives};
+
+use crate::Boxed;
+use cynara_keys::{BorrowedQuestion, BucketName, Filter};
 use desk_state::Command;
 use smack_rules::{Label, Modes};
-use std::alloc::AllocError;
+use std::alloc::{AllocError, Global};
 use thiserror::Error;
 
-/// What a line of a script asks for.
+/// What a line of a script asks for. The names of a question stand in the line.
 #[derive(Debug, Drop)]
-pub enum Step {
+pub enum Step<'a> {
     /// Nothing: a blank line, a comment, or a line within a block.
     Nothing,
     /// A change of the policy state. A block is one command, which its last line gives.
-    Command(Command),
+    Command(Boxed<Command>),
     /// The policies of a bucket whose keys the filter admits.
     List {
         bucket: BucketName,
-        filter: Filter,
+        filter: Boxed<Filter>,
     },
     /// The verdict on a question, from the root bucket.
-    Check(Question),
+    Check(BorrowedQuestion<'a>),
     /// The verdict of a bucket on a question. With `deep` the buckets are followed that its policies point to.
     From {
         bucket: BucketName,
         deep: bool,
-        question: Question,
+        question: BorrowedQuestion<'a>,
     },
     /// The decision of Smack under the rules of all packages.
     Access {
@@ -32,6 +37,18 @@ pub enum Step {
     },
     /// The number of the last accepted command.
     Status,
+}
+
+impl<'a> Step<'a> {
+    // The step that is this command.
+    pub(crate) fn of_command(alloc: Global, command: Command) -> Result<Step<'a>, LineRefusal>
+        ensures { Gives result (Some (step.Command command)) }
+    {
+        match Boxed::of(alloc, command) {
+            Ok(command) => Ok(Step::Command(command)),
+            Err(error) => Err(LineRefusal::Memory(error)),
+        }
+    }
 }
 
 /// Why a line gave no step.

@@ -139,7 +139,7 @@ impl LocalScript {
     // Does what the step asks for, and adds its answer to those that wait.
     fn answer_step<K: Sink, D: Disk>(
         &mut self,
-        step: &Step,
+        step: &Step<'_>,
         keeper: &mut Keeper<'_, D>,
         sink: &mut K,
     ) -> Result<(), Ending>
@@ -164,7 +164,7 @@ impl LocalScript {
         ensures same_disk { keeper.new.vault.disk.ghost_name ≡ keeper.old.vault.disk.ghost_name }
     {
         if let Step::Command(command) = step {
-            return self.obey(command, keeper, sink);
+            return self.obey(command.get(), keeper, sink);
         }
         self.ask(keeper.desk(), step)?;
         Ok(())
@@ -224,7 +224,7 @@ impl LocalScript {
     }
 
     // Adds the answer to a question about the policy state to those that wait.
-    fn ask(&mut self, desk: &Desk, question: &Step) -> Result<(), AllocError>
+    fn ask(&mut self, desk: &Desk, question: &Step<'_>) -> Result<(), AllocError>
         requires asked { AsksRequest question.now }
         requires question { IsQuestion question.now }
         requires folded { AreFolded self.old.rules.table desk.now }
@@ -236,7 +236,12 @@ impl LocalScript {
         match question {
             Step::Nothing => Ok(()),
             Step::Command(_) => unreachable!(),
-            Step::List { bucket, filter } => print_list(desk, bucket, filter, &mut self.answers),
+            Step::List { bucket, filter } => print_list(
+                desk,
+                bucket,
+                filter.get(),
+                &mut self.answers,
+            ),
             Step::Check(question) => {
                 let root = BucketName::root(self.alloc);
                 print_from(desk, &root, true, question, &mut self.answers)

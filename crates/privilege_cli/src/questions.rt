@@ -13,9 +13,9 @@ ghost use Rattle.desk_state.specs.declared.refusals.Refusal.TheVariants.{NoBucke
 ghost use Rattle.privilege_cli.specs.Reply.{about, verdict_text, policy_text, list_text, done_text, decided_text};
 ghost use Rattle.privilege_cli.specs.parts.Questions.{WantsMemory};
 
-use bucket_eval::{Found, plain};
+use bucket_eval::{Found, plain_borrowed};
 use bucket_store::{Bucket, Database, StoreRefusal};
-use cynara_keys::{BucketName, Filter, Policy, Question};
+use cynara_keys::{BorrowedQuestion, BucketName, Filter, Policy};
 use desk_ports::Bytes;
 use desk_state::{Command, Desk, Refusal};
 use line_script::{LineAnswer, RuleBroken, print};
@@ -27,7 +27,7 @@ pub fn print_from(
     desk: &Desk,
     bucket: &BucketName,
     deep: bool,
-    question: &Question,
+    question: &BorrowedQuestion<'_>,
     out: &mut Bytes,
 ) -> Result<(), AllocError>
     ensures ok { OnOk result (out.new ≡ out.old ++ about desk.now.database bucket.now
@@ -38,7 +38,7 @@ pub fn print_from(
     let database = desk.database();
     match database.place(bucket) {
         Some(place) => {
-            let found = plain(database, place, question, deep);
+            let found = plain_borrowed(database, place, question, deep);
             print_found(desk.commit(), database, found, out)
         }
         None => print_absent(bucket, out),

@@ -4,7 +4,7 @@ use Rattle.std.proofs.Common.{drop, Option, Some, None, Result, Ok, Err, refl, s
 use Rattle.std.specs.declared.alloc.AllocError.{AllocError}
 use Rattle.std.specs.Int.{w32, from_be_bytes}
 use Rattle.std.proofs.lemmas.Bool.{ltb-false, ltb-true, le-ltb, lt-ltb}
-use Rattle.std.proofs.lemmas.List.{take-append-le, length-append, append-nil, append_assoc, take_all, drop_all}
+use Rattle.std.proofs.lemmas.List.{take-append-le, take-append-drop, length-append, append-nil, append_assoc, take_all, drop_all}
 use Rattle.wire_messages.specs.declared.messages.Framed.{Framed}
 use Rattle.wire_messages.specs.declared.operations.Heard.{Heard}
 use Rattle.wire_messages.specs.declared.refusals.WireRefusal.{WireRefusal}
@@ -16,6 +16,10 @@ use Rattle.wire_messages.specs.Stream.{Feeding, Partial, Wrong, Whole, front_of,
 use Rattle.wire_messages.specs.Stream.{BeginsWrong, IsOpen}
 use Rattle.wire_messages.specs.parts.Feeding.{IsUpTo, Settled, Unsettled, Stepped, Unstepped}
 use Rattle.wire_messages.proofs.Streams.{hears_more, hears_then, wrong_more}
+
+pub cut-in-two : (bytes front left : List ℕ) (count : ℕ) → front ≡ take count bytes → left ≡ drop count bytes
+    → bytes ≡ front ++ left
+cut-in-two bytes front left count of_front of_left = rw (of_front, of_left) (sym (take-append-drop count bytes))
 
 pub begins_wrong : (heard : Heard) (bytes : List ℕ) (refusal : WireRefusal) → first_of heard bytes ≡ Wrong refusal
     → BeginsWrong heard bytes refusal

@@ -3,7 +3,7 @@
 use crate::{LineRefusal, Reader, Step};
 use app_registry::{Install, Scope, UserType};
 use bucket_store::Change;
-use cynara_keys::{Filter, Key, PolicyResult, Question};
+use cynara_keys::{BorrowedQuestion, Filter, Key, PolicyResult};
 use desk_ports::Bytes;
 use desk_state::Command;
 use itoa::Buffer;
@@ -23,19 +23,19 @@ pub fn refusal_of(reader: &mut Reader, line: &[u8]) -> Option<LineRefusal> {
 }
 
 /// The one place where a step is dropped, which is much to prove.
-fn show_and_drop(step: Step, out: &mut Bytes) -> Result<(), AllocError> {
+fn show_and_drop(step: Step<'_>, out: &mut Bytes) -> Result<(), AllocError> {
     show(&step, out)
 }
 
 /// Appends a step in words, with `[ ]` round texts that may be empty.
-fn show(step: &Step, out: &mut Bytes) -> Result<(), AllocError> {
+fn show(step: &Step<'_>, out: &mut Bytes) -> Result<(), AllocError> {
     match step {
         Step::Nothing => out.append(b"nothing"),
-        Step::Command(command) => show_command(command, out),
+        Step::Command(command) => show_command(command.get(), out),
         Step::List { bucket, filter } => {
             out.append(b"list")?;
             show_text(bucket.as_slice(), out)?;
-            show_filter(filter, out)
+            show_filter(filter.get(), out)
         }
         Step::Check(question) => {
             out.append(b"check")?;
@@ -87,7 +87,7 @@ fn show_command(command: &Command, out: &mut Bytes) -> Result<(), AllocError> {
         Command::Erase { bucket, filter } => {
             out.append(b"erase")?;
             show_text(bucket.as_slice(), out)?;
-            show_filter(filter, out)
+            show_filter(filter.get(), out)
         }
         Command::Layout => out.append(b"layout"),
         Command::SetTemplate { template } => {
@@ -197,7 +197,7 @@ fn show_filter(filter: &Filter, out: &mut Bytes) -> Result<(), AllocError> {
     show_text(filter.privilege.as_slice(), out)
 }
 
-fn show_question(question: &Question, out: &mut Bytes) -> Result<(), AllocError> {
+fn show_question(question: &BorrowedQuestion<'_>, out: &mut Bytes) -> Result<(), AllocError> {
     show_text(question.client(), out)?;
     show_text(question.user(), out)?;
     show_text(question.privilege(), out)

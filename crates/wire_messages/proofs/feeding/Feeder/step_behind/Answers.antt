@@ -1,7 +1,6 @@
-use Rattle.std.proofs.Common.{rules, arith, ◌≡◌, ◌++◌, if◌then◌else◌, [], Bool, List, ℕ, take, drop, sym, subst}
-use Rattle.std.proofs.lemmas.List.{take-append-drop}
+use Rattle.std.proofs.Common.{rules, arith, ◌≡◌, ◌++◌, if◌then◌else◌, [], Bool, List, ℕ, sym, subst}
 use Rattle.wire_messages.specs.parts.Feeding.{Settled, Unsettled}
-use Rattle.wire_messages.proofs.Settling.{short_open, step_ok, step_err, feeding}
+use Rattle.wire_messages.proofs.Settling.{cut-in-two, short_open, step_ok, step_err, feeding}
 use Rattle.wire_messages.proofs.feeding.Feeder.step_behind.Goals as goal
 
 pub invariant_of-self-in-Err-settle : goal.invariant_of-self-in-Err-settle
@@ -13,10 +12,7 @@ returns-in-Err-settle-clause-refused c =
     let inside = c.self.inside in
     let front = c.split_at.result.0.now in
     let left = c.split_at.result.1.now in
-    let parts : take c.min-count.result c.args.bytes.now ++ drop c.min-count.result c.args.bytes.now
-    ≡ c.args.bytes.now =
-    take-append-drop c.min-count.result c.args.bytes.now in
-    let whole : c.args.bytes.now ≡ front ++ left = rw (c.split_at.ensures.front, c.split_at.ensures.back) (sym parts) in
+    let whole = cut-in-two c.args.bytes.now front left _ c.split_at.ensures.front c.split_at.ensures.back in
     let grown : c.as_slice.result.now ≡ inside.partial ++ front = search rules in
     let wrong : Unsettled inside.heard (inside.partial ++ front) inside.waiting.items c.settle.new.waiting.items
     c.in-Err-settle.refusal =
@@ -31,10 +27,7 @@ returns-in-Ok-true-clause-stepped c =
     let inside = c.self.inside in
     let front = c.split_at.result.0.now in
     let left = c.split_at.result.1.now in
-    let parts : take c.min-count.result c.args.bytes.now ++ drop c.min-count.result c.args.bytes.now
-    ≡ c.args.bytes.now =
-    take-append-drop c.min-count.result c.args.bytes.now in
-    let whole : c.args.bytes.now ≡ front ++ left = rw (c.split_at.ensures.front, c.split_at.ensures.back) (sym parts) in
+    let whole = cut-in-two c.args.bytes.now front left _ c.split_at.ensures.front c.split_at.ensures.back in
     let all = c.as_slice.result.now in
     let grown : all ≡ inside.partial ++ front = search rules in
     let heard : Settled inside.heard all [] inside.waiting.items c.settle.new.waiting.items =
@@ -53,10 +46,7 @@ returns-in-Ok-false-clause-stepped c =
     let inside = c.self.inside in
     let front = c.split_at.result.0.now in
     let left = c.split_at.result.1.now in
-    let parts : take c.min-count.result c.args.bytes.now ++ drop c.min-count.result c.args.bytes.now
-    ≡ c.args.bytes.now =
-    take-append-drop c.min-count.result c.args.bytes.now in
-    let whole : c.args.bytes.now ≡ front ++ left = rw (c.split_at.ensures.front, c.split_at.ensures.back) (sym parts) in
+    let whole = cut-in-two c.args.bytes.now front left _ c.split_at.ensures.front c.split_at.ensures.back in
     let all = c.as_slice.result.now in
     let grown : all ≡ inside.partial ++ front = search rules in
     let same : all ≡ c.append.new.self = search rules in

@@ -1,7 +1,6 @@
-use Rattle.std.proofs.Common.{rules, ◌≡◌, ◌++◌, if◌then◌else◌, [], Bool, List, ℕ, take, drop, sym, ap, subst}
-use Rattle.std.proofs.lemmas.List.{take-append-drop}
+use Rattle.std.proofs.Common.{rules, ◌≡◌, ◌++◌, if◌then◌else◌, [], Bool, List, ℕ, ap, subst}
 use Rattle.wire_messages.specs.parts.Feeding.{Settled, Unsettled}
-use Rattle.wire_messages.proofs.Settling.{step_ok, step_err, step_lost, feeding}
+use Rattle.wire_messages.proofs.Settling.{cut-in-two, step_ok, step_err, step_lost, feeding}
 use Rattle.wire_messages.proofs.feeding.Feeder.step_in_place.Goals as goal
 
 pub returns-in-Err-clause-refused : goal.returns-in-Err-clause-refused
@@ -9,10 +8,7 @@ returns-in-Err-clause-refused c =
     let inside = c.self.inside in
     let front = c.split_at.result.0.now in
     let left = c.split_at.result.1.now in
-    let parts : take c.min-count.result c.args.bytes.now ++ drop c.min-count.result c.args.bytes.now
-    ≡ c.args.bytes.now =
-    take-append-drop c.min-count.result c.args.bytes.now in
-    let whole : c.args.bytes.now ≡ front ++ left = rw (c.split_at.ensures.front, c.split_at.ensures.back) (sym parts) in
+    let whole = cut-in-two c.args.bytes.now front left _ c.split_at.ensures.front c.split_at.ensures.back in
     let empty : inside.partial ≡ [] = search rules in
     let wrong : Unsettled inside.heard (inside.partial ++ front) inside.waiting.items c.settle.new.waiting.items
     c.in-Err.refusal =
@@ -27,10 +23,7 @@ returns-in-Ok-true-clause-stepped c =
     let inside = c.self.inside in
     let front = c.split_at.result.0.now in
     let left = c.split_at.result.1.now in
-    let parts : take c.min-count.result c.args.bytes.now ++ drop c.min-count.result c.args.bytes.now
-    ≡ c.args.bytes.now =
-    take-append-drop c.min-count.result c.args.bytes.now in
-    let whole : c.args.bytes.now ≡ front ++ left = rw (c.split_at.ensures.front, c.split_at.ensures.back) (sym parts) in
+    let whole = cut-in-two c.args.bytes.now front left _ c.split_at.ensures.front c.split_at.ensures.back in
     let empty : inside.partial ≡ [] = search rules in
     let heard : Settled inside.heard front [] inside.waiting.items c.settle.new.waiting.items =
     subst (λ (b : Bool). Settled inside.heard front (if b then [] else front) inside.waiting.items c.settle.new.waiting.items)
@@ -48,10 +41,7 @@ returns-in-Err-append-clause-refused c =
     let inside = c.self.inside in
     let front = c.split_at.result.0.now in
     let left = c.split_at.result.1.now in
-    let parts : take c.min-count.result c.args.bytes.now ++ drop c.min-count.result c.args.bytes.now
-    ≡ c.args.bytes.now =
-    take-append-drop c.min-count.result c.args.bytes.now in
-    let whole : c.args.bytes.now ≡ front ++ left = rw (c.split_at.ensures.front, c.split_at.ensures.back) (sym parts) in
+    let whole = cut-in-two c.args.bytes.now front left _ c.split_at.ensures.front c.split_at.ensures.back in
     let empty : inside.partial ≡ [] = search rules in
     let kept : Settled inside.heard front front inside.waiting.items c.settle.new.waiting.items =
     subst (λ (b : Bool). Settled inside.heard front (if b then [] else front) inside.waiting.items c.settle.new.waiting.items)
@@ -68,10 +58,7 @@ returns-in_default-clause-stepped c =
     let inside = c.self.inside in
     let front = c.split_at.result.0.now in
     let left = c.split_at.result.1.now in
-    let parts : take c.min-count.result c.args.bytes.now ++ drop c.min-count.result c.args.bytes.now
-    ≡ c.args.bytes.now =
-    take-append-drop c.min-count.result c.args.bytes.now in
-    let whole : c.args.bytes.now ≡ front ++ left = rw (c.split_at.ensures.front, c.split_at.ensures.back) (sym parts) in
+    let whole = cut-in-two c.args.bytes.now front left _ c.split_at.ensures.front c.split_at.ensures.back in
     let empty : inside.partial ≡ [] = search rules in
     let same : inside.partial ++ front ≡ front = ap (λ (there : List ℕ). there ++ front) empty in
     let grown : c.append.new.self ≡ inside.partial ++ front = search rules in
