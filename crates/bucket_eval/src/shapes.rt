@@ -56,9 +56,10 @@ fn place_of_sought(
 fn compare(key: &Key, question: &BorrowedQuestion<'_>, shape: usize) -> Ordering
     ensures { result ≡ key_cmp key.now (shapes.sought question.now shape) }
 {
+    let (user, privilege) = (question.user(), question.privilege());
     compare_field(&key.client, question.client(), shape >= 4)
-        .then_with(|| compare_field(&key.user, question.user(), shape % 4 >= 2))
-        .then_with(|| compare_field(&key.privilege, question.privilege(), shape % 2 == 1))
+        .then_with(|| compare_field(&key.user, user, shape % 4 >= 2))
+        .then_with(|| compare_field(&key.privilege, privilege, shape % 2 == 1))
 }
 
 fn compare_field(field: &Field, name: &[u8], wild: bool) -> Ordering
