@@ -87,7 +87,7 @@ fn show_command(command: &Command, out: &mut Bytes) -> Result<(), AllocError> {
         Command::Erase { bucket, filter } => {
             out.append(b"erase")?;
             show_text(bucket.as_slice(), out)?;
-            show_filter(filter.get(), out)
+            show_filter(filter, out)
         }
         Command::Layout => out.append(b"layout"),
         Command::SetTemplate { template } => {
