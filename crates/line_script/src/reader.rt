@@ -137,9 +137,10 @@ impl Reader {
             return Ok(Step::Nothing);
         }
         if line == b"end".as_slice() {
-            self.place = Place::Outside;
             let changes = Changes::of(changes);
-            return Step::of_command(self.alloc, Command::SetPolicies { changes });
+            let step = Step::of_command(self.alloc, Command::SetPolicies { changes })?;
+            self.place = Place::Outside;
+            return Ok(step);
         }
         let change = lone_change(self.alloc, line)?;
         changes
@@ -161,8 +162,9 @@ impl Reader {
         ensures asked { IfOk result AsksRequest }
     {
         if line == b"end".as_slice() {
+            let step = Step::of_command(self.alloc, Command::SetTemplate { template })?;
             self.place = Place::Outside;
-            return Step::of_command(self.alloc, Command::SetTemplate { template });
+            return Ok(step);
         }
         match template.push_line(line) {
             Ok(()) => {
