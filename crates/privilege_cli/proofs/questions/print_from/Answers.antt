@@ -14,8 +14,8 @@ returns-in-Some-clause-ok c =
     let same = c.database-database.ensures.database in
     let place = sym c.place.ensures ∙ c.in-Some.is in
     let text = verdict_text c.args.desk.now.commit (answer c.args.desk.now.database name question c.args.deep) in
-    let found = answered-at name c.database-database.result.now question c.args.deep c.plain-found.result c.in-Some.place place
-    c.plain-found.ensures.answer in
+    let found = answered-at name c.database-database.result.now question c.args.deep c.plain_borrowed-found.result c.in-Some.place place
+    c.plain_borrowed-found.ensures.answer in
     let there = subst (λ database. about database name text ≡ text) same
     (about-there name c.database-database.result.now c.in-Some.place text place) in
     subst (λ text. OnOk c.print_found.result (c.print_found.new.out ≡ c.args.out.now ++ text))

@@ -53,3 +53,18 @@ returns-in-Ok-commit-clause-step g c =
     c.commit-2.new.self.desk c.args.command.now c.in-Ok.ensures.accepted flushed.0 flushed.1
     (c.in_ok-print_done.ensures.ok ∙ (λ i. c.flush.new.self.answers ++ done_text c.args.command.now (commit i) (erased i)))
     (c.in-Ok-commit.ensures.desk ∙ c.in-Ok.ensures.desk)
+
+pub returns-in_err-flush-clause-sink : goal.returns-in_err-flush-clause-sink
+returns-in_err-flush-clause-sink g c =
+    let exit = err_from_is_err_and c.from_residual-in_err-flush.result c.from_residual-in_err-flush.ensures.1 in
+    rw (exit.1, exit.2) c.in_err-flush.ensures.count
+
+pub returns-in_err-print_done-clause-sink : goal.returns-in_err-print_done-clause-sink
+returns-in_err-print_done-clause-sink g c =
+    let exit = err_from_is_err_and c.from_residual-in_err-print_done.result c.from_residual-in_err-print_done.ensures.1 in
+    rw (exit.1, exit.2) c.in_ok-flush.ensures.count
+
+pub returns-in_err-print_done-clause-disk : goal.returns-in_err-print_done-clause-disk
+returns-in_err-print_done-clause-disk g c =
+    let exit = err_from_is_err_and c.from_residual-in_err-print_done.result c.from_residual-in_err-print_done.ensures.1 in
+    rw (exit.1, exit.2) refl
