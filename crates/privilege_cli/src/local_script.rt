@@ -126,8 +126,9 @@ impl LocalScript {
         ensures same_disk { keeper.new.vault.disk.ghost_name ≡ keeper.old.vault.disk.ghost_name }
     {
         let spot = self.reader.spot();
-        match self.reader.line(line) {
-            Ok(step) => self.answer_step(&step, keeper, sink),
+        let read = self.reader.line(line);
+        match &read {
+            Ok(step) => self.answer_step(step, keeper, sink),
             Err(LineRefusal::Syntax) => {
                 note_script_line(self.alloc, number, spot, line, sink);
                 Err(Ending::Line(number))
