@@ -40,7 +40,7 @@ pub fn plain_borrowed(
         question,
         deep: recursive,
     };
-    within(asked, start, buckets.len()).found
+    within(&asked, start, buckets.len()).found
 }
 
 /// The answer that was found, by value. Takes no memory.

@@ -47,11 +47,11 @@ pub struct Asked<'a> {
 
 /// What the bucket at the place answers, with less than so many policies in turn that point to a bucket.
 #[cycle(evaluation)]
-pub fn within<'a>(asked: Asked<'a>, at: usize, left: usize) -> Held<'a>
-    requires kept { IsKept asked.buckets.now }
-    requires there { at < length asked.buckets.now }
-    ensures { IfSome (slice_get asked.entry.buckets.now at) (λ bucket. IsHeld asked.entry.buckets.now
-        (answer_within (database_of asked.entry.buckets.now) asked.entry.question.now asked.entry.deep left bucket.name)
+pub fn within<'a>(asked: &Asked<'a>, at: usize, left: usize) -> Held<'a>
+    requires kept { IsKept asked.now.buckets.now }
+    requires there { at < length asked.now.buckets.now }
+    ensures { IfSome (slice_get asked.now.buckets.now at) (λ bucket. IsHeld asked.now.buckets.now
+        (answer_within (database_of asked.now.buckets.now) asked.now.question.now asked.now.deep left bucket.name)
         result) }
 {
     let bucket = &asked.buckets[at];
@@ -70,15 +70,15 @@ pub fn within<'a>(asked: Asked<'a>, at: usize, left: usize) -> Held<'a>
 // The least contribution of the bucket's policies.
 #[cycle(evaluation)]
 fn least_offer<'a>(
-    asked: Asked<'a>,
+    asked: &Asked<'a>,
     at: usize,
     bucket: &'a Bucket,
     most: usize,
 ) -> Option<Offer<'a>>
-    requires kept { IsKept asked.buckets.now }
-    requires there { slice_get asked.buckets.now at ≡ Some bucket.now }
-    ensures { Offers asked.entry.buckets.now (first_least contribution_cmp (filter_map
-        (offered asked.entry.buckets.now asked.entry.question.now asked.entry.deep most bucket.now.name)
+    requires kept { IsKept asked.now.buckets.now }
+    requires there { slice_get asked.now.buckets.now at ≡ Some bucket.now }
+    ensures { Offers asked.now.buckets.now (first_least contribution_cmp (filter_map
+        (offered asked.now.buckets.now asked.now.question.now asked.now.deep most bucket.now.name)
         bucket.now.policies)) result }
 {
     let window = window_of(bucket.policies(), asked.question, FEW);
@@ -91,19 +91,19 @@ fn least_offer<'a>(
 // The same, by a pass over a window outside of which no policy matches.
 #[cycle(evaluation)]
 fn least_in_turn<'a>(
-    asked: Asked<'a>,
+    asked: &Asked<'a>,
     at: usize,
     bucket: &'a Bucket,
     window: Window,
     most: usize,
 ) -> Option<Offer<'a>>
-    requires kept { IsKept asked.buckets.now }
-    requires there { slice_get asked.buckets.now at ≡ Some bucket.now }
+    requires kept { IsKept asked.now.buckets.now }
+    requires there { slice_get asked.now.buckets.now at ≡ Some bucket.now }
     requires order { window.start ≤ window.end }
     requires within { window.end ≤ length bucket.now.policies }
-    requires outside { FailsOutside (matches asked.question.now) window bucket.now.policies }
-    ensures { Offers asked.entry.buckets.now (first_least contribution_cmp (filter_map
-        (offered asked.entry.buckets.now asked.entry.question.now asked.entry.deep most bucket.now.name)
+    requires outside { FailsOutside (matches asked.now.question.now) window bucket.now.policies }
+    ensures { Offers asked.now.buckets.now (first_least contribution_cmp (filter_map
+        (offered asked.now.buckets.now asked.now.question.now asked.now.deep most bucket.now.name)
         bucket.now.policies)) result }
 {
     let policies = bucket.policies();
@@ -120,15 +120,15 @@ fn least_in_turn<'a>(
 // The same, by the policies that match the question alone: one a shape of key at most.
 #[cycle(evaluation)]
 fn least_by_shape<'a>(
-    asked: Asked<'a>,
+    asked: &Asked<'a>,
     at: usize,
     bucket: &'a Bucket,
     most: usize,
 ) -> Option<Offer<'a>>
-    requires kept { IsKept asked.buckets.now }
-    requires there { slice_get asked.buckets.now at ≡ Some bucket.now }
-    ensures { Offers asked.entry.buckets.now (first_least contribution_cmp (filter_map
-        (offered asked.entry.buckets.now asked.entry.question.now asked.entry.deep most bucket.now.name)
+    requires kept { IsKept asked.now.buckets.now }
+    requires there { slice_get asked.now.buckets.now at ≡ Some bucket.now }
+    ensures { Offers asked.now.buckets.now (first_least contribution_cmp (filter_map
+        (offered asked.now.buckets.now asked.now.question.now asked.now.deep most bucket.now.name)
         bucket.now.policies)) result }
 {
     let mut best: Option<Offer<'a>> = None;
@@ -143,17 +143,17 @@ fn least_by_shape<'a>(
 // What the policy of the bucket contributes whose key has this shape, if one does.
 #[cycle(evaluation)]
 fn offer_in_shape<'a>(
-    asked: Asked<'a>,
+    asked: &Asked<'a>,
     at: usize,
     bucket: &'a Bucket,
     shape: usize,
     most: usize,
 ) -> Option<Offer<'a>>
-    requires kept { IsKept asked.buckets.now }
-    requires there { slice_get asked.buckets.now at ≡ Some bucket.now }
-    ensures { Offers asked.entry.buckets.now (first_least contribution_cmp (filter_map
+    requires kept { IsKept asked.now.buckets.now }
+    requires there { slice_get asked.now.buckets.now at ≡ Some bucket.now }
+    ensures { Offers asked.now.buckets.now (first_least contribution_cmp (filter_map
         (in_shape shape
-        (offered asked.entry.buckets.now asked.entry.question.now asked.entry.deep most bucket.now.name))
+        (offered asked.now.buckets.now asked.now.question.now asked.now.deep most bucket.now.name))
         bucket.now.policies)) result }
 {
     let policies = bucket.policies();
@@ -166,18 +166,18 @@ fn offer_in_shape<'a>(
 // What the policy of the bucket contributes. NONE is left out.
 #[cycle(evaluation)]
 fn offer_of<'a>(
-    asked: Asked<'a>,
+    asked: &Asked<'a>,
     at: usize,
     bucket: &'a Bucket,
     place: usize,
     policy: &'a Policy,
     most: usize,
 ) -> Option<Offer<'a>>
-    requires kept { IsKept asked.buckets.now }
-    requires bucket { slice_get asked.buckets.now at ≡ Some bucket.now }
+    requires kept { IsKept asked.now.buckets.now }
+    requires bucket { slice_get asked.now.buckets.now at ≡ Some bucket.now }
     requires policy { slice_get bucket.now.policies place ≡ Some policy.now }
-    ensures { Offers asked.entry.buckets.now
-        (offered asked.entry.buckets.now asked.entry.question.now asked.entry.deep most bucket.now.name policy.now)
+    ensures { Offers asked.now.buckets.now
+        (offered asked.now.buckets.now asked.now.question.now asked.now.deep most bucket.now.name policy.now)
         result }
 {
     if !policy.key.matches_borrowed(asked.question) {
@@ -196,19 +196,19 @@ fn offer_of<'a>(
 // The policy's own result, or, where it points to a bucket and is followed, what that one answers.
 #[cycle(evaluation)]
 fn answered<'a>(
-    asked: Asked<'a>,
+    asked: &Asked<'a>,
     at: usize,
     bucket: &'a Bucket,
     place: usize,
     policy: &'a Policy,
     most: usize,
 ) -> Option<Held<'a>>
-    requires kept { IsKept asked.buckets.now }
-    requires bucket { slice_get asked.buckets.now at ≡ Some bucket.now }
+    requires kept { IsKept asked.now.buckets.now }
+    requires bucket { slice_get asked.now.buckets.now at ≡ Some bucket.now }
     requires policy { slice_get bucket.now.policies place ≡ Some policy.now }
-    ensures { Holds asked.entry.buckets.now (outcome_of
-        (answer_within (database_of asked.entry.buckets.now) asked.entry.question.now asked.entry.deep most)
-        asked.entry.deep bucket.now.name policy.now) result }
+    ensures { Holds asked.now.buckets.now (outcome_of
+        (answer_within (database_of asked.now.buckets.now) asked.now.question.now asked.now.deep most)
+        asked.now.deep bucket.now.name policy.now) result }
 {
     if !points(policy) {
         return Some(own(at, place, policy));

@@ -82,7 +82,9 @@ pub fn command_line_fault() -> &'static [u8]
     b"fault command line\n"
 }
 
-/// Appends the text of the answer, a line with its newline. Where memory runs out, the bytes stay as they were.
+/// Appends the text of the answer, a line with its newline. Where memory runs out, the bytes stay as they were. Inlined, so
+/// that an answer whose kind is known costs no choice between the kinds, and none is put together only to be taken apart.
+#[inline(always)]
 pub fn print(answer: &LineAnswer, out: &mut Bytes) -> Result<(), AllocError>
     ensures ok { OnOk result (out.new ≡ out.old ++ answer_text answer.now) }
     ensures err { OnErr result (out.new ≡ out.old) }

@@ -22,6 +22,7 @@ pub(crate) fn key_words(alloc: Global, words: &mut Words) -> Result<Key, LineRef
 
 /// `CLIENT USER PRIVILEGE` of a question, whose names stay in the line.
 #[tactic(auto, unfolding(crate::specs::Grammar::question_at))]
+#[inline(always)]
 pub(crate) fn question_words<'a>(words: &mut Words<'a>) -> Result<BorrowedQuestion<'a>, LineRefusal>
     ensures { GivesWord result words.new (question_at words.old) }
 {

@@ -13,6 +13,7 @@ use desk_ports::Bytes;
 use std::alloc::AllocError;
 
 /// Appends the text of the answer. Where memory runs out, a front of it may stand at the end.
+#[inline(always)]
 pub(crate) fn append_answer(answer: &LineAnswer, out: &mut Bytes) -> Result<(), AllocError>
     ensures ok { OnOk result (out.new ≡ out.old ++ answer_text answer.now) }
     ensures err { OnErr result (Lengthens out.old out.new) }

@@ -113,13 +113,11 @@ impl Reader {
             self.place = Place::Template(Template::empty(self.alloc));
             return Ok(Step::Nothing);
         }
-        match lone_step(self.alloc, line) {
-            Ok(step) => Ok(step),
-            Err(refusal) => {
-                self.place = Place::Failed;
-                Err(refusal)
-            }
+        let read = lone_step(self.alloc, line);
+        if let Err(_) = &read {
+            self.place = Place::Failed;
         }
+        read
     }
 
     #[tactic(auto, unfolding(crate::specs::Grammar::batch_at))]

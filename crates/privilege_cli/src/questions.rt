@@ -1,6 +1,7 @@
 // The answers to commands and to questions at a policy state.
 ghost use Rattle.std.specs.Prelude.{◌≡◌, ◌<◌, ◌≤◌, ◌++◌, true, length, slice_get, List, ℕ, IfSome, IsSome, Some, None, OnOk, OnErr};
-ghost use Rattle.std.specs.List.{flat_map};
+ghost use Rattle.std.specs.List.{flat_map, position};
+ghost use Rattle.cynara_keys.specs.Text.{same_text};
 ghost use Rattle.bucket_store.specs.Database.{root};
 ghost use Rattle.bucket_store.specs.Change.{listed};
 ghost use Rattle.bucket_eval.specs.Evaluation.{answer};
@@ -36,12 +37,22 @@ pub fn print_from(
     ensures desk { IsDesk desk.now }
 {
     let database = desk.database();
-    match database.place(bucket) {
+    match place_of(database, bucket) {
         Some(place) => {
             let found = plain_borrowed(database, place, question, deep);
             print_found(desk.commit(), database, found, out)
         }
         None => print_absent(bucket, out),
+    }
+}
+
+// Where the bucket of this name stands, from 0. Most questions are for the root, which is the first: a look tells.
+fn place_of(database: &Database, name: &BucketName) -> Option<usize>
+    ensures { result ≡ position (λ heading. same_text heading.name name.now) database.now.buckets }
+{
+    match database.buckets().first() {
+        Some(first) if first.name().as_slice() == name.as_slice() => Some(0),
+        _ => database.place(name),
     }
 }
 

@@ -12,7 +12,7 @@ returns-in-Some-clause-ok c =
     let name = c.args.bucket.now in
     let question = c.args.question.now in
     let same = c.database-database.ensures.database in
-    let place = sym c.place.ensures ∙ c.in-Some.is in
+    let place = sym c.place_of.ensures ∙ c.in-Some.is in
     let text = verdict_text c.args.desk.now.commit (answer c.args.desk.now.database name question c.args.deep) in
     let found = answered-at name c.database-database.result.now question c.args.deep c.plain_borrowed-found.result c.in-Some.place place
     c.plain_borrowed-found.ensures.answer in
@@ -31,4 +31,4 @@ returns-in-None-clause-ok c =
     (answer c.args.desk.now.database name c.args.question.now c.args.deep) in
     subst (λ (text : List ℕ). OnOk c.print_absent.result (c.print_absent.new.out ≡ c.args.out.now ++ text))
     (sym (subst (λ (database : Database). about database name text ≡ refusal_text (NoBucket name)) c.database-database.ensures.database
-    (about-absent name c.database-database.result.now text (sym c.place.ensures ∙ c.in-None.is)))) c.print_absent.ensures.ok
+    (about-absent name c.database-database.result.now text (sym c.place_of.ensures ∙ c.in-None.is)))) c.print_absent.ensures.ok
