@@ -6,7 +6,8 @@ pub mod SameNames
 pub mod Recording
 pub mod Contents
 pub mod Answering
-pub mod Holding
+pub mod Fronts
+mod Holding
 pub mod Listing
 pub mod Picks
 pub mod Cut

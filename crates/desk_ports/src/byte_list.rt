@@ -1,20 +1,25 @@
-ghost use Rattle.std.specs.Prelude.{◌≡◌, ◌≤◌, [], ◌++◌, length, take, IfOk, OnOk, OnErr};
+ghost use Rattle.std.specs.Prelude.{◌≡◌, ◌≤◌, ◌+◌, [], ◌++◌, length, take, drop, vec_len, IfOk, OnOk, OnErr};
 
 use std::alloc::{AllocError, Global};
+use std::fmt;
 use std::marker::Model;
 
-/// A list of bytes that owns its memory. Contracts see it as the list.
-#[derive(Debug, Drop)]
+/// A list of bytes that owns its memory. Contracts see it as the list. To append costs a copy and no more where there is room.
+#[derive(Drop)]
 pub struct Bytes {
-    bytes: Vec<u8>,
+    /// The bytes stand at the front, and behind them is room for more.
+    room: Vec<u8>,
+    count: usize,
 }
 
 impl Model for Bytes {
-    ghost use Rattle.std.specs.Prelude.{List, ℕ};
+    ghost use Rattle.std.specs.Prelude.{◌≤◌, List, ℕ, take, vec_len};
 
     ghost Value = { List ℕ };
 
-    ghost view = { λ list. list.bytes.items };
+    ghost view = { λ list. take list.count list.room.items };
+
+    ghost invariant = { λ list. list.count ≤ vec_len list.room };
 }
 
 impl Bytes {
@@ -23,7 +28,8 @@ impl Bytes {
         ensures { result ≡ [] }
     {
         Bytes {
-            bytes: Vec::new(alloc),
+            room: Vec::new(alloc),
+            count: 0,
         }
     }
 
@@ -31,51 +37,93 @@ impl Bytes {
     pub fn of(bytes: Vec<u8>) -> Bytes
         ensures { result ≡ bytes.items }
     {
-        Bytes { bytes }
+        Bytes {
+            count: bytes.len(),
+            room: bytes,
+        }
     }
 
     /// The bytes, in order.
     pub fn as_slice(&self) -> &[u8]
         ensures { result.now ≡ self.now }
     {
-        &self.bytes
+        &self.room[..self.count]
     }
 
     /// How many bytes there are.
     pub fn len(&self) -> usize
         ensures { result ≡ length self.now }
     {
-        self.bytes.len()
+        self.count
     }
 
-    /// Appends these bytes. Where it finds no memory, the list stays as it was.
+    /// Appends these bytes. Where it finds no memory, the list stays as it was. Inlined, so that of bytes whose number is
+    /// known the copy is a few moves.
+    #[inline(always)]
     pub fn append(&mut self, from: &[u8]) -> Result<(), AllocError>
         ensures ok { OnOk result (self.new ≡ self.old ++ from.now) }
         ensures err { OnErr result (self.new ≡ self.old) }
     {
-        self.bytes.extend_from_slice(from)
+        if self.room.len() - self.count < from.len() {
+            make_room(&mut self.room, self.count, from.len())?;
+        }
+        let end = self.count + from.len();
+        self.room[self.count..end].copy_from_slice(from);
+        self.count = end;
+        Ok(())
+    }
+
+    /// Puts these bytes in the place of as many at the front.
+    #[tactic(auto, using(crate::proofs::Fronts::take_overwritten))]
+    pub fn overwrite_front(&mut self, with: &[u8])
+        requires { length with.now ≤ length self.old }
+        ensures { self.new ≡ with.now ++ drop (length with.now) self.old }
+    {
+        let (front, _) = self.room.split_at_mut(with.len());
+        front.copy_from_slice(with);
     }
 
     /// Keeps the first `most` bytes, or all where there are fewer.
     pub fn truncate(&mut self, most: usize)
         ensures { self.new ≡ take most self.old }
     {
-        self.bytes.truncate(most);
+        if most < self.count {
+            self.count = most;
+        }
     }
 
     /// Removes every byte, and keeps the room for as many.
     pub fn clear(&mut self)
         ensures { self.new ≡ [] }
     {
-        self.bytes.clear();
+        self.count = 0;
     }
 
     /// An equal list with memory of its own.
     pub fn copy(&self) -> Result<Bytes, AllocError>
         ensures { IfOk result (λ copy. copy ≡ self.now) }
     {
-        Ok(Bytes {
-            bytes: self.bytes.clone()?,
-        })
+        Ok(Bytes::of(self.as_slice().to_vec(*self.room.allocator())?))
+    }
+}
+
+// Makes room behind so many bytes for `more`, and for as many again as there are then.
+#[inline(never)]
+fn make_room(room: &mut Vec<u8>, count: usize, more: usize) -> Result<(), AllocError>
+    requires within { count ≤ vec_len room.old }
+    ensures same { take count room.new.items ≡ take count room.old.items }
+    ensures within { count ≤ vec_len room.new }
+    ensures room { OnOk result (count + more ≤ vec_len room.new) }
+{
+    let least = count.checked_add(more).ok_or(AllocError)?;
+    let size = least.checked_mul(2).ok_or(AllocError)?;
+    room.resize(size, 0)
+}
+
+impl fmt::Debug for Bytes {
+    fn fmt<W: fmt::Write>(&self, f: &mut fmt::Formatter<W>) -> fmt::Result {
+        f.debug_struct("Bytes")
+            .field("bytes", &self.as_slice())
+            .finish()
     }
 }

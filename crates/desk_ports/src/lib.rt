@@ -2,8 +2,11 @@
 //!
 //! Each object of the outside has a count of faults that never falls. A call fails only where that count rose in it.
 //! An object may tell its content; the clauses on content hold where it does.
+//!
+//! Beside them stand the two containers that all crates share: bytes, and a value in memory of its own.
 #![tactic(auto)]
 
+mod boxed;
 mod byte_list;
 mod disk_calls;
 mod disk_replays;
@@ -22,6 +25,7 @@ mod streams;
 #[cfg(test)]
 mod tests;
 
+pub use boxed::Boxed;
 pub use byte_list::Bytes;
 pub use disk_calls::{DiskCall, RecordedCall};
 pub use disks::Disk;

@@ -4,7 +4,6 @@
 #![tactic(auto)]
 
 mod answers;
-mod boxed;
 mod changes;
 mod commands;
 mod installs;
@@ -28,7 +27,6 @@ mod verbs;
 mod word_forms;
 
 pub use answers::{LineAnswer, command_line_fault, print};
-pub use boxed::Boxed;
 pub use last_lines::{write_damage, write_line_fault};
 pub use numbers::read_number;
 pub use reader::Reader;

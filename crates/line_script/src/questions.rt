@@ -5,11 +5,11 @@ ghost use Rattle.line_script.specs.Grammar.{list_at, check_at, from_at, access_a
 ghost use Rattle.line_script.specs.Turn.{AsksRequest};
 ghost use Rattle.line_script.specs.parts.Reading.{Gives};
 
-use crate::Boxed;
 use crate::line_words::Words;
 use crate::phrases::{filter_words, question_words};
 use crate::steps::{LineRefusal, Step};
 use crate::word_forms::{bucket_word, depth_word, end_word, label_word, request_word};
+use desk_ports::Boxed;
 use std::alloc::Global;
 
 /// `list BUCKET FILTER FILTER FILTER`.

@@ -2,8 +2,8 @@ ghost use Rattle.std.specs.Prelude.{Some};
 ghost use Rattle.line_script.specs.declared.steps.Step.TheVariants as step;
 ghost use Rattle.line_script.specs.parts.Reading.{Gives};
 
-use crate::Boxed;
 use cynara_keys::{BorrowedQuestion, BucketName, Filter};
+use desk_ports::Boxed;
 use desk_state::Command;
 use smack_rules::{Label, Modes};
 use std::alloc::{AllocError, Global};

@@ -5,7 +5,6 @@
 //! comes. The frames are this project's profile.
 #![tactic(auto)]
 
-mod boxed_verdicts;
 mod commands;
 mod decoding;
 mod encoding;
@@ -26,7 +25,6 @@ mod right_fields;
 mod rules;
 mod writers;
 
-pub use boxed_verdicts::BoxedVerdict;
 pub use commands::{command_of, message_of, refused_of};
 pub use decoding::decode;
 pub use encoding::{encode, encode_into};

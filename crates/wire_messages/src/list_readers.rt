@@ -5,13 +5,14 @@ ghost use Rattle.wire_messages.specs.Format as format;
 ghost use Rattle.wire_messages.specs.Field as field;
 ghost use Rattle.std.specs.Option.{option_copied};
 
+use crate::WireRefusal;
 use crate::fields::Fields;
 use crate::readers::{author, bucket, flag, ident, key, key_field_text, name, ruling, scope};
-use crate::{BoxedVerdict, WireRefusal};
 use app_registry::{Install, NameSet};
 use bucket_eval::{Answer, Cause, Row, Verdict};
 use bucket_store::{Change, Changes};
 use cynara_keys::{Name, Short};
+use desk_ports::Boxed;
 use std::alloc::Global;
 
 pub fn change(alloc: Global, fields: &mut Fields) -> Result<Change, WireRefusal>
@@ -90,7 +91,7 @@ pub fn install(alloc: Global, fields: &mut Fields) -> Result<Install, WireRefusa
     })
 }
 
-pub fn verdict(alloc: Global, fields: &mut Fields) -> Result<BoxedVerdict, WireRefusal>
+pub fn verdict(alloc: Global, fields: &mut Fields) -> Result<Boxed<Verdict>, WireRefusal>
     ensures { Gives result fields.new (field.verdict.read fields.old) }
 {
     let commit = fields.number8()?;
@@ -105,7 +106,7 @@ pub fn verdict(alloc: Global, fields: &mut Fields) -> Result<BoxedVerdict, WireR
             row,
         },
     };
-    match BoxedVerdict::of(alloc, Verdict { commit, answer }) {
+    match Boxed::of(alloc, Verdict { commit, answer }) {
         Ok(verdict) => Ok(verdict),
         Err(error) => Err(WireRefusal::Memory(error)),
     }

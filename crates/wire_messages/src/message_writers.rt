@@ -101,7 +101,7 @@ pub fn put_fields(out: &mut Vec<u8>, message: &Message) -> Result<(), AllocError
             put4(out, *number)?;
             put_flag(out, *allowed)
         }
-        Message::Judged { verdict } => put_verdict(out, verdict.verdict()),
+        Message::Judged { verdict } => put_verdict(out, verdict.get()),
         Message::FromAgent {
             commit,
             kind,
