@@ -74,7 +74,7 @@ def built(scratch):
     source = scratch / "crates" / "frame_codec" / "src"
     source.mkdir(parents=True)
     shutil.copy(HERE / "frame_codec.rt.txt", source / "main.rt")
-    lines = [*crates.values(), "frame_codec: wire_messages anyhow"]
+    lines = [*crates.values(), "frame_codec: desk_ports wire_messages anyhow"]
     (scratch / "crates.txt").write_text("\n".join(lines) + "\n")
     words = ["rt", "run", "--", "read", "client", "1"]
     kept = {"stdin": subprocess.DEVNULL, "stdout": subprocess.PIPE, "stderr": subprocess.STDOUT}

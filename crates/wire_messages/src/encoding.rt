@@ -21,16 +21,16 @@ pub fn encode(alloc: Global, framed: &Framed) -> Result<Bytes, EncodeRefusal>
     ensures fits { OnOk result (length (body framed.now) ≤ MOST_LENGTH) }
     ensures refused { IfErr result (IsTooLong framed.now) }
 {
-    let mut frame = Vec::new(alloc);
+    let mut frame = Bytes::new(alloc);
     encode_into(&mut frame, framed)?;
-    Ok(Bytes::of(frame))
+    Ok(frame)
 }
 
 /// Spells a message as `encode` does, into a buffer in place of what it held. The buffer keeps its memory, so that one
 /// serves many messages without asking for more. It is empty after a refusal.
-pub fn encode_into(frame: &mut Vec<u8>, framed: &Framed) -> Result<(), EncodeRefusal>
-    ensures spelled { OnOk result (frame.new.items ≡ spelling framed.now) }
-    ensures emptied { OnErr result (frame.new.items ≡ []) }
+pub fn encode_into(frame: &mut Bytes, framed: &Framed) -> Result<(), EncodeRefusal>
+    ensures spelled { OnOk result (frame.new ≡ spelling framed.now) }
+    ensures emptied { OnErr result (frame.new ≡ []) }
     ensures fits { OnOk result (length (body framed.now) ≤ MOST_LENGTH) }
     ensures refused { IfErr result (IsTooLong framed.now) }
 {
@@ -44,16 +44,18 @@ pub fn encode_into(frame: &mut Vec<u8>, framed: &Framed) -> Result<(), EncodeRef
         frame.clear();
         return Err(EncodeRefusal::TooLong(length as u64));
     }
-    BigEndian::write_u32(frame, length as u32);
+    let mut front = [0; 4];
+    BigEndian::write_u32(&mut front, length as u32);
+    frame.overwrite_front(&front);
     Ok(())
 }
 
 // a length of 0 and what follows it
-fn put_frame(out: &mut Vec<u8>, framed: &Framed) -> Result<(), AllocError>
-    requires { out.old.items ≡ [] }
-    ensures { OnOk result (out.new.items ≡ (0 ∷ 0 ∷ 0 ∷ 0 ∷ []) ++ body framed.now) }
+fn put_frame(out: &mut Bytes, framed: &Framed) -> Result<(), AllocError>
+    requires { out.old ≡ [] }
+    ensures { OnOk result (out.new ≡ (0 ∷ 0 ∷ 0 ∷ 0 ∷ []) ++ body framed.now) }
 {
-    out.extend_from_slice(&[0; 4])?;
+    out.append(&[0; 4])?;
     put2(out, framed.sequence)?;
     put1(out, operation(&framed.message).number())?;
     put_fields(out, &framed.message)

@@ -13,11 +13,12 @@ use app_registry::Install;
 use bucket_eval::{Row, Verdict};
 use bucket_store::Change;
 use cynara_keys::{Counted, Name};
+use desk_ports::Bytes;
 use desk_state::Refusal;
 use std::alloc::AllocError;
 
-pub fn put_change(out: &mut Vec<u8>, change: &Change) -> Result<(), AllocError>
-    ensures { Appended result out.old.items out.new.items (field.change.spelled change.now) }
+pub fn put_change(out: &mut Bytes, change: &Change) -> Result<(), AllocError>
+    ensures { Appended result out.old out.new (field.change.spelled change.now) }
 {
     match change {
         Change::Set {
@@ -38,8 +39,8 @@ pub fn put_change(out: &mut Vec<u8>, change: &Change) -> Result<(), AllocError>
     }
 }
 
-pub fn put_changes(out: &mut Vec<u8>, changes: &[Change]) -> Result<(), AllocError>
-    ensures { Appended result out.old.items out.new.items ((format.counted field.change).spelled changes.now) }
+pub fn put_changes(out: &mut Bytes, changes: &[Change]) -> Result<(), AllocError>
+    ensures { Appended result out.old out.new ((format.counted field.change).spelled changes.now) }
 {
     put_count(out, changes.len())?;
     for change in changes {
@@ -48,8 +49,8 @@ pub fn put_changes(out: &mut Vec<u8>, changes: &[Change]) -> Result<(), AllocErr
     Ok(())
 }
 
-pub fn put_names(out: &mut Vec<u8>, names: &[Name]) -> Result<(), AllocError>
-    ensures { Appended result out.old.items out.new.items (field.privileges.spelled names.now) }
+pub fn put_names(out: &mut Bytes, names: &[Name]) -> Result<(), AllocError>
+    ensures { Appended result out.old out.new (field.privileges.spelled names.now) }
 {
     put_count(out, names.len())?;
     for name in names {
@@ -58,8 +59,8 @@ pub fn put_names(out: &mut Vec<u8>, names: &[Name]) -> Result<(), AllocError>
     Ok(())
 }
 
-pub fn put_install(out: &mut Vec<u8>, install: &Install) -> Result<(), AllocError>
-    ensures { Appended result out.old.items out.new.items (field.install.spelled install.now) }
+pub fn put_install(out: &mut Bytes, install: &Install) -> Result<(), AllocError>
+    ensures { Appended result out.old out.new (field.install.spelled install.now) }
 {
     put_ident(out, &install.package)?;
     put_author(out, &install.author)?;
@@ -68,8 +69,8 @@ pub fn put_install(out: &mut Vec<u8>, install: &Install) -> Result<(), AllocErro
     put_names(out, install.privileges.as_slice())
 }
 
-pub fn put_verdict(out: &mut Vec<u8>, verdict: &Verdict) -> Result<(), AllocError>
-    ensures { Appended result out.old.items out.new.items (field.verdict.spelled verdict.now) }
+pub fn put_verdict(out: &mut Bytes, verdict: &Verdict) -> Result<(), AllocError>
+    ensures { Appended result out.old out.new (field.verdict.spelled verdict.now) }
 {
     let answer = &verdict.answer;
     put8(out, verdict.commit)?;
@@ -78,8 +79,8 @@ pub fn put_verdict(out: &mut Vec<u8>, verdict: &Verdict) -> Result<(), AllocErro
     put_optional_row(out, &answer.cause.row)
 }
 
-fn put_optional_row(out: &mut Vec<u8>, row: &Option<Row>) -> Result<(), AllocError>
-    ensures { Appended result out.old.items out.new.items ((field.optional field.row).spelled row.now) }
+fn put_optional_row(out: &mut Bytes, row: &Option<Row>) -> Result<(), AllocError>
+    ensures { Appended result out.old out.new ((field.optional field.row).spelled row.now) }
 {
     match row {
         None => put1(out, 0),
@@ -90,8 +91,8 @@ fn put_optional_row(out: &mut Vec<u8>, row: &Option<Row>) -> Result<(), AllocErr
     }
 }
 
-fn put_row(out: &mut Vec<u8>, row: &Row) -> Result<(), AllocError>
-    ensures { Appended result out.old.items out.new.items (field.row.spelled row.now) }
+fn put_row(out: &mut Bytes, row: &Row) -> Result<(), AllocError>
+    ensures { Appended result out.old out.new (field.row.spelled row.now) }
 {
     put_text(out, row.client.as_slice())?;
     put_text(out, row.user.as_slice())?;
@@ -99,8 +100,8 @@ fn put_row(out: &mut Vec<u8>, row: &Row) -> Result<(), AllocError>
 }
 
 /// A refusal that is not want of memory.
-pub fn put_refusal(out: &mut Vec<u8>, refusal: &Refusal) -> Result<(), AllocError>
-    ensures { Appended result out.old.items out.new.items (refused.refusal_spelled refusal.now) }
+pub fn put_refusal(out: &mut Bytes, refusal: &Refusal) -> Result<(), AllocError>
+    ensures { Appended result out.old out.new (refused.refusal_spelled refusal.now) }
 {
     match refusal {
         Refusal::Reserved(name) => {
@@ -144,23 +145,23 @@ pub fn put_refusal(out: &mut Vec<u8>, refusal: &Refusal) -> Result<(), AllocErro
 }
 
 // a rule without text and value
-fn put_plain(out: &mut Vec<u8>, rule: u8) -> Result<(), AllocError>
-    ensures { Appended result out.old.items out.new.items (rule ∷ refused.plain.spelled ([], 0)) }
+fn put_plain(out: &mut Bytes, rule: u8) -> Result<(), AllocError>
+    ensures { Appended result out.old out.new (rule ∷ refused.plain.spelled ([], 0)) }
 {
     put_number(out, rule, 0)
 }
 
 // a rule with a value alone
-fn put_number(out: &mut Vec<u8>, rule: u8, value: u64) -> Result<(), AllocError>
-    ensures { Appended result out.old.items out.new.items (rule ∷ refused.plain.spelled ([], value)) }
+fn put_number(out: &mut Bytes, rule: u8, value: u64) -> Result<(), AllocError>
+    ensures { Appended result out.old out.new (rule ∷ refused.plain.spelled ([], value)) }
 {
     put1(out, rule)?;
     put_text(out, b"")?;
     put8(out, value)
 }
 
-fn put_counted(out: &mut Vec<u8>, counted: Counted) -> Result<(), AllocError>
-    ensures { Appended result out.old.items out.new.items (refused.which.spelled counted) }
+fn put_counted(out: &mut Bytes, counted: Counted) -> Result<(), AllocError>
+    ensures { Appended result out.old out.new (refused.which.spelled counted) }
 {
     match counted {
         Counted::Commits => put_text(out, b"commits"),

@@ -10,6 +10,7 @@ use crate::writers::{
 };
 use crate::{Message, Operation};
 use cynara_keys::Kind;
+use desk_ports::Bytes;
 use std::alloc::AllocError;
 
 /// The operation of a message.
@@ -54,8 +55,8 @@ pub fn operation(message: &Message) -> Operation
 }
 
 /// Appends the fields of a message.
-pub fn put_fields(out: &mut Vec<u8>, message: &Message) -> Result<(), AllocError>
-    ensures { Appended result out.old.items out.new.items (words.fields message.now) }
+pub fn put_fields(out: &mut Bytes, message: &Message) -> Result<(), AllocError>
+    ensures { Appended result out.old out.new (words.fields message.now) }
 {
     match message {
         Message::Check { question } => put_question(out, question),
@@ -147,16 +148,16 @@ pub fn put_fields(out: &mut Vec<u8>, message: &Message) -> Result<(), AllocError
     }
 }
 
-fn put_agent_full(out: &mut Vec<u8>, commit: u64, kind: Kind, most: u32) -> Result<(), AllocError>
-    ensures { Appended result out.old.items out.new.items (words.fields (Message.AgentFull commit kind most)) }
+fn put_agent_full(out: &mut Bytes, commit: u64, kind: Kind, most: u32) -> Result<(), AllocError>
+    ensures { Appended result out.old out.new (words.fields (Message.AgentFull commit kind most)) }
 {
     put8(out, commit)?;
     put_kind(out, kind)?;
     put4(out, most)
 }
 
-fn put_commit_and_count(out: &mut Vec<u8>, commit: u64, count: u32) -> Result<(), AllocError>
-    ensures { Appended result out.old.items out.new.items (words.fields (Message.Done commit count)) }
+fn put_commit_and_count(out: &mut Bytes, commit: u64, count: u32) -> Result<(), AllocError>
+    ensures { Appended result out.old out.new (words.fields (Message.Done commit count)) }
 {
     put8(out, commit)?;
     put4(out, count)

@@ -65,7 +65,7 @@ fn decodes(alloc: Global, row: &Right<'_>) -> Result<bool, Fail> {
 }
 
 // whether the message is spelled as the frame, in place of what the buffer holds
-fn spells(buffer: &mut Vec<u8>, list: &[Framed], frame: &[u8]) -> Result<bool, Fail> {
+fn spells(buffer: &mut Bytes, list: &[Framed], frame: &[u8]) -> Result<bool, Fail> {
     let [framed] = list else {
         return Ok(false);
     };
@@ -74,7 +74,7 @@ fn spells(buffer: &mut Vec<u8>, list: &[Framed], frame: &[u8]) -> Result<bool, F
 }
 
 // what comes byte by byte is spelled in place of another frame
-fn comes_in_bytes(alloc: Global, row: &Right<'_>, buffer: &mut Vec<u8>) -> Result<bool, Fail> {
+fn comes_in_bytes(alloc: Global, row: &Right<'_>, buffer: &mut Bytes) -> Result<bool, Fail> {
     let list = heard_in_bytes(alloc, row.heard, row.frame)?;
     spells(buffer, &list, row.frame)
 }
@@ -90,7 +90,7 @@ fn each_operation_both_ways(rt: HostRuntime) -> Result<(), Fail> {
 
 #[test]
 fn each_operation_byte_by_byte(rt: HostRuntime) -> Result<(), Fail> {
-    let mut buffer = Vec::new(rt.alloc());
+    let mut buffer = Bytes::new(rt.alloc());
     for row in QUESTIONS.iter().chain(REPLIES.iter()) {
         let right = comes_in_bytes(rt.alloc(), row, &mut buffer)?;
         assert!(rt; right, "operation {}", row.operation.number());

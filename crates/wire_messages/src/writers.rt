@@ -10,113 +10,103 @@ use byteorder::{BigEndian, ByteOrder};
 use cynara_keys::{
     BucketName, Field, Filter, FilterField, Key, Kind, Name, Policy, PolicyResult, Question,
 };
-use desk_ports::FileName;
+use desk_ports::{Bytes, FileName};
 use rule_templates::Template;
 use std::alloc::AllocError;
 
-pub fn put1(out: &mut Vec<u8>, n: u8) -> Result<(), AllocError>
-    ensures { Appended result out.old.items out.new.items (n ∷ []) }
+pub fn put1(out: &mut Bytes, n: u8) -> Result<(), AllocError>
+    ensures { Appended result out.old out.new (n ∷ []) }
 {
-    out.push(n)?;
-    Ok(())
+    out.append(&[n])
 }
 
-pub fn put2(out: &mut Vec<u8>, n: u16) -> Result<(), AllocError>
-    ensures { Appended result out.old.items out.new.items (to_be_bytes w16 n) }
+pub fn put2(out: &mut Bytes, n: u16) -> Result<(), AllocError>
+    ensures { Appended result out.old out.new (to_be_bytes w16 n) }
 {
     let mut bytes = [0; 2];
     BigEndian::write_u16(&mut bytes, n);
-    put_pair(out, &bytes)
+    out.append(&bytes)
 }
 
-// Two bytes, one after the other, which costs less than a list of them.
-fn put_pair(out: &mut Vec<u8>, bytes: &[u8]) -> Result<(), AllocError>
-    requires { length bytes.now ≡ 2 }
-    ensures { Appended result out.old.items out.new.items bytes.now }
-{
-    put1(out, bytes[0])?;
-    put1(out, bytes[1])
-}
-
-pub fn put4(out: &mut Vec<u8>, n: u32) -> Result<(), AllocError>
-    ensures { Appended result out.old.items out.new.items (to_be_bytes w32 n) }
+pub fn put4(out: &mut Bytes, n: u32) -> Result<(), AllocError>
+    ensures { Appended result out.old out.new (to_be_bytes w32 n) }
 {
     let mut bytes = [0; 4];
     BigEndian::write_u32(&mut bytes, n);
-    out.extend_from_slice(&bytes)
+    out.append(&bytes)
 }
 
-pub fn put8(out: &mut Vec<u8>, n: u64) -> Result<(), AllocError>
-    ensures { Appended result out.old.items out.new.items (to_be_bytes w64 n) }
+pub fn put8(out: &mut Bytes, n: u64) -> Result<(), AllocError>
+    ensures { Appended result out.old out.new (to_be_bytes w64 n) }
 {
     let mut bytes = [0; 8];
     BigEndian::write_u64(&mut bytes, n);
-    out.extend_from_slice(&bytes)
+    out.append(&bytes)
 }
 
-pub fn put_flag(out: &mut Vec<u8>, flag: bool) -> Result<(), AllocError>
-    ensures { Appended result out.old.items out.new.items (format.flag.spelled flag) }
+pub fn put_flag(out: &mut Bytes, flag: bool) -> Result<(), AllocError>
+    ensures { Appended result out.old out.new (format.flag.spelled flag) }
 {
     if flag { put1(out, 1) } else { put1(out, 0) }
 }
 
-pub fn put_kind(out: &mut Vec<u8>, kind: Kind) -> Result<(), AllocError>
-    ensures { Appended result out.old.items out.new.items (field.kind.spelled kind) }
+pub fn put_kind(out: &mut Bytes, kind: Kind) -> Result<(), AllocError>
+    ensures { Appended result out.old out.new (field.kind.spelled kind) }
 {
     put2(out, kind.0)
 }
 
 // how many there are, in four bytes
-pub fn put_count(out: &mut Vec<u8>, count: usize) -> Result<(), AllocError>
-    ensures { Appended result out.old.items out.new.items (to_be_bytes w32 count) }
+pub fn put_count(out: &mut Bytes, count: usize) -> Result<(), AllocError>
+    ensures { Appended result out.old out.new (to_be_bytes w32 count) }
 {
     let mut bytes = [0; 8];
     BigEndian::write_u64(&mut bytes, count as u64);
-    out.extend_from_slice(&bytes[4..])
+    out.append(&bytes[4..])
 }
 
 // how many bytes a text has, in two bytes
-fn put_size(out: &mut Vec<u8>, count: usize) -> Result<(), AllocError>
-    ensures { Appended result out.old.items out.new.items (to_be_bytes w16 count) }
+fn put_size(out: &mut Bytes, count: usize) -> Result<(), AllocError>
+    ensures { Appended result out.old out.new (to_be_bytes w16 count) }
 {
     let mut bytes = [0; 8];
     BigEndian::write_u64(&mut bytes, count as u64);
-    put_pair(out, &bytes[6..])
+    out.append(&bytes[6..])
 }
 
-pub fn put_text(out: &mut Vec<u8>, text: &[u8]) -> Result<(), AllocError>
-    ensures { Appended result out.old.items out.new.items (format.text.spelled text.now) }
+pub fn put_text(out: &mut Bytes, text: &[u8]) -> Result<(), AllocError>
+    ensures { Appended result out.old out.new (format.text.spelled text.now) }
 {
     put_size(out, text.len())?;
-    out.extend_from_slice(text)
+    out.append(text)
 }
 
-pub fn put_name(out: &mut Vec<u8>, name: &Name) -> Result<(), AllocError>
-    ensures { Appended result out.old.items out.new.items (field.name.spelled name.now) }
+pub fn put_name(out: &mut Bytes, name: &Name) -> Result<(), AllocError>
+    ensures { Appended result out.old out.new (field.name.spelled name.now) }
 {
     put_text(out, name.as_slice())
 }
 
-pub fn put_bucket(out: &mut Vec<u8>, name: &BucketName) -> Result<(), AllocError>
-    ensures { Appended result out.old.items out.new.items (field.bucket.spelled name.now) }
+pub fn put_bucket(out: &mut Bytes, name: &BucketName) -> Result<(), AllocError>
+    ensures { Appended result out.old out.new (field.bucket.spelled name.now) }
 {
     put_text(out, name.as_slice())
 }
 
-pub fn put_ident(out: &mut Vec<u8>, name: &Ident) -> Result<(), AllocError>
-    ensures { Appended result out.old.items out.new.items (field.ident.spelled name.now) }
+pub fn put_ident(out: &mut Bytes, name: &Ident) -> Result<(), AllocError>
+    ensures { Appended result out.old out.new (field.ident.spelled name.now) }
 {
     put_text(out, name.as_slice())
 }
 
-pub fn put_file_name(out: &mut Vec<u8>, name: &FileName) -> Result<(), AllocError>
-    ensures { Appended result out.old.items out.new.items (field.file_name.spelled name.now) }
+pub fn put_file_name(out: &mut Bytes, name: &FileName) -> Result<(), AllocError>
+    ensures { Appended result out.old out.new (field.file_name.spelled name.now) }
 {
     put_text(out, name.as_slice())
 }
 
-pub fn put_field(out: &mut Vec<u8>, part: &Field) -> Result<(), AllocError>
-    ensures { Appended result out.old.items out.new.items (field.field.spelled part.now) }
+pub fn put_field(out: &mut Bytes, part: &Field) -> Result<(), AllocError>
+    ensures { Appended result out.old out.new (field.field.spelled part.now) }
 {
     match part {
         Field::Any => put_text(out, b"*"),
@@ -124,8 +114,8 @@ pub fn put_field(out: &mut Vec<u8>, part: &Field) -> Result<(), AllocError>
     }
 }
 
-pub fn put_filter_field(out: &mut Vec<u8>, part: &FilterField) -> Result<(), AllocError>
-    ensures { Appended result out.old.items out.new.items (field.filter_field.spelled part.now) }
+pub fn put_filter_field(out: &mut Bytes, part: &FilterField) -> Result<(), AllocError>
+    ensures { Appended result out.old out.new (field.filter_field.spelled part.now) }
 {
     match part {
         FilterField::Every => put_text(out, b"#"),
@@ -134,64 +124,60 @@ pub fn put_filter_field(out: &mut Vec<u8>, part: &FilterField) -> Result<(), All
     }
 }
 
-pub fn put_question(out: &mut Vec<u8>, question: &Question) -> Result<(), AllocError>
-    ensures { Appended result out.old.items out.new.items (field.question.spelled question.now) }
+pub fn put_question(out: &mut Bytes, question: &Question) -> Result<(), AllocError>
+    ensures { Appended result out.old out.new (field.question.spelled question.now) }
 {
     put_text(out, question.client())?;
     put_text(out, question.user())?;
     put_text(out, question.privilege())
 }
 
-pub fn put_key(out: &mut Vec<u8>, key: &Key) -> Result<(), AllocError>
-    ensures { Appended result out.old.items out.new.items (field.key.spelled key.now) }
+pub fn put_key(out: &mut Bytes, key: &Key) -> Result<(), AllocError>
+    ensures { Appended result out.old out.new (field.key.spelled key.now) }
 {
     put_field(out, &key.client)?;
     put_field(out, &key.user)?;
     put_field(out, &key.privilege)
 }
 
-pub fn put_filter(out: &mut Vec<u8>, filter: &Filter) -> Result<(), AllocError>
-    ensures { Appended result out.old.items out.new.items (field.filter.spelled filter.now) }
+pub fn put_filter(out: &mut Bytes, filter: &Filter) -> Result<(), AllocError>
+    ensures { Appended result out.old out.new (field.filter.spelled filter.now) }
 {
     put_filter_field(out, &filter.client)?;
     put_filter_field(out, &filter.user)?;
     put_filter_field(out, &filter.privilege)
 }
 
-pub fn put_ruling(out: &mut Vec<u8>, ruling: &PolicyResult) -> Result<(), AllocError>
-    ensures { Appended result out.old.items out.new.items (field.ruling.spelled ruling.now) }
+pub fn put_ruling(out: &mut Bytes, ruling: &PolicyResult) -> Result<(), AllocError>
+    ensures { Appended result out.old out.new (field.ruling.spelled ruling.now) }
 {
     put_kind_and_metadata(out, ruling.kind(), ruling.metadata().as_slice())
 }
 
-pub fn put_kind_and_metadata(
-    out: &mut Vec<u8>,
-    kind: Kind,
-    metadata: &[u8],
-) -> Result<(), AllocError>
-    ensures { Appended result out.old.items out.new.items
+pub fn put_kind_and_metadata(out: &mut Bytes, kind: Kind, metadata: &[u8]) -> Result<(), AllocError>
+    ensures { Appended result out.old out.new
         (field.ruling.spelled (record { kind = kind.0; metadata = metadata.now })) }
 {
     put_kind(out, kind)?;
     put_text(out, metadata)
 }
 
-pub fn put_policy(out: &mut Vec<u8>, policy: &Policy) -> Result<(), AllocError>
-    ensures { Appended result out.old.items out.new.items (field.policy.spelled policy.now) }
+pub fn put_policy(out: &mut Bytes, policy: &Policy) -> Result<(), AllocError>
+    ensures { Appended result out.old out.new (field.policy.spelled policy.now) }
 {
     put_key(out, &policy.key)?;
     put_ruling(out, &policy.result)
 }
 
-pub fn put_template(out: &mut Vec<u8>, template: &Template) -> Result<(), AllocError>
-    ensures { Appended result out.old.items out.new.items (field.template.spelled template.now) }
+pub fn put_template(out: &mut Bytes, template: &Template) -> Result<(), AllocError>
+    ensures { Appended result out.old out.new (field.template.spelled template.now) }
 {
     let text = template.text()?;
     put_text(out, &text)
 }
 
-pub fn put_user_type(out: &mut Vec<u8>, kind: UserType) -> Result<(), AllocError>
-    ensures { Appended result out.old.items out.new.items (field.user_type.spelled kind) }
+pub fn put_user_type(out: &mut Bytes, kind: UserType) -> Result<(), AllocError>
+    ensures { Appended result out.old out.new (field.user_type.spelled kind) }
 {
     match kind {
         UserType::System => put1(out, 0),
@@ -201,8 +187,8 @@ pub fn put_user_type(out: &mut Vec<u8>, kind: UserType) -> Result<(), AllocError
     }
 }
 
-pub fn put_author(out: &mut Vec<u8>, author: &Option<Ident>) -> Result<(), AllocError>
-    ensures { Appended result out.old.items out.new.items (field.author.spelled author.now) }
+pub fn put_author(out: &mut Bytes, author: &Option<Ident>) -> Result<(), AllocError>
+    ensures { Appended result out.old out.new (field.author.spelled author.now) }
 {
     match author {
         Some(author) => put_ident(out, author),
@@ -210,8 +196,8 @@ pub fn put_author(out: &mut Vec<u8>, author: &Option<Ident>) -> Result<(), Alloc
     }
 }
 
-pub fn put_scope(out: &mut Vec<u8>, scope: Scope) -> Result<(), AllocError>
-    ensures { Appended result out.old.items out.new.items (field.scope.spelled scope) }
+pub fn put_scope(out: &mut Bytes, scope: Scope) -> Result<(), AllocError>
+    ensures { Appended result out.old out.new (field.scope.spelled scope) }
 {
     match scope {
         Scope::Everyone => put1(out, 0),

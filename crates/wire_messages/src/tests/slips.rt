@@ -5,13 +5,14 @@ use super::questions::QUESTIONS;
 use super::replies::REPLIES;
 use crate::writers::put_count;
 use crate::{Heard, WireRefusal};
+use desk_ports::Bytes;
 use std::alloc::Global;
 use std::test::Fail;
 
 // puts a length that counts what follows it, and what follows it
-fn put_with_length(frame: &mut Vec<u8>, rest: &[u8]) -> Result<(), Fail> {
+fn put_with_length(frame: &mut Bytes, rest: &[u8]) -> Result<(), Fail> {
     put_count(frame, rest.len())?;
-    Ok(frame.extend_from_slice(rest)?)
+    Ok(frame.append(rest)?)
 }
 
 // the place of the last field that begins before so many bytes or there
@@ -32,9 +33,9 @@ fn is_refused_behind(
     rest: &[u8],
     refusal: WireRefusal,
 ) -> Result<bool, Fail> {
-    let mut frame = Vec::new(alloc);
+    let mut frame = Bytes::new(alloc);
     put_with_length(&mut frame, rest)?;
-    Ok(is_refused(alloc, heard, &frame, refusal))
+    Ok(is_refused(alloc, heard, frame.as_slice(), refusal))
 }
 
 // whether, whatever the frame is cut to, the field that it cuts or lacks runs past it

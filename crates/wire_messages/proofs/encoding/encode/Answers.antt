@@ -3,4 +3,4 @@ use Rattle.wire_messages.proofs.FrameLaws.{is_read_again}
 use Rattle.wire_messages.proofs.encoding.encode.Goals as goal
 
 pub returns-clause-again : goal.returns-clause-again
-returns-clause-again c = is_read_again c.args.framed.now (Ok c.of.result) (search rules)
+returns-clause-again c = is_read_again c.args.framed.now (Ok c.encode_into.new.frame) (search rules)

@@ -6,5 +6,5 @@ use Rattle.wire_messages.proofs.list_writers.put_changes.Given as goal
 
 abbrev pub invariant-loop-change : goal.invariant-loop-change
 invariant-loop-change l =
-    l.out.items ≡ l.fn.out.items ++ (to_be_bytes w32 (length l.changes)
+    l.out ≡ l.fn.out ++ (to_be_bytes w32 (length l.changes)
     ++ flat_map change.spelled (take l.change-index l.changes))

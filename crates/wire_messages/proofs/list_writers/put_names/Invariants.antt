@@ -6,5 +6,5 @@ use Rattle.wire_messages.proofs.list_writers.put_names.Given as goal
 
 abbrev pub invariant-loop-name : goal.invariant-loop-name
 invariant-loop-name l =
-    l.out.items ≡ l.fn.out.items ++ (to_be_bytes w32 (length l.names)
+    l.out ≡ l.fn.out ++ (to_be_bytes w32 (length l.names)
     ++ flat_map name.spelled (take l.name-index l.names))

@@ -12,11 +12,11 @@ returns c =
     let result = ruling.spelled (record { kind = answer.kind.0; metadata = answer.metadata }) in
     let name = bucket.spelled answer.cause.bucket in
     let last = (optional row).spelled answer.cause.row in
-    let out = c.args.out.now.items in
-    let one = c.put8.new.out.items in
-    let two = c.put_kind_and_metadata.new.out.items in
-    let three = c.put_text.new.out.items in
-    let all = c.put_optional_row.new.out.items in
+    let out = c.args.out.now in
+    let one = c.put8.new.out in
+    let two = c.put_kind_and_metadata.new.out in
+    let three = c.put_text.new.out in
+    let all = c.put_optional_row.new.out in
     let first : one ≡ out ++ commit = c.in_ok-put8.ensures in
     let second : two ≡ one ++ result = search rules in
     let third : three ≡ two ++ name = search rules in
