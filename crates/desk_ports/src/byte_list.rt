@@ -4,6 +4,9 @@ use std::alloc::{AllocError, Global};
 use std::fmt;
 use std::marker::Model;
 
+/// How many bytes are made ready ahead of those that are there.
+const MOST_SPARE: usize = 65_536;
+
 /// A list of bytes that owns its memory. Contracts see it as the list. To append costs a copy and no more where there is room.
 #[derive(Drop)]
 pub struct Bytes {
@@ -107,7 +110,8 @@ impl Bytes {
     }
 }
 
-// Makes room behind so many bytes for `more`, and for as many again as there are then.
+// Makes room behind so many bytes for `more`, and for as many again as there are then, but no more than `MOST_SPARE`: what
+// is ahead of the bytes is written to.
 #[inline(never)]
 fn make_room(room: &mut Vec<u8>, count: usize, more: usize) -> Result<(), AllocError>
     requires within { count ≤ vec_len room.old }
@@ -116,7 +120,7 @@ fn make_room(room: &mut Vec<u8>, count: usize, more: usize) -> Result<(), AllocE
     ensures room { OnOk result (count + more ≤ vec_len room.new) }
 {
     let least = count.checked_add(more).ok_or(AllocError)?;
-    let size = least.checked_mul(2).ok_or(AllocError)?;
+    let size = least.checked_add(least.min(MOST_SPARE)).ok_or(AllocError)?;
     room.resize(size, 0)
 }
 
