@@ -108,12 +108,7 @@ pub fn put_fields(out: &mut Bytes, message: &Message) -> Result<(), AllocError>
             kind,
             number,
             allowed,
-        } => {
-            put8(out, *commit)?;
-            put_kind(out, *kind)?;
-            put4(out, *number)?;
-            put_flag(out, *allowed)
-        }
+        } => put_from_agent(out, *commit, *kind, *number, *allowed),
         Message::NotResolved { commit, kind } => {
             put8(out, *commit)?;
             put_kind(out, *kind)
@@ -146,6 +141,21 @@ pub fn put_fields(out: &mut Bytes, message: &Message) -> Result<(), AllocError>
         }
         Message::UnknownNumber { number } => put4(out, *number),
     }
+}
+
+fn put_from_agent(
+    out: &mut Bytes,
+    commit: u64,
+    kind: Kind,
+    number: u32,
+    allowed: bool,
+) -> Result<(), AllocError>
+    ensures { Appended result out.old out.new (words.fields (Message.FromAgent commit kind number allowed)) }
+{
+    put8(out, commit)?;
+    put_kind(out, kind)?;
+    put4(out, number)?;
+    put_flag(out, allowed)
 }
 
 fn put_agent_full(out: &mut Bytes, commit: u64, kind: Kind, most: u32) -> Result<(), AllocError>
