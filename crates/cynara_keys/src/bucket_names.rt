@@ -91,7 +91,8 @@ impl BucketName {
     }
 }
 
-/// Whether the bytes are a bucket's name, which the metadata of a result that points to a bucket is.
+/// Whether the bytes are a bucket's name, which the metadata of a result that points to a bucket is. Takes no memory. One
+/// pass.
 pub fn is_bucket_name(bytes: &[u8]) -> bool
     ensures { result ≡ is_bucket_name bytes.now }
 {

@@ -18,13 +18,13 @@ mod shared;
 mod short_texts;
 
 pub use borrowed_questions::BorrowedQuestion;
-pub use bucket_names::{BucketName, BucketNameRefusal};
+pub use bucket_names::{BucketName, BucketNameRefusal, is_bucket_name};
 pub use fields::{Field, FilterField, field_fault};
 pub use keys::{Filter, Key, Policy};
 pub use limits::{
     Counted, MOST_BUCKET_NAME_BYTES, MOST_METADATA_BYTES, MOST_NAME_BYTES, MOST_SHORT_BYTES,
 };
-pub use metadata_texts::{Metadata, MetadataRefusal};
+pub use metadata_texts::{Metadata, MetadataRefusal, is_metadata};
 pub use names::{Name, NameRefusal, name_fault};
 pub use questions::Question;
 pub use results::{Kind, PolicyResult};

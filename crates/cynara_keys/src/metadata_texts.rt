@@ -1,5 +1,5 @@
 ghost use Rattle.std.specs.Prelude.{◌≡◌, [], IfOk, IfErr, OnOk};
-ghost use Rattle.cynara_keys.specs.Metadata.{metadata_fault, Refuses};
+ghost use Rattle.cynara_keys.specs.Metadata.{metadata_fault, is_metadata, Refuses};
 ghost use Rattle.cynara_keys.specs.Text.{same_text, text_cmp};
 ghost use Rattle.std.specs.Prelude.{refl};
 ghost use Rattle.std.specs.Ordering.{as_partial_cmp};
@@ -89,6 +89,13 @@ impl Metadata {
             bytes: self.bytes.copy()?,
         })
     }
+}
+
+/// Whether the bytes are metadata. Takes no memory. One pass.
+pub fn is_metadata(bytes: &[u8]) -> bool
+    ensures { result ≡ is_metadata bytes.now }
+{
+    bytes.len() <= MOST_METADATA_BYTES && first_not_visible(bytes).is_none()
 }
 
 impl PartialEq for Metadata {

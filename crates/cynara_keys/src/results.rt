@@ -42,6 +42,18 @@ impl Kind {
     {
         Kind::FIRST_AGENT <= self && self <= Kind::LAST_AGENT
     }
+
+    /// Whether a result of this kind may have this metadata: none at DENY, NONE and ALLOW, at BUCKET a bucket's name, and
+    /// any at an agent's number.
+    pub fn may_carry(self, metadata: &[u8]) -> bool
+        ensures { result ≡ may_carry self.0 metadata.now }
+    {
+        match self {
+            Kind::DENY | Kind::NONE | Kind::ALLOW => metadata.is_empty(),
+            Kind::BUCKET => is_bucket_name(metadata),
+            _ => true,
+        }
+    }
 }
 
 /// What a policy decides: a kind, and metadata where the kind may have some. Results are ordered by kind, and then by
@@ -71,12 +83,7 @@ impl PolicyResult {
         ensures accepted { IsOk result ↔ IsTrue (may_carry kind.0 metadata) }
         ensures handed_back { IfErr result (λ back. back ≡ metadata) }
     {
-        let fits = match kind {
-            Kind::DENY | Kind::NONE | Kind::ALLOW => metadata.as_slice().is_empty(),
-            Kind::BUCKET => is_bucket_name(metadata.as_slice()),
-            _ => true,
-        };
-        if fits {
+        if kind.may_carry(metadata.as_slice()) {
             Ok(PolicyResult { kind, metadata })
         } else {
             Err(metadata)

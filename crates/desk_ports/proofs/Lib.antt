@@ -7,7 +7,7 @@ pub mod Recording
 pub mod Contents
 pub mod Answering
 pub mod Fronts
-mod Holding
+pub mod Holding
 pub mod Listing
 pub mod Picks
 pub mod Cut

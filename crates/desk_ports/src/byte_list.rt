@@ -76,6 +76,22 @@ impl Bytes {
         Ok(())
     }
 
+    /// Appends the bytes in front and those behind them, with one test for room. Else as `append`.
+    #[inline(always)]
+    pub fn append_both(&mut self, front: &[u8], back: &[u8]) -> Result<(), AllocError>
+        ensures ok { OnOk result (self.new ≡ self.old ++ (front.now ++ back.now)) }
+        ensures err { OnErr result (self.new ≡ self.old) }
+    {
+        let more = front.len().checked_add(back.len()).ok_or(AllocError)?;
+        if self.room.len() - self.count < more {
+            make_room(&mut self.room, self.count, more)?;
+        }
+        let end = self.count + more;
+        write_both(&mut self.room[self.count..end], front, back);
+        self.count = end;
+        Ok(())
+    }
+
     /// Puts these bytes in the place of as many at the front.
     #[tactic(auto, using(crate::proofs::Fronts::take_overwritten))]
     pub fn overwrite_front(&mut self, with: &[u8])
@@ -108,6 +124,17 @@ impl Bytes {
     {
         Ok(Bytes::of(self.as_slice().to_vec(*self.room.allocator())?))
     }
+}
+
+// Writes the bytes in front and those behind them, which fill the place.
+#[inline(always)]
+fn write_both(place: &mut [u8], front: &[u8], back: &[u8])
+    requires { length place.old ≡ length front.now + length back.now }
+    ensures { place.new ≡ front.now ++ back.now }
+{
+    let (at_front, at_back) = place.split_at_mut(front.len());
+    at_front.copy_from_slice(front);
+    at_back.copy_from_slice(back);
 }
 
 // Makes room behind so many bytes for `more`, and for as many again as there are then, but no more than `MOST_SPARE`: what

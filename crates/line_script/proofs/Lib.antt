@@ -1,4 +1,5 @@
 pub mod Appends
+pub mod Checks
 pub mod NameWords
 pub mod Numerals
 pub mod Outcomes

@@ -1,9 +1,12 @@
-ghost use Rattle.std.specs.Prelude.{IfOk};
-ghost use Rattle.line_script.specs.Grammar.{change_at, line_at, lone_change, lone_step};
+ghost use Rattle.std.specs.Prelude.{◌≡◌, Some, IfOk, IfSome};
+ghost use Rattle.line_script.specs.Block.{outside};
+ghost use Rattle.line_script.specs.Grammar.{change_at, line_at, lone_change, lone_step, outside_at};
 ghost use Rattle.line_script.specs.Words.{word};
 ghost use Rattle.line_script.specs.Verbs.{verb_at};
 ghost use Rattle.line_script.specs.Turn.{AsksRequest};
+ghost use Rattle.line_script.specs.parts.Beginnings.{begins_as_check};
 ghost use Rattle.line_script.specs.parts.Reading.{Gives, GivesWord};
+ghost use Rattle.line_script.specs.declared.steps.Step.TheVariants as step;
 
 use crate::changes::{set_line, set_step, unset_line, unset_step};
 use crate::commands::{
@@ -11,10 +14,13 @@ use crate::commands::{
 };
 use crate::installs::install_line;
 use crate::line_words::Words;
-use crate::questions::{access_line, check_line, from_line, list_line, status_line};
+use crate::questions::{
+    access_line, check_line, from_line, list_line, status_line, whole_question,
+};
 use crate::steps::{LineRefusal, Step};
 use crate::verbs::Verb;
 use bucket_store::Change;
+use cynara_keys::BorrowedQuestion;
 use std::alloc::Global;
 
 /// The step of a line that stands outside a block and is neither blank nor a comment.
@@ -38,6 +44,33 @@ pub(crate) fn lone_change(alloc: Global, line: &[u8]) -> Result<Change, LineRefu
     change_behind(alloc, verb, &mut words)
 }
 
+/// The question of a line that is `check` and stands outside a block. `None` for every other line, and for one that is
+/// wrong.
+#[inline(always)]
+pub(crate) fn lone_check<'a>(line: &'a [u8]) -> Option<BorrowedQuestion<'a>>
+    ensures { IfSome result (λ question. outside_at line.now ≡ Some (outside, step.Check question)) }
+{
+    if !begins_as_check(line) {
+        return None;
+    }
+    let mut words = Words::of(line);
+    let verb = words.next()?;
+    if verb != b"check".as_slice() {
+        return None;
+    }
+    match whole_question(&mut words) {
+        Ok(question) => Some(question),
+        Err(_) => None,
+    }
+}
+
+/// Whether the first byte is that of `check`.
+fn begins_as_check(line: &[u8]) -> bool
+    ensures { result ≡ begins_as_check line.now }
+{
+    matches!(line, [b'c', ..])
+}
+
 fn verb_word(words: &mut Words) -> Result<Verb, LineRefusal>
     ensures { GivesWord result words.new (word verb_at words.old) }
 {
@@ -56,8 +89,7 @@ fn change_behind(alloc: Global, verb: Verb, words: &mut Words) -> Result<Change,
     }
 }
 
-/// Each line but the most frequent one, `check`, has a function of its own that is not inlined: a function pays at its
-/// entry for all that it may hold.
+/// Each line has a function of its own that is not inlined: a function pays at its entry for all that it may hold.
 #[tactic(auto, unfolding(crate::specs::Grammar::line_at))]
 fn line_behind<'a>(
     alloc: Global,

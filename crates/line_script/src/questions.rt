@@ -1,14 +1,16 @@
 //! Lines that ask and change nothing, behind their first word.
 
-ghost use Rattle.std.specs.Prelude.{IfOk};
+ghost use Rattle.std.specs.Prelude.{◌≡◌, Some, IfOk, MatchResult};
 ghost use Rattle.line_script.specs.Grammar.{list_at, check_at, from_at, access_at, status_at};
 ghost use Rattle.line_script.specs.Turn.{AsksRequest};
-ghost use Rattle.line_script.specs.parts.Reading.{Gives};
+ghost use Rattle.line_script.specs.parts.Reading.{Gives, Refuses};
+ghost use Rattle.line_script.specs.declared.steps.Step.TheVariants as step;
 
 use crate::line_words::Words;
 use crate::phrases::{filter_words, question_words};
 use crate::steps::{LineRefusal, Step};
 use crate::word_forms::{bucket_word, depth_word, end_word, label_word, request_word};
+use cynara_keys::BorrowedQuestion;
 use desk_ports::Boxed;
 use std::alloc::Global;
 
@@ -29,17 +31,27 @@ pub(crate) fn list_line<'a>(alloc: Global, words: &mut Words<'a>) -> Result<Step
 }
 
 /// `check CLIENT USER PRIVILEGE`.
-#[tactic(auto, unfolding(crate::specs::Grammar::check_at))]
-#[inline(always)]
+#[inline(never)]
 pub(crate) fn check_line<'a>(words: &mut Words<'a>) -> Result<Step<'a>, LineRefusal>
     ensures step { Gives result (check_at words.old) }
     ensures asked { IfOk result AsksRequest }
+{
+    let question = whole_question(words)?;
+    Ok(Step::Check(question))
+}
+
+/// The question of `check`, which all words behind it say.
+#[tactic(auto, unfolding(crate::specs::Grammar::check_at))]
+#[inline(always)]
+pub(crate) fn whole_question<'a>(words: &mut Words<'a>) -> Result<BorrowedQuestion<'a>, LineRefusal>
+    ensures { MatchResult result (λ question. check_at words.old ≡ Some (step.Check question))
+        (λ refusal. Refuses refusal (check_at words.old)) }
 {
     let question = question_words(words)?;
     let Some(()) = end_word(words) else {
         return Err(LineRefusal::Syntax);
     };
-    Ok(Step::Check(question))
+    Ok(question)
 }
 
 /// `from BUCKET MODE CLIENT USER PRIVILEGE`.

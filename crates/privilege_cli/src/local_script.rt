@@ -12,7 +12,7 @@ use crate::ending::Ending;
 use crate::folded_rules::FoldedRules;
 use crate::line_notes::{note_past_limit, note_script_line};
 use crate::questions::{print_decision, print_done, print_from, print_list, print_refusal};
-use cynara_keys::BucketName;
+use cynara_keys::{BorrowedQuestion, BucketName};
 use desk_keeper::Keeper;
 use desk_ports::{Bytes, Disk, Sink, Source, write_all};
 use desk_state::{Command, Desk};
@@ -103,6 +103,38 @@ impl LocalScript {
 
     // Answers the line with this number.
     fn answer_line<K: Sink, D: Disk>(
+        &mut self,
+        line: &[u8],
+        number: u32,
+        keeper: &mut Keeper<'_, D>,
+        sink: &mut K,
+    ) -> Result<(), Ending>
+        requires decided { (keeper.old.read && keeper.old.vault.decided) ≡ true }
+        requires folded { AreFolded self.old.rules.table keeper.old.desk }
+
+        ensures line { MatchResult result
+            (λ _. AnswersLine (K.taken sink.old) (K.taken sink.new) self.old self.new keeper.old.desk keeper.new.desk line.now)
+            (RefusesLine (K.taken sink.old) (K.taken sink.new) self.old self.new keeper.old.desk keeper.new.desk line.now number) }
+        ensures sink { K.faults sink.new ≡ counts_sink result (K.faults sink.old) }
+        ensures folded { AreFolded self.new.rules.table keeper.new.desk }
+
+        ensures keeper { Moves D.state D.moment D.left_since keeper.old.vault.disk.now keeper.new.vault.disk.now
+            keeper.old.desk keeper.old.vault.held keeper.new.desk keeper.new.vault.held
+            (after keeper.old.desk (step_of (step_at self.old.reader line.now))) result }
+        ensures decided { UnlessDisk result ((keeper.new.read && keeper.new.vault.decided) ≡ true) }
+        ensures disk { D.faults keeper.new.vault.disk.now ≡ counts_disk result (D.faults keeper.old.vault.disk.now) }
+        ensures same_disk { keeper.new.vault.disk.ghost_name ≡ keeper.old.vault.disk.ghost_name }
+    {
+        if let Some(question) = self.reader.check(line) {
+            self.answer_check(keeper.desk(), &question)?;
+            return Ok(());
+        }
+        self.answer_other(line, number, keeper, sink)
+    }
+
+    // The same for a line of any kind. Of its own, so that a check does not pay for what it may hold.
+    #[inline(never)]
+    fn answer_other<K: Sink, D: Disk>(
         &mut self,
         line: &[u8],
         number: u32,
@@ -223,6 +255,20 @@ impl LocalScript {
         }
     }
 
+    // Adds the verdict on a question from the root bucket to the answers that wait.
+    fn answer_check(
+        &mut self,
+        desk: &Desk,
+        question: &BorrowedQuestion<'_>,
+    ) -> Result<(), AllocError>
+        ensures answer { OnOk result (self.new.answers ≡ self.old.answers ++ reply desk.now (step.Check question.now)) }
+        ensures same { self.new ≡ record self.old { answers = self.new.answers } }
+        ensures err { OnErr result (self.new.answers ≡ self.old.answers) }
+    {
+        let root = BucketName::root(self.alloc);
+        print_from(desk, &root, true, question, &mut self.answers)
+    }
+
     // Adds the answer to a question about the policy state to those that wait.
     fn ask(&mut self, desk: &Desk, question: &Step<'_>) -> Result<(), AllocError>
         requires asked { AsksRequest question.now }
@@ -242,10 +288,7 @@ impl LocalScript {
                 filter.get(),
                 &mut self.answers,
             ),
-            Step::Check(question) => {
-                let root = BucketName::root(self.alloc);
-                print_from(desk, &root, true, question, &mut self.answers)
-            }
+            Step::Check(question) => self.answer_check(desk, question),
             Step::From {
                 bucket,
                 deep,
