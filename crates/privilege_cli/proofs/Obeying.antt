@@ -1,5 +1,6 @@
 -- Commands: the answers that wait behind them, and how a line's step ends.
 use Rattle.std.proofs.Common.{◌≡◌, ◌++◌, [], ℕ, true, List, Option, Some, None, Result, Ok, Err, MatchResult, inl, inr, refl, sym, ap, ◌∙◌, append-nil}
+use Rattle.cynara_keys.specs.Key.{Question}
 use Rattle.desk_ports.specs.Content.{Appended}
 use Rattle.desk_ports.proofs.Appends.{Appended-none}
 use Rattle.desk_state.specs.DeskState.{DeskState}
@@ -11,7 +12,7 @@ use Rattle.line_script.specs.Grammar.{step_at}
 use Rattle.line_script.specs.Refusals.{names_a_rule}
 use Rattle.line_script.specs.declared.steps.Step.{Step}
 use Rattle.line_script.specs.declared.steps.Step.TheVariants as step
-use Rattle.privilege_cli.specs.Reply.{command_text, applied}
+use Rattle.privilege_cli.specs.Reply.{command_text, applied, reply}
 use Rattle.privilege_cli.specs.parts.Local.{Hands, Flushes, AnswersStep, RefusesStep, AnswersLine, RefusesLine}
 use Rattle.privilege_cli.specs.parts.Keeping.{counts_disk}
 use Rattle.privilege_cli.specs.declared.ending.Ending.{Ending}
@@ -97,6 +98,23 @@ line-of-step taken taken_after old new desk desk_after line number asked reads (
 line-of-step taken taken_after old new desk desk_after line number asked reads (Err Source) refuses = absurd refuses
 line-of-step taken taken_after old new desk desk_after line number asked reads (Err (Line wrong)) refuses = absurd refuses
 line-of-step taken taken_after old new desk desk_after line number asked reads (Err (Damaged file place)) refuses = absurd refuses
+
+-- the line asks for a check, whose answer waits
+pub answers-check : (taken : Option (List ℕ)) (old new : LocalScript) (desk : DeskState) (line : List ℕ) (question : Question)
+    → step_at old.reader line ≡ Some (old.reader, step.Check question) → new.reader ≡ old.reader
+    → new.answers ≡ old.answers ++ reply desk (step.Check question) → AnswersLine taken taken old new desk desk line
+answers-check taken old new desk line question reads same text =
+    record {
+      step = step.Check question;
+      reads = reads ∙ ap (λ reader. Some (reader, step.Check question)) (sym same);
+      done = record {
+        waiting = old.answers;
+        hands = hands-none taken old.answers old.answers refl;
+        answer = text;
+        state = refl;
+        in_turn = inl refl;
+      };
+    }
 
 -- the answers that waited were not all taken
 module _ (taken taken_after : Option (List ℕ)) (old new : LocalScript) where

@@ -110,6 +110,39 @@ open_bound heard bytes e = bounded (ltb (length bytes) 4) refl e
         record { less = λ long. absurd (omega arith); most = omega (arith, less) }
     bounded false short e = with_length_bound heard bytes (length_fault (length_of bytes)) refl e
 
+open_right : (heard : Heard) (bytes : List ℕ) → 4 ≤ length bytes → IsOpen heard bytes
+    → length_fault (length_of bytes) ≡ None
+unfolding first_of
+open_right heard bytes long is =
+    right (length_fault (length_of bytes)) refl
+    (sym (ap (λ (b : Bool). cond b Partial (with_length heard bytes (length_of bytes + 4) (length_fault (length_of bytes))))
+    (le-ltb (length bytes) 4 long)) ∙ is)
+  where
+    right : (fault : Option WireRefusal) → length_fault (length_of bytes) ≡ fault
+        → with_length heard bytes (length_of bytes + 4) fault ≡ Partial → length_fault (length_of bytes) ≡ None
+    right (Some fault) of_length e = absurd cc
+    right None of_length e = of_length
+
+-- fewer were taken than were wanted
+pub still_open : (heard : Heard) (old front : List ℕ) (wanted : ℕ) → IsOpen heard old → length front < wanted
+    → (length old < 4 → wanted + length old ≡ 4) → (4 ≤ length old → wanted + length old ≡ length_of old + 4)
+    → IsOpen heard (old ++ front)
+still_open heard old front wanted is few short long = still (ltb (length old) 4) refl
+  where
+    still : (b : Bool) → ltb (length old) 4 ≡ b → IsOpen heard (old ++ front)
+    still true less =
+        let under : length old < 4 = ltb-true _ _ less in
+        let all = short under in
+        short_open heard (old ++ front) (omega (arith, length-append old front, all, few))
+    still false less =
+        let more : 4 ≤ length old = ltb-false _ _ less in
+        let all = long more in
+        let same : length_of (old ++ front) ≡ length_of old =
+        ap (from_be_bytes w32) (take-append-le 4 old front more) in
+        not_finished heard (old ++ front) (omega (arith, length-append old front, more))
+        (ap length_fault same ∙ open_right heard old more is)
+        (omega (arith, length-append old front, all, few, same))
+
 -- no more was taken than was wanted
 pub up_to : (old front : List ℕ) (wanted : ℕ) → length front ≤ wanted → (length old < 4 → wanted + length old ≡ 4)
     → (4 ≤ length old → wanted + length old ≡ length_of old + 4) → IsUpTo (old ++ front)

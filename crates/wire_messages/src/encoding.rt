@@ -5,7 +5,6 @@ ghost use Rattle.wire_messages.specs.declared.operations.Heard.{Heard};
 
 use crate::limits::MOST_LENGTH;
 use crate::message_writers::{operation, put_fields};
-use crate::writers::{put1, put2};
 use crate::{EncodeRefusal, Framed};
 use byteorder::{BigEndian, ByteOrder};
 use desk_ports::Bytes;
@@ -55,8 +54,9 @@ fn put_frame(out: &mut Bytes, framed: &Framed) -> Result<(), AllocError>
     requires { out.old ≡ [] }
     ensures { OnOk result (out.new ≡ (0 ∷ 0 ∷ 0 ∷ 0 ∷ []) ++ body framed.now) }
 {
-    out.append(&[0; 4])?;
-    put2(out, framed.sequence)?;
-    put1(out, operation(&framed.message).number())?;
+    let mut sequence = [0; 2];
+    BigEndian::write_u16(&mut sequence, framed.sequence);
+    let operation = operation(&framed.message).number();
+    out.append(&[0, 0, 0, 0, sequence[0], sequence[1], operation])?;
     put_fields(out, &framed.message)
 }

@@ -1,4 +1,4 @@
-ghost use Rattle.std.specs.Prelude.{◌≡◌, ◌≤◌, ◌<◌, ◌+◌, ◌∷◌, [], Some, None, length};
+ghost use Rattle.std.specs.Prelude.{◌≡◌, ◌≤◌, ◌<◌, ◌+◌, ◌∷◌, [], ◌++◌, Some, None, length};
 ghost use Rattle.std.specs.Prelude.{Err, IfOk, IfErr, OnOk, MatchOption, if◌then◌else◌};
 ghost use Rattle.wire_messages.specs.Frame.{length_of, length_fault};
 ghost use Rattle.wire_messages.specs.Stream.{Fed, Failed, unfed, IsOpen};
@@ -149,8 +149,11 @@ impl Feeder {
         ensures stepped { IfOk result (λ left. Stepped self.old self.new bytes.now left.now) }
         ensures refused { IfErr result (Unstepped self.old self.new bytes.now) }
     {
-        let count = self.wanted().min(bytes.len());
-        let (front, left) = bytes.split_at(count);
+        let wanted = self.wanted();
+        if bytes.len() < wanted {
+            return self.keep(bytes);
+        }
+        let (front, left) = bytes.split_at(wanted);
         if let Err(error) = self.partial.append(front) {
             return Err(WireRefusal::Memory(error));
         }
@@ -169,6 +172,19 @@ impl Feeder {
                 self.partial.clear();
                 Err(refusal)
             }
+        }
+    }
+
+    // puts bytes behind those of the frame that is begun, which is not whole with them either
+    fn keep<'a>(&mut self, bytes: &'a [u8]) -> Result<&'a [u8], WireRefusal>
+        requires { IsOpen self.old.heard (self.old.partial ++ bytes.now) }
+        ensures all { IfOk result (λ left. left.now ≡ []) }
+        ensures stepped { IfOk result (λ left. Stepped self.old self.new bytes.now left.now) }
+        ensures refused { IfErr result (Unstepped self.old self.new bytes.now) }
+    {
+        match self.partial.append(bytes) {
+            Ok(()) => Ok(&[]),
+            Err(error) => Err(WireRefusal::Memory(error)),
         }
     }
 

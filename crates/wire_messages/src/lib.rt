@@ -10,6 +10,7 @@ mod decoding;
 mod encoding;
 mod feeding;
 mod fields;
+mod five_texts;
 mod laws;
 mod limits;
 mod list_readers;
@@ -23,6 +24,7 @@ mod refusal_readers;
 mod refusals;
 mod right_fields;
 mod rules;
+mod verdicts;
 mod writers;
 
 pub use commands::{command_of, message_of, refused_of};
@@ -37,6 +39,7 @@ pub use limits::{LEAST_LENGTH, MOST_FRAME_BYTES, MOST_LENGTH};
 pub use messages::{Framed, Message};
 pub use operations::{Heard, Operation};
 pub use refusals::{EncodeRefusal, WireRefusal};
+pub use verdicts::{BorrowedRow, PackedVerdict};
 
 #[cfg(test)]
 mod tests;

@@ -7,32 +7,30 @@ ghost use Rattle.std.specs.Option.{option_copied};
 
 use crate::WireRefusal;
 use crate::fields::Fields;
-use crate::readers::{author, bucket, flag, ident, key, key_field_text, name, ruling, scope};
+use crate::readers::{
+    author, bucket, bucket_text, flag, ident, key, key_field_text, name, ruling, ruling_text, scope,
+};
+use crate::verdicts::{BorrowedRow, PackedVerdict};
 use app_registry::{Install, NameSet};
-use bucket_eval::{Answer, Cause, Row, Verdict};
 use bucket_store::{Change, Changes};
-use cynara_keys::{Name, Short};
-use desk_ports::Boxed;
+use cynara_keys::Name;
 use std::alloc::Global;
 
 pub fn change(alloc: Global, fields: &mut Fields) -> Result<Change, WireRefusal>
     ensures { Gives result fields.new (field.change.read fields.old) }
 {
     let sets = flag(fields)?;
-    if sets {
-        let bucket = bucket(alloc, fields)?;
-        let key = key(alloc, fields)?;
-        let result = ruling(alloc, fields)?;
-        Ok(Change::Set {
-            bucket,
-            key,
-            result,
-        })
-    } else {
-        let bucket = bucket(alloc, fields)?;
-        let key = key(alloc, fields)?;
-        Ok(Change::Delete { bucket, key })
+    let bucket = bucket(alloc, fields)?;
+    let key = key(alloc, fields)?;
+    if !sets {
+        return Ok(Change::Delete { bucket, key });
     }
+    let result = ruling(alloc, fields)?;
+    Ok(Change::Set {
+        bucket,
+        key,
+        result,
+    })
 }
 
 /// So many changes. Takes memory for those alone that are there.
@@ -91,28 +89,17 @@ pub fn install(alloc: Global, fields: &mut Fields) -> Result<Install, WireRefusa
     })
 }
 
-pub fn verdict(alloc: Global, fields: &mut Fields) -> Result<Boxed<Verdict>, WireRefusal>
+pub fn verdict(alloc: Global, fields: &mut Fields) -> Result<PackedVerdict, WireRefusal>
     ensures { Gives result fields.new (field.verdict.read fields.old) }
 {
     let commit = fields.number8()?;
-    let ruling = ruling(alloc, fields)?;
-    let bucket = bucket(alloc, fields)?;
+    let ruling = ruling_text(fields)?;
+    let bucket = bucket_text(fields)?;
     let row = optional_row(fields)?;
-    let answer = Answer {
-        kind: ruling.kind(),
-        metadata: Short::of(ruling.metadata().as_slice()),
-        cause: Cause {
-            bucket: Short::of(bucket.as_slice()),
-            row,
-        },
-    };
-    match Boxed::of(alloc, Verdict { commit, answer }) {
-        Ok(verdict) => Ok(verdict),
-        Err(error) => Err(WireRefusal::Memory(error)),
-    }
+    PackedVerdict::of(alloc, commit, &ruling, bucket, row).map_err(WireRefusal::Memory)
 }
 
-fn optional_row(fields: &mut Fields) -> Result<Option<Row>, WireRefusal>
+fn optional_row<'a>(fields: &mut Fields<'a>) -> Result<Option<BorrowedRow<'a>>, WireRefusal>
     ensures { Gives result fields.new ((field.optional field.row).read fields.old) }
 {
     if flag(fields)? {
@@ -122,22 +109,11 @@ fn optional_row(fields: &mut Fields) -> Result<Option<Row>, WireRefusal>
     }
 }
 
-fn row(fields: &mut Fields) -> Result<Row, WireRefusal>
+fn row<'a>(fields: &mut Fields<'a>) -> Result<BorrowedRow<'a>, WireRefusal>
     ensures { Gives result fields.new (field.row.read fields.old) }
 {
-    let client = short_field(fields)?;
-    let user = short_field(fields)?;
-    let privilege = short_field(fields)?;
-    Ok(Row {
-        client,
-        user,
-        privilege,
-    })
-}
-
-// `*` or a name
-fn short_field(fields: &mut Fields) -> Result<Short, WireRefusal>
-    ensures { Gives result fields.new (field.field_text.read fields.old) }
-{
-    Ok(Short::of(key_field_text(fields)?))
+    let client = key_field_text(fields)?;
+    let user = key_field_text(fields)?;
+    let privilege = key_field_text(fields)?;
+    Ok(BorrowedRow::of(client, user, privilege))
 }

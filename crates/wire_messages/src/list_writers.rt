@@ -5,12 +5,12 @@ ghost use Rattle.wire_messages.specs.Field as field;
 ghost use Rattle.wire_messages.specs.Refused as refused;
 ghost use Rattle.wire_messages.specs.Appended.{Appended};
 
+use crate::verdicts::{BorrowedRow, PackedVerdict};
 use crate::writers::{
     put_author, put_bucket, put_count, put_ident, put_key, put_kind_and_metadata, put_name,
-    put_ruling, put_scope, put_text, put1, put8,
+    put_ruling, put_scope, put_text, put1, put1_and_text, put8,
 };
 use app_registry::Install;
-use bucket_eval::{Row, Verdict};
 use bucket_store::Change;
 use cynara_keys::{Counted, Name};
 use desk_ports::Bytes;
@@ -26,14 +26,12 @@ pub fn put_change(out: &mut Bytes, change: &Change) -> Result<(), AllocError>
             key,
             result: ruling,
         } => {
-            put1(out, 1)?;
-            put_bucket(out, bucket)?;
+            put1_and_text(out, 1, bucket.as_slice())?;
             put_key(out, key)?;
             put_ruling(out, ruling)
         }
         Change::Delete { bucket, key } => {
-            put1(out, 0)?;
-            put_bucket(out, bucket)?;
+            put1_and_text(out, 0, bucket.as_slice())?;
             put_key(out, key)
         }
     }
@@ -69,34 +67,26 @@ pub fn put_install(out: &mut Bytes, install: &Install) -> Result<(), AllocError>
     put_names(out, install.privileges.as_slice())
 }
 
-pub fn put_verdict(out: &mut Bytes, verdict: &Verdict) -> Result<(), AllocError>
+pub fn put_verdict(out: &mut Bytes, verdict: &PackedVerdict) -> Result<(), AllocError>
     ensures { Appended result out.old out.new (field.verdict.spelled verdict.now) }
 {
-    let answer = &verdict.answer;
-    put8(out, verdict.commit)?;
-    put_kind_and_metadata(out, answer.kind, answer.metadata.as_slice())?;
-    put_text(out, answer.cause.bucket.as_slice())?;
-    put_optional_row(out, &answer.cause.row)
+    put8(out, verdict.commit())?;
+    put_kind_and_metadata(out, verdict.kind(), verdict.metadata())?;
+    put_text(out, verdict.bucket())?;
+    put_optional_row(out, &verdict.row())
 }
 
-fn put_optional_row(out: &mut Bytes, row: &Option<Row>) -> Result<(), AllocError>
+fn put_optional_row(out: &mut Bytes, row: &Option<BorrowedRow<'_>>) -> Result<(), AllocError>
     ensures { Appended result out.old out.new ((field.optional field.row).spelled row.now) }
 {
     match row {
         None => put1(out, 0),
         Some(row) => {
-            put1(out, 1)?;
-            put_row(out, row)
+            put1_and_text(out, 1, row.client())?;
+            put_text(out, row.user())?;
+            put_text(out, row.privilege())
         }
     }
-}
-
-fn put_row(out: &mut Bytes, row: &Row) -> Result<(), AllocError>
-    ensures { Appended result out.old out.new (field.row.spelled row.now) }
-{
-    put_text(out, row.client.as_slice())?;
-    put_text(out, row.user.as_slice())?;
-    put_text(out, row.privilege.as_slice())
 }
 
 /// A refusal that is not want of memory.

@@ -102,7 +102,7 @@ pub fn put_fields(out: &mut Bytes, message: &Message) -> Result<(), AllocError>
             put4(out, *number)?;
             put_flag(out, *allowed)
         }
-        Message::Judged { verdict } => put_verdict(out, verdict.get()),
+        Message::Judged { verdict } => put_verdict(out, verdict),
         Message::FromAgent {
             commit,
             kind,

@@ -1,8 +1,8 @@
+use crate::PackedVerdict;
 use app_registry::{Ident, Install, Scope, UserType};
-use bucket_eval::Verdict;
 use bucket_store::Changes;
 use cynara_keys::{BucketName, Filter, Kind, Policy, PolicyResult, Question};
-use desk_ports::{Boxed, FileName};
+use desk_ports::FileName;
 use desk_state::Refusal;
 use rule_templates::Template;
 
@@ -72,7 +72,7 @@ pub enum Message {
     },
     /// The policies decide.
     Judged {
-        verdict: Boxed<Verdict>,
+        verdict: PackedVerdict,
     },
     /// An agent decided.
     FromAgent {

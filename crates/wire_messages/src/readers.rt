@@ -1,5 +1,6 @@
 // The fields of messages, read from the front of what is left of a frame.
-ghost use Rattle.std.specs.Prelude.{◌≡◌, None, IfOk};
+ghost use Rattle.std.specs.Prelude.{◌≡◌, ◌≤◌, None, IfOk, length};
+ghost use Rattle.cynara_keys.specs.declared.limits.TheConstants.{MOST_SHORT_BYTES};
 ghost use Rattle.cynara_keys.specs.Name.{name_fault};
 ghost use Rattle.cynara_keys.specs.Field.{field_fault};
 ghost use Rattle.wire_messages.specs.Left.{Gives, GivesText};
@@ -8,10 +9,12 @@ ghost use Rattle.wire_messages.specs.Field as field;
 
 use crate::WireRefusal;
 use crate::fields::Fields;
+use crate::verdicts::BorrowedRuling;
 use app_registry::{Ident, IdentRefusal, Scope, UserType};
 use cynara_keys::{
     BucketName, BucketNameRefusal, Filter, FilterField, Key, Kind, Metadata, MetadataRefusal, Name,
-    NameRefusal, Policy, PolicyResult, Question, field_fault, name_fault,
+    NameRefusal, Policy, PolicyResult, Question, field_fault, is_bucket_name, is_metadata,
+    name_fault,
 };
 use desk_ports::{FileName, FileNameRefusal};
 use rule_templates::{Template, TemplateRefusal};
@@ -39,6 +42,19 @@ pub fn bucket(alloc: Global, fields: &mut Fields) -> Result<BucketName, WireRefu
         Err(BucketNameRefusal::Memory(error)) => Err(WireRefusal::Memory(error)),
         Err(_) => Err(WireRefusal::BadField(place)),
     }
+}
+
+// the bytes of a bucket's name, which are not copied
+pub fn bucket_text<'a>(fields: &mut Fields<'a>) -> Result<&'a [u8], WireRefusal>
+    ensures text { GivesText result fields.new (field.bucket.read fields.old) }
+    ensures short { IfOk result (λ text. length text.now ≤ MOST_SHORT_BYTES) }
+{
+    let place = fields.place();
+    let text = fields.text()?;
+    if !is_bucket_name(text) {
+        return Err(WireRefusal::BadField(place));
+    }
+    Ok(text)
 }
 
 // the bytes of a name, which are not copied
@@ -149,6 +165,19 @@ pub fn most(fields: &mut Fields) -> Result<u32, WireRefusal>
         return Err(WireRefusal::BadField(place));
     }
     Ok(most)
+}
+
+// a kind and the metadata that it may have, which is not copied
+pub fn ruling_text<'a>(fields: &mut Fields<'a>) -> Result<BorrowedRuling<'a>, WireRefusal>
+    ensures { Gives result fields.new (field.ruling.read fields.old) }
+{
+    let kind = kind(fields)?;
+    let place = fields.place();
+    let text = fields.text()?;
+    if !is_metadata(text) || !kind.may_carry(text) {
+        return Err(WireRefusal::BadField(place));
+    }
+    Ok(BorrowedRuling::of(kind, text))
 }
 
 // the metadata that a result of this kind may have, and the result

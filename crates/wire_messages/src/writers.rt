@@ -65,20 +65,22 @@ pub fn put_count(out: &mut Bytes, count: usize) -> Result<(), AllocError>
     out.append(&bytes[4..])
 }
 
-// how many bytes a text has, in two bytes
-fn put_size(out: &mut Bytes, count: usize) -> Result<(), AllocError>
-    ensures { Appended result out.old out.new (to_be_bytes w16 count) }
-{
-    let mut bytes = [0; 8];
-    BigEndian::write_u64(&mut bytes, count as u64);
-    out.append(&bytes[6..])
-}
-
+// behind the number of its bytes, which has two bytes
 pub fn put_text(out: &mut Bytes, text: &[u8]) -> Result<(), AllocError>
     ensures { Appended result out.old out.new (format.text.spelled text.now) }
 {
-    put_size(out, text.len())?;
-    out.append(text)
+    let mut count = [0; 8];
+    BigEndian::write_u64(&mut count, text.len() as u64);
+    out.append_both(&count[6..], text)
+}
+
+// a byte, and then a text
+pub fn put1_and_text(out: &mut Bytes, n: u8, text: &[u8]) -> Result<(), AllocError>
+    ensures { Appended result out.old out.new (n ∷ format.text.spelled text.now) }
+{
+    let mut count = [0; 8];
+    BigEndian::write_u64(&mut count, text.len() as u64);
+    out.append_both(&[n, count[6], count[7]], text)
 }
 
 pub fn put_name(out: &mut Bytes, name: &Name) -> Result<(), AllocError>
@@ -158,8 +160,11 @@ pub fn put_kind_and_metadata(out: &mut Bytes, kind: Kind, metadata: &[u8]) -> Re
     ensures { Appended result out.old out.new
         (field.ruling.spelled (record { kind = kind.0; metadata = metadata.now })) }
 {
-    put_kind(out, kind)?;
-    put_text(out, metadata)
+    let mut at_kind = [0; 2];
+    BigEndian::write_u16(&mut at_kind, kind.0);
+    let mut count = [0; 8];
+    BigEndian::write_u64(&mut count, metadata.len() as u64);
+    out.append_both(&[at_kind[0], at_kind[1], count[6], count[7]], metadata)
 }
 
 pub fn put_policy(out: &mut Bytes, policy: &Policy) -> Result<(), AllocError>

@@ -219,7 +219,7 @@ fn tells_judged(list: &[Framed]) -> bool {
     let Message::Judged { verdict } = &framed.message else {
         return false;
     };
-    let verdict = verdict.get();
+    let verdict = verdict.verdict();
     verdict.commit == 2 && verdict.answer.kind.0 == 0 && is_judged(&verdict.answer.cause)
 }
 

@@ -1,6 +1,7 @@
 use Rattle.std.proofs.Common.{◌++◌, ◌≡◌, rules}
 use Rattle.std.specs.Int.{w64, to_be_bytes}
 use Rattle.wire_messages.specs.Field.{ruling, bucket, optional, row}
+use Rattle.wire_messages.specs.Appended.{Appended}
 use Rattle.wire_messages.proofs.Appending.{then_last}
 use Rattle.wire_messages.proofs.list_writers.put_verdict.Goals as goal
 
@@ -17,9 +18,10 @@ returns c =
     let two = c.put_kind_and_metadata.new.out in
     let three = c.put_text.new.out in
     let all = c.put_optional_row.new.out in
-    let first : one ≡ out ++ commit = c.in_ok-put8.ensures in
+    let first : one ≡ out ++ commit = search rules in
     let second : two ≡ one ++ result = search rules in
     let third : three ≡ two ++ name = search rules in
+    let fourth : Appended c.put_optional_row.result three all last = search rules in
     then_last c.put_optional_row.result out one all commit (result ++ (name ++ last)) first
     (then_last c.put_optional_row.result one two all result (name ++ last) second
-    (then_last c.put_optional_row.result two three all name last third c.put_optional_row.ensures))
+    (then_last c.put_optional_row.result two three all name last third fourth))

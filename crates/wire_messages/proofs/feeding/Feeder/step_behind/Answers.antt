@@ -1,7 +1,16 @@
-use Rattle.std.proofs.Common.{rules, arith, ◌≡◌, ◌++◌, if◌then◌else◌, [], Bool, List, ℕ, sym, subst}
+use Rattle.std.proofs.Common.{rules, arith, ◌≡◌, ◌<◌, ◌++◌, if◌then◌else◌, [], length, Bool, List, ℕ, sym, subst}
+use Rattle.wire_messages.specs.Stream.{IsOpen}
 use Rattle.wire_messages.specs.parts.Feeding.{Settled, Unsettled}
-use Rattle.wire_messages.proofs.Settling.{cut-in-two, short_open, step_ok, step_err, feeding}
+use Rattle.wire_messages.proofs.Settling.{cut-in-two, short_open, still_open, step_ok, step_err, feeding}
 use Rattle.wire_messages.proofs.feeding.Feeder.step_behind.Goals as goal
+
+pub keep-requires : goal.keep-requires
+keep-requires c =
+    let now = c.args.self.now in
+    let is_open : IsOpen now.heard now.partial = search rules in
+    let few : length c.args.bytes.now < c.wanted-wanted.result = search rules in
+    still_open now.heard now.partial c.args.bytes.now c.wanted-wanted.result is_open few c.wanted-wanted.ensures.up_to
+    c.wanted-wanted.ensures.whole
 
 pub invariant_of-self-in-Err-settle : goal.invariant_of-self-in-Err-settle
 invariant_of-self-in-Err-settle c =

@@ -1,0 +1,32 @@
+-- A verdict whose texts stand together.
+use Rattle.std.specs.Prelude.{◌≤◌, ℕ, Bool, true, false, length, Option, Some, None}
+use Rattle.bucket_eval.specs.declared.answers.Row.{Row}
+use Rattle.bucket_eval.specs.declared.answers.Verdict.{Verdict}
+use Rattle.cynara_keys.specs.declared.results.Kind.{Kind}
+use Rattle.wire_messages.specs.parts.FiveTexts.{Texts}
+
+-- the row's texts, where there is one
+abbrev pub row : Bool → Texts → Option Row
+row true texts = Some (record { client = texts.third; user = texts.fourth; privilege = texts.fifth })
+row false texts = None
+
+abbrev pub verdict : ℕ → Kind → Bool → Texts → Verdict
+verdict commit kind has_row texts = record {
+  commit = commit;
+  answer = record {
+    kind = kind;
+    metadata = texts.first;
+    cause = record { bucket = texts.second; row = row has_row texts };
+  };
+}
+
+-- each text is short enough for a fixed place
+pub record AreShort (texts : Texts) : Type 0 where
+  pub first : length texts.first ≤ 255
+  pub second : length texts.second ≤ 255
+  pub third : length texts.third ≤ 255
+  pub fourth : length texts.fourth ≤ 255
+  pub fifth : length texts.fifth ≤ 255
+
+abbrev pub IsShortRow : Row → Type 0
+IsShortRow row = (length row.client ≤ 255) × ((length row.user ≤ 255) × (length row.privilege ≤ 255))
