@@ -41,12 +41,13 @@ pub(crate) struct BorrowedRuling<'a> {
 impl<'a> Model for BorrowedRuling<'a> {
     ghost use Rattle.std.specs.Prelude.{◌≤◌, length};
     ghost use Rattle.cynara_keys.specs.PolicyResult.{Ruling};
+    ghost use Rattle.cynara_keys.specs.declared.limits.TheConstants.{MOST_SHORT_BYTES};
 
     ghost Value = { Ruling };
 
     ghost view = { λ ruling. record { kind = ruling.kind.0; metadata = ruling.metadata.now } };
 
-    ghost invariant = { λ ruling. length ruling.metadata.now ≤ 255 };
+    ghost invariant = { λ ruling. length ruling.metadata.now ≤ MOST_SHORT_BYTES };
 }
 
 /// A verdict whose texts stand in one block of memory: the metadata, the bucket's name and those of the row. It takes no more
