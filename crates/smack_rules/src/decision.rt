@@ -26,8 +26,8 @@ pub struct Decision {
     pub rule: u8,
 }
 
-/// Decides a request on a pair that the rules grant these modes. The cases are numbered in the order
-/// of the kernel's Smack document.
+/// Decides a request of a subject on an object: takes what is asked, which has a mode and no `b`, and what the rules grant
+/// the pair. Gives whether it is allowed, and the case that decided, numbered in the order of the kernel's Smack document.
 #[tactic(auto, unfolding(crate::specs::Decision::decision))]
 pub fn decide(subject: &Label, object: &Label, asked: Modes, granted: Modes) -> Decision
     requires { IsTrue (is_request asked) }

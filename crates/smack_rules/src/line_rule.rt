@@ -1,7 +1,8 @@
 //! Rule lines, read without taking memory.
 
-ghost use Rattle.std.specs.Prelude.{◌≡◌, List, ℕ, IfOk};
-ghost use Rattle.smack_rules.specs.Rule.{line_rule, rule_behind};
+ghost use Rattle.std.specs.Prelude.{◌≡◌, List, [], ◌∷◌, ℕ, IfOk};
+ghost use Rattle.smack_rules.specs.Effective.{effective_from};
+ghost use Rattle.smack_rules.specs.Rule.{is_pair, line_rule, rule_behind};
 ghost use Rattle.smack_rules.specs.Words.{words_of};
 ghost use Rattle.smack_rules.specs.parts.Changes.{change_of};
 ghost use Rattle.smack_rules.specs.parts.Lines.{rule_with};
@@ -92,6 +93,26 @@ impl<'a> LineRule<'a> {
         let key = PairKey::of(self.subject, self.object);
         PairChange { key, change }
     }
+
+    /// What the rule makes of a pair's modes. It compares labels, and makes no mark of them as a table does.
+    pub fn modes_behind(&self, modes: Modes, subject: &[u8], object: &[u8]) -> Modes
+        ensures { result ≡ effective_from modes (self.now ∷ []) subject.now object.now }
+    {
+        if !is_pair(self.subject, self.object, subject, object) {
+            return modes;
+        }
+        match self.deny {
+            None => self.modes,
+            Some(deny) => modes.adjusted(self.modes, deny),
+        }
+    }
+}
+
+/// Whether a rule for the first two labels is one for the last two.
+fn is_pair(rule_subject: &[u8], rule_object: &[u8], subject: &[u8], object: &[u8]) -> bool
+    ensures { result ≡ is_pair rule_subject.now rule_object.now subject.now object.now }
+{
+    rule_subject == subject && rule_object == object
 }
 
 /// Reads the words behind the labels: one mode word, or two.

@@ -12,6 +12,7 @@ use std::alloc::{AllocError, Global};
 use std::test::Fail;
 
 mod largest;
+mod pair_rules;
 
 /// Rules, a subject, an object and the modes that are asked for, and the decision: its case, and whether it allows.
 type DecisionCase = (

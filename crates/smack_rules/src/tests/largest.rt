@@ -1,9 +1,12 @@
-//! The largest arguments, with memory enough for them, and that the table and the plain function agree.
+//! The largest arguments, with memory enough for them, and that the table, the plain function and the one pass over a
+//! text agree.
 
 use super::{decided, loaded, request};
+use crate::decision::decide;
 use crate::effective::effective_of;
 use crate::label::{Label, LabelRefusal, MOST_LABEL_BYTES};
-use crate::modes::MOST_MODE_WORD_BYTES;
+use crate::modes::{MOST_MODE_WORD_BYTES, Modes};
+use crate::pair_rules::modes_in_text;
 use crate::rule::{LineRefusal, Rule};
 use crate::table::{LoadRefusal, MOST_TEXT_BYTES, RuleTable};
 use std::alloc::Global;
@@ -124,6 +127,65 @@ fn all_agree(alloc: Global, times: u32) -> Result<bool, Fail> {
     Ok(same)
 }
 
+/// The lines, so often, as one text.
+fn text_over_again(alloc: Global, times: u32) -> Result<Vec<u8>, Fail> {
+    let mut text = Vec::new(alloc);
+    for _ in 0..times {
+        for line in FOLDED_LINES {
+            text.extend_from_slice(line.as_bytes())?;
+            text.push(b'\n')?;
+        }
+    }
+    Ok(text)
+}
+
+/// What a text within the limit gives a pair, or its first wrong line.
+fn given(text: &[u8], subject: &Label, object: &Label) -> Result<Modes, u32> {
+    if text.len() > MOST_TEXT_BYTES {
+        return Err(0);
+    }
+    modes_in_text(text, subject, object)
+}
+
+/// Whether one pass over a text gives a pair what is wanted, and with it decides as the table of that text.
+fn one_pass_agrees(
+    alloc: Global,
+    table: &RuleTable,
+    text: &[u8],
+    pair: (&str, &str),
+    want: &str,
+) -> Result<bool, Fail> {
+    let subject = Label::read(alloc, pair.0.as_bytes())?;
+    let object = Label::read(alloc, pair.1.as_bytes())?;
+    let Ok(modes) = given(text, &subject, &object) else {
+        return Ok(false);
+    };
+    let mut same = modes.to_string(alloc)?.as_str() == want;
+    for letter in ["r", "w", "x", "a", "t", "l"] {
+        let asked = request(letter).ok_or("no request")?;
+        let decision = decide(&subject, &object, asked, modes);
+        same = same && decision == table.decide(&subject, &object, asked);
+    }
+    Ok(same)
+}
+
+/// Whether the one pass agrees with the table of a text of so many lines, on each of the pairs.
+fn each_pass_agrees(alloc: Global, times: u32) -> Result<bool, Fail> {
+    let text = text_over_again(alloc, times)?;
+    let table = loaded(alloc, text.as_slice())?;
+    let mut same = true;
+    for (subject, object, want) in FOLDED {
+        same = same && one_pass_agrees(alloc, &table, text.as_slice(), (subject, object), want)?;
+    }
+    Ok(same)
+}
+
+/// The first wrong line that one pass over a text names.
+fn wrong_line(alloc: Global, text: &[u8]) -> Result<Option<u32>, Fail> {
+    let label = Label::read(alloc, b"X")?;
+    Ok(given(text, &label, &label).err())
+}
+
 /// A word of so many letters.
 fn word(alloc: Global, count: usize) -> Result<Vec<u8>, Fail> {
     Ok(vec![in alloc; b'w'; count]?)
@@ -154,6 +216,8 @@ fn names_a_wrong_line_at_the_end_of_the_largest_text(rt: HostRuntime) -> Result<
     let text = largest_text(rt.alloc(), WRONG_LINE)?;
     let refusal = loaded(rt.alloc(), text.as_slice()).err();
     assert_eq!(rt; refusal, Some(LoadRefusal::BadLine(WRONG_NUMBER)));
+    let line = wrong_line(rt.alloc(), text.as_slice())?;
+    assert_eq!(rt; line, Some(WRONG_NUMBER));
     Ok(())
 }
 
@@ -161,6 +225,14 @@ fn names_a_wrong_line_at_the_end_of_the_largest_text(rt: HostRuntime) -> Result<
 fn folds_many_rules_as_the_plain_function(rt: HostRuntime) -> Result<(), Fail> {
     for times in [1, 30_000] {
         assert!(rt; all_agree(rt.alloc(), times)?, "{times}");
+    }
+    Ok(())
+}
+
+#[test]
+fn goes_over_many_lines_as_the_table(rt: HostRuntime) -> Result<(), Fail> {
+    for times in [1, 10_000] {
+        assert!(rt; each_pass_agrees(rt.alloc(), times)?, "{times}");
     }
     Ok(())
 }
