@@ -1,16 +1,14 @@
 -- A run of `smack-access`: what its parts read and wrote, put together.
-use Rattle.std.proofs.Common.{◌≡◌, ◌++◌, [], ℕ, Bool, true, false, nat_lt, List, length, take, Option, Result, Ok, Err, MatchResult, inl, inr, refl, sym, ap, ◌∙◌, subst, arith, append-nil, length-append}
+use Rattle.std.proofs.Common.{◌≡◌, ◌++◌, [], ℕ, Bool, true, false, nat_lt, List, length, take, Option, Err, inl, inr, refl, sym, ap, ◌∙◌, subst, arith, append-nil, length-append}
 use Rattle.std.proofs.lemmas.Bool.{ltb-true, ltb-false}
 use Rattle.desk_ports.specs.Content.{ReadToEnd, Appended}
 use Rattle.desk_ports.proofs.Appends.{Appended-none}
 use Rattle.smack_rules.specs.declared.modes.Modes.{Modes}
-use Rattle.smack_rules.specs.declared.table.PairModes.{PairModes}
-use Rattle.smack_rules.specs.Table.{granted}
 use Rattle.smack_rules.specs.Decision.{decision}
 use Rattle.privilege_cli.specs.Outside.{Had}
 use Rattle.privilege_cli.specs.AccessRun.{rules_read, IsDecided, IsReadThrough, AccessAnswers}
 use Rattle.privilege_cli.specs.Reply.{decided_text}
-use Rattle.privilege_cli.specs.parts.Access.{IsRead, AreLoaded, StopsAtText, AreRead, ReadsRules, WritesAnswer}
+use Rattle.privilege_cli.specs.parts.Access.{IsRead, IsWrongAt, AreLoaded, AreRead, IsWrongInput, ReadsRules, WritesAnswer}
 use Rattle.privilege_cli.specs.parts.Local.{counts_source, counts_sink}
 use Rattle.privilege_cli.specs.parts.Runs.{WritesBefore}
 use Rattle.privilege_cli.specs.Program.{Reads}
@@ -22,8 +20,10 @@ use Rattle.privilege_cli.proofs.Hads.{Took-Had}
 use Rattle.privilege_cli.proofs.Trying.{IsCut-take}
 
 module _ (left left_after : Option (List ℕ)) (text : List ℕ) (read : IsRead left left_after text) where
-  loaded : (table : List PairModes) → AreLoaded text table → AreRead left left_after table
-  loaded table loads =
+  -- what the rules of the text that was read grant a pair
+  pub AreRead-text : (subject object : List ℕ) (granted : Modes) → AreLoaded text subject object granted
+      → AreRead left left_after subject object granted
+  AreRead-text subject object granted loads =
       let had = Took-Had left left_after text read.took in
       let rest = had.2 (read.end loads.within) in
       let input : text ++ had.0 ≡ text = ap (λ rest. text ++ rest) rest ∙ append-nil text in
@@ -35,15 +35,8 @@ module _ (left left_after : Option (List ℕ)) (text : List ℕ) (read : IsRead 
         grants = loads.grants;
       }
 
-  stopped : (ending : Ending) → StopsAtText text ending → ReadsRules left left_after (Err ending)
-  stopped Done stops = absurd stops
-  stopped Memory stops = (text, read.took)
-  stopped Words stops = absurd stops
-  stopped Source stops = absurd stops
-  stopped Sink stops = absurd stops
-  stopped Disk stops = absurd stops
-  stopped (Damaged file line) stops = absurd stops
-  stopped (Line number) stops =
+  pub IsWrongInput-text : (number : ℕ) → IsWrongAt text number → IsWrongInput left left_after number
+  IsWrongInput-text number wrong =
       let had = Took-Had left left_after text read.took in
       let through = either (nat_lt MOST_RULES_BYTES (length text)) refl had.0 had.2 in
       record {
@@ -51,19 +44,13 @@ module _ (left left_after : Option (List ℕ)) (text : List ℕ) (read : IsRead 
         rest = had.0;
         had = had.1;
         through = through;
-        wrong = stops had.0 (λ within. had.2 (read.end within));
+        wrong = wrong had.0 (λ within. had.2 (read.end within));
       }
     where
       either : (past : Bool) → nat_lt MOST_RULES_BYTES (length text) ≡ past → (rest : List ℕ) → (ReadToEnd left left_after → rest ≡ [])
           → IsReadThrough (text ++ rest) rest
       either true is rest none = inr (omega (arith, ltb-true MOST_RULES_BYTES (length text) is, length-append text rest))
       either false is rest none = inl (none (read.end (ltb-false MOST_RULES_BYTES (length text) is)))
-
-  -- what the text that was read made of the rules
-  pub ReadsRules-text : (result : Result (List PairModes) Ending) → MatchResult result (AreLoaded text) (StopsAtText text)
-      → ReadsRules left left_after result
-  ReadsRules-text (Ok table) loads = loaded table loads
-  ReadsRules-text (Err ending) stops = stopped ending stops
 
 module _ (left left_after taken taken_after : Option (List ℕ)) (reads reads_after faults faults_after : ℕ)
     (disk : Option DiskState) (moment disk_faults : ℕ) (subject object : List ℕ) (asked : Modes) where
@@ -90,8 +77,8 @@ module _ (left left_after taken taken_after : Option (List ℕ)) (reads reads_af
       })
 
   -- the rules were not read, and nothing was written
-  pub Reads-unread : (ending : Ending) → ReadsRules left left_after (Err ending)
-      → reads_after ≡ counts_source {A = List PairModes} (Err ending) reads → taken_after ≡ taken → faults_after ≡ faults → Run ending
+  pub Reads-unread : (ending : Ending) → ReadsRules left left_after subject object (Err ending)
+      → reads_after ≡ counts_source {A = Modes} (Err ending) reads → taken_after ≡ taken → faults_after ≡ faults → Run ending
   Reads-unread Done rules source same count = absurd rules
   Reads-unread Words rules source same count = absurd rules
   Reads-unread Sink rules source same count = absurd rules
@@ -145,8 +132,8 @@ module _ (left left_after taken taken_after : Option (List ℕ)) (reads reads_af
         };
       }
 
-  module _ (table : List PairModes) (read : AreRead left left_after table) (text : List ℕ)
-      (decided : text ≡ decided_text (decision subject object asked (granted table subject object)))
+  module _ (granted : Modes) (read : AreRead left left_after subject object granted) (text : List ℕ)
+      (decided : text ≡ decided_text (decision subject object asked granted))
       (source : reads_after ≡ reads) where
     is_decided : IsDecided subject object asked read.input [] text
     is_decided =
@@ -154,7 +141,7 @@ module _ (left left_after taken taken_after : Option (List ℕ)) (reads reads_af
           rules = read.rules;
           read = refl;
           right = read.right;
-          answered = decided ∙ ap (λ granted. decided_text (decision subject object asked granted)) (read.grants subject object);
+          answered = decided ∙ ap (λ granted. decided_text (decision subject object asked granted)) read.grants;
         }
 
     pub Reads-written : Appended taken text taken_after → faults_after ≡ faults → Run Done

@@ -9,8 +9,8 @@ use Rattle.text_lines.proofs.Pieces.{pieces_of-newline}
 use Rattle.smack_rules.specs.declared.rule.Rule.{Rule}
 use Rattle.smack_rules.specs.declared.rule.LineRefusal.{LineRefusal}
 use Rattle.smack_rules.specs.Rule.{line_rule}
-use Rattle.smack_rules.specs.declared.table.PairModes.{PairModes}
-use Rattle.smack_rules.specs.Grants.{GrantsAs}
+use Rattle.smack_rules.specs.declared.modes.Modes.{Modes}
+use Rattle.smack_rules.specs.Effective.{effective}
 use Rattle.smack_rules.specs.RuleText.{with_front, with_line, rules_from, rules_of}
 use Rattle.privilege_cli.specs.AccessRun.{rules_of as rules_of_lines, rules_read}
 use Rattle.privilege_cli.specs.declared.limits.TheConstants.{MOST_RULES_BYTES}
@@ -226,17 +226,18 @@ IsWrongAt-within line text within wrong =
     λ more none. ap (λ more. rules_read (text ++ more)) (none within)
     ∙ (ap rules_read (append-nil text) ∙ (rules_within-all MOST_RULES_BYTES text within ∙ wrong))
 
-loaded : (text : List ℕ) (table : List PairModes) (rules : Result (List Rule) ℕ) → length text ≤ MOST_RULES_BYTES
-    → rules_read text ≡ rules → IsOkAnd rules (GrantsAs table)
-    → AreLoaded text table
-loaded text table (Ok rules) within is grants = record { rules = rules; within = within; right = is; grants = grants }
-loaded text table (Err line) within is grants = absurd grants
+loaded : (text subject object : List ℕ) (granted : Modes) (rules : Result (List Rule) ℕ) → length text ≤ MOST_RULES_BYTES
+    → rules_read text ≡ rules → IsOkAnd rules (λ rules. granted ≡ effective rules subject object)
+    → AreLoaded text subject object granted
+loaded text subject object granted (Ok rules) within is grants =
+    record { rules = rules; within = within; right = is; grants = grants }
+loaded text subject object granted (Err line) within is grants = absurd grants
 
 -- each line of a text within the limit is a rule
-pub AreLoaded-all : (text : List ℕ) (table : List PairModes) → length text ≤ MOST_RULES_BYTES
-    → IsOkAnd (rules_of text) (GrantsAs table) → AreLoaded text table
-AreLoaded-all text table within grants =
-    loaded text table (rules_of text) within (rules_within-all MOST_RULES_BYTES text within) grants
+pub AreLoaded-all : (text subject object : List ℕ) (granted : Modes) → length text ≤ MOST_RULES_BYTES
+    → IsOkAnd (rules_of text) (λ rules. granted ≡ effective rules subject object) → AreLoaded text subject object granted
+AreLoaded-all text subject object granted within grants =
+    loaded text subject object granted (rules_of text) within (rules_within-all MOST_RULES_BYTES text within) grants
 
 -- ---- the whole lines of a text
 

@@ -4,7 +4,7 @@ ghost use Rattle.desk_ports.specs.Faults.{CountsFailure};
 ghost use Rattle.desk_ports.specs.Content.{Took};
 ghost use Rattle.smack_rules.specs.Modes.{is_request};
 ghost use Rattle.privilege_cli.specs.AccessRun.{AccessAnswers};
-ghost use Rattle.privilege_cli.specs.parts.Access.{IsRead, ReadsMore, AreLinesOf, AreLoaded, StopsAtText, ReadsRules, WritesAnswer};
+ghost use Rattle.privilege_cli.specs.parts.Access.{IsRead, ReadsMore, AreLinesOf, IsWrongAt, AreLoaded, ReadsRules, WritesAnswer};
 ghost use Rattle.privilege_cli.specs.parts.Local.{counts_source, counts_sink};
 ghost use Rattle.privilege_cli.specs.parts.Runs.{WritesBefore};
 ghost use Rattle.privilege_cli.specs.Program.{Reads};
@@ -17,7 +17,7 @@ use crate::questions::print_decision;
 use crate::rule_notes::note_rules;
 use crate::zeros::zeros;
 use desk_ports::{Bytes, Sink, Source, write_all};
-use smack_rules::{Decision, Label, LoadRefusal, MOST_TEXT_BYTES, Modes, RuleTable};
+use smack_rules::{Decision, Label, MOST_TEXT_BYTES, Modes, decide, modes_in_text};
 use std::alloc::Global;
 use std::marker::Model;
 use text_lines::split_at_newline;
@@ -57,31 +57,30 @@ pub fn run_access<S: Source, K: Sink>(
           disk_faults = disk_faults;
         }) }
 {
-    let rules = match read_rules(alloc, source, sink) {
+    let rules = match read_rules(alloc, subject, object, source, sink) {
         Ok(rules) => rules,
         Err(ending) => return ending,
     };
-    let decision = rules.table.decide(subject, object, asked);
+    let decision = decide(subject, object, asked, rules.granted);
     match write_decision(alloc, &rules, (subject, object), decision, sink) {
         Ok(()) => Ending::Done,
         Err(ending) => ending,
     }
 }
 
-/// A text of rules, and the table of them.
+/// A text of rules, and what they grant the pair that is asked about.
 #[derive(Drop)]
 struct ReadRules {
     text: Bytes,
-    table: RuleTable,
+    granted: Modes,
 }
 
 impl Model for ReadRules {
-    ghost use Rattle.std.specs.Prelude.{List};
-    ghost use Rattle.smack_rules.specs.declared.table.PairModes.{PairModes};
+    ghost use Rattle.smack_rules.specs.declared.modes.Modes.{Modes};
 
-    ghost Value = { List PairModes };
+    ghost Value = { Modes };
 
-    ghost view = { λ rules. rules.table };
+    ghost view = { λ rules. rules.granted };
 }
 
 // Tells a person of the rules, prints the decision on the pair, and has the sink take it.
@@ -98,7 +97,7 @@ fn write_decision<K: Sink>(
     note_rules(
         alloc,
         rules.text.as_slice(),
-        &rules.table,
+        rules.granted,
         pair,
         decision,
         sink,
@@ -111,23 +110,26 @@ fn write_decision<K: Sink>(
     }
 }
 
-// The rules of the source, which is read to its end or past the limit of a rule text. A person is told why a line is none.
+// The rules of the source, which is read to its end or past the limit of a rule text, and what they grant the pair. A
+// person is told why a line is none.
 fn read_rules<S: Source, K: Sink>(
     alloc: Global,
+    subject: &Label,
+    object: &Label,
     source: &mut S,
     sink: &mut K,
 ) -> Result<ReadRules, Ending>
-    ensures read { ReadsRules (S.left source.old) (S.left source.new) result }
+    ensures read { ReadsRules (S.left source.old) (S.left source.new) subject.now object.now result }
     ensures count { S.faults source.new ≡ counts_source result (S.faults source.old) }
     ensures taken { K.taken sink.new ≡ K.taken sink.old }
     ensures sink { K.faults sink.new ≡ K.faults sink.old }
 {
     let text = read_text(alloc, source)?;
-    match load_rules(alloc, text.as_slice()) {
-        Ok(table) => Ok(ReadRules { text, table }),
-        Err(ending) => {
-            note_rule_line(alloc, text.as_slice(), &ending, sink);
-            Err(ending)
+    match load_rules(text.as_slice(), subject, object) {
+        Ok(granted) => Ok(ReadRules { text, granted }),
+        Err(number) => {
+            note_rule_line(alloc, text.as_slice(), number, sink);
+            Err(Ending::Line(number))
         }
     }
 }
@@ -168,31 +170,29 @@ fn read_more<S: Source>(text: &mut Bytes, window: &mut [u8], source: &mut S) -> 
     Ok(count > 0)
 }
 
-// The table of a text's rules, or the first of its lines that is wrong.
-fn load_rules(alloc: Global, text: &[u8]) -> Result<RuleTable, Ending>
-    ensures { MatchResult result (AreLoaded text.now) (StopsAtText text.now) }
+// What a text's rules grant a pair, or the number of the first of its lines that is wrong. It takes no memory.
+fn load_rules(text: &[u8], subject: &Label, object: &Label) -> Result<Modes, u32>
+    ensures { MatchResult result (AreLoaded text.now subject.now object.now) (IsWrongAt text.now) }
 {
     if text.len() > MOST_TEXT_BYTES {
-        return Err(stop_past_limit(alloc, text));
+        return Err(stop_past_limit(text, subject, object));
     }
-    match RuleTable::load(alloc, text) {
-        Ok(table) => Ok(table),
-        Err(LoadRefusal::BadLine(line)) => Err(Ending::Line(line)),
-        Err(LoadRefusal::Memory(_)) => Err(Ending::Memory),
+    match modes_in_text(text, subject, object) {
+        Ok(granted) => Ok(granted),
+        Err(number) => Err(number),
     }
 }
 
 // Where a text stops that goes past the limit: at the first of its lines within the limit that is no rule, and else at
 // the line behind them, in which the byte past the limit stands.
-fn stop_past_limit(alloc: Global, text: &[u8]) -> Ending
+fn stop_past_limit(text: &[u8], subject: &Label, object: &Label) -> u32
     requires { 16777216 < length text.now }
-    ensures { StopsAtText text.now result }
+    ensures { IsWrongAt text.now result }
 {
     let (lines, count) = whole_lines(&text[..MOST_TEXT_BYTES]);
-    match RuleTable::load(alloc, lines) {
-        Ok(_) => Ending::Line(count + 1),
-        Err(LoadRefusal::BadLine(line)) => Ending::Line(line),
-        Err(LoadRefusal::Memory(_)) => Ending::Memory,
+    match modes_in_text(lines, subject, object) {
+        Ok(_) => count + 1,
+        Err(number) => number,
     }
 }
 

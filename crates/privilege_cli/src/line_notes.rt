@@ -1,7 +1,6 @@
 // What a person is told of a line at which a run ends: why it is none.
 ghost use Rattle.std.specs.Prelude.{◌≡◌};
 
-use crate::ending::Ending;
 use crate::notes::note_text;
 use desk_ports::Sink;
 use line_reasons::{Reason, rule_fault, script_fault};
@@ -57,14 +56,12 @@ pub fn note_past_limit<K: Sink>(
     }
 }
 
-/// Tells why a text of rules is none, where the run ends at a line of it.
-pub fn note_rule_line<K: Sink>(alloc: Global, text: &[u8], ending: &Ending, sink: &mut K)
+/// Tells why a text of rules is none: the line with this number, from 1, is the first that is wrong.
+pub fn note_rule_line<K: Sink>(alloc: Global, text: &[u8], number: u32, sink: &mut K)
     ensures taken { K.taken sink.new ≡ K.taken sink.old }
     ensures count { K.faults sink.new ≡ K.faults sink.old }
 {
-    if let Ending::Line(number) = ending {
-        note_text(rule_text(alloc, text, *number), sink);
-    }
+    note_text(rule_text(alloc, text, number), sink);
 }
 
 // Why the line with this number, from 1, is no rule. The last line of a text that is too long is cut, so it says nothing.

@@ -3,7 +3,7 @@ ghost use Rattle.std.specs.Prelude.{◌≡◌};
 
 use crate::notes::{MOST_SHOWN_BYTES, note_text};
 use desk_ports::{Sink, shown_bytes};
-use smack_rules::{Decision, Label, Modes, RuleTable, split_word};
+use smack_rules::{Decision, Label, Modes, decide, split_word};
 use std::alloc::{AllocError, Global};
 use text_lines::split_line;
 
@@ -26,11 +26,11 @@ struct Seen {
     last: Option<u32>,
 }
 
-/// Tells what is doubtful about these rules, of which the table was made, and where they decided what they grant the pair.
+/// Tells what is doubtful about these rules, which grant the pair these modes, and where they decided what they allow it.
 pub fn note_rules<K: Sink>(
     alloc: Global,
     text: &[u8],
-    table: &RuleTable,
+    granted: Modes,
     pair: (&Label, &Label),
     decision: Decision,
     sink: &mut K,
@@ -57,7 +57,7 @@ pub fn note_rules<K: Sink>(
         note_text(absent_text(alloc, "object", object), sink);
     }
     if let Some(line) = seen.last {
-        note_text(granted_text(alloc, table, subject, object, line), sink);
+        note_text(granted_text(alloc, granted, subject, object, line), sink);
     }
 }
 
@@ -114,27 +114,27 @@ fn absent_text(alloc: Global, role: &str, label: &Label) -> Result<String, Alloc
 
 fn granted_text(
     alloc: Global,
-    table: &RuleTable,
+    granted: Modes,
     subject: &Label,
     object: &Label,
     line: u32,
 ) -> Result<String, AllocError> {
-    let letters = granted_letters(alloc, table, subject, object)?;
+    let letters = granted_letters(alloc, granted, subject, object)?;
     format!(in alloc;
         "privilege: line {line} is the last about the two; what may be asked for: {letters}"
     )
 }
 
-// The letters that the table allows the pair, each alone, or `-` where it allows none.
+// The letters that the modes allow the pair, each alone, or `-` where they allow none.
 fn granted_letters(
     alloc: Global,
-    table: &RuleTable,
+    granted: Modes,
     subject: &Label,
     object: &Label,
 ) -> Result<String, AllocError> {
     let mut letters = String::new(alloc);
     for letter in LETTERS {
-        if allows(table, subject, object, letter) {
+        if allows(granted, subject, object, letter) {
             letters.push(char::from(letter))?;
         }
     }
@@ -144,9 +144,9 @@ fn granted_letters(
     Ok(letters)
 }
 
-fn allows(table: &RuleTable, subject: &Label, object: &Label, letter: u8) -> bool {
+fn allows(granted: Modes, subject: &Label, object: &Label, letter: u8) -> bool {
     match Modes::read(&[letter]) {
-        Some(asked) if asked.is_request() => table.decide(subject, object, asked).allowed,
+        Some(asked) if asked.is_request() => decide(subject, object, asked, granted).allowed,
         _ => false,
     }
 }

@@ -3,8 +3,8 @@ use Rattle.std.specs.Prelude.{◌≡◌, ◌≤◌, ◌<◌, ◌+◌, ℕ, Bool,
 use Rattle.desk_ports.specs.Content.{Took, AtEnd, ReadToEnd, Appended, AppendedPart}
 use Rattle.text_lines.specs.Lines.{pieces_of, HasNoNewline, AreWholeLines}
 use Rattle.smack_rules.specs.declared.rule.Rule.{Rule}
-use Rattle.smack_rules.specs.declared.table.PairModes.{PairModes}
-use Rattle.smack_rules.specs.Grants.{GrantsAs}
+use Rattle.smack_rules.specs.declared.modes.Modes.{Modes}
+use Rattle.smack_rules.specs.Effective.{effective}
 use Rattle.privilege_cli.specs.Outside.{Had}
 use Rattle.privilege_cli.specs.AccessRun.{rules_read, IsReadThrough}
 use Rattle.privilege_cli.specs.declared.limits.TheConstants.{MOST_RULES_BYTES}
@@ -28,26 +28,20 @@ pub record AreLinesOf (text lines : List ℕ) (count : ℕ) : Type 0 where
 abbrev pub IsWrongAt : List ℕ → ℕ → Type 0
 IsWrongAt text line = (more : List ℕ) → (length text ≤ MOST_RULES_BYTES → more ≡ []) → rules_read (text ++ more) ≡ Err line
 
--- how a text may be no rules
-abbrev pub StopsAtText : List ℕ → Ending → Type 0
-StopsAtText text Memory = Unit {0}
-StopsAtText text (Line number) = IsWrongAt text number
-StopsAtText text ending = ⊥
-
--- the text is rules, and the table grants as they do
-pub record AreLoaded (text : List ℕ) (table : List PairModes) : Type 0 where
+-- the text is rules, and this is what they grant the pair
+pub record AreLoaded (text subject object : List ℕ) (granted : Modes) : Type 0 where
   pub rules : List Rule
   pub within : length text ≤ MOST_RULES_BYTES
   pub right : rules_read text ≡ Ok rules
-  pub grants : GrantsAs table rules
+  pub grants : granted ≡ effective rules subject object
 
--- the source was read to its end, and the table grants as the rules of what it had
-pub record AreRead (left left_after : Option (List ℕ)) (table : List PairModes) : Type 0 where
+-- the source was read to its end, and this is what the rules of what it had grant the pair
+pub record AreRead (left left_after : Option (List ℕ)) (subject object : List ℕ) (granted : Modes) : Type 0 where
   pub input : List ℕ
   pub rules : List Rule
   pub had : Had left left_after input []
   pub right : rules_read input ≡ Ok rules
-  pub grants : GrantsAs table rules
+  pub grants : granted ≡ effective rules subject object
 
 -- the first wrong line of what the source had, which was read to its end or past the limit
 pub record IsWrongInput (left left_after : Option (List ℕ)) (number : ℕ) : Type 0 where
@@ -57,13 +51,13 @@ pub record IsWrongInput (left left_after : Option (List ℕ)) (number : ℕ) : T
   pub through : IsReadThrough input rest
   pub wrong : rules_read input ≡ Err number
 
--- how reading the rules ends
-abbrev pub ReadsRules : Option (List ℕ) → Option (List ℕ) → Result (List PairModes) Ending → Type 0
-ReadsRules left left_after (Ok table) = AreRead left left_after table
-ReadsRules left left_after (Err (Line number)) = IsWrongInput left left_after number
-ReadsRules left left_after (Err Memory) = (given : List ℕ) × Took left given left_after
-ReadsRules left left_after (Err Source) = (given : List ℕ) × Took left given left_after
-ReadsRules left left_after (Err ending) = ⊥
+-- how reading the rules for a pair ends
+abbrev pub ReadsRules : Option (List ℕ) → Option (List ℕ) → List ℕ → List ℕ → Result Modes Ending → Type 0
+ReadsRules left left_after subject object (Ok granted) = AreRead left left_after subject object granted
+ReadsRules left left_after subject object (Err (Line number)) = IsWrongInput left left_after number
+ReadsRules left left_after subject object (Err Memory) = (given : List ℕ) × Took left given left_after
+ReadsRules left left_after subject object (Err Source) = (given : List ℕ) × Took left given left_after
+ReadsRules left left_after subject object (Err ending) = ⊥
 
 -- how writing the answer ends
 abbrev pub WritesAnswer : Option (List ℕ) → Option (List ℕ) → List ℕ → Result (Unit {0}) Ending → Type 0
