@@ -13,7 +13,7 @@ use Rattle.cynara_keys.specs.Field.{field_text, field_of, same_field}
 use Rattle.cynara_keys.specs.Key.{key_cmp, same_key}
 use Rattle.cynara_keys.specs.declared.fields.Field.{Field}
 use Rattle.cynara_keys.specs.declared.fields.Field.TheVariants.{Any, Exact}
-use Rattle.cynara_keys.specs.declared.keys.Key.{Key}
+use Rattle.cynara_keys.specs.Key.{Key}
 use Rattle.cynara_keys.proofs.Order.{same_text-≡, key_cmp-equal, key_total}
 use Rattle.app_registry.specs.Label.{install_label}
 use Rattle.app_registry.specs.Manifest.{scope_field, grant, install_grants, grants}

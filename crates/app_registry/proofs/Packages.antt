@@ -1,5 +1,5 @@
 -- The installs of a package, which stand together.
-use Rattle.std.proofs.Common.{◌≡◌, ℕ, zero, suc, ◌+◌, ◌<◌, ◌≤◌, Bool, true, false, not, ◌&&◌, ◌||◌, cond, List, [], ◌∷◌, ◌++◌, length, get_or, take, drop, filter, find, Some, refl, sym, ap, ◌∙◌, subst, arith, append-nil}
+use Rattle.std.proofs.Common.{◌≡◌, ℕ, zero, suc, ◌+◌, ◌<◌, Bool, true, false, not, ◌&&◌, ◌||◌, cond, List, [], ◌∷◌, ◌++◌, length, get_or, take, drop, filter, find, Some, refl, sym, ap, ◌∙◌, subst, arith, append-nil}
 use mathlib.Core.Bool.{true≢false}
 use mathlib.Core.Logic.{⊎_elim}
 use Rattle.std.specs.declared.cmp.Ordering.{Ordering}

@@ -4,7 +4,7 @@ use Rattle.std.specs.List.{flat_map}
 use Rattle.cynara_keys.specs.Key.{key_cmp}
 use Rattle.cynara_keys.specs.declared.fields.Field.{Field}
 use Rattle.cynara_keys.specs.declared.fields.Field.TheVariants.{Any, Exact}
-use Rattle.cynara_keys.specs.declared.keys.Key.{Key}
+use Rattle.cynara_keys.specs.Key.{Key}
 use Rattle.app_registry.specs.Label.{install_label}
 use Rattle.app_registry.specs.Registry.{RegistryLists}
 use Rattle.app_registry.specs.Rising.{rising}

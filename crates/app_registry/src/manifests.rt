@@ -33,10 +33,11 @@ fn push_grants(alloc: Global, rows: &mut Vec<Key>, install: &Install) -> Result<
 {
     let client = Field::Exact(install_client(alloc, install)?);
     let user = scope_field(alloc, install.scope)?;
-    push_each(rows, &client, &user, install.privileges.as_slice())
+    push_each(alloc, rows, &client, &user, install.privileges.as_slice())
 }
 
 fn push_each(
+    alloc: Global,
     rows: &mut Vec<Key>,
     client: &Field,
     user: &Field,
@@ -45,20 +46,17 @@ fn push_each(
     ensures { OnOk result (rows.new.items ≡ rows.old.items ++ map (grant client.now user.now) privileges.now) }
 {
     for privilege in privileges {
-        rows.push(grant(client, user, privilege)?)?;
+        rows.push(grant(alloc, client, user, privilege)?)?;
     }
     Ok(())
 }
 
-// The key of one privilege, with equal parts.
-fn grant(client: &Field, user: &Field, privilege: &Name) -> Result<Key, AllocError>
+// The key of one privilege.
+fn grant(alloc: Global, client: &Field, user: &Field, privilege: &Name) -> Result<Key, AllocError>
     ensures { IfOk result (λ key. key ≡ grant client.now user.now privilege.now) }
 {
-    Ok(Key {
-        client: client.copy()?,
-        user: user.copy()?,
-        privilege: Field::Exact(privilege.copy()?),
-    })
+    let privilege = Field::Exact(privilege.copy()?);
+    Key::of_fields(alloc, client, user, &privilege)
 }
 
 fn scope_field(alloc: Global, scope: Scope) -> Result<Field, AllocError>

@@ -17,7 +17,7 @@ use Rattle.cynara_keys.specs.Minimum.{first_least}
 use Rattle.cynara_keys.specs.PolicyResult.{result_cmp}
 use Rattle.cynara_keys.specs.declared.fields.Field.{Field}
 use Rattle.cynara_keys.specs.declared.fields.Field.TheVariants.{Any, Exact}
-use Rattle.cynara_keys.specs.declared.keys.Key.{Key}
+use Rattle.cynara_keys.specs.Key.{Key}
 use Rattle.cynara_keys.specs.declared.keys.Policy.{Policy}
 use Rattle.cynara_keys.specs.Key.{Question}
 use Rattle.cynara_keys.proofs.Minimum.{first_least-all}

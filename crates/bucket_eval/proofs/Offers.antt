@@ -7,7 +7,7 @@ use Rattle.std.specs.Ordering.{is_gt, ordering_then}
 use Rattle.cynara_keys.specs.Key.{key_cmp, key_matches}
 use Rattle.cynara_keys.specs.Minimum.{first_least}
 use Rattle.cynara_keys.specs.PolicyResult.{none, result_cmp}
-use Rattle.cynara_keys.specs.declared.keys.Key.{Key}
+use Rattle.cynara_keys.specs.Key.{Key}
 use Rattle.cynara_keys.specs.declared.keys.Policy.{Policy}
 use Rattle.cynara_keys.specs.Key.{Question}
 use Rattle.bucket_store.specs.Bucket.{Bucket}

@@ -11,7 +11,7 @@ use Rattle.cynara_keys.specs.Key.{key_matches, key_cmp}
 use Rattle.cynara_keys.specs.Minimum.{first_least}
 use Rattle.cynara_keys.specs.PolicyResult.{Ruling, deny, none, result_cmp}
 use Rattle.cynara_keys.specs.Text.{same_text}
-use Rattle.cynara_keys.specs.declared.keys.Key.{Key}
+use Rattle.cynara_keys.specs.Key.{Key}
 use Rattle.cynara_keys.specs.declared.keys.Policy.{Policy}
 use Rattle.cynara_keys.specs.Key.{Question}
 use Rattle.bucket_store.specs.Database.{Database, Heading}

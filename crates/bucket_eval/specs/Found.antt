@@ -3,7 +3,7 @@ use Rattle.std.specs.Prelude.{ℕ, Option, Some, None, slice_get}
 use Rattle.std.specs.Option.{option_map}
 use Rattle.std.specs.Prelude.{option_and_then}
 use Rattle.cynara_keys.specs.Field.{field_text}
-use Rattle.cynara_keys.specs.declared.keys.Key.{Key}
+use Rattle.cynara_keys.specs.Key.{Key}
 use Rattle.bucket_store.specs.Database.{Database, Heading}
 use Rattle.bucket_eval.specs.Evaluation.{Outcome, policies_of}
 use Rattle.bucket_eval.specs.declared.answers.Found.{Found}

@@ -86,8 +86,8 @@ fn row_of(key: &Key) -> Row
     ensures { result ≡ row_of key.now }
 {
     Row {
-        client: Short::of(key.client.as_slice()),
-        user: Short::of(key.user.as_slice()),
-        privilege: Short::of(key.privilege.as_slice()),
+        client: Short::of(key.client()),
+        user: Short::of(key.user()),
+        privilege: Short::of(key.privilege()),
     }
 }

@@ -2,14 +2,15 @@
 // bucket has at most one policy of each shape that matches.
 ghost use Rattle.std.specs.Prelude.{◌≡◌, ◌<◌, ◌≤◌, length, if◌then◌else◌, IfOk, IfErr, MatchResult};
 ghost use Rattle.std.specs.List.Sorted.{IsStrictlySortedBy};
-ghost use Rattle.cynara_keys.specs.Field.{field_cmp};
+ghost use Rattle.cynara_keys.specs.Field.{field_of, field_text};
+ghost use Rattle.cynara_keys.specs.Text.{text_cmp};
 ghost use Rattle.cynara_keys.specs.Key.{key_cmp};
 ghost use Rattle.bucket_store.specs.Order.{policy_cmp};
 ghost use Rattle.bucket_store.specs.parts.Search.{StandsAt, BelongsAt};
 ghost use Rattle.bucket_eval.specs.parts.Shapes as shapes;
 ghost use Rattle.bucket_eval.specs.parts.Shapes.{FitsAt};
 
-use cynara_keys::{BorrowedQuestion, Field, Key, Policy};
+use cynara_keys::{BorrowedQuestion, Key, Policy};
 use std::cmp::Ordering;
 
 /// How many shapes there are: each of three fields is the wildcard or a name.
@@ -57,18 +58,19 @@ fn compare(key: &Key, question: &BorrowedQuestion<'_>, shape: usize) -> Ordering
     ensures { result ≡ key_cmp key.now (shapes.sought question.now shape) }
 {
     let (user, privilege) = (question.user(), question.privilege());
-    compare_field(&key.client, question.client(), shape >= 4)
-        .then_with(|| compare_field(&key.user, user, shape % 4 >= 2))
-        .then_with(|| compare_field(&key.privilege, privilege, shape % 2 == 1))
+    compare_field(key.client(), question.client(), shape >= 4)
+        .then_with(|| compare_field(key.user(), user, shape % 4 >= 2))
+        .then_with(|| compare_field(key.privilege(), privilege, shape % 2 == 1))
 }
 
-fn compare_field(field: &Field, name: &[u8], wild: bool) -> Ordering
-    ensures { result ≡ field_cmp field.now (shapes.sought_field wild name.now) }
+// How the text of a field compares with the wildcard, or with the name.
+fn compare_field(field: &[u8], name: &[u8], wild: bool) -> Ordering
+    ensures { result ≡ text_cmp field.now (field_text (shapes.sought_field wild name.now)) }
 {
     if wild {
-        return field.as_slice().cmp(b"*".as_slice());
+        return field.cmp(b"*".as_slice());
     }
-    field.as_slice().cmp(name)
+    field.cmp(name)
 }
 
 // Whether the policy's key has this shape and matches the question.
@@ -81,16 +83,13 @@ fn fits(policy: &Policy, question: &BorrowedQuestion<'_>, shape: usize) -> bool
 fn shape_of(key: &Key) -> usize
     ensures { result ≡ shapes.shape_of key.now }
 {
-    weight(&key.client, 4) + (weight(&key.user, 2) + weight(&key.privilege, 1))
+    weight(key.client(), 4) + (weight(key.user(), 2) + weight(key.privilege(), 1))
 }
 
-// This number where the field is the wildcard, and else 0.
-fn weight(field: &Field, number: usize) -> usize
-    ensures weight { result ≡ (if shapes.is_wild field.now then number else 0) }
+// This number where the text of a field is the wildcard, and else 0.
+fn weight(field: &[u8], number: usize) -> usize
+    ensures weight { result ≡ (if shapes.is_wild (field_of field.now) then number else 0) }
     ensures bound { result ≤ number }
 {
-    match field {
-        Field::Any => number,
-        Field::Exact(_) => 0,
-    }
+    if field == b"*".as_slice() { number } else { 0 }
 }

@@ -17,11 +17,10 @@ const DENY: u16 = 0;
 type Row<'a> = ([&'a str; 3], u16, &'a str);
 
 fn key(alloc: Global, [client, user, privilege]: [&str; 3]) -> Result<Key, Fail> {
-    Ok(Key {
-        client: Field::read(alloc, client.as_bytes())?,
-        user: Field::read(alloc, user.as_bytes())?,
-        privilege: Field::read(alloc, privilege.as_bytes())?,
-    })
+    let client = Field::read(alloc, client.as_bytes())?;
+    let user = Field::read(alloc, user.as_bytes())?;
+    let privilege = Field::read(alloc, privilege.as_bytes())?;
+    Ok(Key::of_fields(alloc, &client, &user, &privilege)?)
 }
 
 fn policy(alloc: Global, (fields, kind, metadata): Row<'_>) -> Result<Policy, Fail> {

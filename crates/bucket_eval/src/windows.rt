@@ -62,7 +62,7 @@ fn first_of_another(policies: &[Policy], client: &[u8]) -> Option<usize>
 {
     policies
         .iter()
-        .position(|policy| policy.key.client.as_slice() != client)
+        .position(|policy| policy.key.client() != client)
 }
 
 // The smallest window that covers both.
@@ -111,5 +111,5 @@ fn count_before(policies: &[Policy], client: &[u8]) -> usize
 fn comes_before(policy: &Policy, client: &[u8]) -> bool
     ensures { result ≡ windows.comes_before client.now policy.now }
 {
-    client.cmp(policy.key.client.as_slice()).is_gt()
+    client.cmp(policy.key.client()).is_gt()
 }

@@ -11,7 +11,7 @@ use Rattle.cynara_keys.specs.Field.{field_text, field_cmp, same_field}
 use Rattle.cynara_keys.specs.Key.{key_cmp, same_key}
 use Rattle.cynara_keys.specs.PolicyResult.{Ruling, result_cmp, same_result}
 use Rattle.cynara_keys.specs.declared.fields.Field.{Field}
-use Rattle.cynara_keys.specs.declared.keys.Key.{Key}
+use Rattle.cynara_keys.specs.Key.{Key}
 
 -- ---- texts
 
@@ -37,9 +37,6 @@ same_field_equiv = on_equiv field_text nat_list_eq_equiv
 
 pub field_cmp-equal : (a b : Field) → is_eq (field_cmp a b) ≡ same_field a b
 field_cmp-equal a b = text_cmp-equal (field_text a) (field_text b)
-
-pub field_partial_order : IsPartialOrder same_field (as_partial_cmp field_cmp)
-field_partial_order = po field_total (λ a b. sym (field_cmp-equal a b))
 
 -- ---- keys
 

@@ -7,7 +7,7 @@ use Rattle.cynara_keys.specs.Field.{wildcard, field_text, field_of, field_fault,
 use Rattle.cynara_keys.specs.Key.{same_key}
 use Rattle.cynara_keys.specs.declared.fields.Field.{Field}
 use Rattle.cynara_keys.specs.declared.fields.Field.TheVariants.{Any, Exact}
-use Rattle.cynara_keys.specs.declared.keys.Key.{Key}
+use Rattle.cynara_keys.specs.Key.{Key}
 use Rattle.cynara_keys.proofs.Order.{same_text-≡}
 
 -- what each field of the program is: the wildcard, or a name without a fault
@@ -26,6 +26,21 @@ field_of-name name sound = ap (λ same. cond same Any (Exact name)) (no_wildcard
 pub field_fault-name : (name : List ℕ) → name_fault name ≡ None → field_fault name ≡ None
 field_fault-name name sound =
     ap (λ same. cond same None (name_fault name)) (no_wildcard name (same_text name wildcard) refl sound) ∙ sound
+
+-- the field that a text is read as has this text
+spelled_as : (text : List ℕ) (same : Bool) → same_text text wildcard ≡ same → field_text (cond same Any (Exact text)) ≡ text
+spelled_as text true is = sym (same_text-≡ text wildcard is)
+spelled_as text false is = refl
+
+pub field_text-field_of : (text : List ℕ) → field_text (field_of text) ≡ text
+field_text-field_of text = spelled_as text (same_text text wildcard) refl
+
+sound_at : (text : List ℕ) (same : Bool) → cond same None (name_fault text) ≡ None → IsSound (cond same Any (Exact text))
+sound_at text true fits = tt
+sound_at text false fits = fits
+
+pub field_of-sound : (text : List ℕ) → field_fault text ≡ None → IsSound (field_of text)
+field_of-sound text fits = sound_at text (same_text text wildcard) fits
 
 -- the text of a field reads back
 pub field_of-field_text : (field : Field) → IsSound field → field_of (field_text field) ≡ field

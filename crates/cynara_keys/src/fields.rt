@@ -1,18 +1,12 @@
 ghost use Rattle.std.specs.Prelude.{◌≡◌, IfOk, IfErr, IfSome, OnOk, None};
 ghost use Rattle.cynara_keys.specs.Name.{Refuses};
-ghost use Rattle.cynara_keys.specs.Field.{field_text, field_of, field_fault, field_matches, field_cmp, same_field};
+ghost use Rattle.cynara_keys.specs.Field.{field_text, field_of, field_fault, field_matches};
 ghost use Rattle.cynara_keys.specs.Field.{field_admits, filter_field_text, filter_field_of, filter_field_fault};
-ghost use Rattle.std.proofs.Common.{rules};
-ghost use Rattle.std.specs.Ordering.{as_partial_cmp};
-ghost use Rattle.std.specs.Cmp.{partial_order_from_own_ties};
-ghost use Rattle.std.specs.Cmp.Rules.{comparing};
 
-use crate::shared::Shared;
 use crate::{Name, NameRefusal, name_fault};
 use std::alloc::{AllocError, Global};
-use std::cmp::Ordering;
 
-/// One field of a key: the wildcard `*`, which matches each name, or one name. Fields are ordered by their texts.
+/// One field of a key that is made: the wildcard `*`, which matches each name, or one name.
 #[derive(Debug, Drop)]
 pub enum Field {
     Any,
@@ -44,17 +38,6 @@ impl Field {
         Ok(Field::Exact(Name::read(alloc, text)?))
     }
 
-    // The field of a text.
-    pub(crate) fn of(text: Shared) -> Field
-        requires { field_fault text ≡ None }
-        ensures { result ≡ field_of text }
-    {
-        if text.as_slice() == b"*".as_slice() {
-            return Field::Any;
-        }
-        Field::Exact(Name::of(text))
-    }
-
     /// The one text of the field: `*` for the wildcard, and else the name. It reads back as this field.
     pub fn as_slice(&self) -> &[u8]
         ensures text { result.now ≡ field_text self.now }
@@ -66,64 +49,13 @@ impl Field {
             Field::Exact(name) => name.as_slice(),
         }
     }
-
-    /// Whether the field is the wildcard or the name of these bytes.
-    pub fn matches(&self, name: &[u8]) -> bool
-        ensures { result ≡ field_matches self.now name.now }
-    {
-        match self {
-            Field::Any => true,
-            Field::Exact(own) => own.as_slice() == name,
-        }
-    }
-
-    /// An equal field, which shares the name's bytes. Refused only as `Name::copy` is.
-    pub fn copy(&self) -> Result<Field, AllocError>
-        ensures { IfOk result (λ copy. copy ≡ self.now) }
-    {
-        match self {
-            Field::Any => Ok(Field::Any),
-            Field::Exact(name) => Ok(Field::Exact(name.copy()?)),
-        }
-    }
 }
 
-impl PartialEq for Field {
-    ghost eq = { same_field };
-
-    ghost laws = { Prim.search (comparing, rules) };
-
-    fn eq(&self, other: &Field) -> bool {
-        self.as_slice() == other.as_slice()
-    }
-}
-
-impl Eq for Field {
-    ghost laws = { Prim.search (comparing, rules) };
-}
-
-impl PartialOrd for Field {
-    ghost partial_cmp = { as_partial_cmp field_cmp };
-
-    ghost laws = { partial_order_from_own_ties (Prim.search (comparing, rules)) (Prim.search (comparing, rules)) };
-
-    fn partial_cmp(&self, other: &Field) -> Option<Ordering> {
-        Some(self.cmp(other))
-    }
-}
-
-impl Ord for Field {
-    ghost cmp = { field_cmp };
-
-    ghost total = { Prim.search (comparing, rules) };
-
-    ghost matches_partial_cmp = { Prim.search (comparing, rules) };
-
-    ghost matches_eq = { Prim.search (comparing, rules) };
-
-    fn cmp(&self, other: &Field) -> Ordering {
-        self.as_slice().cmp(other.as_slice())
-    }
+// Whether the text of a field is `*`, or these bytes.
+pub fn field_matches(field: &[u8], name: &[u8]) -> bool
+    ensures { result ≡ field_matches (field_of field.now) name.now }
+{
+    field == b"*".as_slice() || field == name
 }
 
 /// One field of a filter: `#` for every field, `*` for the stored wildcard alone, or one name.
@@ -165,15 +97,15 @@ impl FilterField {
         }
     }
 
-    /// Whether a key's field passes: any field at `#`, and else the same one.
-    pub fn admits(&self, field: &Field) -> bool
-        ensures { result ≡ field_admits self.now field.now }
+    /// Whether a key's field of this text passes: any field at `#`, and else the same one.
+    pub fn admits(&self, field: &[u8]) -> bool
+        ensures { result ≡ field_admits self.now (field_of field.now) }
     {
-        match (self, field) {
-            (FilterField::Every, _) => true,
-            (FilterField::Any, Field::Any) => true,
-            (FilterField::Exact(own), Field::Exact(name)) => own.as_slice() == name.as_slice(),
-            _ => false,
+        let is_wild = field == b"*".as_slice();
+        match self {
+            FilterField::Every => true,
+            FilterField::Any => is_wild,
+            FilterField::Exact(own) => !is_wild && own.as_slice() == field,
         }
     }
 

@@ -86,14 +86,6 @@ impl Name {
         Ok(Name { bytes })
     }
 
-    // The name that the bytes are.
-    pub(crate) fn of(bytes: Shared) -> Name
-        requires { name_fault bytes ≡ None }
-        ensures { result ≡ bytes }
-    {
-        Name { bytes }
-    }
-
     /// The bytes of the name, as they were read.
     pub fn as_slice(&self) -> &[u8]
         ensures bytes { result.now ≡ self.now }

@@ -5,7 +5,7 @@ use Rattle.std.specs.List.{AllByRecursion, filter, fold, list_any, flat_map}
 use Rattle.std.specs.List.Sorted.{IsStrictlySortedBy}
 use Rattle.std.proofs.lemmas.Bool.{true≢false}
 use Rattle.std.proofs.lemmas.Grind.{flat_map-append}
-use Rattle.cynara_keys.specs.declared.keys.Key.{Key}
+use Rattle.cynara_keys.specs.Key.{Key}
 use Rattle.bucket_store.specs.Database.{Database, Placed, has_bucket}
 use Rattle.bucket_store.specs.Order.{placed_cmp}
 use Rattle.bucket_store.specs.Change.{after_change, with_changes}

@@ -11,7 +11,7 @@ use Rattle.cynara_keys.specs.Text.{same_text, text_cmp}
 use Rattle.cynara_keys.specs.PolicyResult.{deny}
 use Rattle.cynara_keys.specs.declared.keys.Filter.{Filter}
 use Rattle.cynara_keys.specs.declared.keys.Policy.{Policy}
-use Rattle.cynara_keys.specs.declared.keys.Key.{Key}
+use Rattle.cynara_keys.specs.Key.{Key}
 use Rattle.cynara_keys.proofs.Order.{same_text-≡, ≡-same_text, text_cmp-equal}
 use Rattle.bucket_store.specs.Database.{Database, Heading, Placed, has_bucket}
 use Rattle.bucket_store.specs.Order.{heading_cmp, placed_cmp, policy_cmp, put}

@@ -12,7 +12,7 @@ use Rattle.cynara_keys.specs.Text.{same_text}
 use Rattle.cynara_keys.specs.Field.{field_text, same_field, wildcard}
 use Rattle.cynara_keys.specs.Key.{key_cmp, same_key}
 use Rattle.cynara_keys.specs.declared.fields.Field.TheVariants.{Any}
-use Rattle.cynara_keys.specs.declared.keys.Key.{Key}
+use Rattle.cynara_keys.specs.Key.{Key}
 use Rattle.cynara_keys.specs.declared.keys.Policy.{Policy}
 use Rattle.cynara_keys.proofs.Order.{same_text-≡, ≡-same_text, key_cmp-equal}
 use Rattle.bucket_store.specs.Database.{Placed}

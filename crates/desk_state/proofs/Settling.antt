@@ -12,7 +12,7 @@ use Rattle.cynara_keys.specs.Field.{field_text, field_of, same_field}
 use Rattle.cynara_keys.specs.Key.{key_cmp, same_key}
 use Rattle.cynara_keys.specs.PolicyResult.{allow}
 use Rattle.cynara_keys.specs.declared.fields.Field.TheVariants.{Exact}
-use Rattle.cynara_keys.specs.declared.keys.Key.{Key}
+use Rattle.cynara_keys.specs.Key.{Key}
 use Rattle.cynara_keys.specs.declared.keys.Policy.{Policy}
 use Rattle.cynara_keys.proofs.Order.{same_text-≡, ≡-same_text, text_cmp-equal, key_total, key_cmp-equal}
 use Rattle.bucket_store.specs.Database.{Placed}

@@ -14,7 +14,7 @@ use Rattle.cynara_keys.specs.Text.{same_text, text_cmp}
 use Rattle.cynara_keys.specs.Field.{field_text, same_field, wildcard}
 use Rattle.cynara_keys.specs.Key.{key_cmp, same_key}
 use Rattle.cynara_keys.specs.declared.fields.Field.TheVariants.{Exact}
-use Rattle.cynara_keys.specs.declared.keys.Key.{Key}
+use Rattle.cynara_keys.specs.Key.{Key}
 use Rattle.cynara_keys.proofs.Order.{same_text-≡, ≡-same_text, text_cmp-equal, key_cmp-equal}
 use Rattle.app_registry.specs.Install.{install_cmp, is_of_package, is_of_app, is_install_of, is_for_user}
 use Rattle.app_registry.specs.Label.{package_label, install_label}

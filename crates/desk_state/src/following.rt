@@ -44,11 +44,8 @@ pub fn delete_user(alloc: Global, uid: u32) -> Result<Change, AllocError>
 fn user_key(alloc: Global, uid: u32) -> Result<Key, AllocError>
     ensures { IfOk result (λ key. key ≡ following.user_key uid) }
 {
-    Ok(Key {
-        client: Field::Any,
-        user: Field::Exact(user_name(alloc, uid)?),
-        privilege: Field::Any,
-    })
+    let user = Field::Exact(user_name(alloc, uid)?);
+    Key::of_fields(alloc, &Field::Any, &user, &Field::Any)
 }
 
 /// The bucket's name of this text, which is one.
@@ -200,11 +197,8 @@ fn grant_change(
     ensures { IfOk result (λ change. change ≡ following.grant_change allowed (grant client.now user.now privilege.now)) }
 {
     let bucket = bucket_name(alloc, MANIFESTS)?;
-    let key = Key {
-        client: client.copy()?,
-        user: user.copy()?,
-        privilege: Field::Exact(privilege.copy()?),
-    };
+    let privilege = Field::Exact(privilege.copy()?);
+    let key = Key::of_fields(alloc, client, user, &privilege)?;
     if allowed {
         return Ok(Change::Set {
             bucket,

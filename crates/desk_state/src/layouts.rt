@@ -110,7 +110,7 @@ fn root_link(alloc: Global) -> Result<Change, AllocError>
 {
     Ok(Change::Set {
         bucket: BucketName::root(alloc),
-        key: all_key(),
+        key: all_key(alloc)?,
         result: link_to(alloc, MAIN)?,
     })
 }
@@ -124,17 +124,13 @@ fn all_to(alloc: Global, from: &[u8], target: &[u8]) -> Result<Change, AllocErro
 {
     Ok(Change::Set {
         bucket: bucket_name(alloc, from)?,
-        key: all_key(),
+        key: all_key(alloc)?,
         result: link_to(alloc, target)?,
     })
 }
 
-fn all_key() -> Key
-    ensures { result ≡ all_key }
+fn all_key(alloc: Global) -> Result<Key, AllocError>
+    ensures { IfOk result (λ key. key ≡ all_key) }
 {
-    Key {
-        client: Field::Any,
-        user: Field::Any,
-        privilege: Field::Any,
-    }
+    Key::of_fields(alloc, &Field::Any, &Field::Any, &Field::Any)
 }

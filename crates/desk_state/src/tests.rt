@@ -84,11 +84,10 @@ fn result(alloc: Global, kind: Kind, metadata: &str) -> Result<PolicyResult, Fai
 }
 
 fn key(alloc: Global, client: &str, user: &str, privilege: &str) -> Result<Key, Fail> {
-    Ok(Key {
-        client: Field::read(alloc, client.as_bytes())?,
-        user: Field::read(alloc, user.as_bytes())?,
-        privilege: Field::read(alloc, privilege.as_bytes())?,
-    })
+    let client = Field::read(alloc, client.as_bytes())?;
+    let user = Field::read(alloc, user.as_bytes())?;
+    let privilege = Field::read(alloc, privilege.as_bytes())?;
+    Ok(Key::of_fields(alloc, &client, &user, &privilege)?)
 }
 
 fn word<'a>(words: &[&'a str], at: usize) -> &'a str {

@@ -4,7 +4,7 @@ use Rattle.std.specs.List.{list_all}
 use Rattle.std.specs.Result.{result_ok}
 use Rattle.cynara_keys.specs.Text.{same_text, text_cmp}
 use Rattle.cynara_keys.specs.Name.{is_name}
-use Rattle.cynara_keys.specs.declared.keys.Key.{Key}
+use Rattle.cynara_keys.specs.Key.{Key}
 use Rattle.cynara_keys.specs.Key.{Question}
 use Rattle.cynara_keys.specs.declared.keys.Filter.{Filter}
 use Rattle.bucket_store.specs.declared.policy_changes.Change.{Change}

@@ -8,7 +8,7 @@ use Rattle.smack_rules.specs.Decision.{decision}
 use Rattle.privilege_cli.specs.Outside.{Had}
 use Rattle.privilege_cli.specs.AccessRun.{rules_read, IsDecided, IsReadThrough, AccessAnswers}
 use Rattle.privilege_cli.specs.Reply.{decided_text}
-use Rattle.privilege_cli.specs.parts.Access.{IsRead, IsWrongAt, AreLoaded, AreRead, IsWrongInput, ReadsRules, WritesAnswer}
+use Rattle.privilege_cli.specs.parts.Access.{IsRead, IsWrongAt, AreGranted, AreRead, IsWrongInput, ReadsRules, WritesAnswer}
 use Rattle.privilege_cli.specs.parts.Local.{counts_source, counts_sink}
 use Rattle.privilege_cli.specs.parts.Runs.{WritesBefore}
 use Rattle.privilege_cli.specs.Program.{Reads}
@@ -21,7 +21,7 @@ use Rattle.privilege_cli.proofs.Trying.{IsCut-take}
 
 module _ (left left_after : Option (List ℕ)) (text : List ℕ) (read : IsRead left left_after text) where
   -- what the rules of the text that was read grant a pair
-  pub AreRead-text : (subject object : List ℕ) (granted : Modes) → AreLoaded text subject object granted
+  pub AreRead-text : (subject object : List ℕ) (granted : Modes) → AreGranted text subject object granted
       → AreRead left left_after subject object granted
   AreRead-text subject object granted loads =
       let had = Took-Had left left_after text read.took in

@@ -1,5 +1,5 @@
 -- A text of rules, taken apart behind its whole lines.
-use Rattle.std.proofs.Common.{◌≡◌, ◌≤◌, ◌<◌, ◌+◌, ◌-◌, ◌∷◌, ◌++◌, [], ℕ, Bool, true, false, cond, nat_lt, List, length, map, take, Option, Some, None, Result, Ok, Err, IsOkAnd, inl, inr, refl, sym, ap, ◌∙◌, subst, append_assoc, append-nil, arith, length-append}
+use Rattle.std.proofs.Common.{◌≡◌, ◌≤◌, ◌<◌, ◌+◌, ◌-◌, ◌∷◌, ◌++◌, [], ℕ, Bool, true, false, cond, nat_lt, List, length, map, take, Option, Some, None, Result, Ok, Err, IsOkAnd, IfOk, IfErr, MatchResult, inl, inr, refl, sym, ap, ◌∙◌, subst, append_assoc, append-nil, arith, length-append}
 use Rattle.std.proofs.lemmas.Bool.{lt-ltb, le-ltb}
 use Rattle.std.proofs.lemmas.List.{length-take-le}
 use Rattle.std.specs.List.{onto_first}
@@ -14,7 +14,7 @@ use Rattle.smack_rules.specs.Effective.{effective}
 use Rattle.smack_rules.specs.RuleText.{with_front, with_line, rules_from, rules_of}
 use Rattle.privilege_cli.specs.AccessRun.{rules_of as rules_of_lines, rules_read}
 use Rattle.privilege_cli.specs.declared.limits.TheConstants.{MOST_RULES_BYTES}
-use Rattle.privilege_cli.specs.parts.Access.{AreLinesOf, IsWrongAt, AreLoaded}
+use Rattle.privilege_cli.specs.parts.Access.{AreLinesOf, IsWrongAt, AreGranted}
 use Rattle.privilege_cli.proofs.Trying.{IsCut-take}
 
 -- ---- the pieces of a text
@@ -221,23 +221,26 @@ IsWrongAt-before count line text lines past are wrong =
     λ more none. over MOST_RULES_BYTES count text lines more past are ∙ ap (λ rules. then_rules rules (Err (count + 1))) wrong
 
 -- a line of a text within the limit is wrong
-pub IsWrongAt-within : (line : ℕ) (text : List ℕ) → length text ≤ MOST_RULES_BYTES → rules_of text ≡ Err line → IsWrongAt text line
+IsWrongAt-within : (line : ℕ) (text : List ℕ) → length text ≤ MOST_RULES_BYTES → rules_of text ≡ Err line → IsWrongAt text line
 IsWrongAt-within line text within wrong =
     λ more none. ap (λ more. rules_read (text ++ more)) (none within)
     ∙ (ap rules_read (append-nil text) ∙ (rules_within-all MOST_RULES_BYTES text within ∙ wrong))
 
-loaded : (text subject object : List ℕ) (granted : Modes) (rules : Result (List Rule) ℕ) → length text ≤ MOST_RULES_BYTES
+granted_by : (text subject object : List ℕ) (granted : Modes) (rules : Result (List Rule) ℕ) → length text ≤ MOST_RULES_BYTES
     → rules_read text ≡ rules → IsOkAnd rules (λ rules. granted ≡ effective rules subject object)
-    → AreLoaded text subject object granted
-loaded text subject object granted (Ok rules) within is grants =
+    → AreGranted text subject object granted
+granted_by text subject object granted (Ok rules) within is grants =
     record { rules = rules; within = within; right = is; grants = grants }
-loaded text subject object granted (Err line) within is grants = absurd grants
+granted_by text subject object granted (Err line) within is grants = absurd grants
 
--- each line of a text within the limit is a rule
-pub AreLoaded-all : (text subject object : List ℕ) (granted : Modes) → length text ≤ MOST_RULES_BYTES
-    → IsOkAnd (rules_of text) (λ rules. granted ≡ effective rules subject object) → AreLoaded text subject object granted
-AreLoaded-all text subject object granted within grants =
-    loaded text subject object granted (rules_of text) within (rules_within-all MOST_RULES_BYTES text within) grants
+-- what one pass over a text within the limit gives
+pub AreGranted-within : (text subject object : List ℕ) → length text ≤ MOST_RULES_BYTES → (result : Result Modes ℕ)
+    → IfOk result (λ granted. IsOkAnd (rules_of text) (λ rules. granted ≡ effective rules subject object))
+    → IfErr result (λ number. rules_of text ≡ Err number)
+    → MatchResult result (AreGranted text subject object) (IsWrongAt text)
+AreGranted-within text subject object within (Ok granted) grants wrong =
+    granted_by text subject object granted (rules_of text) within (rules_within-all MOST_RULES_BYTES text within) grants
+AreGranted-within text subject object within (Err number) grants wrong = IsWrongAt-within number text within wrong
 
 -- ---- the whole lines of a text
 

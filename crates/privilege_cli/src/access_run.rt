@@ -1,10 +1,9 @@
 // `smack-access`: reads the rules of the source, and has the sink take the decision on one request.
 ghost use Rattle.std.specs.Prelude.{◌≡◌, ◌≤◌, ◌<◌, ◌+◌, ◌⊎◌, ℕ, List, Option, length, MatchResult, IfOk, IfErr, IsTrue};
-ghost use Rattle.desk_ports.specs.Faults.{CountsFailure};
 ghost use Rattle.desk_ports.specs.Content.{Took};
 ghost use Rattle.smack_rules.specs.Modes.{is_request};
 ghost use Rattle.privilege_cli.specs.AccessRun.{AccessAnswers};
-ghost use Rattle.privilege_cli.specs.parts.Access.{IsRead, ReadsMore, AreLinesOf, IsWrongAt, AreLoaded, ReadsRules, WritesAnswer};
+ghost use Rattle.privilege_cli.specs.parts.Access.{IsRead, ReadsMore, AreLinesOf, IsWrongAt, AreGranted, ReadsRules, WritesAnswer};
 ghost use Rattle.privilege_cli.specs.parts.Local.{counts_source, counts_sink};
 ghost use Rattle.privilege_cli.specs.parts.Runs.{WritesBefore};
 ghost use Rattle.privilege_cli.specs.Program.{Reads};
@@ -125,7 +124,7 @@ fn read_rules<S: Source, K: Sink>(
     ensures sink { K.faults sink.new ≡ K.faults sink.old }
 {
     let text = read_text(alloc, source)?;
-    match load_rules(text.as_slice(), subject, object) {
+    match granted_by(text.as_slice(), subject, object) {
         Ok(granted) => Ok(ReadRules { text, granted }),
         Err(number) => {
             note_rule_line(alloc, text.as_slice(), number, sink);
@@ -170,17 +169,14 @@ fn read_more<S: Source>(text: &mut Bytes, window: &mut [u8], source: &mut S) -> 
     Ok(count > 0)
 }
 
-// What a text's rules grant a pair, or the number of the first of its lines that is wrong. It takes no memory.
-fn load_rules(text: &[u8], subject: &Label, object: &Label) -> Result<Modes, u32>
-    ensures { MatchResult result (AreLoaded text.now subject.now object.now) (IsWrongAt text.now) }
+// What a text's rules grant a pair, or the number of the first of its lines that is wrong.
+fn granted_by(text: &[u8], subject: &Label, object: &Label) -> Result<Modes, u32>
+    ensures { MatchResult result (AreGranted text.now subject.now object.now) (IsWrongAt text.now) }
 {
     if text.len() > MOST_TEXT_BYTES {
         return Err(stop_past_limit(text, subject, object));
     }
-    match modes_in_text(text, subject, object) {
-        Ok(granted) => Ok(granted),
-        Err(number) => Err(number),
-    }
+    modes_in_text(text, subject, object)
 }
 
 // Where a text stops that goes past the limit: at the first of its lines within the limit that is no rule, and else at

@@ -134,9 +134,9 @@ fn print_decided(
         bucket: bucket.name().as_slice(),
         kind: policy.result.kind(),
         metadata: policy.result.metadata().as_slice(),
-        client: policy.key.client.as_slice(),
-        user: policy.key.user.as_slice(),
-        privilege: policy.key.privilege.as_slice(),
+        client: policy.key.client(),
+        user: policy.key.user(),
+        privilege: policy.key.privilege(),
     };
     print(&answer, out)
 }
@@ -164,9 +164,9 @@ fn print_row(policy: &Policy, out: &mut Bytes) -> Result<(), AllocError>
     ensures err { OnErr result (out.new ≡ out.old) }
 {
     let answer = LineAnswer::Row {
-        client: policy.key.client.as_slice(),
-        user: policy.key.user.as_slice(),
-        privilege: policy.key.privilege.as_slice(),
+        client: policy.key.client(),
+        user: policy.key.user(),
+        privilege: policy.key.privilege(),
         kind: policy.result.kind(),
         metadata: policy.result.metadata().as_slice(),
     };

@@ -7,7 +7,7 @@ use Rattle.cynara_keys.specs.BucketName.{is_bucket_name}
 use Rattle.cynara_keys.specs.Metadata.{is_metadata}
 use Rattle.cynara_keys.specs.Field.{field_text, field_of, field_fault}
 use Rattle.cynara_keys.specs.PolicyResult.{Ruling, may_carry}
-use Rattle.cynara_keys.specs.declared.keys.Key.{Key}
+use Rattle.cynara_keys.specs.Key.{Key}
 use Rattle.cynara_keys.specs.declared.keys.Policy.{Policy}
 use Rattle.bucket_store.specs.Database.{Heading}
 use Rattle.bucket_store.specs.Order.{heading_cmp, policy_cmp}

@@ -10,7 +10,7 @@ use Rattle.cynara_keys.specs.Name.{is_name}
 use Rattle.cynara_keys.specs.PolicyResult.{Ruling, may_carry}
 use Rattle.cynara_keys.specs.declared.fields.Field.{Field}
 use Rattle.cynara_keys.specs.declared.fields.Field.TheVariants.{Any, Exact}
-use Rattle.cynara_keys.specs.declared.keys.Key.{Key}
+use Rattle.cynara_keys.specs.Key.{Key}
 use Rattle.cynara_keys.specs.declared.keys.Policy.{Policy}
 use Rattle.bucket_store.specs.Database.{Heading, Placed}
 use Rattle.app_registry.specs.declared.installs.Install.{Install}

@@ -160,7 +160,7 @@ fn main_text(alloc: Global, users: &[User]) -> Result<Vec<u8>, AllocError>
         ≡ word.bucket_text (rising policy_cmp (layout.link Any layout.manifests ∷ map layout.user_link users.now))) }
 {
     let mut policies = user_links(alloc, users)?;
-    place(&mut policies, link(alloc, Field::Any, MANIFESTS)?)?;
+    place(&mut policies, link(alloc, &Field::Any, MANIFESTS)?)?;
     bucket_text(alloc, &policies)
 }
 
@@ -201,20 +201,16 @@ fn user_link(alloc: Global, user: &User) -> Result<Policy, AllocError>
     ensures { IfOk result (λ policy. policy ≡ layout.user_link user.now) }
 {
     let field = Field::Exact(user_name(alloc, user.uid)?);
-    link(alloc, field, type_bucket(user.kind))
+    link(alloc, &field, type_bucket(user.kind))
 }
 
 // The policy that sends the questions of a user, or of everyone, to a bucket.
-fn link(alloc: Global, user: Field, target: &[u8]) -> Result<Policy, AllocError>
+fn link(alloc: Global, user: &Field, target: &[u8]) -> Result<Policy, AllocError>
     requires text { metadata_fault target.now ≡ None }
     requires name { is_bucket_name target.now ≡ true }
-    ensures { IfOk result (λ policy. policy ≡ layout.link user target.now) }
+    ensures { IfOk result (λ policy. policy ≡ layout.link user.now target.now) }
 {
-    let key = Key {
-        client: Field::Any,
-        user,
-        privilege: Field::Any,
-    };
+    let key = Key::of_fields(alloc, &Field::Any, user, &Field::Any)?;
     let result = pointing_to(alloc, target)?;
     Ok(Policy { key, result })
 }

@@ -2,13 +2,12 @@
 
 ghost use Rattle.std.specs.Prelude.{◌≡◌, ◌++◌, ◌∷◌, [], ◌+◌, ◌≤◌, ◌<◌, length, Ok, IsTrue, Some, None, if◌then◌else◌};
 ghost use Rattle.std.specs.Prelude.{IfOk, OnOk, MatchResult};
-ghost use Rattle.cynara_keys.specs.Field.{field_text, field_of};
 ghost use Rattle.std.specs.List.{AllByRecursion};
 ghost use Rattle.std.specs.List.Sorted.{IsStrictlySortedBy};
 ghost use Rattle.bucket_store.specs.Order.{heading_cmp, policy_cmp};
 ghost use Rattle.bucket_store.specs.Refusal.{most_policies};
 ghost use Rattle.set_text.specs.Buckets as word;
-ghost use Rattle.set_text.specs.IsSpelt.{IsField, IsPolicy};
+ghost use Rattle.set_text.specs.IsSpelt.{IsPolicy};
 ghost use Rattle.set_text.specs.Lines.{rises_above};
 ghost use Rattle.set_text.specs.parts.Reads.{ReadsLine, RefusesFile};
 
@@ -16,7 +15,7 @@ use crate::headings::{BucketHeading, has_heading};
 use crate::lines::{FileFault, LineFault, cut_field};
 use crate::results::{append_ruling, ruling_of};
 use bucket_store::MOST_POLICIES;
-use cynara_keys::{Field, Key, Kind, NameRefusal, Policy};
+use cynara_keys::{Key, Kind, Policy, field_fault};
 use std::alloc::{AllocError, Global};
 use text_lines::split_at_newline;
 
@@ -36,17 +35,16 @@ fn append_policy(policy: &Policy, text: &mut Vec<u8>) -> Result<(), AllocError>
     ensures text { OnOk result (text.new.items ≡ text.old.items ++ (word.policy_line policy.now ++ 10 ∷ [])) }
     ensures spelt { OnOk result (IsPolicy policy.now) }
 {
-    append_field(&policy.key.client, text)?;
-    append_field(&policy.key.user, text)?;
-    append_field(&policy.key.privilege, text)?;
+    append_field(policy.key.client(), text)?;
+    append_field(policy.key.user(), text)?;
+    append_field(policy.key.privilege(), text)?;
     append_ruling(&policy.result, text)
 }
 
-fn append_field(field: &Field, text: &mut Vec<u8>) -> Result<(), AllocError>
-    ensures text { OnOk result (text.new.items ≡ text.old.items ++ (field_text field.now ++ 59 ∷ [])) }
-    ensures spelt { OnOk result (IsField field.now) }
+fn append_field(field: &[u8], text: &mut Vec<u8>) -> Result<(), AllocError>
+    ensures { OnOk result (text.new.items ≡ text.old.items ++ (field.now ++ 59 ∷ [])) }
 {
-    text.extend_from_slice(field.as_slice())?;
+    text.extend_from_slice(field)?;
     text.push(b';')?;
     Ok(())
 }
@@ -145,32 +143,16 @@ fn policy_of(alloc: Global, line: &[u8]) -> Result<Policy, LineFault>
 fn key_of(alloc: Global, client: &[u8], user: &[u8], privilege: &[u8]) -> Result<Key, LineFault>
     ensures { ReadsLine result (word.key_in client.now user.now privilege.now) }
 {
-    let client = match field_of(alloc, client) {
-        Ok(field) => field,
-        Err(fault) => return Err(fault),
-    };
-    let user = match field_of(alloc, user) {
-        Ok(field) => field,
-        Err(fault) => return Err(fault),
-    };
-    match field_of(alloc, privilege) {
-        Ok(privilege) => Ok(Key {
-            client,
-            user,
-            privilege,
-        }),
-        Err(fault) => Err(fault),
+    if is_field(client) && is_field(user) && is_field(privilege) {
+        return Key::of(alloc, client, user, privilege).map_err(LineFault::Memory);
     }
+    Err(LineFault::Wrong)
 }
 
-fn field_of(alloc: Global, text: &[u8]) -> Result<Field, LineFault>
-    ensures { ReadsLine result (if word.is_field text.now then Some (field_of text.now) else None) }
+fn is_field(text: &[u8]) -> bool
+    ensures { result ≡ word.is_field text.now }
 {
-    match Field::read(alloc, text) {
-        Ok(field) => Ok(field),
-        Err(NameRefusal::Memory(error)) => Err(LineFault::Memory(error)),
-        Err(_) => Err(LineFault::Wrong),
-    }
+    field_fault(text).is_none()
 }
 
 // Whether a policy may stand behind these.

@@ -1,7 +1,8 @@
 -- Each field is read exactly as it is spelled.
 use Rattle.std.proofs.Common.{◌≡◌, ℕ, zero, suc, ◌^◌, ◌<◌, Bool, true, false, cond, ltb, eqb, ◌&&◌, ◌||◌, List, [], ◌∷◌}
 use Rattle.std.proofs.Common.{◌++◌, length, Option, Some, None, Result, Ok, Err, refl, sym, ap, subst, ◌∙◌}
-use Rattle.std.proofs.Common.{append_assoc, arith, inl, inr}
+use Rattle.std.proofs.Common.{append_assoc, arith, inl, inr, take, ◌-◌, ◌≤◌, length-append}
+use Rattle.std.proofs.Math.Seq.{take-append_seam}
 use Rattle.std.specs.Prelude.{◌⊎◌, is_none}
 use Rattle.std.specs.Result.{result_unwrap_or}
 use Rattle.std.specs.List.{AllByRecursion, flat_map}
@@ -20,7 +21,7 @@ use Rattle.cynara_keys.specs.declared.fields.Field.{Field}
 use Rattle.cynara_keys.specs.declared.fields.Field.TheVariants.{Any, Exact}
 use Rattle.cynara_keys.specs.declared.fields.FilterField.{FilterField}
 use Rattle.cynara_keys.specs.declared.fields.FilterField.TheVariants.{Every, Any as AnyStored, Exact as ExactStored}
-use Rattle.cynara_keys.specs.declared.keys.Key.{Key}
+use Rattle.cynara_keys.specs.Key.{Key, counted_text, packed_texts}
 use Rattle.bucket_store.specs.declared.policy_changes.Change.{Change}
 use Rattle.bucket_store.specs.declared.policy_changes.Change.TheVariants.{Set, Delete}
 use Rattle.app_registry.specs.Ident.{ident_fault}
@@ -32,7 +33,7 @@ use Rattle.desk_ports.specs.FileName.{file_name_fault}
 use Rattle.rule_templates.specs.declared.lines.TemplateLine.{TemplateLine}
 use Rattle.rule_templates.specs.declared.templates.TemplateRefusal.{TemplateRefusal}
 use Rattle.rule_templates.specs.Template.{template_of, template_text}
-use Rattle.wire_messages.specs.Left.{Left, ◌>>=◌}
+use Rattle.wire_messages.specs.Left.{IsBytes, Left, ◌>>=◌}
 use Rattle.wire_messages.specs.Format.{Format, number, text, tested, ◌⊗◌, leading, nothing, either, counted}
 use Rattle.wire_messages.specs.Field as field
 use Rattle.wire_messages.specs.Field.{is_field_text, is_filter_text, is_ident, is_file_text, is_most, is_author_text}
@@ -40,7 +41,7 @@ use Rattle.wire_messages.specs.Field.{author_of, author_text, is_text_of, is_tem
 use Rattle.wire_messages.specs.Field.{user_type_number, change_of, of_change, some_or, or_none, scope_of, scope_uid}
 use Rattle.wire_messages.specs.Field.{comes_after, rising_names}
 use Rattle.wire_messages.specs.Right as right
-use Rattle.wire_messages.proofs.Exact.{IsBytes, bind_ok, ok_is, Takes, Takes-then, IsExact, number_exact, wide8, wide16}
+use Rattle.wire_messages.proofs.Exact.{bind_ok, ok_is, Takes, Takes-then, IsExact, number_exact, wide8, wide16}
 use Rattle.wire_messages.proofs.Exact.{wide32, wide64, text_exact, tested_exact, seen_exact, leading_exact, pair_exact}
 use Rattle.wire_messages.proofs.Exact.{nothing_exact, either_exact, OneOf, counted_exact}
 use Rattle.wire_messages.proofs.Lengths.{name_short, bucket_name_short, metadata_short, ident_short, file_name_short}
@@ -125,6 +126,32 @@ pub field_exact : IsExact field.field right.IsField
 field_exact =
     seen_exact keys.field_of keys.field_text field.field_text field_text_exact {Good = right.IsField} field_there
     field_back
+
+front_of : (front behind whole : List ℕ) → whole ≡ front ++ behind → take (length whole - length behind) whole ≡ front
+front_of front behind whole is =
+    let count : length whole - length behind ≡ length front = omega (arith, ap length is, length-append front behind) in
+    ap (λ n. take n whole) count ∙ ap (take (length front)) is ∙ take-append_seam front behind
+
+-- three texts that were read one behind the other stand packed at the front of what was left
+pub key_front : (a b c d : Left) (front rest client user privilege : List ℕ) → IsBytes front → front ≡ a.rest
+    → rest ≡ d.rest → field.field_text.read a ≡ Ok (client, b) → field.field_text.read b ≡ Ok (user, c)
+    → field.field_text.read c ≡ Ok (privilege, d)
+    → (length rest ≤ length front) × (take (length front - length rest) front ≡ packed_texts client user privilege)
+key_front a b c d front rest client user privilege fits is_front is_rest one two three =
+    let first = (field_text_exact.takes a (client, b) (subst IsBytes is_front fits) one).0 in
+    let second = (field_text_exact.takes b (user, c) first.bytes two).0 in
+    let third = (field_text_exact.takes c (privilege, d) second.bytes three).0 in
+    let behind = Takes-then b (counted_text user) c (counted_text privilege) d second third in
+    let all = Takes-then a (counted_text client) b (counted_text user ++ counted_text privilege) d first behind in
+    let parts : front ≡ packed_texts client user privilege ++ rest =
+    is_front ∙ all.parts ∙ ap (λ (t : List ℕ). packed_texts client user privilege ++ t) (sym is_rest) in (
+      omega (arith, ap length parts, length-append (packed_texts client user privilege) rest),
+      front_of (packed_texts client user privilege) rest front parts,
+    )
+
+-- the field of such a text is right
+pub field_right : (text : List ℕ) → keys.field_fault text ≡ None → right.IsField (keys.field_of text)
+field_right text fits = (field_there text (ap is_none fits)).1
 
 every_or_field : (all : Bool) (wild : Bool) (bytes : List ℕ) → same_text bytes keys.every ≡ all
     → same_text bytes keys.wildcard ≡ wild

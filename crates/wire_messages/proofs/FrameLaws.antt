@@ -16,7 +16,7 @@ use Rattle.wire_messages.specs.declared.operations.Operation.TheVariants as op
 use Rattle.wire_messages.specs.declared.refusals.EncodeRefusal.{EncodeRefusal}
 use Rattle.wire_messages.specs.declared.refusals.WireRefusal.{WireRefusal}
 use Rattle.wire_messages.specs.declared.refusals.WireRefusal.TheVariants.{TooShort, TooLong, Trailing}
-use Rattle.wire_messages.specs.Left.{Left, place, ◌>>=◌}
+use Rattle.wire_messages.specs.Left.{IsBytes, Left, place, ◌>>=◌}
 use Rattle.wire_messages.specs.Format.{number}
 use Rattle.wire_messages.specs.Operation.{number_of, operation_of, known_at}
 use Rattle.wire_messages.specs.Message.{operation, fields, read}
@@ -24,7 +24,7 @@ use Rattle.wire_messages.specs.Frame.{body, spelling, length_of, length_fault, m
 use Rattle.wire_messages.specs.Frame.{frame_of, Answers}
 use Rattle.wire_messages.specs.Hearing.{IsHeard}
 use Rattle.wire_messages.specs.Right.{IsRight}
-use Rattle.wire_messages.proofs.Exact.{IsBytes, IsBytes-drop, IsBytes-take, bind_ok, pass_ok, ok_is, number_exact}
+use Rattle.wire_messages.proofs.Exact.{IsBytes-drop, IsBytes-take, bind_ok, pass_ok, ok_is, number_exact}
 use Rattle.wire_messages.proofs.Exact.{wide8, wide16, wide32}
 use Rattle.wire_messages.proofs.RefusalLaws.{find_passes, byte_read}
 use Rattle.wire_messages.proofs.MessageLaws.{Says, message_takes, message_again}

@@ -6,13 +6,14 @@ use Rattle.std.specs.List.{flat_map, AllByRecursion}
 use Rattle.std.proofs.lemmas.Bool.{ltb-false}
 use Rattle.std.proofs.lemmas.List.{take-append-drop, length-take, take-append-le}
 use Rattle.std.proofs.lemmas.List.Concat.{flat_map-cons}
+use Rattle.wire_messages.specs.Left.{IsBytes}
 use Rattle.wire_messages.specs.declared.messages.Framed.{Framed}
 use Rattle.wire_messages.specs.declared.operations.Heard.{Heard}
 use Rattle.wire_messages.specs.declared.refusals.WireRefusal.{WireRefusal}
 use Rattle.wire_messages.specs.Frame.{spelling, length_of, length_fault, frame_of}
 use Rattle.wire_messages.specs.Hearing.{IsHeard}
 use Rattle.wire_messages.specs.Stream.{Front, Partial, Whole, front_of, with_length, first_of, Hears, IsOpen}
-use Rattle.wire_messages.proofs.Exact.{IsBytes, IsBytes-drop, IsBytes-take}
+use Rattle.wire_messages.proofs.Exact.{IsBytes-drop, IsBytes-take}
 use Rattle.wire_messages.proofs.FrameLaws.{frame_takes, frame_again, spelled_length, spelled_right, spelling_size}
 use Rattle.wire_messages.proofs.Streams.{whole_more}
 use Rattle.wire_messages.proofs.Settling.{finished}

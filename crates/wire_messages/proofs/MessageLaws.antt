@@ -12,13 +12,13 @@ use Rattle.wire_messages.specs.declared.messages.Message.TheVariants.{StoreFault
 use Rattle.wire_messages.specs.declared.messages.Message.TheVariants.{AgentQuestion, UnknownNumber}
 use Rattle.wire_messages.specs.declared.operations.Operation.{Operation}
 use Rattle.wire_messages.specs.declared.operations.Operation.TheVariants as op
-use Rattle.wire_messages.specs.Left.{Left, Reading, ◌>>=◌}
+use Rattle.wire_messages.specs.Left.{IsBytes, Left, Reading, ◌>>=◌}
 use Rattle.wire_messages.specs.Format.{Format, number, flag, nothing, made, ◌⊗◌, counted}
 use Rattle.wire_messages.specs.Field as field
 use Rattle.wire_messages.specs.Refused.{refused}
 use Rattle.wire_messages.specs.Message.{operation, fields, read}
 use Rattle.wire_messages.specs.Right.{IsRight}
-use Rattle.wire_messages.proofs.Exact.{IsBytes, bind_ok, ok_is, Takes, IsExact, number_exact, wide32, wide64}
+use Rattle.wire_messages.proofs.Exact.{bind_ok, ok_is, Takes, IsExact, number_exact, wide32, wide64}
 use Rattle.wire_messages.proofs.Exact.{pair_exact, nothing_exact, flag_exact}
 use Rattle.wire_messages.proofs.FieldLaws.{question_exact, bucket_exact, ruling_exact, filter_exact, template_exact}
 use Rattle.wire_messages.proofs.FieldLaws.{user_type_exact, install_exact, ident_exact, scope_exact, agent_kind_exact}

@@ -17,14 +17,14 @@ use Rattle.wire_messages.specs.declared.rules.Rule.{Rule}
 use Rattle.wire_messages.specs.declared.rules.Rule.TheVariants.{Reserved, LayoutThere, NoLayout, NoBucket, RootBucket}
 use Rattle.wire_messages.specs.declared.rules.Rule.TheVariants.{BadKind, UnknownUser, OtherPackage, OtherAuthor}
 use Rattle.wire_messages.specs.declared.rules.Rule.TheVariants.{NotInstalled, Limit, Cycle}
-use Rattle.wire_messages.specs.Left.{Left, Reading, ◌>>=◌}
+use Rattle.wire_messages.specs.Left.{IsBytes, Left, Reading, ◌>>=◌}
 use Rattle.wire_messages.specs.Format.{Format, number, text, tested, made, ◌⊗◌}
 use Rattle.wire_messages.specs.Field as field
 use Rattle.wire_messages.specs.Refused.{no_text, zero_value, value_below, counted_text, counted_of, all_counted, which}
 use Rattle.wire_messages.specs.Refused.{rule_number, all_rules, rule_of, plain, read_rule, rule_at, refusal_spelled}
 use Rattle.wire_messages.specs.Refused.{refused}
 use Rattle.wire_messages.specs.Right as right
-use Rattle.wire_messages.proofs.Exact.{IsBytes, bind_ok, ok_is, Takes, Takes-then, IsExact, number_exact, wide8, wide64}
+use Rattle.wire_messages.proofs.Exact.{bind_ok, ok_is, Takes, Takes-then, IsExact, number_exact, wide8, wide64}
 use Rattle.wire_messages.proofs.Exact.{text_exact, tested_exact, seen_exact, pair_exact}
 use Rattle.wire_messages.proofs.FieldLaws.{exact_as, bucket_exact, ident_exact, author_exact, same_is}
 

@@ -14,7 +14,7 @@ use Rattle.cynara_keys.specs.Field as keys
 use Rattle.cynara_keys.specs.PolicyResult.{Ruling, may_carry, is_agent}
 use Rattle.cynara_keys.specs.declared.fields.Field.{Field}
 use Rattle.cynara_keys.specs.declared.fields.FilterField.{FilterField}
-use Rattle.cynara_keys.specs.declared.keys.Key.{Key}
+use Rattle.cynara_keys.specs.Key.{Key}
 use Rattle.cynara_keys.specs.declared.keys.Filter.{Filter}
 use Rattle.cynara_keys.specs.declared.keys.Policy.{Policy}
 use Rattle.cynara_keys.specs.Key.{Question}

@@ -1,5 +1,5 @@
 -- What is left of a frame, and what reading it gives.
-use Rattle.std.specs.Prelude.{◌≡◌, ◌≤◌, ℕ, ◌-◌, List, length, Result, Ok, Err}
+use Rattle.std.specs.Prelude.{◌≡◌, ◌<◌, ◌≤◌, ℕ, ◌-◌, List, length, get_or, Result, Ok, Err}
 use Rattle.std.specs.Borrow.{Bor}
 use Rattle.wire_messages.specs.declared.refusals.WireRefusal.{WireRefusal}
 use Rattle.wire_messages.specs.declared.refusals.WireRefusal.TheVariants.{BadField, Memory}
@@ -15,6 +15,9 @@ place left = left.end - length left.rest
 
 abbrev pub IsLeft : Left → Type 0
 IsLeft left = (length left.rest ≤ left.end) × (left.end ≤ 1048580)
+
+abbrev pub IsBytes : List ℕ → Type 0
+IsBytes bytes = (i : ℕ) → get_or bytes i 0 < 256
 
 -- a value and what is left behind it, or the first fault
 abbrev pub Reading : Type 0 → Type 0

@@ -1,7 +1,7 @@
 // What is left of a frame, and the plain fields at its front.
 ghost use Rattle.std.specs.Prelude.{◌≡◌, ◌≤◌, ◌==◌, length};
 ghost use Rattle.std.specs.Int.{w8, w16, w32, w64};
-ghost use Rattle.wire_messages.specs.Left.{Gives, GivesText, OnMemory, place};
+ghost use Rattle.wire_messages.specs.Left.{IsBytes, Gives, GivesText, OnMemory, place};
 ghost use Rattle.wire_messages.specs.Format.{number, text, behind};
 
 use crate::WireRefusal;
@@ -42,6 +42,14 @@ impl<'a> Fields<'a> {
         ensures { self.new ≡ behind 4 self.old }
     {
         self.rest = &self.rest[4..];
+    }
+
+    /// The bytes that are left.
+    pub fn rest(&self) -> &'a [u8]
+        ensures rest { result.now ≡ self.now.rest }
+        ensures bytes { IsBytes result.now }
+    {
+        known_bytes(self.rest)
     }
 
     /// Whether no byte is left.
@@ -118,4 +126,12 @@ impl<'a> Fields<'a> {
         self.rest = rest;
         Ok(front)
     }
+}
+
+// The same bytes. A function knows of what it is given that each byte is below 256; this one tells it to its caller.
+fn known_bytes(bytes: &[u8]) -> &[u8]
+    ensures same { result.now ≡ bytes.now }
+    ensures bytes { IsBytes result.now }
+{
+    bytes
 }

@@ -108,10 +108,12 @@ pub fn question(alloc: Global, fields: &mut Fields) -> Result<Question, WireRefu
 pub fn key(alloc: Global, fields: &mut Fields) -> Result<Key, WireRefusal>
     ensures { Gives result fields.new (field.key.read fields.old) }
 {
+    let front = fields.rest();
     let client = key_field_text(fields)?;
     let user = key_field_text(fields)?;
     let privilege = key_field_text(fields)?;
-    Key::of(alloc, client, user, privilege).map_err(WireRefusal::Memory)
+    let packed = &front[..front.len() - fields.rest().len()];
+    Key::of_packed(alloc, packed, client, user, privilege).map_err(WireRefusal::Memory)
 }
 
 pub fn filter(alloc: Global, fields: &mut Fields) -> Result<Filter, WireRefusal>

@@ -3,13 +3,13 @@
 ghost use Rattle.std.specs.Prelude.{◌<◌, ◌^◌, length};
 ghost use Rattle.std.specs.List.{AllByRecursion};
 ghost use Rattle.wire_messages.specs.Commands.{IsByRule, message_of};
-ghost use Rattle.wire_messages.specs.Right.{IsName, IsBucket, IsIdent, IsAuthor, IsField, IsFilterField, IsKey, IsFilter};
+ghost use Rattle.wire_messages.specs.Right.{IsName, IsBucket, IsIdent, IsAuthor, IsFilterField, IsKey, IsFilter};
 ghost use Rattle.wire_messages.specs.Right.{IsKind, IsRuling, IsChange, IsScope, ArePrivileges, IsInstall, IsTold};
 ghost use Rattle.wire_messages.specs.Right.{IsRight, HasRoom};
 
 use app_registry::{Ident, Install, NameSet, Scope};
 use bucket_store::Change;
-use cynara_keys::{BucketName, Field, Filter, FilterField, Key, Kind, Name, PolicyResult};
+use cynara_keys::{BucketName, Filter, FilterField, Key, Kind, Name, PolicyResult};
 use desk_state::{Command, Refusal};
 
 fn name_is_right(name: &Name)
@@ -39,15 +39,6 @@ fn author_is_right(author: &Option<Ident>)
     }
 }
 
-fn field_is_right(part: &Field)
-    ensures { IsField part.now }
-{
-    match part {
-        Field::Any => {}
-        Field::Exact(name) => name_is_right(name),
-    }
-}
-
 fn filter_field_is_right(part: &FilterField)
     ensures { IsFilterField part.now }
 {
@@ -61,9 +52,9 @@ fn filter_field_is_right(part: &FilterField)
 fn key_is_right(key: &Key)
     ensures { IsKey key.now }
 {
-    field_is_right(&key.client);
-    field_is_right(&key.user);
-    field_is_right(&key.privilege);
+    let _client = key.client();
+    let _user = key.user();
+    let _privilege = key.privilege();
 }
 
 fn filter_is_right(filter: &Filter)

@@ -8,7 +8,7 @@ ghost use Rattle.wire_messages.specs.Appended.{Appended};
 use app_registry::{Ident, Scope, UserType};
 use byteorder::{BigEndian, ByteOrder};
 use cynara_keys::{
-    BucketName, Field, Filter, FilterField, Key, Kind, Name, Policy, PolicyResult, Question,
+    BucketName, Filter, FilterField, Key, Kind, Name, Policy, PolicyResult, Question,
 };
 use desk_ports::{Bytes, FileName};
 use rule_templates::Template;
@@ -107,15 +107,6 @@ pub fn put_file_name(out: &mut Bytes, name: &FileName) -> Result<(), AllocError>
     put_text(out, name.as_slice())
 }
 
-pub fn put_field(out: &mut Bytes, part: &Field) -> Result<(), AllocError>
-    ensures { Appended result out.old out.new (field.field.spelled part.now) }
-{
-    match part {
-        Field::Any => put_text(out, b"*"),
-        Field::Exact(name) => put_name(out, name),
-    }
-}
-
 pub fn put_filter_field(out: &mut Bytes, part: &FilterField) -> Result<(), AllocError>
     ensures { Appended result out.old out.new (field.filter_field.spelled part.now) }
 {
@@ -126,6 +117,8 @@ pub fn put_filter_field(out: &mut Bytes, part: &FilterField) -> Result<(), Alloc
     }
 }
 
+// In place, since a check is little more than its question.
+#[inline(always)]
 pub fn put_question(out: &mut Bytes, question: &Question) -> Result<(), AllocError>
     ensures { Appended result out.old out.new (field.question.spelled question.now) }
 {
@@ -137,9 +130,7 @@ pub fn put_question(out: &mut Bytes, question: &Question) -> Result<(), AllocErr
 pub fn put_key(out: &mut Bytes, key: &Key) -> Result<(), AllocError>
     ensures { Appended result out.old out.new (field.key.spelled key.now) }
 {
-    put_field(out, &key.client)?;
-    put_field(out, &key.user)?;
-    put_field(out, &key.privilege)
+    out.append(key.packed())
 }
 
 pub fn put_filter(out: &mut Bytes, filter: &Filter) -> Result<(), AllocError>

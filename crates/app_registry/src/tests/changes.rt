@@ -1,6 +1,6 @@
 use super::{Row, ident, install, registry};
 use crate::{Ident, Install, Registry, RegistryRefusal, Scope};
-use cynara_keys::{Field, Key};
+use cynara_keys::Key;
 use std::alloc::Global;
 use std::test::Fail;
 
@@ -42,13 +42,9 @@ fn outcome(alloc: Global, changed: Result<Registry, RegistryRefusal>) -> Result<
     }
 }
 
-fn field_text(field: &Field) -> Result<&str, Fail> {
-    Ok(str::from_utf8(field.as_slice())?)
-}
-
 fn append_key(text: &mut String, key: &Key) -> Result<(), Fail> {
-    for field in [&key.client, &key.user, &key.privilege] {
-        text.push_str(field_text(field)?)?;
+    for field in [key.client(), key.user(), key.privilege()] {
+        text.push_str(str::from_utf8(field)?)?;
         text.push_str(" ")?;
     }
     Ok(())

@@ -6,7 +6,7 @@ use Rattle.std.specs.List.{AllByRecursion}
 use Rattle.cynara_keys.specs.Key.{key_matches}
 use Rattle.cynara_keys.specs.declared.fields.Field.{Field}
 use Rattle.cynara_keys.specs.declared.fields.Field.TheVariants.{Any, Exact}
-use Rattle.cynara_keys.specs.declared.keys.Key.{Key}
+use Rattle.cynara_keys.specs.Key.{Key}
 use Rattle.cynara_keys.specs.declared.keys.Policy.{Policy}
 use Rattle.cynara_keys.specs.Key.{Question}
 use Rattle.bucket_store.specs.parts.Closure.{OnlyAt}

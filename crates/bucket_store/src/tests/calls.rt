@@ -182,11 +182,10 @@ pub fn bucket_name(alloc: Global, text: &str) -> Result<BucketName, Fail> {
 }
 
 fn key(alloc: Global, Fields(client, user, privilege): Fields<'_>) -> Result<Key, Fail> {
-    Ok(Key {
-        client: Field::read(alloc, client.as_bytes())?,
-        user: Field::read(alloc, user.as_bytes())?,
-        privilege: Field::read(alloc, privilege.as_bytes())?,
-    })
+    let client = Field::read(alloc, client.as_bytes())?;
+    let user = Field::read(alloc, user.as_bytes())?;
+    let privilege = Field::read(alloc, privilege.as_bytes())?;
+    Ok(Key::of_fields(alloc, &client, &user, &privilege)?)
 }
 
 fn filter(alloc: Global, Fields(client, user, privilege): Fields<'_>) -> Result<Filter, Fail> {

@@ -38,8 +38,8 @@ pub fn policy_line(alloc: Global, policy: &Policy) -> Result<String, Fail> {
 
 fn key_text(alloc: Global, key: &Key) -> Result<String, Fail> {
     let mut text = String::new(alloc);
-    for field in [&key.client, &key.user, &key.privilege] {
-        text.push_str(str::from_utf8(field.as_slice())?)?;
+    for field in [key.client(), key.user(), key.privilege()] {
+        text.push_str(str::from_utf8(field)?)?;
         text.push_str(" ")?;
     }
     Ok(text)

@@ -6,11 +6,10 @@ use std::test::Fail;
 type Texts<'a> = [&'a [u8]; 3];
 
 fn key(alloc: Global, [client, user, privilege]: Texts<'_>) -> Result<Key, NameRefusal> {
-    Ok(Key {
-        client: Field::read(alloc, client)?,
-        user: Field::read(alloc, user)?,
-        privilege: Field::read(alloc, privilege)?,
-    })
+    let client = Field::read(alloc, client)?;
+    let user = Field::read(alloc, user)?;
+    let privilege = Field::read(alloc, privilege)?;
+    Key::of_fields(alloc, &client, &user, &privilege).map_err(NameRefusal::Memory)
 }
 
 fn filter(alloc: Global, [client, user, privilege]: Texts<'_>) -> Result<Filter, NameRefusal> {
@@ -230,6 +229,25 @@ fn copies_policy(alloc: Global, text: &[u8]) -> Result<bool, Fail> {
     Ok(policy.copy()? == policy && is_shared(&policy))
 }
 
+// Whether the key has each text behind its count, and is read from there.
+fn packs(alloc: Global, text: &[u8]) -> Result<bool, Fail> {
+    let key = key(alloc, [text, text, text])?;
+    let count = u16::try_from(text.len()).ok().ok_or("a text of a key")?;
+    let mut packed = Vec::new(alloc);
+    for _ in 0..3 {
+        packed.extend_from_slice(&count.to_be_bytes())?;
+        packed.extend_from_slice(text)?;
+    }
+    let again = Key::of_packed(
+        alloc,
+        key.packed(),
+        key.client(),
+        key.user(),
+        key.privilege(),
+    )?;
+    Ok(key.packed() == packed.as_slice() && again == key)
+}
+
 fn copies_filter(alloc: Global, text: &[u8]) -> Result<bool, Fail> {
     let filter = filter(alloc, [text, text, text])?;
     Ok(filter.copy()? == filter && is_shared(&filter))
@@ -243,7 +261,8 @@ fn copies_question(alloc: Global, text: &[u8]) -> Result<bool, Fail> {
 fn copies(alloc: Global, count: usize) -> Result<bool, Fail> {
     let text = letters(alloc, count, b"")?;
     Ok(
-        copies_policy(alloc, &text)?
+        packs(alloc, &text)?
+            && copies_policy(alloc, &text)?
             && copies_filter(alloc, &text)?
             && copies_question(alloc, &text)?,
     )

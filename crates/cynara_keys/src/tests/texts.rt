@@ -14,14 +14,14 @@ fn text(alloc: Global, start: &[u8], letters: usize, end: &[u8]) -> Result<Vec<u
     Ok(text)
 }
 
-// What each type makes of a text: it is read, and what was read is copied.
+// What each type makes of a text: it is read, and what was read is copied, but for a field of a key.
 
 fn name(alloc: Global, text: &[u8]) -> Result<Name, Bad> {
     Name::read(alloc, text)?.copy().map_err(Bad::Memory)
 }
 
 fn field(alloc: Global, text: &[u8]) -> Result<Field, Bad> {
-    Field::read(alloc, text)?.copy().map_err(Bad::Memory)
+    Field::read(alloc, text)
 }
 
 fn filter_field(alloc: Global, text: &[u8]) -> Result<FilterField, Bad> {

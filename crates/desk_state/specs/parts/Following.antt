@@ -2,7 +2,7 @@
 use Rattle.std.specs.Prelude.{ℕ, Bool, true, false, if◌then◌else◌, List, [], ◌∷◌, ◌++◌, map, filter, decimal, Option, Some, None}
 use Rattle.cynara_keys.specs.PolicyResult.{bucket, allow}
 use Rattle.cynara_keys.specs.declared.fields.Field.TheVariants.{Any, Exact}
-use Rattle.cynara_keys.specs.declared.keys.Key.{Key}
+use Rattle.cynara_keys.specs.Key.{Key}
 use Rattle.bucket_store.specs.declared.policy_changes.Change.{Change}
 use Rattle.bucket_store.specs.declared.policy_changes.Change.TheVariants.{Set, Delete}
 use Rattle.app_registry.specs.Install.{is_of_package, is_for_user}

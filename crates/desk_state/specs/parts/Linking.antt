@@ -3,7 +3,7 @@ use Rattle.std.specs.Prelude.{ℕ, List, [], ◌∷◌}
 use Rattle.std.specs.List.{fold}
 use Rattle.cynara_keys.specs.PolicyResult.{bucket}
 use Rattle.cynara_keys.specs.declared.fields.Field.TheVariants.{Any}
-use Rattle.cynara_keys.specs.declared.keys.Key.{Key}
+use Rattle.cynara_keys.specs.Key.{Key}
 use Rattle.bucket_store.specs.Database.{Database, root}
 use Rattle.bucket_store.specs.Order.{heading_cmp, put}
 use Rattle.bucket_store.specs.declared.policy_changes.Change.{Change}

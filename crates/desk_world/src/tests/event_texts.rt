@@ -55,11 +55,8 @@ fn question(alloc: Global, words: &[&str], at: usize) -> Result<Question, Fail> 
 
 // For everyone.
 fn key(alloc: Global, privilege: &str) -> Result<Key, Fail> {
-    Ok(Key {
-        client: Field::read(alloc, b"*")?,
-        user: Field::read(alloc, b"*")?,
-        privilege: Field::read(alloc, privilege.as_bytes())?,
-    })
+    let privilege = Field::read(alloc, privilege.as_bytes())?;
+    Ok(Key::of_fields(alloc, &Field::Any, &Field::Any, &privilege)?)
 }
 
 fn bare(alloc: Global, kind: Kind) -> Result<PolicyResult, Fail> {

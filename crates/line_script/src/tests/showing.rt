@@ -186,9 +186,9 @@ fn show_scope(scope: Scope, out: &mut Bytes) -> Result<(), AllocError> {
 }
 
 fn show_key(key: &Key, out: &mut Bytes) -> Result<(), AllocError> {
-    show_text(key.client.as_slice(), out)?;
-    show_text(key.user.as_slice(), out)?;
-    show_text(key.privilege.as_slice(), out)
+    show_text(key.client(), out)?;
+    show_text(key.user(), out)?;
+    show_text(key.privilege(), out)
 }
 
 fn show_filter(filter: &Filter, out: &mut Bytes) -> Result<(), AllocError> {

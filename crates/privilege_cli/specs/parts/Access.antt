@@ -29,7 +29,7 @@ abbrev pub IsWrongAt : List ℕ → ℕ → Type 0
 IsWrongAt text line = (more : List ℕ) → (length text ≤ MOST_RULES_BYTES → more ≡ []) → rules_read (text ++ more) ≡ Err line
 
 -- the text is rules, and this is what they grant the pair
-pub record AreLoaded (text subject object : List ℕ) (granted : Modes) : Type 0 where
+pub record AreGranted (text subject object : List ℕ) (granted : Modes) : Type 0 where
   pub rules : List Rule
   pub within : length text ≤ MOST_RULES_BYTES
   pub right : rules_read text ≡ Ok rules

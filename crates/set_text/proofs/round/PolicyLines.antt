@@ -10,7 +10,7 @@ use Rattle.cynara_keys.specs.Field.{wildcard, field_text, field_of}
 use Rattle.cynara_keys.specs.PolicyResult.{Ruling}
 use Rattle.cynara_keys.specs.declared.fields.Field.{Field}
 use Rattle.cynara_keys.specs.declared.fields.Field.TheVariants.{Any, Exact}
-use Rattle.cynara_keys.specs.declared.keys.Key.{Key}
+use Rattle.cynara_keys.specs.Key.{Key}
 use Rattle.cynara_keys.specs.declared.keys.Policy.{Policy}
 use Rattle.cynara_keys.proofs.Order.{same_text-≡}
 use Rattle.cynara_keys.proofs.Spelling.{field_of-name, field_fault-name}

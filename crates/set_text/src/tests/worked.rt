@@ -50,22 +50,16 @@ fn to_bucket(alloc: Global, target: &str) -> Result<PolicyResult, Fail> {
 fn link(alloc: Global, from: &str, target: &str) -> Result<Change, Fail> {
     Ok(Change::Set {
         bucket: bucket(alloc, from)?,
-        key: Key {
-            client: Field::Any,
-            user: Field::Any,
-            privilege: Field::Any,
-        },
+        key: Key::of_fields(alloc, &Field::Any, &Field::Any, &Field::Any)?,
         result: to_bucket(alloc, target)?,
     })
 }
 
 // What the installed package may do.
 fn granted(alloc: Global) -> Result<Key, Fail> {
-    Ok(Key {
-        client: Field::read(alloc, b"User::Pkg::pk")?,
-        user: Field::Any,
-        privilege: Field::read(alloc, b"p")?,
-    })
+    let client = Field::read(alloc, b"User::Pkg::pk")?;
+    let privilege = Field::read(alloc, b"p")?;
+    Ok(Key::of_fields(alloc, &client, &Field::Any, &privilege)?)
 }
 
 fn grant(alloc: Global) -> Result<Change, Fail> {

@@ -1,7 +1,8 @@
 // What messages say: their fields by name, and the numbers that stand for a type, a rule or a choice.
 use super::hearing::decoded;
-use crate::{Framed, Heard, Message};
+use crate::{Framed, Heard, Message, PackedVerdict, encode};
 use bucket_eval::Cause;
+use desk_ports::Bytes;
 use std::alloc::Global;
 use std::test::Fail;
 
@@ -85,7 +86,7 @@ const MEANT: &[(Heard, &[u8], &str)] = &[
     (
         Heard::Replies,
         b"\0\0\0\x10\0\x01\x92\0\x01*\0\x01u\0\x01p\xff\xff\0\0",
-        "ListRow { policy: Policy { key: Key { client: Any, user: Exact(Name { bytes: [117] }), privilege: Exact(Name { by",
+        "ListRow { policy: Policy { key: Key { client: [42], user: [117], privilege: [112] }, result: PolicyResult { kind: ",
     ),
     (
         Heard::Replies,
@@ -232,5 +233,45 @@ fn hears_judged(alloc: Global) -> Result<bool, Fail> {
 fn a_verdict_names_its_cause(rt: HostRuntime) -> Result<(), Fail> {
     let right = hears_judged(rt.alloc())?;
     assert!(rt; right);
+    Ok(())
+}
+
+// Verdicts of a policy and of a fallback, and one whose texts are all of different lengths.
+const PACKED: [&[u8]; 3] = [
+    JUDGED,
+    b"\0\0\0\x14\0\x01\x81\0\0\0\0\0\0\0\x02\0\x07\0\x01x\0\x01B\0",
+    b"\0\0\0\x27\0\x01\x81\0\0\0\0\0\0\0\x02\0\x07\0\x02xy\0\x01B\x01\0\x03cli\0\x04user\0\x05privi",
+];
+
+// the message of the same verdict, kept by value and packed again
+fn told_again(alloc: Global, framed: &Framed) -> Result<Framed, Fail> {
+    let Message::Judged { verdict } = &framed.message else {
+        return Err(Fail::from("no verdict"));
+    };
+    let verdict = PackedVerdict::pack(alloc, &verdict.verdict())?;
+    Ok(Framed {
+        sequence: framed.sequence,
+        message: Message::Judged { verdict },
+    })
+}
+
+fn spelled_again(alloc: Global, list: &[Framed]) -> Result<Bytes, Fail> {
+    let [framed] = list else {
+        return Err(Fail::from("no message, or several"));
+    };
+    let again = told_again(alloc, framed)?;
+    Ok(encode(alloc, &again)?)
+}
+
+fn packs(alloc: Global, frame: &[u8]) -> Result<bool, Fail> {
+    let list = decoded(alloc, Heard::Replies, frame)?;
+    Ok(spelled_again(alloc, &list)?.as_slice() == frame)
+}
+
+#[test]
+fn a_verdict_by_value_is_packed_as_it_was_told(rt: HostRuntime) -> Result<(), Fail> {
+    for frame in PACKED {
+        assert!(rt; packs(rt.alloc(), frame)?);
+    }
     Ok(())
 }

@@ -1,7 +1,6 @@
-use Rattle.std.proofs.Common.{◌≡◌, true, false, take, drop, ap, ◌∙◌, subst, rules}
+use Rattle.std.proofs.Common.{rules}
 use Rattle.std.proofs.lemmas.List.{take_rest}
 use Rattle.std.proofs.lemmas.List.Sorted.{IsPartitionPoint-from_clause}
-use Rattle.std.specs.List.Sorted.{IsPartitionPoint}
 use Rattle.app_registry.specs.Install.{is_of_package}
 use Rattle.app_registry.proofs.Packages.{own_first, all_of_package}
 use Rattle.app_registry.proofs.look_ups.of_package.Goals as goal

@@ -1,7 +1,5 @@
-use Rattle.std.proofs.Common.{◌≡◌, Some, not, take, drop, sym, ◌∙◌}
-use Rattle.std.specs.List.{position}
+use Rattle.std.proofs.Common.{sym, ◌∙◌}
 use Rattle.std.proofs.lemmas.List.{take_rest}
-use Rattle.bucket_eval.specs.parts.Windows.{has_client}
 use Rattle.bucket_eval.proofs.Outside.{outside-some, outside-none}
 use Rattle.bucket_eval.proofs.windows.window_of_client.Goals as goal
 

@@ -8,4 +8,4 @@ returns-clause-ok c =
     let metadata = c.as_slice-2.ensures.bytes ∙ c.metadata.ensures.metadata in
     subst (λ text. OnOk c.print.result (c.print.new.out ≡ c.args.out.now ++ text))
     (λ i. by_policy_text c.args.commit (name i) (record { kind = c.kind.ensures i; metadata = metadata i })
-    (c.as_slice-3.ensures.text i) (c.as_slice-4.ensures.text i) (c.as_slice-5.ensures.text i)) c.print.ensures.ok
+    (c.client.ensures.text i) (c.user.ensures.text i) (c.privilege.ensures.text i)) c.print.ensures.ok

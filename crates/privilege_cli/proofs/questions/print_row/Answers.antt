@@ -4,7 +4,7 @@ use Rattle.privilege_cli.proofs.questions.print_row.Goals as goal
 
 pub returns-clause-ok : goal.returns-clause-ok
 returns-clause-ok c =
-    let metadata = c.as_slice-4.ensures.bytes ∙ c.metadata.ensures.metadata in
+    let metadata = c.as_slice.ensures.bytes ∙ c.metadata.ensures.metadata in
     subst (λ text. OnOk c.print.result (c.print.new.out ≡ c.args.out.now ++ text))
-    (λ i. row_text (c.as_slice.ensures.text i) (c.as_slice-2.ensures.text i) (c.as_slice-3.ensures.text i)
+    (λ i. row_text (c.client.ensures.text i) (c.user.ensures.text i) (c.privilege.ensures.text i)
     (record { kind = c.kind.ensures i; metadata = metadata i })) c.print.ensures.ok

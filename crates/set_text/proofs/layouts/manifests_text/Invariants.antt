@@ -1,6 +1,6 @@
 use Rattle.std.proofs.Common.{◌≡◌, [], map}
 use Rattle.cynara_keys.specs.PolicyResult.{allow}
-use Rattle.cynara_keys.specs.declared.keys.Key.{Key}
+use Rattle.cynara_keys.specs.Key.{Key}
 use Rattle.cynara_keys.specs.declared.keys.Policy.{Policy}
 use Rattle.set_text.proofs.layouts.manifests_text.Given as goal
 

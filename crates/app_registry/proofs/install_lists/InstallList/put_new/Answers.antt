@@ -2,7 +2,6 @@ use Rattle.std.proofs.Common.{rules, ◌≡◌, ◌+◌, ◌≤◌, ℕ, length,
 use Rattle.app_registry.specs.Install.{install_cmp}
 use Rattle.app_registry.specs.Registry.{grant_count}
 use Rattle.app_registry.specs.Rising.{placed}
-use Rattle.app_registry.specs.declared.installs.Install.{Install}
 use Rattle.app_registry.specs.declared.refusals.TheConstants.{GRANT_LIMIT}
 use Rattle.app_registry.specs.parts.Indexed.{IsIndexed}
 use Rattle.app_registry.proofs.Indexing.{indexed-noted, indexed-put}

@@ -1,4 +1,4 @@
-use Rattle.std.proofs.Common.{◌≡◌, None, find, filter, ap, ◌∙◌, rules}
+use Rattle.std.proofs.Common.{◌≡◌, None, filter, ap, ◌∙◌, rules}
 use Rattle.std.specs.List.{list_any}
 use Rattle.app_registry.specs.Install.{is_install_of, is_of_package}
 use Rattle.app_registry.specs.Refusal.{is_elsewhere, other_package}
