@@ -6,9 +6,12 @@ choose the inputs whose names have them all: `trials/frame_speed.py verdicts rea
 The program in `frame_codec.rt.txt`, over `wire_messages`, and the peer in `frame_peer.rs`, the same work in Rust
 without proofs, run in turn on the same bytes, which are made here from the table in docs/PROTOCOL.md. Prints the best of
 several runs each as frames a second, and the program's over the peer's. What is spelled are a few messages, again and
-again: a service spells what it has just made, and messages that fill more than the caches would time the memory. Ends with
-status 1 where a quotient is below 0.9, which is wanted. Needs `rt` and `rustc`."""
+again: a service spells what it has just made, and messages that fill more than the caches would time the memory. Both keep
+what they free (`KEPT`): whether glibc gives the memory of a long frame back to the system before the next one hangs on a few
+percent of its size, and then the system has a third of the time. Ends with status 1 where a quotient is below 0.9, which is
+wanted. Needs `rt` and `rustc`."""
 
+import os
 import pathlib
 import shutil
 import struct
@@ -20,6 +23,7 @@ HERE = pathlib.Path(__file__).resolve().parent
 ROOT = HERE.parent
 RUNS = 9
 LEAST = 0.9
+KEPT = {**os.environ, "GLIBC_TUNABLES": "glibc.malloc.trim_threshold=67108864:glibc.malloc.mmap_threshold=33554432"}
 CLIENT, USER, PRIVILEGE = b"User::Pkg::org.tizen.browser", b"5001", b"http://tizen.org/privilege/internet"
 
 
@@ -89,7 +93,7 @@ def built(scratch):
 
 def rate(program, side, data, what, times):
     """How many frames there were, and how many a second."""
-    done = subprocess.run([program, what, side, str(times)], input=data, check=True, stdout=subprocess.PIPE)
+    done = subprocess.run([program, what, side, str(times)], input=data, check=True, stdout=subprocess.PIPE, env=KEPT)
     count, nanos = map(int, done.stdout.split())
     return count, count / nanos * 1e9
 
