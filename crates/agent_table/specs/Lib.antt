@@ -1,3 +1,4 @@
+pub mod Limits
 pub mod OpenQuestion
 pub mod Table
 pub mod Refusals

@@ -18,7 +18,7 @@ use Rattle.app_registry.specs.declared.installs.Install.{Install}
 use Rattle.app_registry.specs.declared.installs.Scope.{Scope}
 use Rattle.app_registry.specs.declared.installs.Scope.TheVariants.{Everyone, One}
 use Rattle.app_registry.specs.declared.refusals.RegistryRefusal.TheVariants.{UnknownUser, OtherPackage, OtherAuthor}
-use Rattle.app_registry.specs.declared.refusals.TheConstants.{USER_LIMIT}
+use Rattle.app_registry.specs.Limits.{most_users}
 use Rattle.app_registry.specs.declared.users.User.{User}
 use Rattle.app_registry.specs.declared.users.UserType.TheVariants.{System}
 use Rattle.app_registry.proofs.Counts.{or-none, over-fits, installs_limit-filter, length-filter-le}
@@ -199,7 +199,7 @@ IsRegistry-same {users} {more} {installs} {others} registry users_are installs_a
     subst (λ list. IsRegistry list others) (sym users_are) (subst (IsRegistry users) (sym installs_are) registry)
 
 module _ {users : List User} {installs : List Install} (registry : IsRegistry users installs) where
-  pub IsRegistry-with_user : (user : User) → over Users USER_LIMIT (length (placed user_cmp user users)) ≡ None
+  pub IsRegistry-with_user : (user : User) → over Users most_users (length (placed user_cmp user users)) ≡ None
       → IsRegistry (placed user_cmp user users) installs
   IsRegistry-with_user user fits = record {
     users_rise = placed_rises user_total user users registry.users_rise;
@@ -279,6 +279,6 @@ module _ {users : List User} {installs : List Install} (registry : IsRegistry us
             (λ install. scope_without users uid install.scope) installs registry.users_known;
         one_package = without.one_package;
         one_author = without.one_author;
-        users_fit = over-fits Users USER_LIMIT (length users) (length (filter keeps users)) registry.users_fit (length-filter-le keeps users);
+        users_fit = over-fits Users most_users (length users) (length (filter keeps users)) registry.users_fit (length-filter-le keeps users);
         installs_fit = without.installs_fit;
       }

@@ -14,7 +14,7 @@ use Rattle.app_registry.specs.Registry.{packages, grant_count}
 use Rattle.app_registry.specs.declared.installs.Install.{Install}
 use Rattle.app_registry.specs.declared.refusals.RegistryRefusal.{RegistryRefusal}
 use Rattle.app_registry.specs.declared.refusals.RegistryRefusal.TheVariants.{Limit}
-use Rattle.app_registry.specs.declared.refusals.TheConstants.{PACKAGE_LIMIT, INSTALL_LIMIT, GRANT_LIMIT}
+use Rattle.app_registry.specs.Limits.{most_packages, most_installs, most_grants}
 
 -- ---- limits
 
@@ -164,25 +164,25 @@ module _ (q : Install → Bool) where
   pub installs_limit-filter : (installs : List Install) → installs_limit installs ≡ None
       → installs_limit (filter q installs) ≡ None
   installs_limit-filter installs fits =
-      let packages_fit = or-none (over Packages PACKAGE_LIMIT (length (packages installs))) _ fits in
-      let others_fit = or-none (over Installs INSTALL_LIMIT (length installs)) _ packages_fit.1 in
+      let packages_fit = or-none (over Packages most_packages (length (packages installs))) _ fits in
+      let others_fit = or-none (over Installs most_installs (length installs)) _ packages_fit.1 in
       both-none
-      (over-fits Packages PACKAGE_LIMIT (length (packages installs)) (length (packages (filter q installs))) packages_fit.0
+      (over-fits Packages most_packages (length (packages installs)) (length (packages (filter q installs))) packages_fit.0
       (packages-filter installs))
       (both-none
-      (over-fits Installs INSTALL_LIMIT (length installs) (length (filter q installs)) others_fit.0 (length-filter-le q installs))
-      (over-fits Grants GRANT_LIMIT (grant_count installs) (grant_count (filter q installs)) others_fit.1 (grants-filter installs)))
+      (over-fits Installs most_installs (length installs) (length (filter q installs)) others_fit.0 (length-filter-le q installs))
+      (over-fits Grants most_grants (grant_count installs) (grant_count (filter q installs)) others_fit.1 (grants-filter installs)))
 
 -- what fits grants no more than there is room for
-pub grants-fit : (installs : List Install) → installs_limit installs ≡ None → grant_count installs ≤ GRANT_LIMIT
+pub grants-fit : (installs : List Install) → installs_limit installs ≡ None → grant_count installs ≤ most_grants
 grants-fit installs fits =
-    let packages_fit = or-none (over Packages PACKAGE_LIMIT (length (packages installs))) _ fits in
-    let others_fit = or-none (over Installs INSTALL_LIMIT (length installs)) _ packages_fit.1 in
-    ltb-false _ _ (within Grants GRANT_LIMIT (ltb GRANT_LIMIT (grant_count installs)) others_fit.1)
+    let packages_fit = or-none (over Packages most_packages (length (packages installs))) _ fits in
+    let others_fit = or-none (over Installs most_installs (length installs)) _ packages_fit.1 in
+    ltb-false _ _ (within Grants most_grants (ltb most_grants (grant_count installs)) others_fit.1)
 
-pub fits-from_parts : (installs : List Install) → over Packages PACKAGE_LIMIT (length (packages installs)) ≡ None
-    → over Installs INSTALL_LIMIT (length installs) ≡ None → grant_count installs ≤ GRANT_LIMIT
+pub fits-from_parts : (installs : List Install) → over Packages most_packages (length (packages installs)) ≡ None
+    → over Installs most_installs (length installs) ≡ None → grant_count installs ≤ most_grants
     → installs_limit installs ≡ None
 fits-from_parts installs packages_fit installs_fit room =
-    let still : ltb GRANT_LIMIT (grant_count installs) ≡ false = grind (arith, nat_tests, room) in
-    both-none packages_fit (both-none installs_fit (ap (λ b. cond b (Some (Limit Grants GRANT_LIMIT)) None) still))
+    let still : ltb most_grants (grant_count installs) ≡ false = grind (arith, nat_tests, room) in
+    both-none packages_fit (both-none installs_fit (ap (λ b. cond b (Some (Limit Grants most_grants)) None) still))

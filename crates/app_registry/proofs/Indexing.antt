@@ -14,7 +14,7 @@ use Rattle.app_registry.specs.Refusal.{is_elsewhere}
 use Rattle.app_registry.specs.Registry.{grant_count}
 use Rattle.app_registry.specs.Rising.{placed}
 use Rattle.app_registry.specs.declared.installs.Install.{Install}
-use Rattle.app_registry.specs.declared.refusals.TheConstants.{GRANT_LIMIT}
+use Rattle.app_registry.specs.Limits.{most_grants}
 use Rattle.app_registry.specs.parts.Indexed.{is_among, IsIndexed}
 use Rattle.app_registry.proofs.Orders.{install_total}
 use Rattle.app_registry.proofs.Rising.{AllByRecursion-append, AllByRecursion-weaker, AllByRecursion-placed, placed_rises, has-placed, or_true}
@@ -64,7 +64,7 @@ indexed-noted apps more granted installs is rise stay = record {
 
 -- one install more, whose application is among them
 pub indexed-put : (apps : List (List ℕ)) (granted : ℕ) (installs : List Install) (install : Install)
-    → IsIndexed apps granted installs → is_among install.app apps ≡ true → granted + length install.privileges ≤ GRANT_LIMIT
+    → IsIndexed apps granted installs → is_among install.app apps ≡ true → granted + length install.privileges ≤ most_grants
     → grant_count (placed install_cmp install installs) ≡ grant_count installs + length install.privileges
     → IsIndexed apps (granted + length install.privileges) (placed install_cmp install installs)
 indexed-put apps granted installs install is noted room counts = record {
@@ -98,7 +98,7 @@ pub indexed-more : (apps more : List (List ℕ)) (granted : ℕ) (installs : Lis
     → i < length installs → install ≡ get_or installs i install → IsIndexed apps granted (take i installs)
     → IsStrictlySortedBy text_cmp more → is_among install.app more ≡ true
     → ((other : List ℕ) → is_among other apps ≡ true → is_among other more ≡ true)
-    → granted + length install.privileges ≤ GRANT_LIMIT
+    → granted + length install.privileges ≤ most_grants
     → IsIndexed more (granted + length install.privileges) (take (i + 1) installs)
 indexed-more apps more granted installs i install within at is rise noted stay room =
     let own = get_or installs i install in

@@ -2,7 +2,7 @@
 use Rattle.std.specs.Prelude.{◌≡◌, ℕ, Bool, false, not, ◌||◌, nat_lt, ◌==◌, if◌then◌else◌, List, [], ◌∷◌, length, Option, Some, None}
 use Rattle.std.specs.List.{position}
 use Rattle.cynara_keys.specs.Text.{is_word_byte}
-use Rattle.app_registry.specs.declared.idents.TheConstants.{IDENT_LIMIT}
+use Rattle.app_registry.specs.Limits.{most_ident_bytes}
 use Rattle.app_registry.specs.declared.idents.IdentRefusal.{IdentRefusal}
 use Rattle.app_registry.specs.declared.idents.IdentRefusal.TheVariants.{Empty, TooLong, BadByte, Memory}
 
@@ -27,7 +27,7 @@ byte_fault None = None
 abbrev pub ident_fault : List ℕ → Option IdentRefusal
 ident_fault bytes =
     if length bytes == 0 then Some Empty
-    else (if nat_lt IDENT_LIMIT (length bytes) then Some TooLong else byte_fault (first_bad_byte bytes))
+    else (if nat_lt most_ident_bytes (length bytes) then Some TooLong else byte_fault (first_bad_byte bytes))
 
 -- The refusal names the fault. Want of memory comes only for bytes without one.
 abbrev pub Refuses : IdentRefusal → Option IdentRefusal → Type 0

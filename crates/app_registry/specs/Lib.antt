@@ -1,3 +1,4 @@
+pub mod Limits
 pub mod Ident
 pub mod Scope
 pub mod Rising

@@ -11,7 +11,7 @@ use Rattle.app_registry.specs.declared.installs.Scope.{Scope}
 use Rattle.app_registry.specs.declared.installs.Scope.TheVariants.{Everyone, One}
 use Rattle.app_registry.specs.declared.refusals.RegistryRefusal.{RegistryRefusal}
 use Rattle.app_registry.specs.declared.refusals.RegistryRefusal.TheVariants.{UnknownUser, OtherPackage, OtherAuthor, NotInstalled, Limit, Memory}
-use Rattle.app_registry.specs.declared.refusals.TheConstants.{USER_LIMIT, PACKAGE_LIMIT, INSTALL_LIMIT, GRANT_LIMIT}
+use Rattle.app_registry.specs.Limits.{most_users, most_packages, most_installs, most_grants}
 use Rattle.app_registry.specs.declared.users.User.{User}
 use Rattle.app_registry.specs.declared.users.UserType.{UserType}
 
@@ -49,13 +49,13 @@ over counted most count = if nat_lt most count then Some (Limit counted most) el
 
 abbrev pub installs_limit : List Install → Option RegistryRefusal
 installs_limit installs =
-    option_or (over Packages PACKAGE_LIMIT (length (packages installs)))
-    (option_or (over Installs INSTALL_LIMIT (length installs)) (over Grants GRANT_LIMIT (grant_count installs)))
+    option_or (over Packages most_packages (length (packages installs)))
+    (option_or (over Installs most_installs (length installs)) (over Grants most_grants (grant_count installs)))
 
 -- ---- the first rule that a change breaks
 
 abbrev pub user_set_fault : RegistryLists → ℕ → UserType → Option RegistryRefusal
-user_set_fault registry uid kind = over Users USER_LIMIT (length (with_user registry uid kind).users)
+user_set_fault registry uid kind = over Users most_users (length (with_user registry uid kind).users)
 
 abbrev pub user_remove_fault : RegistryLists → ℕ → Option RegistryRefusal
 user_remove_fault registry uid = unknown_user registry.users uid

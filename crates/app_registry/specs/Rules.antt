@@ -7,7 +7,7 @@ use Rattle.app_registry.specs.Install.{install_cmp}
 use Rattle.app_registry.specs.Refusal.{unknown_scope, other_package, other_author, over, installs_limit}
 use Rattle.app_registry.specs.Registry.{user_cmp}
 use Rattle.app_registry.specs.declared.installs.Install.{Install}
-use Rattle.app_registry.specs.declared.refusals.TheConstants.{USER_LIMIT}
+use Rattle.app_registry.specs.Limits.{most_users}
 use Rattle.app_registry.specs.declared.users.User.{User}
 
 -- Each user and each install stands once, and before those behind it in the order. The user of each install is there, no
@@ -18,5 +18,5 @@ pub record IsRegistry (users : List User) (installs : List Install) : Type 0 whe
   pub users_known : AllByRecursion (λ install. unknown_scope users install.scope ≡ None) installs
   pub one_package : AllByRecursion (λ install. other_package installs install ≡ None) installs
   pub one_author : AllByRecursion (λ install. other_author installs install ≡ None) installs
-  pub users_fit : over Users USER_LIMIT (length users) ≡ None
+  pub users_fit : over Users most_users (length users) ≡ None
   pub installs_fit : installs_limit installs ≡ None

@@ -10,7 +10,7 @@ ghost use Rattle.app_registry.specs.Install.{install_cmp, is_of_app, is_install_
 ghost use Rattle.app_registry.specs.Refusal.{is_elsewhere, installs_limit, over};
 ghost use Rattle.app_registry.specs.Registry.{grant_count, packages};
 ghost use Rattle.app_registry.specs.Rising.{placed};
-ghost use Rattle.app_registry.specs.declared.refusals.TheConstants.{GRANT_LIMIT, INSTALL_LIMIT, PACKAGE_LIMIT};
+ghost use Rattle.app_registry.specs.Limits.{most_grants, most_installs, most_packages};
 ghost use Rattle.app_registry.specs.parts.Indexed.{is_among, IsIndexed};
 
 use crate::limits::has_too_many_packages;
@@ -142,7 +142,7 @@ impl InstallList {
 }
 
 fn index_of(alloc: Global, installs: &[Install]) -> Option<Index>
-    requires { grant_count installs.now ≤ GRANT_LIMIT }
+    requires { grant_count installs.now ≤ most_grants }
     ensures { IfSome result (λ index. IsIndexed index.apps.items index.granted installs.now) }
 {
     let mut apps = Vec::new(alloc);
@@ -190,8 +190,8 @@ fn note(apps: &mut Vec<Ident>, app: &Ident) -> bool
 fn put(installs: &mut Vec<Install>, install: &Install) -> bool
     requires { IsStrictlySortedBy install_cmp installs.old.items }
     ensures put { IsTrue result → installs.new.items ≡ placed install_cmp install.now installs.old.items }
-    ensures packages_fit { IsTrue result → over Packages PACKAGE_LIMIT (length (packages installs.new.items)) ≡ None }
-    ensures installs_fit { IsTrue result → over Installs INSTALL_LIMIT (length installs.new.items) ≡ None }
+    ensures packages_fit { IsTrue result → over Packages most_packages (length (packages installs.new.items)) ≡ None }
+    ensures installs_fit { IsTrue result → over Installs most_installs (length installs.new.items) ≡ None }
     ensures granted { IsTrue result
         → grant_count installs.new.items ≡ grant_count installs.old.items + length install.now.privileges }
     ensures taken_back { IsTrue result → list_any (is_install_of install.now.app install.now.scope) installs.old.items ≡ false

@@ -2,7 +2,7 @@
 ghost use Rattle.std.specs.Prelude.{◌≡◌, length, nat_lt};
 ghost use Rattle.app_registry.specs.Refusal.{over, installs_limit};
 ghost use Rattle.app_registry.specs.Registry.{packages, grant_count};
-ghost use Rattle.app_registry.specs.declared.refusals.TheConstants.{GRANT_LIMIT, PACKAGE_LIMIT, USER_LIMIT};
+ghost use Rattle.app_registry.specs.Limits.{most_grants, most_packages, most_users};
 ghost use Rattle.cynara_keys.specs.declared.limits.Counted.TheVariants.{Users};
 
 use crate::{
@@ -12,7 +12,7 @@ use cynara_keys::Counted;
 
 /// The refusal of more users than there is room for.
 pub fn users_limit(users: &[User]) -> Option<RegistryRefusal>
-    ensures { result ≡ over Users USER_LIMIT (length users.now) }
+    ensures { result ≡ over Users most_users (length users.now) }
 {
     if users.len() > USER_LIMIT {
         return Some(RegistryRefusal::Limit(Counted::Users, USER_LIMIT as u64));
@@ -38,7 +38,7 @@ pub fn installs_limit(installs: &[Install]) -> Option<RegistryRefusal>
 
 /// Whether there are more packages than there is room for. No count is needed where there are not even as many installs.
 pub fn has_too_many_packages(installs: &[Install]) -> bool
-    ensures { result ≡ nat_lt PACKAGE_LIMIT (length (packages installs.now)) }
+    ensures { result ≡ nat_lt most_packages (length (packages installs.now)) }
 {
     if installs.len() <= PACKAGE_LIMIT {
         return false;
@@ -65,7 +65,7 @@ fn package_count(installs: &[Install]) -> usize
 }
 
 fn has_too_many_grants(installs: &[Install]) -> bool
-    ensures { result ≡ nat_lt GRANT_LIMIT (grant_count installs.now) }
+    ensures { result ≡ nat_lt most_grants (grant_count installs.now) }
 {
     let mut count = 0;
     for install in installs {

@@ -2,7 +2,7 @@
 use Rattle.std.specs.Prelude.{◌≡◌, ℕ, Bool, not, nat_lt, if◌then◌else◌, List, length, Option, Some, None, is_none}
 use Rattle.std.specs.List.{position}
 use Rattle.cynara_keys.specs.Text.{is_visible}
-use Rattle.cynara_keys.specs.declared.limits.TheConstants.{MOST_METADATA_BYTES}
+use Rattle.cynara_keys.specs.Limits.{most_metadata_bytes}
 use Rattle.cynara_keys.specs.declared.metadata_texts.MetadataRefusal.{MetadataRefusal}
 use Rattle.cynara_keys.specs.declared.metadata_texts.MetadataRefusal.TheVariants.{TooLong, BadByte, Memory}
 
@@ -14,7 +14,7 @@ bad_byte None = None
 -- the first rule of metadata that the bytes break
 abbrev pub metadata_fault : List ℕ → Option MetadataRefusal
 metadata_fault bytes =
-    if nat_lt MOST_METADATA_BYTES (length bytes) then Some TooLong else bad_byte (position (λ byte. not (is_visible byte)) bytes)
+    if nat_lt most_metadata_bytes (length bytes) then Some TooLong else bad_byte (position (λ byte. not (is_visible byte)) bytes)
 
 abbrev pub is_metadata : List ℕ → Bool
 is_metadata bytes = is_none (metadata_fault bytes)

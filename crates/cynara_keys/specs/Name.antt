@@ -2,7 +2,7 @@
 use Rattle.std.specs.Prelude.{◌≡◌, ℕ, Bool, false, not, ◌||◌, nat_lt, ◌==◌, if◌then◌else◌, List, [], ◌∷◌, length, Option, Some, None, is_none}
 use Rattle.std.specs.List.{position}
 use Rattle.cynara_keys.specs.Text.{is_visible}
-use Rattle.cynara_keys.specs.declared.limits.TheConstants.{MOST_NAME_BYTES}
+use Rattle.cynara_keys.specs.Limits.{most_name_bytes}
 use Rattle.cynara_keys.specs.declared.names.NameRefusal.{NameRefusal}
 use Rattle.cynara_keys.specs.declared.names.NameRefusal.TheVariants.{Empty, TooLong, BadByte, Reserved, Memory}
 
@@ -21,7 +21,7 @@ bad_byte_or None other = other
 abbrev pub name_fault : List ℕ → Option NameRefusal
 name_fault bytes =
     if length bytes == 0 then Some Empty
-    else (if nat_lt MOST_NAME_BYTES (length bytes) then Some TooLong
+    else (if nat_lt most_name_bytes (length bytes) then Some TooLong
     else bad_byte_or (position (λ byte. not (is_visible byte)) bytes) (if is_reserved bytes then Some Reserved else None))
 
 abbrev pub is_name : List ℕ → Bool

@@ -1,3 +1,4 @@
+ghost use Rattle.cynara_keys.specs.Limits.{most_short_bytes};
 ghost use Rattle.std.specs.Prelude.{◌≡◌, ◌≤◌, length};
 ghost use Rattle.cynara_keys.specs.Text.{same_text};
 ghost use Rattle.std.specs.Cmp.{partial_equiv_from_equiv};
@@ -33,7 +34,7 @@ impl Model for Short {
 impl Short {
     /// A copy of the bytes, of which there are at most 255. Takes no memory.
     pub fn of(bytes: &[u8]) -> Short
-        requires { length bytes.now ≤ MOST_SHORT_BYTES }
+        requires { length bytes.now ≤ most_short_bytes }
         ensures { result ≡ bytes.now }
     {
         let mut array = [0; MOST_SHORT_BYTES];
@@ -47,7 +48,7 @@ impl Short {
     /// The bytes, as they were given.
     pub fn as_slice(&self) -> &[u8]
         ensures bytes { result.now ≡ self.now }
-        ensures short { length self.now ≤ MOST_SHORT_BYTES }
+        ensures short { length self.now ≤ most_short_bytes }
     {
         &self.bytes[..self.count]
     }

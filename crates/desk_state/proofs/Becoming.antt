@@ -19,7 +19,7 @@ use Rattle.desk_state.specs.Layout.{has_layout, settled}
 use Rattle.desk_state.specs.Rules.{commit_limit}
 use Rattle.desk_state.specs.declared.commands.Command.TheVariants.{Install as InstallCommand, SetPolicies}
 use Rattle.desk_state.specs.declared.desks.Applied.{Applied}
-use Rattle.desk_state.specs.declared.desks.TheConstants.{LAST_COMMIT}
+use Rattle.desk_state.specs.Limits.{last_commit}
 use Rattle.desk_state.specs.declared.refusals.Refusal.TheVariants.{Limit}
 use Rattle.desk_state.specs.parts.Following.{install_changes}
 use Rattle.desk_state.specs.parts.Stepping.{IsAllowed, IsApplied, IsArranged, Becomes, moved}
@@ -27,12 +27,12 @@ use Rattle.desk_state.proofs.Commanding.{arranged, named-new-install, follows-ne
 use Rattle.desk_state.proofs.Deciding.{on_install, stepped_by_registry, settles, laid_known}
 use Rattle.desk_state.proofs.Keeping.{keeps-set_policies}
 
-not-last : (desk : DeskState) → (desk.commit ≡ LAST_COMMIT → ⊥) → commit_limit desk.commit ≡ None
-not-last desk apart = ap (λ b. cond b (Some (Limit Commits LAST_COMMIT)) None) (ne_eqb desk.commit LAST_COMMIT apart)
+not-last : (desk : DeskState) → (desk.commit ≡ last_commit → ⊥) → commit_limit desk.commit ≡ None
+not-last desk apart = ap (λ b. cond b (Some (Limit Commits last_commit)) None) (ne_eqb desk.commit last_commit apart)
 
 -- the parts of a state with the next commit number
 moved-desk : (desk : DeskState) (database : Database) (lists : RegistryLists) → IsDesk desk
-    → (desk.commit ≡ LAST_COMMIT → ⊥) → IsWellFormed database → IsRegistry lists.users lists.installs
+    → (desk.commit ≡ last_commit → ⊥) → IsWellFormed database → IsRegistry lists.users lists.installs
     → IsArranged (moved desk database lists desk.template) → IsDesk (moved desk database lists desk.template)
 moved-desk desk database lists is apart well registered laid = record {
   database = well;
@@ -42,11 +42,11 @@ moved-desk desk database lists is apart well registered laid = record {
   layout = laid;
 }
   where
-    below : (commit : ℕ) → commit ≤ LAST_COMMIT → (commit ≡ LAST_COMMIT → ⊥) → commit + 1 ≤ LAST_COMMIT
+    below : (commit : ℕ) → commit ≤ last_commit → (commit ≡ last_commit → ⊥) → commit + 1 ≤ last_commit
     below commit most apart = omega (arith, most, apart)
 
 pub set-desk : (desk : DeskState) (changes : List Change) (database : Database) → IsDesk desk
-    → IsAllowed desk (SetPolicies changes) → (desk.commit ≡ LAST_COMMIT → ⊥) → database ≡ with_changes changes desk.database
+    → IsAllowed desk (SetPolicies changes) → (desk.commit ≡ last_commit → ⊥) → database ≡ with_changes changes desk.database
     → IsWellFormed database → IsDesk (moved desk database desk.registry desk.template)
 set-desk desk changes database is allowed apart next well =
     moved-desk desk database desk.registry is apart well is.registry
@@ -61,7 +61,7 @@ pub record IsInstalled (desk : DeskState) (install : Install) (lists : RegistryL
   pub changes_is : changes ≡ install_changes install
 
 module _ (desk : DeskState) (install : Install) (is : IsDesk desk) (allowed : IsAllowed desk (InstallCommand install))
-    (apart : desk.commit ≡ LAST_COMMIT → ⊥) (lists : RegistryLists) (changes : List Change)
+    (apart : desk.commit ≡ last_commit → ⊥) (lists : RegistryLists) (changes : List Change)
     (made : IsInstalled desk install lists changes) where
   has : has_layout desk.database ≡ true
   has = laid_known (has_layout desk.database) allowed.known

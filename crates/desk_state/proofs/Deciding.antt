@@ -23,7 +23,7 @@ use Rattle.app_registry.specs.Registry.{RegistryLists, has_user, packages, grant
 use Rattle.app_registry.specs.declared.installs.Install.{Install}
 use Rattle.app_registry.specs.declared.installs.Scope.{Scope}
 use Rattle.app_registry.specs.declared.installs.Scope.TheVariants.{Everyone, One}
-use Rattle.app_registry.specs.declared.refusals.TheConstants.{USER_LIMIT, PACKAGE_LIMIT, INSTALL_LIMIT, GRANT_LIMIT}
+use Rattle.app_registry.specs.Limits.{most_users, most_packages, most_installs, most_grants}
 use Rattle.app_registry.specs.declared.users.User.{User}
 use Rattle.app_registry.specs.declared.users.UserType.{UserType}
 use Rattle.desk_state.specs.declared.commands.Command.TheVariants.{Layout, UserSet, UserRemove, Install as InstallCommand, Uninstall}
@@ -36,7 +36,7 @@ use Rattle.desk_state.specs.Rules.{first_of, reserved, layout_there, no_layout, 
 use Rattle.desk_state.specs.parts.Stepping.{IsAllowed, Steps, Answers, stored_refusal, registered_refusal, or_last, moved, settled_fault, Settles}
 use Rattle.desk_state.specs.declared.commands.Command.{Command}
 use Rattle.desk_state.specs.declared.desks.Applied.{Applied}
-use Rattle.desk_state.specs.declared.desks.TheConstants.{LAST_COMMIT}
+use Rattle.desk_state.specs.Limits.{last_commit}
 use Rattle.desk_state.specs.declared.refusals.Refusal.{Refusal}
 use Rattle.desk_state.specs.declared.refusals.Refusal.TheVariants.{NoLayout, NoBucket, RootBucket, BadKind, Limit, Cycle, Memory}
 
@@ -65,10 +65,10 @@ store_rules a b k s p c = store.first_of (no_bucket a ∷ root_bucket b ∷ bad_
 abbrev desk_rules : Option (List ℕ) → Bool → Option Heading → Option Refusal → Bool → Option Refusal → Bool → Bool → Option (List ℕ) → Option Refusal
 desk_rules a b k rule last count s p c =
     first_of (None ∷ None ∷ None ∷ option_map of_store (no_bucket a) ∷ option_map of_store (root_bucket b) ∷ option_map of_store (bad_kind k)
-    ∷ rule ∷ cond last (Some (Limit Commits LAST_COMMIT)) None ∷ count ∷ option_map of_store (limits s p) ∷ option_map of_store (cycle c) ∷ [])
+    ∷ rule ∷ cond last (Some (Limit Commits last_commit)) None ∷ count ∷ option_map of_store (limits s p) ∷ option_map of_store (cycle c) ∷ [])
 
 abbrev last_or : Bool → Refusal → Refusal
-last_or last refusal = cond last (Limit Commits LAST_COMMIT) refusal
+last_or last refusal = cond last (Limit Commits last_commit) refusal
 
 abbrev answered : Bool → StoreRefusal → Refusal
 answered last (stored.Limit counted most) = last_or last (Limit counted most)
@@ -97,7 +97,7 @@ store_first None false None last false false None refusal is = cc
 
 -- no refusal of the database: the desk has none but for its commit number
 store_none : (a : Option (List ℕ)) (b : Bool) (k : Option Heading) (last s p : Bool) (c : Option (List ℕ))
-    → store_rules a b k s p c ≡ None → desk_rules a b k None last None s p c ≡ cond last (Some (Limit Commits LAST_COMMIT)) None
+    → store_rules a b k s p c ≡ None → desk_rules a b k None last None s p c ≡ cond last (Some (Limit Commits last_commit)) None
 store_none (Some name) b k last s p c is = cc
 store_none None true k last s p c is = cc
 store_none None false (Some kind) last s p c is = cc
@@ -141,11 +141,11 @@ module _ (desk : DeskState) (command : Command) where
   plain on = λ i. fault_from (on.allowed.unreserved i) (on.allowed.there i) (on.allowed.known i) (on.rule i) (on.count i)
 
   first : IsOnDatabase desk command → (refusal : StoreRefusal) → store.fault desk.database asked ≡ Some refusal
-      → fault desk command ≡ Some (answered (desk.commit == LAST_COMMIT) refusal)
+      → fault desk command ≡ Some (answered (desk.commit == last_commit) refusal)
   first on refusal is =
       plain on
       ∙ store_first (find (λ name. not (has_bucket name desk.database)) asked.named) (list_any (same_text root) asked.removed)
-      (find store.is_bad asked.headed) (desk.commit == LAST_COMMIT) (nat_lt most_buckets (length asked.next.buckets))
+      (find store.is_bad asked.headed) (desk.commit == last_commit) (nat_lt most_buckets (length asked.next.buckets))
       (nat_lt most_policies (length asked.next.policies))
       (find (is_on_cycle asked.next) (map (λ (heading : Heading). heading.name) asked.next.buckets)) refusal is
 
@@ -153,7 +153,7 @@ module _ (desk : DeskState) (command : Command) where
   none on is =
       plain on
       ∙ store_none (find (λ name. not (has_bucket name desk.database)) asked.named) (list_any (same_text root) asked.removed)
-      (find store.is_bad asked.headed) (desk.commit == LAST_COMMIT) (nat_lt most_buckets (length asked.next.buckets))
+      (find store.is_bad asked.headed) (desk.commit == last_commit) (nat_lt most_buckets (length asked.next.buckets))
       (nat_lt most_policies (length asked.next.policies))
       (find (is_on_cycle asked.next) (map (λ (heading : Heading). heading.name) asked.next.buckets)) is
 
@@ -173,8 +173,8 @@ module _ (desk : DeskState) (command : Command) where
   pub refused_by_store : IsOnDatabase desk command → (refusal : StoreRefusal) → store.Refuses desk.database asked refusal
       → Refuses desk command (stored_refusal desk.commit refusal)
   refused_by_store on (stored.Memory error) is = memory on.allowed
-  refused_by_store on (stored.Limit counted most) is = limited (desk.commit == LAST_COMMIT) counted most (first on (stored.Limit counted most) is)
-  refused_by_store on (stored.Cycle name) is = cycled (desk.commit == LAST_COMMIT) name (first on (stored.Cycle name) is)
+  refused_by_store on (stored.Limit counted most) is = limited (desk.commit == last_commit) counted most (first on (stored.Limit counted most) is)
+  refused_by_store on (stored.Cycle name) is = cycled (desk.commit == last_commit) name (first on (stored.Cycle name) is)
   refused_by_store on (stored.NoBucket name) is = first on (stored.NoBucket name) is
   refused_by_store on stored.RootBucket is = first on stored.RootBucket is
   refused_by_store on (stored.BadKind kind) is = first on (stored.BadKind kind) is
@@ -208,7 +208,7 @@ pub record IsOnRegistry (desk : DeskState) (command : Command) : Type 0 where
 
 abbrev registry_rules : Option RegistryRefusal → Bool → Option RegistryRefusal → Option Refusal → Option Refusal → Option Refusal
 registry_rules rule last count limit cycle =
-    first_of (None ∷ None ∷ None ∷ None ∷ None ∷ None ∷ option_map of_registry rule ∷ cond last (Some (Limit Commits LAST_COMMIT)) None
+    first_of (None ∷ None ∷ None ∷ None ∷ None ∷ None ∷ option_map of_registry rule ∷ cond last (Some (Limit Commits last_commit)) None
     ∷ option_map of_registry count ∷ limit ∷ cycle ∷ [])
 
 either : (rule count : Option RegistryRefusal) (last : Bool) (limit cycle : Option Refusal) (refusal : RegistryRefusal) (answer : Refusal)
@@ -240,7 +240,7 @@ module _ (desk : DeskState) (command : Command) where
 
   plain_registry : IsOnRegistry desk command
       → fault desk command
-      ≡ registry_rules (registry_rule desk.registry command) (desk.commit == LAST_COMMIT) (registry_limit desk.registry command)
+      ≡ registry_rules (registry_rule desk.registry command) (desk.commit == last_commit) (registry_limit desk.registry command)
       (option_map of_store (store.limit (settled (next_registry desk.registry command) desk.database)))
       (option_map of_store (store.cycle (settled (next_registry desk.registry command) desk.database)))
   plain_registry on = λ i. around (on.allowed.unreserved i) (on.allowed.there i) (on.allowed.known i) (on.request i)
@@ -250,7 +250,7 @@ module _ (desk : DeskState) (command : Command) where
       → fault desk command ≡ Some (registered_refusal desk.commit refusal)
   first_registry on refusal is =
       plain_registry on
-      ∙ either (registry_rule desk.registry command) (registry_limit desk.registry command) (desk.commit == LAST_COMMIT)
+      ∙ either (registry_rule desk.registry command) (registry_limit desk.registry command) (desk.commit == last_commit)
       (option_map of_store (store.limit (settled (next_registry desk.registry command) desk.database)))
       (option_map of_store (store.cycle (settled (next_registry desk.registry command) desk.database)))
       refusal (registered_refusal desk.commit refusal) is (on.rule refusal) (on.count refusal)
@@ -261,7 +261,7 @@ module _ (desk : DeskState) (command : Command) where
       → Refuses desk command (registered_refusal desk.commit refusal)
   refused_by_registry on (registered.Memory error) is = memory desk command on.allowed
   refused_by_registry on (registered.Limit counted most) is =
-      limited desk command (desk.commit == LAST_COMMIT) counted most (first_registry on (registered.Limit counted most) is)
+      limited desk command (desk.commit == last_commit) counted most (first_registry on (registered.Limit counted most) is)
   refused_by_registry on refusal is = first_registry on refusal is
 
   settled-plain : IsOnRegistry desk command
@@ -269,12 +269,12 @@ module _ (desk : DeskState) (command : Command) where
       → fault desk command ≡ settled_fault desk (next_registry desk.registry command)
   settled-plain on is =
       plain_registry on
-      ∙ at (registry_rule desk.registry command) (registry_limit desk.registry command) is (desk.commit == LAST_COMMIT)
+      ∙ at (registry_rule desk.registry command) (registry_limit desk.registry command) is (desk.commit == last_commit)
     where
       at : (rule count : Option RegistryRefusal) → option_or rule count ≡ None → (last : Bool)
           → registry_rules rule last count (option_map of_store (store.limit (settled (next_registry desk.registry command) desk.database)))
           (option_map of_store (store.cycle (settled (next_registry desk.registry command) desk.database)))
-          ≡ first_of (cond last (Some (Limit Commits LAST_COMMIT)) None
+          ≡ first_of (cond last (Some (Limit Commits last_commit)) None
           ∷ option_map of_store (store.limit (settled (next_registry desk.registry command) desk.database))
           ∷ option_map of_store (store.cycle (settled (next_registry desk.registry command) desk.database)) ∷ [])
       at (Some broken) count is last = cc
@@ -298,7 +298,7 @@ module _ (desk : DeskState) (command : Command) where
 
 settles_first : (a : Option (List ℕ)) (b : Bool) (k : Option Heading) (last s p : Bool) (c : Option (List ℕ)) (refusal : StoreRefusal)
     → no_bucket a ≡ None → root_bucket b ≡ None → bad_kind k ≡ None → store_rules a b k s p c ≡ Some refusal
-    → first_of (cond last (Some (Limit Commits LAST_COMMIT)) None ∷ option_map of_store (limits s p) ∷ option_map of_store (cycle c) ∷ [])
+    → first_of (cond last (Some (Limit Commits last_commit)) None ∷ option_map of_store (limits s p) ∷ option_map of_store (cycle c) ∷ [])
     ≡ Some (answered last refusal)
 settles_first (Some name) b k last s p c refusal named rooted kinds is = cc
 settles_first None true k last s p c refusal named rooted kinds is = cc
@@ -313,8 +313,8 @@ settles_first None false None last false false None refusal named rooted kinds i
 
 settles_none : (a : Option (List ℕ)) (b : Bool) (k : Option Heading) (last s p : Bool) (c : Option (List ℕ))
     → store_rules a b k s p c ≡ None
-    → first_of (cond last (Some (Limit Commits LAST_COMMIT)) None ∷ option_map of_store (limits s p) ∷ option_map of_store (cycle c) ∷ [])
-    ≡ cond last (Some (Limit Commits LAST_COMMIT)) None
+    → first_of (cond last (Some (Limit Commits last_commit)) None ∷ option_map of_store (limits s p) ∷ option_map of_store (cycle c) ∷ [])
+    ≡ cond last (Some (Limit Commits last_commit)) None
 settles_none (Some name) b k last s p c is = cc
 settles_none None true k last s p c is = cc
 settles_none None false (Some kind) last s p c is = cc
@@ -338,10 +338,10 @@ module _ (desk : DeskState) (registry : RegistryLists) (changes : List Change)
       λ i. first_of (commit_limit desk.commit ∷ option_map of_store (store.limit (sym follows i)) ∷ option_map of_store (store.cycle (sym follows i)) ∷ [])
 
   settled_first : (refusal : StoreRefusal) → store.fault desk.database (store.set_policies changes desk.database) ≡ Some refusal
-      → settled_fault desk registry ≡ Some (answered (desk.commit == LAST_COMMIT) refusal)
+      → settled_fault desk registry ≡ Some (answered (desk.commit == last_commit) refusal)
   settled_first refusal is =
       tested-is
-      ∙ settles_first (find (λ name. not (has_bucket name desk.database)) (flat_map named_by changes)) false None (desk.commit == LAST_COMMIT)
+      ∙ settles_first (find (λ name. not (has_bucket name desk.database)) (flat_map named_by changes)) false None (desk.commit == last_commit)
       (nat_lt most_buckets (length (with_changes changes desk.database).buckets))
       (nat_lt most_policies (length (with_changes changes desk.database).policies))
       (find (is_on_cycle (with_changes changes desk.database)) (map (λ (heading : Heading). heading.name) (with_changes changes desk.database).buckets))
@@ -360,8 +360,8 @@ module _ (desk : DeskState) (registry : RegistryLists) (changes : List Change)
   pub unsettled : (refusal : StoreRefusal) → store.Refuses desk.database (store.set_policies changes desk.database) refusal
       → Settles desk registry (Err (stored_refusal desk.commit refusal))
   unsettled (stored.Memory error) is = tt
-  unsettled (stored.Limit counted most) is = settled-limited (desk.commit == LAST_COMMIT) counted most (settled_first (stored.Limit counted most) is)
-  unsettled (stored.Cycle name) is = settled-cycled (desk.commit == LAST_COMMIT) name (settled_first (stored.Cycle name) is)
+  unsettled (stored.Limit counted most) is = settled-limited (desk.commit == last_commit) counted most (settled_first (stored.Limit counted most) is)
+  unsettled (stored.Cycle name) is = settled-cycled (desk.commit == last_commit) name (settled_first (stored.Cycle name) is)
   unsettled (stored.NoBucket name) is = settled_first (stored.NoBucket name) is
   unsettled stored.RootBucket is = settled_first stored.RootBucket is
   unsettled (stored.BadKind kind) is = settled_first (stored.BadKind kind) is
@@ -370,7 +370,7 @@ module _ (desk : DeskState) (registry : RegistryLists) (changes : List Change)
       → settled_fault desk registry ≡ commit_limit desk.commit
   settled_none is =
       tested-is
-      ∙ settles_none (find (λ name. not (has_bucket name desk.database)) (flat_map named_by changes)) false None (desk.commit == LAST_COMMIT)
+      ∙ settles_none (find (λ name. not (has_bucket name desk.database)) (flat_map named_by changes)) false None (desk.commit == last_commit)
       (nat_lt most_buckets (length (with_changes changes desk.database).buckets))
       (nat_lt most_policies (length (with_changes changes desk.database).policies))
       (find (is_on_cycle (with_changes changes desk.database)) (map (λ (heading : Heading). heading.name) (with_changes changes desk.database).buckets)) is
@@ -445,18 +445,18 @@ owner-kept commit lists install =
 
 installs-limit : (commit : ℕ) (installs : List Install) → IsLimit commit (registry.installs_limit installs)
 installs-limit commit installs =
-    limit-or commit (registry.over Packages PACKAGE_LIMIT (length (packages installs)))
-    (option_or (registry.over Installs INSTALL_LIMIT (length installs)) (registry.over Grants GRANT_LIMIT (grant_count installs)))
-    (over-limit commit Packages PACKAGE_LIMIT (length (packages installs)))
-    (limit-or commit (registry.over Installs INSTALL_LIMIT (length installs)) (registry.over Grants GRANT_LIMIT (grant_count installs))
-    (over-limit commit Installs INSTALL_LIMIT (length installs)) (over-limit commit Grants GRANT_LIMIT (grant_count installs)))
+    limit-or commit (registry.over Packages most_packages (length (packages installs)))
+    (option_or (registry.over Installs most_installs (length installs)) (registry.over Grants most_grants (grant_count installs)))
+    (over-limit commit Packages most_packages (length (packages installs)))
+    (limit-or commit (registry.over Installs most_installs (length installs)) (registry.over Grants most_grants (grant_count installs))
+    (over-limit commit Installs most_installs (length installs)) (over-limit commit Grants most_grants (grant_count installs)))
 
 module _ (desk : DeskState) where
   pub on_user_set : (uid : ℕ) (kind : UserType) → IsAllowed desk (UserSet uid kind) → IsOnRegistry desk (UserSet uid kind)
   on_user_set uid kind allowed = record {
     allowed = allowed;
     rule = nothing desk.commit;
-    count = over-limit desk.commit Users USER_LIMIT (length (with_user desk.registry uid kind).users);
+    count = over-limit desk.commit Users most_users (length (with_user desk.registry uid kind).users);
     request = refl;
   }
 
@@ -505,8 +505,8 @@ was_installed false known = cc
 
 module _ (desk : DeskState) (allowed : IsAllowed desk Layout) where
   behind-commit : (last : Bool) (limit cycle : Option Refusal)
-      → first_of (cond last (Some (Limit Commits LAST_COMMIT)) None ∷ None ∷ limit ∷ cycle ∷ [])
-      ≡ first_of (cond last (Some (Limit Commits LAST_COMMIT)) None ∷ limit ∷ cycle ∷ [])
+      → first_of (cond last (Some (Limit Commits last_commit)) None ∷ None ∷ limit ∷ cycle ∷ [])
+      ≡ first_of (cond last (Some (Limit Commits last_commit)) None ∷ limit ∷ cycle ∷ [])
   behind-commit true limit cycle = refl
   behind-commit false limit cycle = refl
 
@@ -514,18 +514,18 @@ module _ (desk : DeskState) (allowed : IsAllowed desk Layout) where
       ≡ first_of (commit_limit desk.commit ∷ option_map of_store (store.limit (laid_out desk.database)) ∷ option_map of_store (store.cycle (laid_out desk.database)) ∷ [])
   layout_fault =
       plain desk Layout (record { allowed = allowed; rule = refl; count = refl })
-      ∙ behind-commit (desk.commit == LAST_COMMIT) (option_map of_store (store.limit (laid_out desk.database))) (option_map of_store (store.cycle (laid_out desk.database)))
+      ∙ behind-commit (desk.commit == last_commit) (option_map of_store (store.limit (laid_out desk.database))) (option_map of_store (store.cycle (laid_out desk.database)))
 
-  pub layout_last : (desk.commit == LAST_COMMIT) ≡ true → fault desk Layout ≡ Some (Limit Commits LAST_COMMIT)
+  pub layout_last : (desk.commit == last_commit) ≡ true → fault desk Layout ≡ Some (Limit Commits last_commit)
   layout_last last =
       layout_fault
-      ∙ ap (λ b. first_of (cond b (Some (Limit Commits LAST_COMMIT)) None ∷ option_map of_store (store.limit (laid_out desk.database)) ∷ option_map of_store (store.cycle (laid_out desk.database)) ∷ [])) last
+      ∙ ap (λ b. first_of (cond b (Some (Limit Commits last_commit)) None ∷ option_map of_store (store.limit (laid_out desk.database)) ∷ option_map of_store (store.cycle (laid_out desk.database)) ∷ [])) last
 
-  pub layout_full : (desk.commit == LAST_COMMIT) ≡ false → nat_lt most_buckets (length (laid_out desk.database).buckets) ≡ true
+  pub layout_full : (desk.commit == last_commit) ≡ false → nat_lt most_buckets (length (laid_out desk.database).buckets) ≡ true
       → fault desk Layout ≡ Some (Limit Buckets most_buckets)
   layout_full last full =
       layout_fault
-      ∙ (λ i. first_of (cond (last i) (Some (Limit Commits LAST_COMMIT)) None
+      ∙ (λ i. first_of (cond (last i) (Some (Limit Commits last_commit)) None
       ∷ option_map of_store (cond (full i) (Some (stored.Limit Buckets most_buckets)) (cond (nat_lt most_policies (length (laid_out desk.database).policies)) (Some (stored.Limit Policies most_policies)) None))
       ∷ option_map of_store (store.cycle (laid_out desk.database)) ∷ []))
 
@@ -538,10 +538,10 @@ module _ (desk : DeskState) (allowed : IsAllowed desk Layout) where
         ∙ (λ i. first_of (commit_limit desk.commit ∷ option_map of_store (store.limit (sym follows i)) ∷ option_map of_store (store.cycle (sym follows i)) ∷ []))
 
     layout_first : (refusal : StoreRefusal) → store.fault housed (store.set_policies link_changes housed) ≡ Some refusal
-        → fault desk Layout ≡ Some (answered (desk.commit == LAST_COMMIT) refusal)
+        → fault desk Layout ≡ Some (answered (desk.commit == last_commit) refusal)
     layout_first refusal is =
         layout_at
-        ∙ settles_first (find (λ name. not (has_bucket name housed)) (flat_map named_by link_changes)) false None (desk.commit == LAST_COMMIT)
+        ∙ settles_first (find (λ name. not (has_bucket name housed)) (flat_map named_by link_changes)) false None (desk.commit == last_commit)
         (nat_lt most_buckets (length (with_changes link_changes housed).buckets))
         (nat_lt most_policies (length (with_changes link_changes housed).policies))
         (find (is_on_cycle (with_changes link_changes housed)) (map (λ (heading : Heading). heading.name) (with_changes link_changes housed).buckets))
@@ -551,8 +551,8 @@ module _ (desk : DeskState) (allowed : IsAllowed desk Layout) where
         → Refuses desk Layout (stored_refusal desk.commit refusal)
     layout_refused (stored.Memory error) is = memory desk Layout allowed
     layout_refused (stored.Limit counted most) is =
-        limited desk Layout (desk.commit == LAST_COMMIT) counted most (layout_first (stored.Limit counted most) is)
-    layout_refused (stored.Cycle name) is = cycled desk Layout (desk.commit == LAST_COMMIT) name (layout_first (stored.Cycle name) is)
+        limited desk Layout (desk.commit == last_commit) counted most (layout_first (stored.Limit counted most) is)
+    layout_refused (stored.Cycle name) is = cycled desk Layout (desk.commit == last_commit) name (layout_first (stored.Cycle name) is)
     layout_refused (stored.NoBucket name) is = layout_first (stored.NoBucket name) is
     layout_refused stored.RootBucket is = layout_first stored.RootBucket is
     layout_refused (stored.BadKind kind) is = layout_first (stored.BadKind kind) is
@@ -560,7 +560,7 @@ module _ (desk : DeskState) (allowed : IsAllowed desk Layout) where
     layout_none : store.fault housed (store.set_policies link_changes housed) ≡ None → fault desk Layout ≡ commit_limit desk.commit
     layout_none is =
         layout_at
-        ∙ settles_none (find (λ name. not (has_bucket name housed)) (flat_map named_by link_changes)) false None (desk.commit == LAST_COMMIT)
+        ∙ settles_none (find (λ name. not (has_bucket name housed)) (flat_map named_by link_changes)) false None (desk.commit == last_commit)
         (nat_lt most_buckets (length (with_changes link_changes housed).buckets))
         (nat_lt most_policies (length (with_changes link_changes housed).policies))
         (find (is_on_cycle (with_changes link_changes housed)) (map (λ (heading : Heading). heading.name) (with_changes link_changes housed).buckets)) is

@@ -9,7 +9,7 @@ use Rattle.app_registry.specs.Rules.{IsRegistry}
 use Rattle.rule_templates.specs.Template.{is_template}
 use Rattle.desk_state.specs.DeskState.{DeskState}
 use Rattle.desk_state.specs.Layout.{built_in, is_managed, settled}
-use Rattle.desk_state.specs.declared.desks.TheConstants.{LAST_COMMIT}
+use Rattle.desk_state.specs.Limits.{last_commit}
 
 -- without a layout: none of its buckets is there, and there are no users and no installs
 pub record IsBare (desk : DeskState) : Type 0 where
@@ -29,5 +29,5 @@ pub record IsDesk (desk : DeskState) : Type 0 where
   pub database : IsWellFormed desk.database
   pub registry : IsRegistry desk.registry.users desk.registry.installs
   pub template : IsTrue (is_template desk.template)
-  pub commit : desk.commit ≤ LAST_COMMIT
+  pub commit : desk.commit ≤ last_commit
   pub layout : IsBare desk ⊎ IsLaidOut desk

@@ -1,3 +1,4 @@
+pub mod Limits
 pub mod DeskState
 pub mod Layout
 pub mod Next

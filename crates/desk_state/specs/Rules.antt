@@ -16,7 +16,7 @@ use Rattle.desk_state.specs.Layout.{is_built_in, is_managed, has_layout}
 use Rattle.desk_state.specs.Next.{request}
 use Rattle.desk_state.specs.declared.commands.Command.{Command}
 use Rattle.desk_state.specs.declared.commands.Command.TheVariants.{SetBucket, RemoveBucket, SetPolicies, Erase, Layout, UserSet, UserRemove, Install, Uninstall}
-use Rattle.desk_state.specs.declared.desks.TheConstants.{LAST_COMMIT}
+use Rattle.desk_state.specs.Limits.{last_commit}
 use Rattle.desk_state.specs.declared.refusals.Refusal.{Refusal}
 use Rattle.desk_state.specs.declared.refusals.Refusal.TheVariants.{Reserved, LayoutThere, NoLayout, NoBucket, RootBucket, BadKind, UnknownUser, OtherPackage, OtherAuthor, NotInstalled, Limit, Cycle, Memory}
 
@@ -83,7 +83,7 @@ registry_limit lists (Install install) = registry.installs_limit (with_install l
 registry_limit lists command = None
 
 abbrev pub commit_limit : ℕ → Option Refusal
-commit_limit commit = if commit == LAST_COMMIT then Some (Limit Commits LAST_COMMIT) else None
+commit_limit commit = if commit == last_commit then Some (Limit Commits last_commit) else None
 
 -- ---- the order
 

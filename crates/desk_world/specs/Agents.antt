@@ -13,7 +13,7 @@ use Rattle.desk_world.specs.declared.links.Link.{Link}
 use Rattle.desk_world.specs.declared.links.Reading.{Reading}
 use Rattle.desk_world.specs.declared.links.Reading.TheVariants.{Nothing, Ready, Due, Waiting}
 use Rattle.desk_world.specs.declared.replies.Reply.TheVariants.{NoAgent, AgentFull}
-use Rattle.desk_world.specs.declared.refusals.TheConstants.{MOST_WAITING, MOST_ENTRIES}
+use Rattle.desk_world.specs.Limits.{most_waiting, most_entries}
 
 abbrev pub has_agent : ℕ → World → Bool
 has_agent kind world = list_any (λ other. other == kind) world.agents
@@ -48,10 +48,10 @@ waiting_in run links = count_by (λ (link : Link). link.run == run && is_waiting
 -- The table takes the question, or refuses it at a limit: of questions that wait, or of numbers in a run. The limit of
 -- those that wait may bite or not, since the table counts a question until its worker takes the answer.
 abbrev pub fits : Option ℕ → World → Bool
-fits None world = nat_lt (count_of world.run world.entries) MOST_ENTRIES
+fits None world = nat_lt (count_of world.run world.entries) most_entries
 fits (Some most) world =
-    (most == MOST_WAITING && nat_le MOST_WAITING (waiting_in world.run world.links))
-    || (most == MOST_ENTRIES && count_of world.run world.entries == MOST_ENTRIES)
+    (most == most_waiting && nat_le most_waiting (waiting_in world.run world.links))
+    || (most == most_entries && count_of world.run world.entries == most_entries)
 
 abbrev pub new_entry : ℕ → Question → Kind → ℕ → World → AgentEntry
 new_entry ask question kind commit world = record {

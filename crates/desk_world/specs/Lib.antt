@@ -1,3 +1,4 @@
+pub mod Limits
 pub mod Client
 pub mod World
 pub mod Clients

@@ -3,7 +3,7 @@
 ghost use Rattle.std.specs.Prelude.{◌≡◌, not};
 ghost use Rattle.std.specs.List.{list_all};
 ghost use Rattle.cynara_keys.specs.Text.{is_visible, is_word_byte};
-ghost use Rattle.cynara_keys.specs.declared.limits.TheConstants.{MOST_NAME_BYTES, MOST_BUCKET_NAME_BYTES, MOST_METADATA_BYTES};
+ghost use Rattle.cynara_keys.specs.Limits.{most_name_bytes, most_bucket_name_bytes, most_metadata_bytes};
 ghost use Rattle.smack_rules.specs.Label.{is_label_byte};
 ghost use Rattle.smack_rules.specs.Modes.{is_mode_byte};
 ghost use Rattle.app_registry.specs.Ident.{is_ident_byte, begins_with_mark};

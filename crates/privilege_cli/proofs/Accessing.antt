@@ -13,7 +13,7 @@ use Rattle.privilege_cli.specs.parts.Local.{counts_source, counts_sink}
 use Rattle.privilege_cli.specs.parts.Runs.{WritesBefore}
 use Rattle.privilege_cli.specs.Program.{Reads}
 use Rattle.desk_ports.specs.Disk.{DiskState}
-use Rattle.privilege_cli.specs.declared.limits.TheConstants.{MOST_RULES_BYTES}
+use Rattle.privilege_cli.specs.Limits.{most_rules_bytes}
 use Rattle.privilege_cli.specs.declared.ending.Ending.{Ending}
 use Rattle.privilege_cli.specs.declared.ending.Ending.TheVariants.{Done, Memory, Words, Line, Source, Sink, Disk, Damaged}
 use Rattle.privilege_cli.proofs.Hads.{Took-Had}
@@ -38,7 +38,7 @@ module _ (left left_after : Option (List ℕ)) (text : List ℕ) (read : IsRead 
   pub IsWrongInput-text : (number : ℕ) → IsWrongAt text number → IsWrongInput left left_after number
   IsWrongInput-text number wrong =
       let had = Took-Had left left_after text read.took in
-      let through = either (nat_lt MOST_RULES_BYTES (length text)) refl had.0 had.2 in
+      let through = either (nat_lt most_rules_bytes (length text)) refl had.0 had.2 in
       record {
         input = text ++ had.0;
         rest = had.0;
@@ -47,10 +47,10 @@ module _ (left left_after : Option (List ℕ)) (text : List ℕ) (read : IsRead 
         wrong = wrong had.0 (λ within. had.2 (read.end within));
       }
     where
-      either : (past : Bool) → nat_lt MOST_RULES_BYTES (length text) ≡ past → (rest : List ℕ) → (ReadToEnd left left_after → rest ≡ [])
+      either : (past : Bool) → nat_lt most_rules_bytes (length text) ≡ past → (rest : List ℕ) → (ReadToEnd left left_after → rest ≡ [])
           → IsReadThrough (text ++ rest) rest
-      either true is rest none = inr (omega (arith, ltb-true MOST_RULES_BYTES (length text) is, length-append text rest))
-      either false is rest none = inl (none (read.end (ltb-false MOST_RULES_BYTES (length text) is)))
+      either true is rest none = inr (omega (arith, ltb-true most_rules_bytes (length text) is, length-append text rest))
+      either false is rest none = inl (none (read.end (ltb-false most_rules_bytes (length text) is)))
 
 module _ (left left_after taken taken_after : Option (List ℕ)) (reads reads_after faults faults_after : ℕ)
     (disk : Option DiskState) (moment disk_faults : ℕ) (subject object : List ℕ) (asked : Modes) where

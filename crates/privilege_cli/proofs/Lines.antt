@@ -9,7 +9,7 @@ use Rattle.line_script.specs.Grammar.{step_at}
 use Rattle.line_script.specs.declared.steps.Step.{Step}
 use Rattle.privilege_cli.specs.Script.{Script, line_step, with_step, read_lines}
 use Rattle.privilege_cli.specs.parts.Progress.{with_steps}
-use Rattle.privilege_cli.specs.declared.limits.TheConstants.{MOST_LINE_BYTES}
+use Rattle.privilege_cli.specs.Limits.{most_line_bytes}
 
 -- a piece is the first of a text, where it ends with a newline or nothing follows
 pub pieces_of-piece : (line piece more : List ℕ) → IsPieceOf line piece → (HasNoNewline piece → more ≡ [])
@@ -58,7 +58,7 @@ stops_at number = record { steps = []; stands = Err number }
 module _ (number room : ℕ) (block : Block) (piece : List ℕ) (pieces : List (List ℕ)) where
   -- the first line has this step
   pub read_lines-step : (line : List ℕ) (next : Block) (step : Step) → line_of piece ≡ line → length piece ≤ room
-      → length line ≤ MOST_LINE_BYTES → step_at block line ≡ Some (next, step)
+      → length line ≤ most_line_bytes → step_at block line ≡ Some (next, step)
       → read_lines number block (lines_within room (piece ∷ pieces))
       ≡ with_step step (read_lines (number + 1) next (lines_within (room - length piece) pieces))
   read_lines-step line next step is within short reads =
@@ -67,7 +67,7 @@ module _ (number room : ℕ) (block : Block) (piece : List ℕ) (pieces : List (
       λ read. option_map_or (λ read. with_step read.1 (read_lines (number + 1) read.0 later)) read (stops_at number) in
       ap (λ past. read_lines number block (cond past (None ∷ []) (Some (line_of piece) ∷ later))) (le-ltb room (length piece) within)
       ∙ (ap (λ line. behind (line_step block (Some line))) is
-      ∙ (ap (λ long. behind (cond long None (step_at block line))) (le-ltb MOST_LINE_BYTES (length line) short)
+      ∙ (ap (λ long. behind (cond long None (step_at block line))) (le-ltb most_line_bytes (length line) short)
       ∙ ap behind reads))
 
   -- the first line has no step
@@ -85,17 +85,17 @@ module _ (number room : ℕ) (block : Block) (piece : List ℕ) (pieces : List (
           (stops_at number)) none
 
   -- the first line is past a limit
-  pub read_lines-past : (room < length piece) ⊎ (MOST_LINE_BYTES < length (line_of piece))
+  pub read_lines-past : (room < length piece) ⊎ (most_line_bytes < length (line_of piece))
       → read_lines number block (lines_within room (piece ∷ pieces)) ≡ stops_at number
   read_lines-past (inl past) =
       ap (λ past. read_lines number block (cond past (None ∷ []) (Some (line_of piece) ∷ lines_within (room - length piece) pieces)))
       (lt-ltb room (length piece) past)
   read_lines-past (inr long) =
       read_lines-none
-      (ap (λ long. cond long None (step_at block (line_of piece))) (lt-ltb MOST_LINE_BYTES (length (line_of piece)) long))
+      (ap (λ long. cond long None (step_at block (line_of piece))) (lt-ltb most_line_bytes (length (line_of piece)) long))
 
 pub line_step-none : (block : Block) (line : List ℕ) → step_at block line ≡ None → line_step block (Some line) ≡ None
-line_step-none block line none = either (nat_lt MOST_LINE_BYTES (length line))
+line_step-none block line none = either (nat_lt most_line_bytes (length line))
   where
     either : (long : Bool) → cond long None (step_at block line) ≡ None
     either true = refl

@@ -14,7 +14,7 @@ use Rattle.privilege_cli.specs.Script.{read_script, read_lines, replies, state_a
 use Rattle.privilege_cli.specs.LocalRun.{AreInTurn}
 use Rattle.privilege_cli.specs.parts.Local.{AnswersNext, Gives}
 use Rattle.privilege_cli.specs.parts.Progress.{Progress, Goes, IsOver, with_steps}
-use Rattle.privilege_cli.specs.declared.limits.TheConstants.{MOST_LINE_BYTES, MOST_SCRIPT_BYTES}
+use Rattle.privilege_cli.specs.Limits.{most_line_bytes, most_script_bytes}
 use Rattle.privilege_cli.specs.declared.local_script.LocalScript.{LocalScript}
 use Rattle.privilege_cli.proofs.Lines.{pieces_of-piece, line_of-piece, length-piece, read_lines-step, with_steps-step}
 use Rattle.privilege_cli.proofs.Hads.{ReadToEnd-still}
@@ -24,7 +24,7 @@ use Rattle.privilege_cli.proofs.Steps.{state_after-then, replies-next, in-turn-n
 pub Goes-start : (Kept : List Step → Type 0) (start : DeskState) (left taken : Option (List ℕ)) (now : LocalScript)
     → now.reader ≡ outside → now.answers ≡ [] → Kept []
     → Goes Kept start left left taken taken now start
-    (record { line = []; number = 0; waiting = []; room = MOST_SCRIPT_BYTES; longest = MOST_LINE_BYTES; is_ended = false })
+    (record { line = []; number = 0; waiting = []; room = most_script_bytes; longest = most_line_bytes; is_ended = false })
 Goes-start Kept start left taken now reader none kept = (
   record {
     lines = [];
@@ -33,7 +33,7 @@ Goes-start Kept start left taken now reader none kept = (
     took = Took-nothing left;
     appended = Appended-none taken;
     whole = inl (inl refl);
-    read = λ more may. ap (λ block. read_lines 1 block (lines_within MOST_SCRIPT_BYTES (pieces_of more))) (sym reader);
+    read = λ more may. ap (λ block. read_lines 1 block (lines_within most_script_bytes (pieces_of more))) (sym reader);
     answered = sym none;
     state = refl;
     in_turn = in-turn-none start [];

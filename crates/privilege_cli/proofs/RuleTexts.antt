@@ -13,7 +13,7 @@ use Rattle.smack_rules.specs.declared.modes.Modes.{Modes}
 use Rattle.smack_rules.specs.Effective.{effective}
 use Rattle.smack_rules.specs.RuleText.{with_front, with_line, rules_from, rules_of}
 use Rattle.privilege_cli.specs.AccessRun.{rules_of as rules_of_lines, rules_read}
-use Rattle.privilege_cli.specs.declared.limits.TheConstants.{MOST_RULES_BYTES}
+use Rattle.privilege_cli.specs.Limits.{most_rules_bytes}
 use Rattle.privilege_cli.specs.parts.Access.{AreLinesOf, IsWrongAt, AreGranted}
 use Rattle.privilege_cli.proofs.Trying.{IsCut-take}
 
@@ -206,27 +206,27 @@ right-then P (Ok rules) later number right is = ap (with_front rules) is
 right-then P (Err line) later number right is = absurd right
 
 -- the lines within the limit are rules, so that the one behind them is the first that is wrong
-pub IsWrongAt-past : (count : ℕ) (text lines : List ℕ) (P : List Rule → Type 0) → MOST_RULES_BYTES < length text
-    → AreLinesOf (take MOST_RULES_BYTES text) lines count
+pub IsWrongAt-past : (count : ℕ) (text lines : List ℕ) (P : List Rule → Type 0) → most_rules_bytes < length text
+    → AreLinesOf (take most_rules_bytes text) lines count
     → IsOkAnd (rules_of lines) P → IsWrongAt text (count + 1)
 IsWrongAt-past count text lines P past are right =
-    λ more none. over MOST_RULES_BYTES count text lines more past are
+    λ more none. over most_rules_bytes count text lines more past are
     ∙ right-then P (rules_of lines) (Err (count + 1)) (count + 1) right refl
 
 -- a line within the limit is wrong
-pub IsWrongAt-before : (count line : ℕ) (text lines : List ℕ) → MOST_RULES_BYTES < length text
-    → AreLinesOf (take MOST_RULES_BYTES text) lines count
+pub IsWrongAt-before : (count line : ℕ) (text lines : List ℕ) → most_rules_bytes < length text
+    → AreLinesOf (take most_rules_bytes text) lines count
     → rules_of lines ≡ Err line → IsWrongAt text line
 IsWrongAt-before count line text lines past are wrong =
-    λ more none. over MOST_RULES_BYTES count text lines more past are ∙ ap (λ rules. then_rules rules (Err (count + 1))) wrong
+    λ more none. over most_rules_bytes count text lines more past are ∙ ap (λ rules. then_rules rules (Err (count + 1))) wrong
 
 -- a line of a text within the limit is wrong
-IsWrongAt-within : (line : ℕ) (text : List ℕ) → length text ≤ MOST_RULES_BYTES → rules_of text ≡ Err line → IsWrongAt text line
+IsWrongAt-within : (line : ℕ) (text : List ℕ) → length text ≤ most_rules_bytes → rules_of text ≡ Err line → IsWrongAt text line
 IsWrongAt-within line text within wrong =
     λ more none. ap (λ more. rules_read (text ++ more)) (none within)
-    ∙ (ap rules_read (append-nil text) ∙ (rules_within-all MOST_RULES_BYTES text within ∙ wrong))
+    ∙ (ap rules_read (append-nil text) ∙ (rules_within-all most_rules_bytes text within ∙ wrong))
 
-granted_by : (text subject object : List ℕ) (granted : Modes) (rules : Result (List Rule) ℕ) → length text ≤ MOST_RULES_BYTES
+granted_by : (text subject object : List ℕ) (granted : Modes) (rules : Result (List Rule) ℕ) → length text ≤ most_rules_bytes
     → rules_read text ≡ rules → IsOkAnd rules (λ rules. granted ≡ effective rules subject object)
     → AreGranted text subject object granted
 granted_by text subject object granted (Ok rules) within is grants =
@@ -234,12 +234,12 @@ granted_by text subject object granted (Ok rules) within is grants =
 granted_by text subject object granted (Err line) within is grants = absurd grants
 
 -- what one pass over a text within the limit gives
-pub AreGranted-within : (text subject object : List ℕ) → length text ≤ MOST_RULES_BYTES → (result : Result Modes ℕ)
+pub AreGranted-within : (text subject object : List ℕ) → length text ≤ most_rules_bytes → (result : Result Modes ℕ)
     → IfOk result (λ granted. IsOkAnd (rules_of text) (λ rules. granted ≡ effective rules subject object))
     → IfErr result (λ number. rules_of text ≡ Err number)
     → MatchResult result (AreGranted text subject object) (IsWrongAt text)
 AreGranted-within text subject object within (Ok granted) grants wrong =
-    granted_by text subject object granted (rules_of text) within (rules_within-all MOST_RULES_BYTES text within) grants
+    granted_by text subject object granted (rules_of text) within (rules_within-all most_rules_bytes text within) grants
 AreGranted-within text subject object within (Err number) grants wrong = IsWrongAt-within number text within wrong
 
 -- ---- the whole lines of a text

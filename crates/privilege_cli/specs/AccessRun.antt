@@ -10,7 +10,7 @@ use Rattle.smack_rules.specs.Decision.{decision}
 use Rattle.privilege_cli.specs.Reply.{decided_text}
 use Rattle.privilege_cli.specs.declared.ending.Ending.{Ending}
 use Rattle.privilege_cli.specs.declared.ending.Ending.TheVariants.{Done, Memory, Line, Source, Sink}
-use Rattle.privilege_cli.specs.declared.limits.TheConstants.{MOST_RULES_BYTES}
+use Rattle.privilege_cli.specs.Limits.{most_rules_bytes}
 
 -- the rules of these lines, the first of which has this number, or the number of the first that is no rule
 abbrev pub rules_of : ℕ → List (Option (List ℕ)) → Result (List Rule) ℕ
@@ -20,7 +20,7 @@ rules_of number (Some line ∷ lines) = with_line number (line_rule line) (rules
 
 -- the rules of a text, or the number of its first wrong line
 abbrev pub rules_read : List ℕ → Result (List Rule) ℕ
-rules_read text = rules_of 1 (lines_within MOST_RULES_BYTES (pieces_of text))
+rules_read text = rules_of 1 (lines_within most_rules_bytes (pieces_of text))
 
 -- the input was read to its end, and this is the answer to a request under its rules
 pub record IsDecided (subject object : List ℕ) (asked : Modes) (input left answer : List ℕ) : Type 0 where
@@ -31,7 +31,7 @@ pub record IsDecided (subject object : List ℕ) (asked : Modes) (input left ans
 
 -- the input was read to its end, or past the longest text of rules
 abbrev pub IsReadThrough : List ℕ → List ℕ → Type 0
-IsReadThrough input left = (left ≡ []) ⊎ (length left + MOST_RULES_BYTES < length input)
+IsReadThrough input left = (left ≡ []) ⊎ (length left + most_rules_bytes < length input)
 
 -- The input, what is left of it, and the answer, for each way in which the run ends.
 abbrev pub AccessAnswers : List ℕ → List ℕ → Modes → Ending → List ℕ → List ℕ → List ℕ → Type 0

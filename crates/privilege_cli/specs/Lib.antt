@@ -1,3 +1,4 @@
+pub mod Limits
 pub mod Program
 pub mod Ending
 pub mod Outside

@@ -11,7 +11,7 @@ use Rattle.line_script.specs.declared.steps.Step.TheVariants as step
 use Rattle.privilege_cli.specs.Script.{read_script, wrong_line, replies, state_after}
 use Rattle.privilege_cli.specs.Outside.{Outside, Had}
 use Rattle.privilege_cli.specs.Folder.{RefusesFolder, KeepsFolder}
-use Rattle.privilege_cli.specs.declared.limits.TheConstants.{MOST_LINE_BYTES}
+use Rattle.privilege_cli.specs.Limits.{most_line_bytes}
 use Rattle.privilege_cli.specs.declared.ending.Ending.{Ending}
 use Rattle.privilege_cli.specs.declared.ending.Ending.TheVariants.{Done, Memory, Words, Line, Source, Sink, Disk, Damaged}
 
@@ -31,7 +31,7 @@ pub record ReadsLines (input left : List ℕ) (steps : List Step) : Type 0 where
 pub record ReadsAllLines (input left : List ℕ) (steps : List Step) : Type 0 where
   pub reads : ReadsLines input left steps
   pub unfinished : HasNoNewline reads.behind
-  pub short : length reads.behind ≤ MOST_LINE_BYTES
+  pub short : length reads.behind ≤ most_line_bytes
 
 -- The input, what is left of it, and the steps that were read, for each way in which the run ends.
 abbrev pub HasRead : Ending → List ℕ → List ℕ → List Step → Type 0

@@ -8,7 +8,7 @@ use Rattle.line_script.specs.Turn.{is_in_block}
 use Rattle.line_script.specs.declared.steps.Step.{Step}
 use Rattle.desk_state.specs.DeskState.{DeskState}
 use Rattle.privilege_cli.specs.Reply.{reply, after}
-use Rattle.privilege_cli.specs.declared.limits.TheConstants.{MOST_LINE_BYTES, MOST_SCRIPT_BYTES}
+use Rattle.privilege_cli.specs.Limits.{most_line_bytes, most_script_bytes}
 
 -- where the reading of a script stands behind a line: in which block, and the number of the line that comes next
 pub record Standing : Type 0 where
@@ -24,7 +24,7 @@ pub record Script : Type 0 where
 -- where the line is longer than a line may be, or where it is outside the grammar.
 abbrev pub line_step : Block → Option (List ℕ) → Option (Block × Step)
 line_step block None = None
-line_step block (Some line) = if nat_lt MOST_LINE_BYTES (length line) then None else step_at block line
+line_step block (Some line) = if nat_lt most_line_bytes (length line) then None else step_at block line
 
 -- a script with this step before its other ones
 abbrev pub with_step : Step → Script → Script
@@ -41,7 +41,7 @@ read_lines number block (line ∷ lines) =
 
 -- what the bytes of a script say
 abbrev pub read_script : List ℕ → Script
-read_script bytes = read_lines 1 outside (lines_within MOST_SCRIPT_BYTES (pieces_of bytes))
+read_script bytes = read_lines 1 outside (lines_within most_script_bytes (pieces_of bytes))
 
 -- the number of the first wrong line of a whole script; one that ends within a block is wrong behind its last line
 abbrev pub wrong_at : Result Standing ℕ → Option ℕ

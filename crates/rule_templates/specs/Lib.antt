@@ -1,3 +1,4 @@
+pub mod Limits
 pub mod Expansion
 pub mod PackageLabels
 pub mod Placeholder

@@ -2,7 +2,7 @@
 use Rattle.std.specs.Prelude.{ℕ, ◌+◌, Bool, ◌&&◌, nat_lt, nat_le, List, [], ◌∷◌, ◌++◌, length, Result, Ok, Err, if◌then◌else◌}
 use Rattle.std.specs.List.{list_all, flat_map}
 use Rattle.text_lines.specs.Lines.{lines_of}
-use Rattle.rule_templates.specs.declared.templates.TheConstants.{LINE_LIMIT}
+use Rattle.rule_templates.specs.Limits.{most_template_lines}
 use Rattle.rule_templates.specs.declared.lines.TemplateLine.{TemplateLine}
 use Rattle.rule_templates.specs.declared.lines.LineFault.{LineFault}
 use Rattle.rule_templates.specs.declared.lines.LineFault.TheVariants.{Form, UnknownPlaceholder}
@@ -20,7 +20,7 @@ abbrev pub with_line : ℕ → Result TemplateLine LineFault → Result (List Te
     → Result (List TemplateLine) TemplateRefusal
 with_line number (Err Form) later = Err (BadLine number)
 with_line number (Err UnknownPlaceholder) later = Err (BadPlaceholder number)
-with_line number (Ok line) later = if nat_lt LINE_LIMIT number then Err (TooMany number) else with_front (line ∷ []) later
+with_line number (Ok line) later = if nat_lt most_template_lines number then Err (TooMany number) else with_front (line ∷ []) later
 
 -- the lines of a template, numbered from a number on
 abbrev pub template_from : ℕ → List (List ℕ) → Result (List TemplateLine) TemplateRefusal
@@ -37,11 +37,11 @@ template_text lines = flat_map (λ line. line_text line ++ 10 ∷ []) lines
 
 -- what a template is: at most 64 lines of labels without `~` at the front, and of placeholders
 abbrev pub is_template : List TemplateLine → Bool
-is_template lines = nat_le (length lines) LINE_LIMIT && list_all is_kept_line lines
+is_template lines = nat_le (length lines) most_template_lines && list_all is_kept_line lines
 
 -- a further line would be one too many
 abbrev pub is_full : List TemplateLine → Bool
-is_full lines = nat_lt LINE_LIMIT (length lines + 1)
+is_full lines = nat_lt most_template_lines (length lines + 1)
 
 -- the lines of a template and one more line, or why it is none
 abbrev pub with_one_more : List TemplateLine → List ℕ → Result (List TemplateLine) TemplateRefusal

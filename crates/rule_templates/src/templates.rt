@@ -1,5 +1,6 @@
 //! Templates.
 
+ghost use Rattle.rule_templates.specs.Limits.{most_template_lines};
 ghost use Rattle.std.specs.Prelude.{◌≡◌, ◌≤◌, Some, List, Result, Ok, Err, IsOk, IsTrue, IfOk, IfErr, OnOk, MatchOption, MatchResult};
 ghost use Rattle.std.specs.Option.{option_copied};
 ghost use Rattle.rule_templates.specs.declared.lines.TemplateLine.{TemplateLine};
@@ -220,7 +221,7 @@ fn fault_of(text: &[u8]) -> Option<TemplateRefusal>
 fn test_line(line: &[u8], number: u32) -> Result<Parts<'_>, TemplateRefusal>
     ensures words { IfOk result (λ parts.
         line_of line.now ≡ line_with (word_of parts.subject.now) (word_of parts.object.now) (Some parts.change)) }
-    ensures within { OnOk result (number ≤ LINE_LIMIT) }
+    ensures within { OnOk result (number ≤ most_template_lines) }
     // Whatever lines come later.
     ensures refused { IfErr result (λ refusal. (later : Result (List TemplateLine) TemplateRefusal)
         → with_line number (line_of line.now) later ≡ Err refusal) }

@@ -2,7 +2,7 @@
 
 ghost use Rattle.std.specs.Prelude.{◌≡◌, IfOk};
 ghost use Rattle.rule_templates.specs.Template.{template_text};
-ghost use Rattle.rule_templates.specs.Usual.{usual_template};
+ghost use Rattle.rule_templates.specs.Usual.{usual_template, usual_text};
 
 use crate::templates::{Template, TemplateRefusal};
 use std::alloc::{AllocError, Global};
@@ -24,7 +24,7 @@ impl Template {
     /// The default template, which is what [`USUAL_TEXT`] spells and is spelled as that text.
     pub fn usual(alloc: Global) -> Result<Template, AllocError>
         ensures usual { IfOk result (λ template. template ≡ usual_template) }
-        ensures text { IfOk result (λ template. template_text template ≡ USUAL_TEXT.now) }
+        ensures text { IfOk result (λ template. template_text template ≡ usual_text) }
     {
         match Template::read(alloc, USUAL_TEXT) {
             Ok(template) => Ok(template),

@@ -15,7 +15,7 @@ use Rattle.app_registry.specs.Refusal.{over}
 use Rattle.app_registry.specs.Registry.{packages, grant_count}
 use Rattle.app_registry.specs.declared.installs.Install.{Install}
 use Rattle.app_registry.specs.declared.refusals.RegistryRefusal.TheVariants.{Limit}
-use Rattle.app_registry.specs.declared.refusals.TheConstants.{PACKAGE_LIMIT, INSTALL_LIMIT, GRANT_LIMIT}
+use Rattle.app_registry.specs.Limits.{most_packages, most_installs, most_grants}
 use Rattle.app_registry.proofs.Counts.{or-none}
 use Rattle.set_text.specs.Lines.{last_of}
 use Rattle.set_text.specs.declared.registries.Counts.{Counts}
@@ -146,16 +146,16 @@ within counted most count fits = ltb-false _ _ (by (ltb most count) fits)
     by false h = refl
 
 pub record AreFew (counts : Counts) (count : ℕ) : Type 0 where
-  pub few_packages : counts.packages ≤ PACKAGE_LIMIT
-  pub few_installs : count ≤ INSTALL_LIMIT
-  pub few_grants : counts.grants ≤ GRANT_LIMIT
+  pub few_packages : counts.packages ≤ most_packages
+  pub few_installs : count ≤ most_installs
+  pub few_grants : counts.grants ≤ most_grants
 
 pub counts-few : (counts : Counts) (installs : ℕ) → counts_limit counts installs ≡ None → AreFew counts installs
 counts-few counts installs fits =
-    let first = or-none (over Packages PACKAGE_LIMIT counts.packages) _ fits in
-    let second = or-none (over Installs INSTALL_LIMIT installs) _ first.1 in
+    let first = or-none (over Packages most_packages counts.packages) _ fits in
+    let second = or-none (over Installs most_installs installs) _ first.1 in
     record {
-      few_packages = within Packages PACKAGE_LIMIT counts.packages first.0;
-      few_installs = within Installs INSTALL_LIMIT installs second.0;
-      few_grants = within Grants GRANT_LIMIT counts.grants second.1;
+      few_packages = within Packages most_packages counts.packages first.0;
+      few_installs = within Installs most_installs installs second.0;
+      few_grants = within Grants most_grants counts.grants second.1;
     }

@@ -6,7 +6,7 @@ use Rattle.cynara_keys.specs.declared.limits.Counted.TheVariants.{Users}
 use Rattle.app_registry.specs.Registry.{user_cmp}
 use Rattle.app_registry.specs.Rules.{IsRegistry}
 use Rattle.app_registry.specs.declared.refusals.RegistryRefusal.TheVariants.{Limit}
-use Rattle.app_registry.specs.declared.refusals.TheConstants.{USER_LIMIT}
+use Rattle.app_registry.specs.Limits.{most_users}
 use Rattle.app_registry.specs.declared.users.User.{User}
 use Rattle.app_registry.proofs.Changes.{IsRegistry-fresh}
 use Rattle.app_registry.proofs.Orders.{user_total}
@@ -18,17 +18,17 @@ use Rattle.set_text.proofs.ReadingValues.{kept-some, values_of-keep}
 users-more : (before : List User) (user : User) → IsRegistry before [] → user_fits before user ≡ true
     → IsRegistry (before ++ user ∷ []) []
 users-more before user registry fits =
-    let parts = and_parts (rises_above user_cmp before user) (nat_lt (length before) USER_LIMIT) fits in
-    let room = ltb-true (length before) USER_LIMIT parts.1 in
-    let few : length (before ++ user ∷ []) ≤ USER_LIMIT = omega (arith, length-append before (user ∷ []), room) in
+    let parts = and_parts (rises_above user_cmp before user) (nat_lt (length before) most_users) fits in
+    let room = ltb-true (length before) most_users parts.1 in
+    let few : length (before ++ user ∷ []) ≤ most_users = omega (arith, length-append before (user ∷ []), room) in
     record {
       users_rise = sorted-above user_total before user registry.users_rise parts.0;
       installs_rise = registry.installs_rise;
       users_known = tt;
       one_package = tt;
       one_author = tt;
-      users_fit = ap (λ b. cond b (Some (Limit Users USER_LIMIT)) None)
-          (le-ltb USER_LIMIT (length (before ++ user ∷ [])) few);
+      users_fit = ap (λ b. cond b (Some (Limit Users most_users)) None)
+          (le-ltb most_users (length (before ++ user ∷ [])) few);
       installs_fit = registry.installs_fit;
     }
 

@@ -4,7 +4,7 @@ use Rattle.std.proofs.Common.{Err, refl, ap, ◌∙◌}
 use Rattle.std.proofs.lemmas.Bool.{true≢false}
 use Rattle.std.specs.List.{onto_first}
 use Rattle.text_lines.specs.Lines.{is_newline, HasNoNewline, pieces_of}
-use Rattle.desk_state.specs.declared.desks.TheConstants.{LAST_COMMIT}
+use Rattle.desk_state.specs.Limits.{last_commit}
 use Rattle.set_text.specs.Lines.{whole_line, whole_lines, values_behind, at_least_one}
 use Rattle.set_text.specs.Numbers.{decimal_of}
 use Rattle.set_text.specs.Stamp.{read_commit, commits_of}
@@ -18,7 +18,7 @@ commits-open (byte ∷ bytes) none =
     (values_behind-open read_commit [] (byte ∷ bytes) none (some-bytes (byte ∷ bytes) (some-length byte bytes)))
 
 pub commits-wrong : (text line rest : List ℕ) → text ≡ line ++ 10 ∷ rest → HasNoNewline line
-    → decimal_of LAST_COMMIT line ≡ None
+    → decimal_of last_commit line ≡ None
     → commits_of text ≡ Err 1
 commits-wrong text line rest is none wrong =
     ap at_least_one (values_behind-wrong read_commit [] text line rest is none wrong)
@@ -44,7 +44,7 @@ second-line commit None others = refl
 second-line commit (Some line) others = refl
 
 pub commits-more : (text line rest : List ℕ) (commit : ℕ) → text ≡ line ++ 10 ∷ rest → HasNoNewline line
-    → decimal_of LAST_COMMIT line ≡ Some commit → (length rest == 0) ≡ false → commits_of text ≡ Err 2
+    → decimal_of last_commit line ≡ Some commit → (length rest == 0) ≡ false → commits_of text ≡ Err 2
 commits-more text line [] commit is none gives more = absurd (true≢false more)
 commits-more text line (byte ∷ bytes) commit is none gives more =
     let next = some-line byte bytes in
@@ -52,7 +52,7 @@ commits-more text line (byte ∷ bytes) commit is none gives more =
     ∙ ap (values_behind read_commit (commit ∷ [])) next.2 ∙ second-line commit next.0 next.1)
 
 pub commits-one : (text line rest : List ℕ) (commit : ℕ) → text ≡ line ++ 10 ∷ rest → HasNoNewline line
-    → decimal_of LAST_COMMIT line ≡ Some commit → (length rest == 0) ≡ true → commits_of text ≡ Ok (commit ∷ [])
+    → decimal_of last_commit line ≡ Some commit → (length rest == 0) ≡ true → commits_of text ≡ Ok (commit ∷ [])
 commits-one text line rest commit is none gives done =
     ap at_least_one (values_behind-value read_commit [] text line rest commit is none gives
     ∙ values_behind-done read_commit (commit ∷ []) rest done)

@@ -13,7 +13,7 @@ use Rattle.app_registry.specs.Registry.{user_cmp}
 use Rattle.app_registry.specs.declared.installs.Install.{Install}
 use Rattle.app_registry.specs.declared.installs.Scope.{Scope}
 use Rattle.app_registry.specs.declared.installs.Scope.TheVariants.{Everyone, One}
-use Rattle.app_registry.specs.declared.refusals.TheConstants.{USER_LIMIT}
+use Rattle.app_registry.specs.Limits.{most_users}
 use Rattle.app_registry.specs.declared.users.User.{User}
 use Rattle.app_registry.specs.declared.users.UserType.{UserType}
 use Rattle.app_registry.specs.declared.users.UserType.TheVariants.{System, Admin, Normal, Guest}
@@ -118,7 +118,7 @@ install_of line = install_of_fields (fields_of line)
 
 -- The numbers rise, and there are no more users than there may be.
 abbrev pub user_fits : List User → User → Bool
-user_fits before user = rises_above user_cmp before user && nat_lt (length before) USER_LIMIT
+user_fits before user = rises_above user_cmp before user && nat_lt (length before) most_users
 
 abbrev pub read_user : List User → List ℕ → Option User
 read_user before line = kept (user_fits before) (user_of line)

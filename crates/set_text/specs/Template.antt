@@ -6,7 +6,7 @@ use Rattle.smack_rules.specs.Spelling.{rule_text}
 use Rattle.smack_rules.specs.declared.rule.Rule.{Rule}
 use Rattle.rule_templates.specs.TemplateLine.{line_of, line_text}
 use Rattle.rule_templates.specs.declared.lines.TemplateLine.{TemplateLine}
-use Rattle.rule_templates.specs.declared.templates.TheConstants.{LINE_LIMIT}
+use Rattle.rule_templates.specs.Limits.{most_template_lines}
 use Rattle.set_text.specs.Lines.{text_of, values_of, kept}
 
 abbrev pub load_text : List Rule → List ℕ
@@ -22,7 +22,7 @@ template_line_of text = spelt_line text (line_of text)
 
 -- There are no more lines than there may be.
 abbrev pub template_line_fits : List TemplateLine → TemplateLine → Bool
-template_line_fits before line = nat_lt (length before) LINE_LIMIT
+template_line_fits before line = nat_lt (length before) most_template_lines
 
 abbrev pub read_template_line : List TemplateLine → List ℕ → Option TemplateLine
 read_template_line before text = kept (template_line_fits before) (template_line_of text)

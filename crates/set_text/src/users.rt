@@ -5,7 +5,7 @@ ghost use Rattle.std.specs.List.{AllByRecursion};
 ghost use Rattle.set_text.specs.Numbers as numbers;
 ghost use Rattle.app_registry.specs.Registry.{user_cmp};
 ghost use Rattle.app_registry.specs.Rules.{IsRegistry};
-ghost use Rattle.app_registry.specs.declared.refusals.TheConstants.{USER_LIMIT};
+ghost use Rattle.app_registry.specs.Limits.{most_users};
 ghost use Rattle.set_text.specs.Lines.{rises_above};
 ghost use Rattle.set_text.specs.Registry as word;
 ghost use Rattle.set_text.specs.parts.Reads.{RefusesFile};
@@ -80,7 +80,7 @@ pub fn read_users(alloc: Global, text: &[u8]) -> Result<Vec<User>, FileFault>
 // Reads a line of `users`, behind these.
 fn read_user(before: &[User], line: &[u8]) -> Option<User>
     ensures read { result ≡ word.read_user before.now line.now }
-    ensures room { IsSome result → length before.now < USER_LIMIT }
+    ensures room { IsSome result → length before.now < most_users }
 {
     let Some(user) = user_of(line) else {
         return None;
@@ -143,7 +143,7 @@ fn type_of(text: &[u8]) -> Option<UserType>
 // Whether a user may stand behind these.
 fn user_fits(before: &[User], user: User) -> bool
     ensures fits { result ≡ word.user_fits before.now user }
-    ensures room { IsTrue result → length before.now < USER_LIMIT }
+    ensures room { IsTrue result → length before.now < most_users }
 {
     rises(before, user) && before.len() < USER_LIMIT
 }

@@ -1,7 +1,7 @@
 -- Labels, from the Linux kernel's Documentation/admin-guide/LSM/Smack; the refusal of `@` and `?` is this project's profile.
 use Rattle.std.specs.Prelude.{ℕ, Bool, false, ◌&&◌, ◌||◌, not, ◌==◌, nat_lt, nat_le, List, [], ◌∷◌, length, Option, Some, None, position, if◌then◌else◌}
 use Rattle.std.specs.Str.{bytes_eq}
-use Rattle.smack_rules.specs.declared.label.TheConstants.{MOST_LABEL_BYTES}
+use Rattle.smack_rules.specs.Limits.{most_label_bytes}
 use Rattle.smack_rules.specs.declared.label.LabelRefusal.{LabelRefusal}
 use Rattle.smack_rules.specs.declared.label.LabelRefusal.TheVariants.{Empty, TooLong, BadByte, Dash, Special}
 
@@ -30,5 +30,5 @@ byte_fault bytes None = form_fault bytes
 abbrev pub label_fault : List ℕ → Option LabelRefusal
 label_fault bytes =
     if length bytes == 0 then Some Empty
-    else (if nat_lt MOST_LABEL_BYTES (length bytes) then Some TooLong
+    else (if nat_lt most_label_bytes (length bytes) then Some TooLong
     else byte_fault bytes (position (λ byte. not (is_label_byte byte)) bytes))

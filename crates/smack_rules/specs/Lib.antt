@@ -1,3 +1,4 @@
+pub mod Limits
 pub mod Decision
 pub mod Effective
 pub mod Grants

@@ -3,7 +3,7 @@ use Rattle.std.specs.Prelude.{ℕ, Bool, true, false, not, ◌&&◌, ◌||◌, �
 use Rattle.std.specs.List.{list_any, list_all}
 use Rattle.std.specs.Char.{to_ascii_lowercase}
 use Rattle.smack_rules.specs.declared.modes.Modes.{Modes}
-use Rattle.smack_rules.specs.declared.modes.TheConstants.{MOST_MODE_WORD_BYTES}
+use Rattle.smack_rules.specs.Limits.{most_mode_word_bytes}
 
 -- the set of the letters that pass a test
 abbrev pub letters_that : (ℕ → Bool) → Modes
@@ -79,7 +79,7 @@ is_mode_byte byte = list_any (λ known. to_ascii_lowercase byte == known) mode_b
 
 -- letters or `-`, at least one and within the limit
 abbrev pub is_mode_word : List ℕ → Bool
-is_mode_word word = nat_le 1 (length word) && nat_le (length word) MOST_MODE_WORD_BYTES && list_all is_mode_byte word
+is_mode_word word = nat_le 1 (length word) && nat_le (length word) most_mode_word_bytes && list_all is_mode_byte word
 
 -- the set that a mode word names: the letters that stand in it
 abbrev pub modes_of : List ℕ → Option Modes

@@ -4,7 +4,7 @@ ghost use Rattle.std.specs.Prelude.{◌≡◌, ◌≤◌, length, IfOk, IfErr, I
 ghost use Rattle.std.specs.Option.{option_to_list};
 ghost use Rattle.smack_rules.specs.Effective.{effective, effective_from};
 ghost use Rattle.smack_rules.specs.RuleText.{rules_of};
-ghost use Rattle.smack_rules.specs.declared.table.TheConstants.{MOST_TEXT_BYTES};
+ghost use Rattle.smack_rules.specs.Limits.{most_text_bytes};
 
 use crate::label::Label;
 use crate::line_rule::LineRule;
@@ -14,7 +14,7 @@ use text_lines::split_line;
 /// What the rules of a text, a rule a line as [`crate::Rule::read_line`] takes it, give one pair of labels. One pass
 /// over the text, which takes no memory. Refused is the first line that is no rule, by its number from 1.
 pub fn modes_in_text(text: &[u8], subject: &Label, object: &Label) -> Result<Modes, u32>
-    requires { length text.now ≤ MOST_TEXT_BYTES }
+    requires { length text.now ≤ most_text_bytes }
     ensures modes { IfOk result (λ modes. IsOkAnd (rules_of text.now) (λ rules. modes ≡ effective rules subject.now object.now)) }
     ensures refused { IfErr result (λ number. rules_of text.now ≡ Err number) }
 {

@@ -68,7 +68,7 @@ impl Model for RuleTable {
 
 impl RuleTable {
     ghost use Rattle.std.specs.Prelude.{◌≡◌, ◌≤◌, Bool, IsTrue, IfOk, IfErr, length};
-    ghost use Rattle.smack_rules.specs.declared.table.TheConstants.{MOST_TEXT_BYTES};
+    ghost use Rattle.smack_rules.specs.Limits.{most_text_bytes};
     ghost use Rattle.smack_rules.specs.Modes.{is_request};
     ghost use Rattle.smack_rules.specs.Table.{granted};
     ghost use Rattle.smack_rules.specs.Decision.{decision};
@@ -91,7 +91,7 @@ impl RuleTable {
     /// line of another form, by the number, from 1, of its first such line, and then, for lack of memory, a text of
     /// rules. It costs as much as [`RuleTable::fold`].
     pub fn load(alloc: Global, text: &[u8]) -> Result<RuleTable, LoadRefusal>
-        requires { length text.now ≤ MOST_TEXT_BYTES }
+        requires { length text.now ≤ most_text_bytes }
         ensures loaded { LoadsAs result (rules_of text.now) }
         ensures refused { IfErr result (λ refusal. NamesFirstWrongLine refusal text.now) }
     {

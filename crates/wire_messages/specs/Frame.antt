@@ -10,7 +10,7 @@ use Rattle.wire_messages.specs.declared.refusals.WireRefusal.{WireRefusal}
 use Rattle.wire_messages.specs.declared.refusals.WireRefusal.TheVariants.{TooShort, TooLong, BadOperation, Trailing}
 use Rattle.wire_messages.specs.declared.refusals.EncodeRefusal.{EncodeRefusal}
 use Rattle.wire_messages.specs.declared.refusals.EncodeRefusal.TheVariants.{TooLong as TooLongFor, Memory as NoMemory}
-use Rattle.wire_messages.specs.declared.limits.TheConstants.{LEAST_LENGTH, MOST_LENGTH}
+use Rattle.wire_messages.specs.Limits.{least_length, most_length}
 use Rattle.wire_messages.specs.Left.{Left, Reading, place, ◌>>=◌, Refuses}
 use Rattle.wire_messages.specs.Format.{number}
 use Rattle.wire_messages.specs.Operation.{number_of, operation_of}
@@ -31,7 +31,7 @@ length_of bytes = from_be_bytes w32 (take 4 bytes)
 -- the fault of a length
 abbrev pub length_fault : ℕ → Option WireRefusal
 length_fault n =
-    if nat_lt n LEAST_LENGTH then Some (TooShort n) else (if nat_lt MOST_LENGTH n then Some (TooLong n) else None)
+    if nat_lt n least_length then Some (TooShort n) else (if nat_lt most_length n then Some (TooLong n) else None)
 
 -- the message of an operation, if the side knows it
 abbrev pub message_of : Option Operation → ℕ → Left → Reading Message
@@ -63,7 +63,7 @@ frame_of heard frame =
 
 -- the frame of the message would be longer than a frame may be, and this is its length
 abbrev pub IsTooLong : Framed → EncodeRefusal → Type 0
-IsTooLong framed (TooLongFor n) = (n ≡ length (body framed)) × (MOST_LENGTH < n)
+IsTooLong framed (TooLongFor n) = (n ≡ length (body framed)) × (most_length < n)
 IsTooLong framed (NoMemory error) = Unit {0}
 
 -- A call gives what is read. Want of memory says nothing of the bytes.

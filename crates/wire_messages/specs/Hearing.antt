@@ -2,7 +2,7 @@
 use Rattle.std.specs.Prelude.{◌≡◌, ◌<◌, ◌≤◌, ◌^◌, length, Some}
 use Rattle.wire_messages.specs.declared.messages.Framed.{Framed}
 use Rattle.wire_messages.specs.declared.operations.Heard.{Heard}
-use Rattle.wire_messages.specs.declared.limits.TheConstants.{MOST_LENGTH}
+use Rattle.wire_messages.specs.Limits.{most_length}
 use Rattle.wire_messages.specs.Operation.{number_of, operation_of}
 use Rattle.wire_messages.specs.Message.{operation}
 use Rattle.wire_messages.specs.Frame.{body}
@@ -14,4 +14,4 @@ pub record IsHeard (heard : Heard) (framed : Framed) : Type 0 where
   pub right : IsRight framed.message
   -- the side knows the operation
   pub known : operation_of heard (number_of (operation framed.message)) ≡ Some (operation framed.message)
-  pub short : length (body framed) ≤ MOST_LENGTH
+  pub short : length (body framed) ≤ most_length

@@ -1,3 +1,4 @@
+pub mod Limits
 pub mod Left
 pub mod Format
 pub mod Field

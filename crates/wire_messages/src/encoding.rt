@@ -1,3 +1,4 @@
+ghost use Rattle.wire_messages.specs.Limits.{most_length};
 ghost use Rattle.std.specs.Prelude.{◌≡◌, ◌≤◌, ◌++◌, ◌∷◌, [], length, IfOk, OnOk, IfErr, OnErr};
 ghost use Rattle.wire_messages.specs.Frame.{body, spelling, frame_of, IsTooLong};
 ghost use Rattle.wire_messages.specs.Hearing.{IsHeard};
@@ -17,7 +18,7 @@ pub fn encode(alloc: Global, framed: &Framed) -> Result<Bytes, EncodeRefusal>
     // What is spelled is read again, by the side that knows the operation.
     ensures again { IfOk result
         (λ frame. (heard : Heard) → IsHeard heard framed.now → frame_of heard frame ≡ Ok framed.now) }
-    ensures fits { OnOk result (length (body framed.now) ≤ MOST_LENGTH) }
+    ensures fits { OnOk result (length (body framed.now) ≤ most_length) }
     ensures refused { IfErr result (IsTooLong framed.now) }
 {
     let mut frame = Bytes::new(alloc);
@@ -30,7 +31,7 @@ pub fn encode(alloc: Global, framed: &Framed) -> Result<Bytes, EncodeRefusal>
 pub fn encode_into(frame: &mut Bytes, framed: &Framed) -> Result<(), EncodeRefusal>
     ensures spelled { OnOk result (frame.new ≡ spelling framed.now) }
     ensures emptied { OnErr result (frame.new ≡ []) }
-    ensures fits { OnOk result (length (body framed.now) ≤ MOST_LENGTH) }
+    ensures fits { OnOk result (length (body framed.now) ≤ most_length) }
     ensures refused { IfErr result (IsTooLong framed.now) }
 {
     frame.clear();

@@ -1,6 +1,6 @@
 // The fields of messages, read from the front of what is left of a frame.
 ghost use Rattle.std.specs.Prelude.{◌≡◌, ◌≤◌, None, IfOk, length};
-ghost use Rattle.cynara_keys.specs.declared.limits.TheConstants.{MOST_SHORT_BYTES};
+ghost use Rattle.cynara_keys.specs.Limits.{most_short_bytes};
 ghost use Rattle.cynara_keys.specs.Name.{name_fault};
 ghost use Rattle.cynara_keys.specs.Field.{field_fault};
 ghost use Rattle.wire_messages.specs.Left.{Gives, GivesText};
@@ -47,7 +47,7 @@ pub fn bucket(alloc: Global, fields: &mut Fields) -> Result<BucketName, WireRefu
 // the bytes of a bucket's name, which are not copied
 pub fn bucket_text<'a>(fields: &mut Fields<'a>) -> Result<&'a [u8], WireRefusal>
     ensures text { GivesText result fields.new (field.bucket.read fields.old) }
-    ensures short { IfOk result (λ text. length text.now ≤ MOST_SHORT_BYTES) }
+    ensures short { IfOk result (λ text. length text.now ≤ most_short_bytes) }
 {
     let place = fields.place();
     let text = fields.text()?;

@@ -1,5 +1,5 @@
 ghost use Rattle.std.specs.Prelude.{◌≡◌, ◌≤◌, IfOk, length};
-ghost use Rattle.cynara_keys.specs.declared.limits.TheConstants.{MOST_SHORT_BYTES};
+ghost use Rattle.cynara_keys.specs.Limits.{most_short_bytes};
 
 use crate::five_texts::FiveTexts;
 use bucket_eval::{Answer, Cause, Row, Verdict};
@@ -41,13 +41,13 @@ pub(crate) struct BorrowedRuling<'a> {
 impl<'a> Model for BorrowedRuling<'a> {
     ghost use Rattle.std.specs.Prelude.{◌≤◌, length};
     ghost use Rattle.cynara_keys.specs.PolicyResult.{Ruling};
-    ghost use Rattle.cynara_keys.specs.declared.limits.TheConstants.{MOST_SHORT_BYTES};
+    ghost use Rattle.cynara_keys.specs.Limits.{most_short_bytes};
 
     ghost Value = { Ruling };
 
     ghost view = { λ ruling. record { kind = ruling.kind.0; metadata = ruling.metadata.now } };
 
-    ghost invariant = { λ ruling. length ruling.metadata.now ≤ MOST_SHORT_BYTES };
+    ghost invariant = { λ ruling. length ruling.metadata.now ≤ most_short_bytes };
 }
 
 /// A verdict whose texts stand in one block of memory: the metadata, the bucket's name and those of the row. It takes no more
@@ -74,9 +74,9 @@ impl Model for PackedVerdict {
 impl<'a> BorrowedRow<'a> {
     /// The row of these texts.
     pub fn of(client: &'a [u8], user: &'a [u8], privilege: &'a [u8]) -> BorrowedRow<'a>
-        requires client { length client.now ≤ MOST_SHORT_BYTES }
-        requires user { length user.now ≤ MOST_SHORT_BYTES }
-        requires privilege { length privilege.now ≤ MOST_SHORT_BYTES }
+        requires client { length client.now ≤ most_short_bytes }
+        requires user { length user.now ≤ most_short_bytes }
+        requires privilege { length privilege.now ≤ most_short_bytes }
         ensures { result ≡ record { client = client.now; user = user.now; privilege = privilege.now } }
     {
         BorrowedRow {
@@ -89,7 +89,7 @@ impl<'a> BorrowedRow<'a> {
     /// The text of the client.
     pub fn client(&self) -> &'a [u8]
         ensures bytes { result.now ≡ self.now.client }
-        ensures short { length self.now.client ≤ MOST_SHORT_BYTES }
+        ensures short { length self.now.client ≤ most_short_bytes }
     {
         self.client
     }
@@ -97,7 +97,7 @@ impl<'a> BorrowedRow<'a> {
     /// The text of the user.
     pub fn user(&self) -> &'a [u8]
         ensures bytes { result.now ≡ self.now.user }
-        ensures short { length self.now.user ≤ MOST_SHORT_BYTES }
+        ensures short { length self.now.user ≤ most_short_bytes }
     {
         self.user
     }
@@ -105,7 +105,7 @@ impl<'a> BorrowedRow<'a> {
     /// The text of the privilege.
     pub fn privilege(&self) -> &'a [u8]
         ensures bytes { result.now ≡ self.now.privilege }
-        ensures short { length self.now.privilege ≤ MOST_SHORT_BYTES }
+        ensures short { length self.now.privilege ≤ most_short_bytes }
     {
         self.privilege
     }
@@ -113,7 +113,7 @@ impl<'a> BorrowedRow<'a> {
 
 impl<'a> BorrowedRuling<'a> {
     pub(crate) fn of(kind: Kind, metadata: &'a [u8]) -> BorrowedRuling<'a>
-        requires { length metadata.now ≤ MOST_SHORT_BYTES }
+        requires { length metadata.now ≤ most_short_bytes }
         ensures { result ≡ record { kind = kind.0; metadata = metadata.now } }
     {
         BorrowedRuling { kind, metadata }
@@ -129,7 +129,7 @@ impl PackedVerdict {
         bucket: &[u8],
         row: Option<BorrowedRow<'_>>,
     ) -> Result<PackedVerdict, AllocError>
-        requires { length bucket.now ≤ MOST_SHORT_BYTES }
+        requires { length bucket.now ≤ most_short_bytes }
         ensures { IfOk result (λ packed. packed ≡ record {
           commit = commit;
           answer = record {
@@ -208,7 +208,7 @@ impl PackedVerdict {
     /// The metadata of the result.
     pub fn metadata(&self) -> &[u8]
         ensures bytes { result.now ≡ self.now.answer.metadata }
-        ensures short { length self.now.answer.metadata ≤ MOST_SHORT_BYTES }
+        ensures short { length self.now.answer.metadata ≤ most_short_bytes }
     {
         self.texts.first()
     }
@@ -216,7 +216,7 @@ impl PackedVerdict {
     /// The name of the bucket that holds the answer.
     pub fn bucket(&self) -> &[u8]
         ensures bytes { result.now ≡ self.now.answer.cause.bucket }
-        ensures short { length self.now.answer.cause.bucket ≤ MOST_SHORT_BYTES }
+        ensures short { length self.now.answer.cause.bucket ≤ most_short_bytes }
     {
         self.texts.second()
     }

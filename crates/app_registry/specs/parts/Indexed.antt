@@ -6,7 +6,7 @@ use Rattle.std.specs.Ordering.{eq_by_cmp}
 use Rattle.cynara_keys.specs.Text.{text_cmp}
 use Rattle.app_registry.specs.Registry.{grant_count}
 use Rattle.app_registry.specs.declared.installs.Install.{Install}
-use Rattle.app_registry.specs.declared.refusals.TheConstants.{GRANT_LIMIT}
+use Rattle.app_registry.specs.Limits.{most_grants}
 
 -- whether the application is one of these
 abbrev pub is_among : List ℕ → List (List ℕ) → Bool
@@ -17,4 +17,4 @@ pub record IsIndexed (apps : List (List ℕ)) (granted : ℕ) (installs : List I
   pub rise : IsStrictlySortedBy text_cmp apps
   pub known : AllByRecursion (λ install. is_among install.app apps ≡ true) installs
   pub count : granted ≡ grant_count installs
-  pub few : granted ≤ GRANT_LIMIT
+  pub few : granted ≤ most_grants

@@ -17,7 +17,7 @@ use Rattle.desk_state.specs.Rules.{first_of, fault, Refuses, of_store, commit_li
 use Rattle.desk_state.specs.Layout.{has_layout, settled}
 use Rattle.desk_state.specs.declared.commands.Command.{Command}
 use Rattle.desk_state.specs.declared.desks.Applied.{Applied}
-use Rattle.desk_state.specs.declared.desks.TheConstants.{LAST_COMMIT}
+use Rattle.desk_state.specs.Limits.{last_commit}
 use Rattle.desk_state.specs.declared.refusals.Refusal.{Refusal}
 use Rattle.desk_state.specs.declared.refusals.Refusal.TheVariants.{NoBucket, RootBucket, BadKind, UnknownUser, OtherPackage, OtherAuthor, NotInstalled, Limit, Cycle, Memory}
 
@@ -38,7 +38,7 @@ pub record IsAllowed (desk : DeskState) (command : Command) : Type 0 where
 -- ---- refusals of the database and of the registry, where the commit number may be the last one
 
 abbrev pub or_last : ℕ → Refusal → Refusal
-or_last commit refusal = if commit == LAST_COMMIT then Limit Commits LAST_COMMIT else refusal
+or_last commit refusal = if commit == last_commit then Limit Commits last_commit else refusal
 
 abbrev pub stored_refusal : ℕ → StoreRefusal → Refusal
 stored_refusal commit (stored.Limit counted most) = or_last commit (Limit counted most)

@@ -3,12 +3,12 @@ use Rattle.std.specs.Prelude.{ℕ, Bool, true, false, not, ◌&&◌, ◌||◌, n
 use Rattle.cynara_keys.specs.Text.{same_text, is_visible, is_word_byte}
 use Rattle.cynara_keys.specs.Metadata.{is_metadata}
 use Rattle.cynara_keys.specs.PolicyResult.{is_agent, last_agent}
-use Rattle.cynara_keys.specs.declared.limits.TheConstants.{MOST_NAME_BYTES, MOST_BUCKET_NAME_BYTES}
-use Rattle.smack_rules.specs.declared.label.TheConstants.{MOST_LABEL_BYTES}
-use Rattle.smack_rules.specs.declared.modes.TheConstants.{MOST_MODE_WORD_BYTES}
+use Rattle.cynara_keys.specs.Limits.{most_name_bytes, most_bucket_name_bytes}
+use Rattle.smack_rules.specs.Limits.{most_label_bytes}
+use Rattle.smack_rules.specs.Limits.{most_mode_word_bytes}
 use Rattle.smack_rules.specs.Label.{is_label_byte, begins_with_dash}
 use Rattle.smack_rules.specs.Modes.{is_mode_byte, stands_in, letters_that, is_empty, modes_of}
-use Rattle.app_registry.specs.declared.idents.TheConstants.{IDENT_LIMIT}
+use Rattle.app_registry.specs.Limits.{most_ident_bytes}
 use Rattle.app_registry.specs.Ident.{is_ident_byte, begins_with_mark}
 use Rattle.rule_templates.specs.Placeholder.{begins_with_tilde}
 use Rattle.rule_templates.specs.TemplateLine.{word_of}
@@ -42,14 +42,14 @@ is_word MoreModes text = is_some (modes_of text)
 -- ---- what a word can begin with
 
 abbrev pub begins_bucket : List ℕ → Bool
-begins_bucket front = same_text front (codes ".") || is_run MOST_BUCKET_NAME_BYTES is_word_byte front
+begins_bucket front = same_text front (codes ".") || is_run most_bucket_name_bytes is_word_byte front
 
 -- `*` and `#`, which are no names, are fronts of names
 abbrev pub begins_name : List ℕ → Bool
-begins_name front = is_run MOST_NAME_BYTES is_visible front
+begins_name front = is_run most_name_bytes is_visible front
 
 abbrev pub begins_ident : List ℕ → Bool
-begins_ident front = is_run IDENT_LIMIT is_ident_byte front && not (begins_with_mark front)
+begins_ident front = is_run most_ident_bytes is_ident_byte front && not (begins_with_mark front)
 
 -- no byte, or a number up to the greatest
 abbrev pub begins_number : ℕ → List ℕ → Bool
@@ -99,7 +99,7 @@ begins_result front =
     || (begins_bucket_result front || begins_agent_result front)
 
 abbrev pub begins_label : List ℕ → Bool
-begins_label front = is_run MOST_LABEL_BYTES is_label_byte front && not (begins_with_dash front)
+begins_label front = is_run most_label_bytes is_label_byte front && not (begins_with_dash front)
 
 abbrev pub placeholder_texts : List (List ℕ)
 placeholder_texts = codes "~PROCESS~" ∷ codes "~PATH_RW~" ∷ codes "~PATH_RO~" ∷ codes "~AUTHOR~" ∷ []
@@ -116,13 +116,13 @@ begins_template_label front =
     if begins_with_tilde front then begins_one placeholder_texts front else begins_label front
 
 abbrev pub begins_modes : List ℕ → Bool
-begins_modes front = is_run MOST_MODE_WORD_BYTES is_mode_byte front
+begins_modes front = is_run most_mode_word_bytes is_mode_byte front
 
 -- modes without `b`, with a letter or with room for one
 abbrev pub begins_request : List ℕ → Bool
 begins_request front =
     (begins_modes front && not (stands_in front 98))
-    && (not (is_empty (letters_that (stands_in front))) || nat_lt (length front) MOST_MODE_WORD_BYTES)
+    && (not (is_empty (letters_that (stands_in front))) || nat_lt (length front) most_mode_word_bytes)
 
 abbrev pub begins_word : Form → List ℕ → Bool
 begins_word Bucket front = begins_bucket front

@@ -7,14 +7,14 @@ use Rattle.smack_rules.specs.declared.modes.Modes.{Modes}
 use Rattle.smack_rules.specs.Effective.{effective}
 use Rattle.privilege_cli.specs.Outside.{Had}
 use Rattle.privilege_cli.specs.AccessRun.{rules_read, IsReadThrough}
-use Rattle.privilege_cli.specs.declared.limits.TheConstants.{MOST_RULES_BYTES}
+use Rattle.privilege_cli.specs.Limits.{most_rules_bytes}
 use Rattle.privilege_cli.specs.declared.ending.Ending.{Ending}
 use Rattle.privilege_cli.specs.declared.ending.Ending.TheVariants.{Memory, Line, Source, Sink}
 
 -- The text is all that the source had, or goes past the limit.
 pub record IsRead (left left_after : Option (List ℕ)) (text : List ℕ) : Type 0 where
   pub took : Took left text left_after
-  pub end : length text ≤ MOST_RULES_BYTES → ReadToEnd left left_after
+  pub end : length text ≤ most_rules_bytes → ReadToEnd left left_after
 
 -- these are the whole lines of the text, so many
 pub record AreLinesOf (text lines : List ℕ) (count : ℕ) : Type 0 where
@@ -26,12 +26,12 @@ pub record AreLinesOf (text lines : List ℕ) (count : ℕ) : Type 0 where
 
 -- a text that begins so has its first wrong line here; nothing follows a text within the limit
 abbrev pub IsWrongAt : List ℕ → ℕ → Type 0
-IsWrongAt text line = (more : List ℕ) → (length text ≤ MOST_RULES_BYTES → more ≡ []) → rules_read (text ++ more) ≡ Err line
+IsWrongAt text line = (more : List ℕ) → (length text ≤ most_rules_bytes → more ≡ []) → rules_read (text ++ more) ≡ Err line
 
 -- the text is rules, and this is what they grant the pair
 pub record AreGranted (text subject object : List ℕ) (granted : Modes) : Type 0 where
   pub rules : List Rule
-  pub within : length text ≤ MOST_RULES_BYTES
+  pub within : length text ≤ most_rules_bytes
   pub right : rules_read text ≡ Ok rules
   pub grants : granted ≡ effective rules subject object
 
@@ -72,6 +72,6 @@ module _ (left left_after : Option (List ℕ)) (old new : List ℕ) where
     pub given : List ℕ
     pub took : Took left given left_after
     pub longer : new ≡ old ++ given
-    pub within : length new ≤ MOST_RULES_BYTES + 1
+    pub within : length new ≤ most_rules_bytes + 1
     pub nearer : more ≡ true → length old < length new
-    pub end : more ≡ false → length new ≤ MOST_RULES_BYTES → AtEnd left × (given ≡ [])
+    pub end : more ≡ false → length new ≤ most_rules_bytes → AtEnd left × (given ≡ [])

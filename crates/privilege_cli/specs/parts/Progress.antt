@@ -9,7 +9,7 @@ use Rattle.privilege_cli.specs.Script.{Script, read_lines, read_script, replies,
 use Rattle.privilege_cli.specs.Outside.{Had}
 use Rattle.privilege_cli.specs.Ending.{IsCut}
 use Rattle.privilege_cli.specs.LocalRun.{ReadsLines, HasRead, AreAnswered, AreInTurn}
-use Rattle.privilege_cli.specs.declared.limits.TheConstants.{MOST_LINE_BYTES, MOST_SCRIPT_BYTES}
+use Rattle.privilege_cli.specs.Limits.{most_line_bytes, most_script_bytes}
 use Rattle.privilege_cli.specs.declared.ending.Ending.{Ending}
 use Rattle.privilege_cli.specs.declared.ending.Ending.TheVariants.{Done, Line, Source, Sink, Disk}
 use Rattle.privilege_cli.specs.declared.local_script.LocalScript.{LocalScript}
@@ -38,8 +38,8 @@ pub record Progress (start : DeskState) (left left_now taken taken_now : Option 
   pub state : state_after start steps ≡ desk
   pub in_turn : AreInTurn start steps written
   pub ended : reading.is_ended ≡ true → ReadToEnd left left_now
-  pub longest : reading.longest ≡ MOST_LINE_BYTES
-  pub within : reading.number + reading.room ≤ MOST_SCRIPT_BYTES
+  pub longest : reading.longest ≡ most_line_bytes
+  pub within : reading.number + reading.room ≤ most_script_bytes
 
 -- the same, with what the steps keep: of the folder, say
 abbrev pub Goes : (List Step → Type 0) → DeskState → Option (List ℕ) → Option (List ℕ) → Option (List ℕ) → Option (List ℕ)

@@ -15,7 +15,7 @@ use Rattle.cynara_keys.specs.declared.limits.Counted.TheVariants.{Users}
 use Rattle.cynara_keys.proofs.Order.{≡-same_text}
 use Rattle.app_registry.specs.Registry.{RegistryLists, packages}
 use Rattle.app_registry.specs.declared.refusals.RegistryRefusal.TheVariants.{Limit}
-use Rattle.app_registry.specs.declared.refusals.TheConstants.{USER_LIMIT}
+use Rattle.app_registry.specs.Limits.{most_users}
 use Rattle.bucket_store.specs.Bucket.{Bucket}
 use Rattle.bucket_store.specs.Database.{Database, Heading, Placed, has_bucket, placed_of, database_of}
 use Rattle.bucket_store.specs.Order.{policy_cmp}
@@ -283,8 +283,8 @@ module _ (desk : DeskState) (is : IsDesk desk) (spelt : IsSpelt desk) where
     policies = buckets-read set headings desk.database.policies [] headings filled-all (omega (arith, few));
     users = ap users_of (bytes-users desk)
         ∙ users-read desk.registry.users spelt.users is.registry.users_rise
-        (ltb-false USER_LIMIT (length desk.registry.users)
-        (none-when (ltb USER_LIMIT (length desk.registry.users)) (Limit Users USER_LIMIT) is.registry.users_fit));
+        (ltb-false most_users (length desk.registry.users)
+        (none-when (ltb most_users (length desk.registry.users)) (Limit Users most_users) is.registry.users_fit));
     installs = ap (installs_of desk.registry.users) (bytes-apps desk)
         ∙ installs-read desk.registry.users desk.registry.installs spelt.installs is.registry;
     load_names = none-odd is_load_file (load_names loads) set

@@ -19,7 +19,7 @@ use Rattle.bucket_store.proofs.Sound.{any-map, well_formed}
 use Rattle.desk_ports.specs.declared.file_sets.SetFile.{SetFile}
 use Rattle.desk_state.specs.DeskState.{DeskState}
 use Rattle.desk_state.specs.IsDesk.{IsDesk, IsBare, IsLaidOut}
-use Rattle.desk_state.specs.declared.desks.TheConstants.{LAST_COMMIT}
+use Rattle.desk_state.specs.Limits.{last_commit}
 use Rattle.desk_state.specs.Layout.{main, manifests, built_in, is_managed, main_policies, manifest_policies}
 use Rattle.desk_state.proofs.Owning.{own, in_bucket, IsOwned, IsOwned-settled}
 use Rattle.set_text.specs.Buckets.{bucket_text}
@@ -236,7 +236,7 @@ module _ (set : List SetFile) (desk : DeskState) (is : IsRead set desk) where
       database = well;
       registry = apps.1;
       template = (template-lines-spelled (bytes_in set name.template) desk.template is.template).1;
-      commit = subst (λ (commit : ℕ). commit ≤ LAST_COMMIT) is.commit
+      commit = subst (λ (commit : ℕ). commit ≤ last_commit) is.commit
           (stamp-spelled (bytes_in set name.stamp) is.commits is.stamp).1;
       layout = arranged (is_laid_out desk.database) refl (laid-when desk is.layout).laid;
     };

@@ -18,7 +18,7 @@ use Rattle.app_registry.specs.Registry.{RegistryLists, packages, grant_count}
 use Rattle.app_registry.specs.Rules.{IsRegistry}
 use Rattle.app_registry.specs.declared.installs.Install.{Install}
 use Rattle.app_registry.specs.declared.refusals.RegistryRefusal.TheVariants.{OtherPackage, OtherAuthor, Limit}
-use Rattle.app_registry.specs.declared.refusals.TheConstants.{USER_LIMIT, PACKAGE_LIMIT, INSTALL_LIMIT, GRANT_LIMIT}
+use Rattle.app_registry.specs.Limits.{most_users, most_packages, most_installs, most_grants}
 use Rattle.app_registry.specs.declared.users.User.{User}
 use Rattle.app_registry.proofs.Counts.{over-fits, or-none, both-none}
 use Rattle.app_registry.proofs.Filters.{option_map-none, none_does}
@@ -159,15 +159,15 @@ packages-front (x ∷ xs) ys =
 limit-front : (xs ys : List Install) → installs_limit (xs ++ ys) ≡ None → installs_limit xs ≡ None
 limit-front xs ys fits =
     let whole = xs ++ ys in
-    let packages_fit = or-none (over Packages PACKAGE_LIMIT (length (packages whole))) _ fits in
-    let others_fit = or-none (over Installs INSTALL_LIMIT (length whole)) _ packages_fit.1 in
+    let packages_fit = or-none (over Packages most_packages (length (packages whole))) _ fits in
+    let others_fit = or-none (over Installs most_installs (length whole)) _ packages_fit.1 in
     let grants = sum_by-append (λ (install : Install). length install.privileges) xs ys in
     both-none
-    (over-fits Packages PACKAGE_LIMIT (length (packages whole)) (length (packages xs)) packages_fit.0
+    (over-fits Packages most_packages (length (packages whole)) (length (packages xs)) packages_fit.0
     (packages-front xs ys))
     (both-none
-    (over-fits Installs INSTALL_LIMIT (length whole) (length xs) others_fit.0 (omega (arith, length-append xs ys)))
-    (over-fits Grants GRANT_LIMIT (grant_count whole) (grant_count xs) others_fit.1 (omega (arith, grants))))
+    (over-fits Installs most_installs (length whole) (length xs) others_fit.0 (omega (arith, length-append xs ys)))
+    (over-fits Grants most_grants (grant_count whole) (grant_count xs) others_fit.1 (omega (arith, grants))))
 
 -- ---- from all installs to each line
 
@@ -295,7 +295,7 @@ installs-spelled users users_text text installs are h =
             (λ install. other_author installs install ≡ None)
             (λ install none. ap (option_map (λ (other : Install). OtherAuthor other.author)) none) installs
             (none-excluded is_by_another another-turn another-own [] installs tt owners.by_one);
-        users_fit = ap (λ b. cond b (Some (Limit Users USER_LIMIT)) None) (le-ltb USER_LIMIT (length users) are.few);
+        users_fit = ap (λ b. cond b (Some (Limit Users most_users)) None) (le-ltb most_users (length users) are.few);
         installs_fit = limits-whole [] installs refl (fit-second (owner_fits users) limit_fits [] installs rules);
       },
     )

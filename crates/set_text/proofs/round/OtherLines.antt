@@ -20,13 +20,13 @@ use Rattle.rule_templates.specs.declared.lines.Word.TheVariants.{Fixed, OfPackag
 use Rattle.rule_templates.specs.declared.lines.Change.{Change}
 use Rattle.rule_templates.specs.declared.lines.TemplateLine.{TemplateLine}
 use Rattle.rule_templates.specs.declared.placeholders.Placeholder.{Placeholder}
-use Rattle.rule_templates.specs.declared.templates.TheConstants.{LINE_LIMIT}
+use Rattle.rule_templates.specs.Limits.{most_template_lines}
 use Rattle.rule_templates.specs.Placeholder.{placeholder_of, begins_with_tilde}
 use Rattle.rule_templates.specs.TemplateLine.{line_text, is_label_word, word_of, change_of, line_with, line_of_words}
 use Rattle.rule_templates.specs.TemplateLine.{line_of, is_kept_word, is_kept_line}
 use Rattle.rule_templates.specs.Template.{template_text, is_template}
 use Rattle.rule_templates.proofs.LineSpelled.{both, line_words, line_words-plain, line_of-line_text}
-use Rattle.desk_state.specs.declared.desks.TheConstants.{LAST_COMMIT}
+use Rattle.desk_state.specs.Limits.{last_commit}
 use Rattle.set_text.specs.Lines.{text_of, whole_lines, values_of}
 use Rattle.set_text.specs.Reading.{only}
 use Rattle.set_text.specs.Stamp.{stamp_text, read_commit, commits_of}
@@ -41,20 +41,20 @@ use Rattle.set_text.proofs.round.Values.{Gave}
 
 -- ---- the stamp
 
-pub stamp-read : (commit : ℕ) → commit ≤ LAST_COMMIT → commits_of (stamp_text commit) ≡ Ok (commit ∷ [])
+pub stamp-read : (commit : ℕ) → commit ≤ last_commit → commits_of (stamp_text commit) ≡ Ok (commit ∷ [])
 stamp-read commit small =
     commits-one (stamp_text commit) (decimal commit) [] commit (append-nil (decimal commit ++ 10 ∷ []))
     (plain-decimal commit (omega (arith, small))).newline
-    (decimal_of-decimal LAST_COMMIT commit (le-leb commit LAST_COMMIT small) (omega (arith, small))) refl
+    (decimal_of-decimal last_commit commit (le-leb commit last_commit small) (omega (arith, small))) refl
 
 one-commit : (texts : List (List ℕ)) (commits : List ℕ) (first : ℕ) (rest : List ℕ) → commits ≡ first ∷ rest
     → Gave read_commit [] texts commits
-    → (texts ≡ decimal (only commits) ∷ []) × (only commits ≤ LAST_COMMIT)
+    → (texts ≡ decimal (only commits) ∷ []) × (only commits ≤ last_commit)
 one-commit [] [] first rest is gave = cc
 one-commit [] (commit ∷ commits) first rest is gave = absurd gave
 one-commit (text ∷ texts) [] first rest is gave = absurd gave
 one-commit (text ∷ []) (commit ∷ []) first rest is gave =
-    let told = decimal_of-text LAST_COMMIT text commit gave.0 in
+    let told = decimal_of-text last_commit text commit gave.0 in
     (ap (λ (text : List ℕ). text ∷ []) (sym told.0), told.1)
 one-commit (text ∷ []) (commit ∷ next ∷ commits) first rest is gave = absurd gave.1
 one-commit (text ∷ other ∷ texts) (commit ∷ []) first rest is gave = absurd gave.1
@@ -62,7 +62,7 @@ one-commit (text ∷ other ∷ texts) (commit ∷ next ∷ commits) first rest i
     let wrong : None ≡ Some next = gave.1.0 in cc
 
 pub stamp-spelled : (text : List ℕ) (commits : List ℕ) → commits_of text ≡ Ok commits
-    → (text ≡ stamp_text (only commits)) × (only commits ≤ LAST_COMMIT)
+    → (text ≡ stamp_text (only commits)) × (only commits ≤ last_commit)
 stamp-spelled text commits h =
     let some = some-line (values_of read_commit text) commits h in
     let told = reading read_commit [] (whole_lines text) commits some.0 in
@@ -171,13 +171,13 @@ each-kept (line ∷ lines) all = ap (λ b. b && list_all is_kept_line lines) all
 pub template-lines-read : (lines : List TemplateLine) → is_template lines ≡ true
     → template_lines_of (template_text lines) ≡ Ok lines
 template-lines-read lines is =
-    let parts = both (nat_le (length lines) LINE_LIMIT) (list_all is_kept_line lines) is in
-    let few = leb-true (length lines) LINE_LIMIT parts.0 in
+    let parts = both (nat_le (length lines) most_template_lines) (list_all is_kept_line lines) is in
+    let few = leb-true (length lines) most_template_lines parts.0 in
     values-read template_line_fits template_line_of line_text lines
     (All-weaker (λ line. is_kept_line line ≡ true)
     (λ line. HasNoNewline (line_text line) × (template_line_of (line_text line) ≡ Some line))
     (λ line is. (template-newline line is, template-read line is)) lines (kept-each lines parts.1))
-    (few-fit (λ before. length before) counted LINE_LIMIT [] lines (omega (arith, few)))
+    (few-fit (λ before. length before) counted most_template_lines [] lines (omega (arith, few)))
 
 -- what the lines give has these lines, and keeps the rules
 pub template-lines-spelled : (text : List ℕ) (lines : List TemplateLine) → template_lines_of text ≡ Ok lines
@@ -186,8 +186,8 @@ template-lines-spelled text lines h =
     let told = values-spelled template_line_fits template_line_of line_text
     (λ line. is_kept_line line ≡ true) template-spelled
     text lines h in
-    let few = fit-few (λ before. length before) counted LINE_LIMIT [] lines (omega arith) told.fit in (
+    let few = fit-few (λ before. length before) counted most_template_lines [] lines (omega arith) told.fit in (
       told.same,
-      ap (λ b. b && list_all is_kept_line lines) (le-leb (length lines) LINE_LIMIT (omega (arith, few)))
+      ap (λ b. b && list_all is_kept_line lines) (le-leb (length lines) most_template_lines (omega (arith, few)))
           ∙ each-kept lines told.all,
     )

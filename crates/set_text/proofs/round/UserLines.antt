@@ -7,7 +7,7 @@ use Rattle.std.proofs.lemmas.Bool.{le-leb}
 use Rattle.cynara_keys.specs.Text.{same_text}
 use Rattle.cynara_keys.proofs.Order.{same_text-≡}
 use Rattle.app_registry.specs.Registry.{user_cmp}
-use Rattle.app_registry.specs.declared.refusals.TheConstants.{USER_LIMIT}
+use Rattle.app_registry.specs.Limits.{most_users}
 use Rattle.app_registry.specs.declared.users.User.{User}
 use Rattle.app_registry.specs.declared.users.UserType.{UserType}
 use Rattle.app_registry.specs.declared.users.UserType.TheVariants.{System, Admin, Normal, Guest}
@@ -101,22 +101,22 @@ counted before user = omega (arith, length-append before (user ∷ []))
 -- the users of a state are what their lines give
 pub users-read : (users : List User) → AllByRecursion (λ (user : User). user.uid ≤ last_uid) users
     → IsStrictlySortedBy user_cmp users
-    → length users ≤ USER_LIMIT → users_of (users_text users) ≡ Ok users
+    → length users ≤ most_users → users_of (users_text users) ≡ Ok users
 users-read users all rise few =
     values-read user_fits user_of user_line users
     (All-weaker (λ (user : User). user.uid ≤ last_uid)
     (λ (user : User). HasNoNewline (user_line user) × (user_of (user_line user) ≡ Some user))
     (λ user small. (user-newline user small, user-read user small)) users all)
-    (fit-both (rises_above user_cmp) (λ before user. ltb (length before) USER_LIMIT) [] users
+    (fit-both (rises_above user_cmp) (λ before user. ltb (length before) most_users) [] users
     (rises-fit user_cmp users rise)
-    (few-fit (λ before. length before) counted USER_LIMIT [] users (omega (arith, few))))
+    (few-fit (λ before. length before) counted most_users [] users (omega (arith, few))))
 
 -- what the lines give has these lines, and keeps the rules
 pub record AreUsers (text : List ℕ) (users : List User) : Type 0 where
   pub same : text ≡ users_text users
   pub all : AllByRecursion (λ (user : User). user.uid ≤ last_uid) users
   pub rise : IsStrictlySortedBy user_cmp users
-  pub few : length users ≤ USER_LIMIT
+  pub few : length users ≤ most_users
 
 pub users-spelled : (text : List ℕ) (users : List User) → users_of text ≡ Ok users → AreUsers text users
 users-spelled text users h =
@@ -126,8 +126,8 @@ users-spelled text users h =
       same = told.same;
       all = told.all;
       rise = fit-rises user_cmp user_total users
-          (fit-first (rises_above user_cmp) (λ before user. ltb (length before) USER_LIMIT) [] users told.fit);
-      few = let most = fit-few (λ before. length before) counted USER_LIMIT [] users (omega arith)
+          (fit-first (rises_above user_cmp) (λ before user. ltb (length before) most_users) [] users told.fit);
+      few = let most = fit-few (λ before. length before) counted most_users [] users (omega arith)
           (fit-second (rises_above user_cmp)
-          (λ before user. ltb (length before) USER_LIMIT) [] users told.fit) in omega (arith, most);
+          (λ before user. ltb (length before) most_users) [] users told.fit) in omega (arith, most);
     }

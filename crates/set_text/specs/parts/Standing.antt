@@ -10,7 +10,7 @@ use Rattle.app_registry.specs.Registry.{packages, grant_count}
 use Rattle.app_registry.specs.declared.idents.Ident.{Ident}
 use Rattle.app_registry.specs.declared.installs.Install.{Install}
 use Rattle.app_registry.specs.declared.refusals.RegistryRefusal.{RegistryRefusal}
-use Rattle.app_registry.specs.declared.refusals.TheConstants.{PACKAGE_LIMIT, INSTALL_LIMIT, GRANT_LIMIT}
+use Rattle.app_registry.specs.Limits.{most_packages, most_installs, most_grants}
 use Rattle.set_text.specs.Lines.{last_of}
 use Rattle.set_text.specs.declared.registries.Counts.{Counts}
 
@@ -53,8 +53,8 @@ new_package (Some last) install = if same_text last.package install.package then
 -- more packages, installs or privileges than there may be
 abbrev pub counts_limit : Counts → ℕ → Option RegistryRefusal
 counts_limit counts installs =
-    option_or (over Packages PACKAGE_LIMIT counts.packages)
-    (option_or (over Installs INSTALL_LIMIT installs) (over Grants GRANT_LIMIT counts.grants))
+    option_or (over Packages most_packages counts.packages)
+    (option_or (over Installs most_installs installs) (over Grants most_grants counts.grants))
 
 -- the last name is this one
 abbrev pub ends_with : Option (List ℕ) → List ℕ → Bool

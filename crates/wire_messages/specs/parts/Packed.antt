@@ -2,7 +2,7 @@
 use Rattle.std.specs.Prelude.{◌≤◌, ℕ, Bool, true, false, length, Option, Some, None}
 use Rattle.bucket_eval.specs.declared.answers.Row.{Row}
 use Rattle.bucket_eval.specs.declared.answers.Verdict.{Verdict}
-use Rattle.cynara_keys.specs.declared.limits.TheConstants.{MOST_SHORT_BYTES}
+use Rattle.cynara_keys.specs.Limits.{most_short_bytes}
 use Rattle.cynara_keys.specs.declared.results.Kind.{Kind}
 use Rattle.wire_messages.specs.parts.FiveTexts.{Texts}
 
@@ -23,11 +23,11 @@ verdict commit kind has_row texts = record {
 
 -- each text is short enough for a fixed place
 pub record AreShort (texts : Texts) : Type 0 where
-  pub first : length texts.first ≤ MOST_SHORT_BYTES
-  pub second : length texts.second ≤ MOST_SHORT_BYTES
-  pub third : length texts.third ≤ MOST_SHORT_BYTES
-  pub fourth : length texts.fourth ≤ MOST_SHORT_BYTES
-  pub fifth : length texts.fifth ≤ MOST_SHORT_BYTES
+  pub first : length texts.first ≤ most_short_bytes
+  pub second : length texts.second ≤ most_short_bytes
+  pub third : length texts.third ≤ most_short_bytes
+  pub fourth : length texts.fourth ≤ most_short_bytes
+  pub fifth : length texts.fifth ≤ most_short_bytes
 
 abbrev pub IsShortRow : Row → Type 0
-IsShortRow row = (length row.client ≤ MOST_SHORT_BYTES) × ((length row.user ≤ MOST_SHORT_BYTES) × (length row.privilege ≤ MOST_SHORT_BYTES))
+IsShortRow row = (length row.client ≤ most_short_bytes) × ((length row.user ≤ most_short_bytes) × (length row.privilege ≤ most_short_bytes))

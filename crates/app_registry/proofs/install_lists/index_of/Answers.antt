@@ -1,6 +1,6 @@
 use Rattle.std.proofs.Common.{◌≡◌, ◌+◌, ◌≤◌, ℕ, take, drop, length, refl, subst, sym, ap, arith}
 use Rattle.app_registry.specs.Registry.{grant_count}
-use Rattle.app_registry.specs.declared.refusals.TheConstants.{GRANT_LIMIT}
+use Rattle.app_registry.specs.Limits.{most_grants}
 use Rattle.app_registry.specs.parts.Indexed.{IsIndexed}
 use Rattle.app_registry.proofs.Indexing.{indexed-none, indexed-more, grants-left}
 use Rattle.app_registry.proofs.install_lists.index_of.Goals as goal
@@ -19,7 +19,7 @@ loop-install-preserved c =
     let rest : grant_count (drop i installs) ≡ length install.privileges + grant_count (drop (i + 1) installs) = grants-left installs i install within c.install-item.is in
     let left = c.loop-install.invariant.1 in
     let most = c.requires in
-    let room : c.loop-install.granted + length install.privileges ≤ GRANT_LIMIT = omega (arith, rest, left, most) in (
+    let room : c.loop-install.granted + length install.privileges ≤ most_grants = omega (arith, rest, left, most) in (
       subst (λ (n : ℕ). IsIndexed c.note.new.apps.items (c.loop-install.granted + n) (take (i + 1) installs)) (sym size)
           (indexed-more c.loop-install.apps.items c.note.new.apps.items c.loop-install.granted installs i install within
           c.install-item.is c.loop-install.invariant.0 noted.rise (noted.noted refl) noted.stay room),

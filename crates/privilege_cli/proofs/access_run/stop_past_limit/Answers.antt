@@ -2,25 +2,25 @@ use Rattle.std.proofs.Common.{◌≡◌, List, length, sym, ap, arith, length-ap
 use Rattle.std.proofs.lemmas.List.{length-take-le}
 use Rattle.smack_rules.specs.declared.rule.Rule.{Rule}
 use Rattle.smack_rules.specs.Effective.{effective}
-use Rattle.privilege_cli.specs.declared.limits.TheConstants.{MOST_RULES_BYTES}
+use Rattle.privilege_cli.specs.Limits.{most_rules_bytes}
 use Rattle.privilege_cli.proofs.RuleTexts.{IsWrongAt-past, IsWrongAt-before}
 use Rattle.privilege_cli.proofs.access_run.stop_past_limit.Goals as goal
 
 pub slice_bounds-whole_lines-end : goal.slice_bounds-whole_lines-end
-slice_bounds-whole_lines-end c = sym (length-take-le MOST_RULES_BYTES c.args.text.now (omega arith))
+slice_bounds-whole_lines-end c = sym (length-take-le most_rules_bytes c.args.text.now (omega arith))
 
 pub whole_lines-count-requires : goal.whole_lines-count-requires
-whole_lines-count-requires c = omega (arith, length-take-le MOST_RULES_BYTES c.args.text.now (omega arith))
+whole_lines-count-requires c = omega (arith, length-take-le most_rules_bytes c.args.text.now (omega arith))
 
 pub modes_in_text-requires : goal.modes_in_text-requires
 modes_in_text-requires c =
     let lines = c.whole_lines-count.result.0.now in
     let are = c.whole_lines-count.ensures.lines in
-    omega (arith, ap length are.parts, length-append lines are.rest, length-take-le MOST_RULES_BYTES c.args.text.now (omega arith))
+    omega (arith, ap length are.parts, length-append lines are.rest, length-take-le most_rules_bytes c.args.text.now (omega arith))
 
 pub overflow_add-result : goal.overflow_add-result
 overflow_add-result c =
-    omega (arith, c.whole_lines-count.ensures.count, length-take-le MOST_RULES_BYTES c.args.text.now (omega arith))
+    omega (arith, c.whole_lines-count.ensures.count, length-take-le most_rules_bytes c.args.text.now (omega arith))
 
 pub returns-in-Ok : goal.returns-in-Ok
 returns-in-Ok c =

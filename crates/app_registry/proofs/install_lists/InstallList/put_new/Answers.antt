@@ -2,7 +2,7 @@ use Rattle.std.proofs.Common.{rules, ◌≡◌, ◌+◌, ◌≤◌, ℕ, length,
 use Rattle.app_registry.specs.Install.{install_cmp}
 use Rattle.app_registry.specs.Registry.{grant_count}
 use Rattle.app_registry.specs.Rising.{placed}
-use Rattle.app_registry.specs.declared.refusals.TheConstants.{GRANT_LIMIT}
+use Rattle.app_registry.specs.Limits.{most_grants}
 use Rattle.app_registry.specs.parts.Indexed.{IsIndexed}
 use Rattle.app_registry.proofs.Indexing.{indexed-noted, indexed-put}
 use Rattle.app_registry.proofs.install_lists.InstallList.put_new.Goals as goal
@@ -19,7 +19,7 @@ invariant_of-self-2 c =
     let size : length c.as_slice-more.result.now ≡ length install.privileges = ap length c.as_slice-more.ensures.names in
     let few = there.few in
     let less = c.if-more-granted.false in
-    let room : index.granted + length install.privileges ≤ GRANT_LIMIT = omega (arith, size, few, less) in
+    let room : index.granted + length install.privileges ≤ most_grants = omega (arith, size, few, less) in
     let counts : grant_count (placed install_cmp install installs) ≡ grant_count installs + length install.privileges =
     ap grant_count (sym (put.put refl)) ∙ put.granted refl in
     let is : IsIndexed apps (index.granted + length install.privileges) (placed install_cmp install installs) =

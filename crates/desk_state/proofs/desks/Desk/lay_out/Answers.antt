@@ -11,7 +11,7 @@ use Rattle.bucket_store.specs.declared.policy_changes.Change.{Change}
 use Rattle.desk_state.specs.Layout.{laid_out}
 use Rattle.desk_state.specs.Rules.{Refuses}
 use Rattle.desk_state.specs.declared.commands.Command.TheVariants.{Layout}
-use Rattle.desk_state.specs.declared.desks.TheConstants.{LAST_COMMIT}
+use Rattle.desk_state.specs.Limits.{last_commit}
 use Rattle.desk_state.specs.parts.Linking.{with_headings, link_changes}
 use Rattle.desk_state.specs.parts.Stepping.{IsArranged, moved}
 use Rattle.desk_state.proofs.Deciding.{layout_full, layout_refused, layout_stepped}
@@ -43,8 +43,8 @@ returns-then-buckets-gt-MOST_BUCKETS c =
     let desk = c.args.self.now in
     let is = c.database.ensures.desk in
     let none = bare desk is c.requires.there in
-    let last : (desk.commit == LAST_COMMIT) ≡ false =
-    not-last desk.commit LAST_COMMIT (λ same. c.if-commit-eq-LAST_COMMIT.false (c.commit.ensures.commit ∙ same)) in
+    let last : (desk.commit == last_commit) ≡ false =
+    not-last desk.commit last_commit (λ same. c.if-commit-eq-LAST_COMMIT.false (c.commit.ensures.commit ∙ same)) in
     let same : length c.buckets.result.now ≡ length desk.database.buckets =
     as-many c.buckets.result.now desk.database
     (ap (λ (database : Database). database.buckets) (c.buckets.ensures.buckets ∙ c.database.ensures.database)) in
