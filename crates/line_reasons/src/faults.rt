@@ -18,7 +18,7 @@ use std::alloc::{AllocError, Global};
 use std::fmt;
 
 /// The first fault of a line.
-#[derive(Debug, Drop)]
+#[derive(Drop)]
 pub struct LineFault {
     /// How many bytes of the line a known line can begin with: the fault is the byte behind them, or that the line ends.
     pub place: usize,

@@ -1,97 +1,136 @@
 //! Reasons, and their words.
 
-use thiserror::Error;
+use std::fmt;
 
 /// Why a line is outside its grammar, in a person's words: one line of plain ASCII. What it shows of the line is at most 40
 /// bytes, with `\x` and two digits of hexadecimal for a byte that is not printable. The reasons at the end are those of a
 /// whole text.
-#[derive(Debug, Drop, Error)]
+#[derive(Drop)]
 pub enum Reason {
-    #[error("a carriage return, \\x0d: a line ends with a newline alone")]
     CarriageReturn,
-    #[error("a byte order mark: a text begins with its first word")]
     ByteOrderMark,
-    #[error("a tab: one space parts words")]
     Tab,
-    #[error("a space in front of the first word")]
     SpaceInFront,
-    #[error("spaces alone: an empty line has none")]
     SpacesAlone,
-    #[error("a space at the end of the line")]
     SpaceAtEnd,
-    #[error("two spaces between words")]
     TwoSpaces,
-    #[error("a line without words, where a rule or `end` must stand")]
     EmptyLine,
-    #[error("neither a rule nor a comment: here `#` begins a label")]
     Comment,
     /// The first word, as it is shown.
-    #[error("`{0}` is no first word of a line")]
     FirstWord(String),
     /// The first 40 bytes of a longer first word, as they are shown.
-    #[error("no first word of a line begins with `{0}`")]
     LongFirstWord(String),
-    #[error("within a batch stand `set` and `unset` lines, and `end`")]
     NotInBatch,
-    #[error("`end` where no block is open")]
     NoBlock,
-    #[error("a template has at most 64 lines: `end` must stand")]
     TemplateFull,
-    #[error("`end` stands alone on its line, without a space or a tab")]
     EndNotAlone,
     /// The form of the line.
-    #[error("too few words: {0}")]
     TooFewWords(&'static str),
-    #[error("too many words: {0}")]
     TooManyWords(&'static str),
     /// The word, `*` or `#`.
-    #[error("`{0}` alone is no name, and a name must stand")]
     Wildcard(&'static str),
-    #[error("`#` alone is no name: `*` or a name must stand")]
     HashAlone,
     /// A word of a single byte, and what it stands for.
-    #[error("`{word}` stands alone, for {what}")]
     StandsAlone {
         word: &'static str,
         what: &'static str,
     },
-    #[error("no result: deny, none, allow, bucket:BUCKET or agent:KIND:METADATA, KIND from 2 to 65533")]
     BadResult,
-    #[error("no bucket behind `bucket:`: `.` for the root, or at most 64 letters, digits, `_` and `-`")]
     BadTarget,
-    #[error("no mode of evaluation: deep or flat")]
     BadDepth,
-    #[error("no type of users: system, admin, normal or guest")]
     BadUserType,
-    #[error("no user: a number from 0 to 4294967295 without a sign or leading zeros")]
     BadUser,
-    #[error("no scope: `*`, or the number of a user from 0 to 4294967295 without a sign or leading zeros")]
     BadScope,
-    #[error("no modes: at most 64 of the letters rwxatlb and of -")]
     BadModes,
-    #[error("no modes to ask for: at most 64 of the letters rwxatl and of -, a letter among them")]
     BadRequest,
-    #[error("no placeholder: ~PROCESS~, ~PATH_RW~, ~PATH_RO~ or ~AUTHOR~")]
     BadPlaceholder,
-    #[error("the labels @ and ? are not known")]
     SpecialLabel,
     /// The byte, as it is shown, and what it stands in.
-    #[error("the byte {byte} may not stand here in {what}")]
     BadByte {
         byte: String,
         what: &'static str,
     },
-    #[error("{what} has at most {most} bytes")]
     TooLong {
         what: &'static str,
         most: u32,
     },
-    #[error("a line has at most 65535 bytes")]
     LinePastLimit,
-    #[error("a script has at most 16777216 bytes")]
     ScriptPastLimit,
-    #[error("a text of rules has at most 16777216 bytes")]
     RulesPastLimit,
-    #[error("a block that is not ended: `end` is missing")]
     OpenBlock,
+}
+
+impl fmt::Display for Reason {
+    fn fmt<W: fmt::Write>(&self, f: &mut fmt::Formatter<W>) -> fmt::Result {
+        match self.fixed_words() {
+            Some(words) => f.write_str(words),
+            None => self.write_shown(f),
+        }
+    }
+}
+
+impl Reason {
+    // The words of a reason that are the same whatever the line.
+    fn fixed_words(&self) -> Option<&'static str> {
+        Some(match self {
+            Reason::CarriageReturn => "a carriage return, \\x0d: a line ends with a newline alone",
+            Reason::ByteOrderMark => "a byte order mark: a text begins with its first word",
+            Reason::Tab => "a tab: one space parts words",
+            Reason::SpaceInFront => "a space in front of the first word",
+            Reason::SpacesAlone => "spaces alone: an empty line has none",
+            Reason::SpaceAtEnd => "a space at the end of the line",
+            Reason::TwoSpaces => "two spaces between words",
+            Reason::EmptyLine => "a line without words, where a rule or `end` must stand",
+            Reason::Comment => "neither a rule nor a comment: here `#` begins a label",
+            Reason::NotInBatch => "within a batch stand `set` and `unset` lines, and `end`",
+            Reason::NoBlock => "`end` where no block is open",
+            Reason::TemplateFull => "a template has at most 64 lines: `end` must stand",
+            Reason::EndNotAlone => "`end` stands alone on its line, without a space or a tab",
+            Reason::HashAlone => "`#` alone is no name: `*` or a name must stand",
+            Reason::BadResult =>
+                "no result: deny, none, allow, bucket:BUCKET or agent:KIND:METADATA, KIND from 2 to 65533",
+            Reason::BadTarget =>
+                "no bucket behind `bucket:`: `.` for the root, or at most 64 letters, digits, `_` and `-`",
+            Reason::BadDepth => "no mode of evaluation: deep or flat",
+            Reason::BadUserType => "no type of users: system, admin, normal or guest",
+            Reason::BadUser =>
+                "no user: a number from 0 to 4294967295 without a sign or leading zeros",
+            Reason::BadScope =>
+                "no scope: `*`, or the number of a user from 0 to 4294967295 without a sign or leading zeros",
+            Reason::BadModes => "no modes: at most 64 of the letters rwxatlb and of -",
+            Reason::BadRequest =>
+                "no modes to ask for: at most 64 of the letters rwxatl and of -, a letter among them",
+            Reason::BadPlaceholder => "no placeholder: ~PROCESS~, ~PATH_RW~, ~PATH_RO~ or ~AUTHOR~",
+            Reason::SpecialLabel => "the labels @ and ? are not known",
+            Reason::LinePastLimit => "a line has at most 65535 bytes",
+            Reason::ScriptPastLimit => "a script has at most 16777216 bytes",
+            Reason::RulesPastLimit => "a text of rules has at most 16777216 bytes",
+            Reason::OpenBlock => "a block that is not ended: `end` is missing",
+            _ => return None,
+        })
+    }
+
+    // The words of a reason that shows something of the line, or of what should stand there.
+    fn write_shown<W: fmt::Write>(&self, f: &mut fmt::Formatter<W>) -> fmt::Result {
+        match self {
+            Reason::FirstWord(shown) => write!(f, "`{shown}` is no first word of a line"),
+            Reason::LongFirstWord(shown) => write!(
+                f,
+                "no first word of a line begins with `{shown}`"
+            ),
+            Reason::TooFewWords(shown) => write!(f, "too few words: {shown}"),
+            Reason::TooManyWords(shown) => write!(f, "too many words: {shown}"),
+            Reason::Wildcard(shown) => write!(
+                f,
+                "`{shown}` alone is no name, and a name must stand"
+            ),
+            Reason::StandsAlone { word, what } => write!(f, "`{word}` stands alone, for {what}"),
+            Reason::BadByte { byte, what } => write!(
+                f,
+                "the byte {byte} may not stand here in {what}"
+            ),
+            Reason::TooLong { what, most } => write!(f, "{what} has at most {most} bytes"),
+            _ => Ok(()),
+        }
+    }
 }
