@@ -10,7 +10,7 @@ LIMITS = {
     "packages": 1_024,
     "installs": 8_192,
     "grants": 65_536,
-    "buckets": 256,
+    "buckets": 1024,
     "policies": 65_536,
 }
 ANY = (b"*", b"*", b"*")

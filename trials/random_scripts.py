@@ -152,7 +152,7 @@ class Scripts:
             yield b"layout"
             yield from (b"user %d %s" % (uid, self.one(USER_TYPES)) for uid in range(self.draw.randint(62, 67)))
         elif kind == "buckets":
-            yield from (b"bucket b%d deny" % number for number in range(self.draw.randint(246, 258)))
+            yield from (b"bucket b%d deny" % number for number in range(self.draw.randint(1014, 1026)))
             yield b"layout"
             yield b"set b7 * * * bucket:b8"
         elif kind == "packages":

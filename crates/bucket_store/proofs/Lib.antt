@@ -5,8 +5,9 @@ pub mod Kept
 pub mod Sound
 pub mod Removing
 pub mod Heading
-pub mod Closing
-pub mod Leading
+pub mod Ending
+pub mod Reaching
+pub mod LeastCycle
 pub mod Changing
 pub mod Accepting
 pub mod Sorting

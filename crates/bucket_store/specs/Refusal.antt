@@ -17,7 +17,7 @@ use Rattle.bucket_store.specs.declared.refusals.StoreRefusal.TheVariants.{NoBuck
 use Rattle.bucket_store.specs.declared.refusals.StoreRefusal.TheVariants.{Memory}
 
 abbrev pub most_buckets : ℕ
-most_buckets = 256
+most_buckets = 1024
 
 abbrev pub most_policies : ℕ
 most_policies = 65536

@@ -15,6 +15,7 @@ use crate::buckets::Bucket;
 use crate::copies::{admitted, all_buckets, not_admitted};
 use crate::cycles::least_on_cycle;
 use crate::edits::{has_room, is_bad, with_heading, with_policies, without_bucket};
+use crate::endings::changes_end;
 use crate::limits::{MOST_BUCKETS, MOST_POLICIES};
 use crate::named::all_named;
 use crate::one_bucket::place_of_changes;
@@ -25,7 +26,7 @@ pub use made::has_cycle;
 use std::alloc::{AllocError, Global};
 use std::marker::Model;
 
-/// The policy database: at most 256 buckets in rising order of name, and at most 65,536 policies over all of them. Each
+/// The policy database: at most 1,024 buckets in rising order of name, and at most 65,536 policies over all of them. Each
 /// change gives a new one, which shares with this one the buckets that it does not touch; so a refusal changes nothing.
 #[derive(Drop)]
 pub struct Database {
@@ -206,6 +207,11 @@ impl Database {
         }
         if !adds_link(changes) {
             return Ok(Database { buckets });
+        }
+        match changes_end(alloc, &buckets, changes) {
+            Ok(true) => return Ok(Database { buckets }),
+            Ok(false) => {}
+            Err(error) => return Err(StoreRefusal::Memory(error)),
         }
         match least_on_cycle(alloc, &buckets) {
             Ok(None) => Ok(Database { buckets }),

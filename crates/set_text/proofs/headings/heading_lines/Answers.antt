@@ -3,6 +3,7 @@ use Rattle.std.proofs.Common.{◌∙◌, length-append}
 use Rattle.set_text.specs.Lines.{values_of}
 use Rattle.set_text.specs.Buckets.{read_heading}
 use Rattle.bucket_store.specs.Database.{Heading}
+use Rattle.bucket_store.specs.Refusal.{most_buckets}
 use Rattle.set_text.specs.parts.Reads.{RefusesLine, RefusesFile}
 use Rattle.set_text.proofs.Refusing.{refuses-at}
 use Rattle.set_text.proofs.TextLines.{values_behind-value, values_behind-wrong, values_behind-open, some-bytes}
@@ -36,8 +37,8 @@ loop-rest-preserved c =
     let before = c.loop-rest.headings.items in
     let heading = c.in-Ok.heading in
     let pushed : c.push.new.self.items ≡ before ++ heading ∷ [] = search rules in
-    let room : length before < 256 =
-    subst (λ (list : List Heading). length list < 256) c.deref.ensures.value c.in-Ok.ensures.room in
+    let room : length before < most_buckets =
+    subst (λ (list : List Heading). length list < most_buckets) c.deref.ensures.value c.in-Ok.ensures.room in
     record {
       counted = rw pushed (omega (arith, length-append before (heading ∷ []), c.loop-rest.invariant.counted));
       few = rw pushed (omega (arith, length-append before (heading ∷ []), room));

@@ -1,6 +1,6 @@
-use Rattle.std.proofs.Common.{◌≡◌, ◌∙◌, Bool, ap, sym, subst, List, [], map, length, nat_lt, Some, None}
+use Rattle.std.proofs.Common.{◌≡◌, ◌∙◌, Bool, false, ap, sym, subst, List, [], map, length, nat_lt, Some, None}
 use Rattle.std.proofs.Common.{get_or}
-use Rattle.std.specs.List.{flat_map}
+use Rattle.std.specs.List.{AllByRecursion, flat_map}
 use Rattle.std.specs.List.Sorted.{IsStrictlySortedBy}
 use Rattle.std.proofs.lemmas.Bool.{ltb-false}
 use Rattle.std.proofs.lemmas.List.{get_or_default}
@@ -14,14 +14,14 @@ use Rattle.bucket_store.specs.WellFormed.{IsKept}
 use Rattle.bucket_store.specs.declared.policy_changes.Change.{Change}
 use Rattle.bucket_store.specs.parts.Batch.{changed}
 use Rattle.bucket_store.specs.parts.Edit.{bucket_of}
-use Rattle.bucket_store.specs.parts.Closure.{IsFirstLoop, closed, link_rows}
+use Rattle.bucket_store.specs.parts.Ending.{ChangeEnds, IsLeastAt}
 use Rattle.bucket_store.specs.declared.refusals.StoreRefusal.TheVariants.{Limit, Cycle}
-use Rattle.bucket_store.proofs.Leading.{no-loop, first-loop}
-use Rattle.bucket_store.proofs.Accepting.{view-after, names-after, rooted-after, kept-after, free-after, accepted-after}
+use Rattle.bucket_store.proofs.LeastCycle.{least-named}
+use Rattle.bucket_store.proofs.Walks.{NoCycle}
+use Rattle.bucket_store.proofs.Accepting.{view-after, names-after, rooted-after, kept-after, free-after, accepted-after, free-linked}
 use Rattle.bucket_store.proofs.Accepting.{limited-after, cycle-after, refuses-cycle}
 use Rattle.bucket_store.proofs.databases.Database.set_policies.Goals as goal
 use Rattle.bucket_store.proofs.databases.Database.set_policies.Goals.{In-Ok, After-is_over, Then-not-adds_link}
-use Rattle.bucket_store.proofs.databases.Database.set_policies.Goals.{After-least_on_cycle, In-Ok-None, In-Ok-Some}
 
 -- the buckets after the changes
 abbrev after : List Change → List Bucket → List Bucket
@@ -68,24 +68,6 @@ kept-unlinked c named over =
     kept-after changes buckets c.self.invariant named (ltb-false most_policies _ (over ∙ c.if-is_over.false))
     (free-after changes buckets c.self.invariant named (sym c.adds_link.ensures ∙ c.if-not-adds_link.true))
 
--- no bucket is on a cycle
-kept-free : (c : In-Ok-None) → AreNamed c.args.changes.now c.self.inside.buckets.items
-    → c.in-Ok.buckets.items ≡ after c.args.changes.now c.self.inside.buckets.items
-    → too_many c.args.changes.now c.self.inside.buckets.items ≡ c.is_over.result
-    → IsKept (after c.args.changes.now c.self.inside.buckets.items)
-kept-free c named made over =
-    let changes = c.args.changes.now in
-    let buckets = c.self.inside.buckets.items in
-    let kept = c.self.invariant in
-    let told = rw c.in-Ok-None.field-0-is at c.in-Ok-None.ensures in
-    let none : IsFirstLoop (closed (length (after changes buckets)) (link_rows (after changes buckets)))
-    (length (after changes buckets)) None =
-    subst (λ (list : List Bucket). IsFirstLoop (closed (length list) (link_rows list)) (length list) None)
-    (c.deref-4.ensures.value ∙ made) told in
-    kept-after changes buckets kept named (ltb-false most_policies _ (over ∙ c.if-is_over.false))
-    (no-loop (after changes buckets) (names-after changes buckets kept named) (rooted-after changes buckets kept named)
-    none)
-
 -- ---- the answers
 
 pub returns-then-is_over-clause-refused : goal.returns-then-is_over-clause-refused
@@ -113,17 +95,67 @@ returns-then-not-adds_link-clause-accepted c =
     (accepted-after c.args.changes.now c.self.inside.buckets.items c.self.invariant (named way.In-Ok)
     (kept-unlinked way.Then-not-adds_link (named way.In-Ok) (counted way.After-is_over (made way.In-Ok))))
 
+-- no change's policy sends on to where a walk leads to a cycle
+kept-ended : (changes : List Change) (buckets : List Bucket) → IsKept buckets → AreNamed changes buckets
+    → too_many changes buckets ≡ false
+    → AllByRecursion (ChangeEnds (after changes buckets)) changes
+    → IsKept (after changes buckets)
+kept-ended changes buckets kept named over ends =
+    kept-after changes buckets kept named (ltb-false most_policies _ over)
+    (free-linked changes buckets kept named ends)
+
+-- no bucket is on a cycle
+kept-free : (changes : List Change) (buckets : List Bucket) → IsKept buckets → AreNamed changes buckets
+    → too_many changes buckets ≡ false
+    → NoCycle (flat_map placed_of (after changes buckets))
+    → IsKept (after changes buckets)
+kept-free changes buckets kept named over free =
+    kept-after changes buckets kept named (ltb-false most_policies _ over) free
+
+pub changes_end-requires : goal.changes_end-requires
+changes_end-requires c =
+    let way = goal.at.changes_end-requires c in
+    subst (IsStrictlySortedBy bucket_cmp) (sym (c.deref-4.ensures.value ∙ made way.In-Ok))
+    (names-after c.args.changes.now c.self.inside.buckets.items c.self.invariant (named way.In-Ok))
+
+pub invariant_of-result-in-Ok-true : goal.invariant_of-result-in-Ok-true
+invariant_of-result-in-Ok-true c =
+    let way = goal.at.invariant_of-result-in-Ok-true c in
+    let changes = c.args.changes.now in
+    subst IsKept (sym (made way.In-Ok))
+    (kept-ended changes c.self.inside.buckets.items c.self.invariant (named way.In-Ok)
+    (counted way.After-is_over (made way.In-Ok) ∙ c.if-is_over.false)
+    (subst (λ (list : List Bucket). AllByRecursion (ChangeEnds list) changes) (c.deref-4.ensures.value ∙ made way.In-Ok)
+    (c.in-Ok-true.ensures c.in-Ok-true.field-0-test)))
+
+pub returns-in-Ok-true-clause-next : goal.returns-in-Ok-true-clause-next
+returns-in-Ok-true-clause-next c = view (goal.at.returns-in-Ok-true-clause-next c).In-Ok
+
+pub returns-in-Ok-true-clause-accepted : goal.returns-in-Ok-true-clause-accepted
+returns-in-Ok-true-clause-accepted c =
+    let way = goal.at.returns-in-Ok-true-clause-accepted c in
+    let changes = c.args.changes.now in
+    subst (λ (database : Database). fault database (set_policies changes database) ≡ None) c.self.view_is
+    (accepted-after changes c.self.inside.buckets.items c.self.invariant (named way.In-Ok)
+    (kept-ended changes c.self.inside.buckets.items c.self.invariant (named way.In-Ok)
+    (counted way.After-is_over (made way.In-Ok) ∙ c.if-is_over.false)
+    (subst (λ (list : List Bucket). AllByRecursion (ChangeEnds list) changes) (c.deref-4.ensures.value ∙ made way.In-Ok)
+    (c.in-Ok-true.ensures c.in-Ok-true.field-0-test))))
+
 pub least_on_cycle-requires : goal.least_on_cycle-requires
 least_on_cycle-requires c =
     let way = goal.at.least_on_cycle-requires c in
-    subst (IsStrictlySortedBy bucket_cmp) (sym (c.deref-4.ensures.value ∙ made way.In-Ok))
+    subst (IsStrictlySortedBy bucket_cmp) (sym (c.deref-5.ensures.value ∙ made way.In-Ok))
     (names-after c.args.changes.now c.self.inside.buckets.items c.self.invariant (named way.In-Ok))
 
 pub invariant_of-result-in-Ok-None : goal.invariant_of-result-in-Ok-None
 invariant_of-result-in-Ok-None c =
     let way = goal.at.invariant_of-result-in-Ok-None c in
+    let told = rw c.in-Ok-None.field-0-is at c.in-Ok-None.ensures in
     subst IsKept (sym (made way.In-Ok))
-    (kept-free way.In-Ok-None (named way.In-Ok) (made way.In-Ok) (counted way.After-is_over (made way.In-Ok)))
+    (kept-free c.args.changes.now c.self.inside.buckets.items c.self.invariant (named way.In-Ok)
+    (counted way.After-is_over (made way.In-Ok) ∙ c.if-is_over.false)
+    (subst (λ (list : List Bucket). NoCycle (flat_map placed_of list)) (c.deref-5.ensures.value ∙ made way.In-Ok) told))
 
 pub returns-in-Ok-None-clause-next : goal.returns-in-Ok-None-clause-next
 returns-in-Ok-None-clause-next c = view (goal.at.returns-in-Ok-None-clause-next c).In-Ok
@@ -131,9 +163,13 @@ returns-in-Ok-None-clause-next c = view (goal.at.returns-in-Ok-None-clause-next 
 pub returns-in-Ok-None-clause-accepted : goal.returns-in-Ok-None-clause-accepted
 returns-in-Ok-None-clause-accepted c =
     let way = goal.at.returns-in-Ok-None-clause-accepted c in
+    let told = rw c.in-Ok-None.field-0-is at c.in-Ok-None.ensures in
     subst (λ (database : Database). fault database (set_policies c.args.changes.now database) ≡ None) c.self.view_is
     (accepted-after c.args.changes.now c.self.inside.buckets.items c.self.invariant (named way.In-Ok)
-    (kept-free way.In-Ok-None (named way.In-Ok) (made way.In-Ok) (counted way.After-is_over (made way.In-Ok))))
+    (kept-free c.args.changes.now c.self.inside.buckets.items c.self.invariant (named way.In-Ok)
+    (counted way.After-is_over (made way.In-Ok) ∙ c.if-is_over.false)
+    (subst (λ (list : List Bucket). NoCycle (flat_map placed_of list)) (c.deref-5.ensures.value ∙ made way.In-Ok)
+    told)))
 
 pub returns-in-Ok-Some-clause-refused : goal.returns-in-Ok-Some-clause-refused
 returns-in-Ok-Some-clause-refused c =
@@ -144,17 +180,15 @@ returns-in-Ok-Some-clause-refused c =
     let next = after changes buckets in
     let at = c.in-Ok-Some.at in
     let told = rw c.in-Ok-Some.field-0-is at c.in-Ok-Some.ensures in
-    let loop : IsFirstLoop (closed (length next) (link_rows next)) (length next) (Some at) =
-    subst (λ (list : List Bucket). IsFirstLoop (closed (length list) (link_rows list)) (length list) (Some at))
-    (c.deref-4.ensures.value ∙ made way.In-Ok) told in
+    let least : IsLeastAt next at =
+    subst (λ (list : List Bucket). IsLeastAt list at) (c.deref-5.ensures.value ∙ made way.In-Ok) told in
     let blank : Bucket = bucket_of [] (record { kind = 0; metadata = [] }) [] in
     let bucket = c.index.result.now in
     let is : bucket.name ≡ (get_or next at blank).name =
     ap (λ (own : Bucket). own.name)
     (c.index.ensures ∙ ap (λ (list : List Bucket). get_or list at bucket) (made way.In-Ok)
-    ∙ get_or_default next at bucket blank loop.0) in
-    let first = first-loop next (names-after changes buckets kept (named way.In-Ok))
-    (rooted-after changes buckets kept (named way.In-Ok)) at loop in
+    ∙ get_or_default next at bucket blank least.in_range) in
+    let first = least-named next (rooted-after changes buckets kept (named way.In-Ok)) at least in
     let over = counted way.After-is_over (made way.In-Ok) ∙ c.if-is_over.false in
     let on =
     cycle-after changes buckets kept (named way.In-Ok) over bucket.name
