@@ -8,4 +8,5 @@ mod Outside
 mod Held
 pub mod Places
 mod Targets
+mod Depth
 pub mod Decisions
