@@ -9,4 +9,7 @@ mod Held
 pub mod Places
 mod Targets
 mod Depth
+mod Kept
+mod Known
+mod Settled
 pub mod Decisions

@@ -2,4 +2,5 @@
 pub mod Buckets
 pub mod Ends
 pub mod Shapes
+pub mod Slots
 pub mod Windows

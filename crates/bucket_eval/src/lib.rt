@@ -15,7 +15,9 @@ mod answers;
 mod evaluations;
 mod laws;
 mod nested;
+mod settling;
 mod shapes;
+mod slots;
 mod windows;
 
 pub use answers::{Answer, Cause, Found, Row, Verdict};
