@@ -75,49 +75,32 @@ answer-more buckets question deep most at bucket rise is =
     (first_least contribution_cmp (filter_map (offered buckets question deep most bucket.name) policies)))
     (policies_of-at buckets at bucket rise is)
 
-pub end-held : (buckets : List Bucket) (question : Question) (deep : Bool) (left at : ℕ) (bucket : Bucket) (held : Held)
-    → left ≡ 0 → IsStrictlySortedBy bucket_cmp buckets
-    → slice_get buckets at ≡ Some bucket → held.found.kind.0 ≡ bucket.fallback.kind → held.found.bucket ≡ at
-    → held.found.policy ≡ None → held.result.now ≡ bucket.fallback
-    → IsHeld buckets (answer_within (database_of buckets) question deep left bucket.name) held
-unfolding answer_within
-end-held buckets question deep left at bucket held end rise is kind of_bucket of_policy result =
-    subst (λ n. IsHeld buckets (answer_within (database_of buckets) question deep n bucket.name) held) (sym end)
-    (fallback-held buckets at bucket held rise is kind of_bucket of_policy result)
-
-above : (left : ℕ) → 0 < left → left ≡ suc (left - 1)
-above left some = omega arith
-
-pub fallback-answers : (buckets : List Bucket) (question : Question) (deep : Bool) (left at : ℕ) (bucket : Bucket)
+pub fallback-answers : (buckets : List Bucket) (question : Question) (deep : Bool) (most at : ℕ) (bucket : Bucket)
     (held : Held)
-    → 0 < left → IsStrictlySortedBy bucket_cmp buckets
+    → IsStrictlySortedBy bucket_cmp buckets
     → slice_get buckets at ≡ Some bucket
     → Offers buckets (first_least contribution_cmp
-    (filter_map (offered buckets question deep (left - 1) bucket.name) bucket.policies)) None
+    (filter_map (offered buckets question deep most bucket.name) bucket.policies)) None
     → held.found.kind.0 ≡ bucket.fallback.kind → held.found.bucket ≡ at
     → held.found.policy ≡ None → held.result.now ≡ bucket.fallback
-    → IsHeld buckets (answer_within (database_of buckets) question deep left bucket.name) held
+    → IsHeld buckets (answer_within (database_of buckets) question deep (suc most) bucket.name) held
 unfolding least_of
-fallback-answers buckets question deep left at bucket held some rise is offers kind of_bucket of_policy result =
-    subst (λ n. IsHeld buckets (answer_within (database_of buckets) question deep n bucket.name) held)
-    (sym (above left some))
-    (subst (λ o. IsHeld buckets o held) (sym (answer-more buckets question deep (left - 1) at bucket rise is))
+fallback-answers buckets question deep most at bucket held rise is offers kind of_bucket of_policy result =
+    subst (λ o. IsHeld buckets o held) (sym (answer-more buckets question deep most at bucket rise is))
     (decided-fallback buckets (fallback_of (database_of buckets) bucket.name)
-    (least_of buckets question deep (left - 1) bucket.name bucket.policies) held offers
-    (fallback-held buckets at bucket held rise is kind of_bucket of_policy result)))
+    (least_of buckets question deep most bucket.name bucket.policies) held offers
+    (fallback-held buckets at bucket held rise is kind of_bucket of_policy result))
 
-pub offer-answers : (buckets : List Bucket) (question : Question) (deep : Bool) (left at : ℕ) (bucket : Bucket)
+pub offer-answers : (buckets : List Bucket) (question : Question) (deep : Bool) (most at : ℕ) (bucket : Bucket)
     (held : Held) (offer : Offer)
-    → 0 < left → IsStrictlySortedBy bucket_cmp buckets
+    → IsStrictlySortedBy bucket_cmp buckets
     → slice_get buckets at ≡ Some bucket
     → Offers buckets (first_least contribution_cmp
-    (filter_map (offered buckets question deep (left - 1) bucket.name) bucket.policies)) (Some offer)
+    (filter_map (offered buckets question deep most bucket.name) bucket.policies)) (Some offer)
     → held.found ≡ offer.found → held.result.now ≡ offer.result.now
-    → IsHeld buckets (answer_within (database_of buckets) question deep left bucket.name) held
+    → IsHeld buckets (answer_within (database_of buckets) question deep (suc most) bucket.name) held
 unfolding least_of
-offer-answers buckets question deep left at bucket held offer some rise is offers found result =
-    subst (λ n. IsHeld buckets (answer_within (database_of buckets) question deep n bucket.name) held)
-    (sym (above left some))
-    (subst (λ o. IsHeld buckets o held) (sym (answer-more buckets question deep (left - 1) at bucket rise is))
+offer-answers buckets question deep most at bucket held offer rise is offers found result =
+    subst (λ o. IsHeld buckets o held) (sym (answer-more buckets question deep most at bucket rise is))
     (decided-offer buckets (fallback_of (database_of buckets) bucket.name)
-    (least_of buckets question deep (left - 1) bucket.name bucket.policies) offer held offers found result))
+    (least_of buckets question deep most bucket.name bucket.policies) offer held offers found result)

@@ -13,7 +13,7 @@ use Rattle.bucket_eval.specs.declared.windows.Window.{Window}
 use Rattle.bucket_eval.specs.declared.nested.Offer.{Offer}
 use Rattle.bucket_eval.proofs.Lesser.{combined}
 use Rattle.bucket_eval.proofs.ByShape.{first_least-cons_option}
-use Rattle.bucket_eval.proofs.Offers.{chosen-offers}
+use Rattle.bucket_eval.proofs.Offers.{chosen-offers, not-offered}
 
 drop-past : {X : Type 0} (xs : List X) (at : ℕ) → length xs ≤ at → drop at xs ≡ []
 drop-past [] zero past = refl
@@ -66,6 +66,14 @@ module _ (buckets : List Bucket) (offered : Policy → Option Contribution) wher
   least_from-offer policies at policy offer best lt is made rest =
       more policies at policy (Some (chosen offer best)) lt is
       (chosen-offers buckets (offered policy) (least_from policies (at + 1)) offer best made rest)
+
+  pub least_from-silent : (policies : List Policy) (at : ℕ) (policy : Policy) (best : Option Offer)
+      → at < length policies → policy ≡ get_or policies at policy → Offers buckets (offered policy) None
+      → Offers buckets (least_from policies (at + 1)) best
+      → Offers buckets (least_from policies at) best
+  least_from-silent policies at policy best lt is made rest =
+      more policies at policy best lt is
+      (not-offered buckets (offered policy) (least_from policies (at + 1)) best made rest)
 
   -- ---- places at which nothing is offered
 

@@ -8,4 +8,8 @@ mod Outside
 mod Held
 pub mod Places
 mod Targets
+mod Depth
+mod Kept
+mod Known
+mod Settled
 pub mod Decisions

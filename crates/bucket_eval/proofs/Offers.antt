@@ -99,17 +99,14 @@ IsOwn-offered buckets question deep most name =
     }
 
 -- what is offered in a shape, by the one policy that fits
-pub offers-one : (buckets : List Bucket) (question : Question) (deep : Bool) (most : ℕ) (name : List ℕ) (shape : ℕ)
-    (policies : List Policy) (place : ℕ) (policy : Policy) (offer : Option Offer)
+pub offered-one : (buckets : List Bucket) (question : Question) (deep : Bool) (most : ℕ) (name : List ℕ) (shape : ℕ)
+    (policies : List Policy) (place : ℕ) (policy : Policy)
     → FitsAt question shape policies (Some place) → policy ≡ get_or policies place policy
-    → Offers buckets (offered buckets question deep most name policy) offer
-    → Offers buckets
-    (first_least contribution_cmp (filter_map (in_shape shape (offered buckets question deep most name)) policies)) offer
-offers-one buckets question deep most name shape policies place policy offer at is offers =
-    subst (λ made. Offers buckets made offer)
-    (sym (least-of-one question (offered buckets question deep most name)
-    (IsOwn-offered buckets question deep most name) shape policies place policy at is))
-    offers
+    → first_least contribution_cmp (filter_map (in_shape shape (offered buckets question deep most name)) policies)
+    ≡ offered buckets question deep most name policy
+offered-one buckets question deep most name shape policies place policy at is =
+    least-of-one question (offered buckets question deep most name)
+    (IsOwn-offered buckets question deep most name) shape policies place policy at is
 
 pub offers-none : (buckets : List Bucket) (question : Question) (deep : Bool) (most : ℕ) (name : List ℕ) (shape : ℕ)
     (policies : List Policy) → FitsAt question shape policies None
@@ -121,7 +118,7 @@ offers-none buckets question deep most name shape policies others =
     (IsOwn-offered buckets question deep most name) shape policies others))
     tt
 
-not-offered : (buckets : List Bucket) (made rest : Option Contribution) (best : Option Offer)
+pub not-offered : (buckets : List Bucket) (made rest : Option Contribution) (best : Option Offer)
     → Offers buckets made None → Offers buckets rest best → Offers buckets (combined contribution_cmp made rest) best
 not-offered buckets None rest best offers rest_is = rest_is
 not-offered buckets (Some made) rest best offers rest_is = absurd offers

@@ -45,7 +45,7 @@ outcome_at-same buckets found rise =
     (slice_get-map heading_of buckets found.bucket)
     ∙ at-same buckets found.bucket (slice_get buckets found.bucket) found.policy rise refl
 
-some-there : {X Y : Type 0} (f : X → Option Y) (xs : List X) (at : ℕ) (here : Option X) → slice_get xs at ≡ here
+pub some-there : {X Y : Type 0} (f : X → Option Y) (xs : List X) (at : ℕ) (here : Option X) → slice_get xs at ≡ here
     → is_some (option_and_then f here) ≡ true → at < length xs
 some-there f xs at None is some = absurd (false≢true some)
 some-there f xs at (Some x) is some = slice_get_within xs at x is
@@ -70,7 +70,7 @@ outcome_at-bucket database buckets found bucket policy same rise is of_policy =
     ap (λ d. outcome_by_places d found) (sym same) ∙ outcome_at-same buckets found rise
     ∙ ap (option_and_then (outcome_in found.policy)) is ∙ ap (λ p. outcome_in p bucket) of_policy
 
-some-policy : {X Y : Type 0} (f : X → Y) (xs : List X) (at : ℕ) (here : Option X) → slice_get xs at ≡ here
+pub some-policy : {X Y : Type 0} (f : X → Y) (xs : List X) (at : ℕ) (here : Option X) → slice_get xs at ≡ here
     → is_some (option_map f here) ≡ true → at < length xs
 some-policy f xs at None is some = absurd (false≢true some)
 some-policy f xs at (Some x) is some = slice_get_within xs at x is

@@ -23,7 +23,7 @@ all-placed P name (first ∷ policies) zero policy all is =
     let same : first ≡ policy = cc in subst (λ p. P (record { bucket = name; policy = p })) same all.0
 all-placed P name (first ∷ policies) (suc place) policy all is = all-placed P name policies place policy all.1 is
 
-all-at : (P : Placed → Type 0) (buckets : List Bucket) (at : ℕ) (bucket : Bucket) (place : ℕ) (policy : Policy)
+pub all-at : (P : Placed → Type 0) (buckets : List Bucket) (at : ℕ) (bucket : Bucket) (place : ℕ) (policy : Policy)
     → AllByRecursion P (flat_map placed_of buckets) → slice_get buckets at ≡ Some bucket
     → slice_get bucket.policies place ≡ Some policy → P (record { bucket = bucket.name; policy = policy })
 all-at P [] at bucket place policy all is there = cc

@@ -1,4 +1,5 @@
 pub mod Least
 pub mod Evaluation
+pub mod Depth
 pub mod Found
 pub mod parts
