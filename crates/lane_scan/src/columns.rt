@@ -1,4 +1,4 @@
-ghost use Rattle.std.specs.Prelude.{◌≡◌, ◌<◌, ◌++◌, [], ◌∷◌, length, OnOk, OnErr};
+ghost use Rattle.std.specs.Prelude.{◌≡◌, ◌<◌, ◌≤◌, ◌++◌, [], ◌∷◌, length, OnOk, OnErr};
 ghost use Rattle.lane_scan.specs.Rows.{most_rows, numbers_of};
 ghost use Rattle.lane_scan.specs.Asked.{selects, covers as covering};
 
@@ -42,6 +42,14 @@ impl Columns {
             users: Vec::new(alloc),
             privileges: Vec::new(alloc),
         }
+    }
+
+    /// How many rows there are.
+    pub fn len(&self) -> usize
+        ensures count { result ≡ length self.now }
+        ensures bound { length self.now ≤ most_rows }
+    {
+        self.clients.len()
     }
 
     /// Appends a row. For want of memory it leaves the rows as they were.
