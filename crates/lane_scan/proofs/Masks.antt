@@ -1,8 +1,10 @@
 -- Masks of tests: the bit of each is set where the test is true.
-use Rattle.std.proofs.Common.{◌≡◌, ℕ, suc, ◌+◌, ◌-◌, ◌*◌, ◌^◌, ◌<◌, Bool, true, false, ◌&&◌, ◌||◌, cond, List, [], ◌∷◌, map, length, bit_and, bit_or, refl, sym, ap, ◌∙◌, arith}
-use Rattle.std.proofs.lemmas.Nat.{and_block, or_block}
+use Rattle.std.proofs.Common.{◌≤◌, eqb, replicate, ◌%◌, ◌≡◌, ℕ, suc, ◌+◌, ◌-◌, ◌*◌, ◌^◌, ◌<◌, Bool, true, false, ◌&&◌, ◌||◌, cond, List, [], ◌∷◌, map, length, bit_and, bit_or, refl, sym, ap, ◌∙◌, arith}
+use Rattle.std.proofs.lemmas.Nat.{and_le_l, and_block}
 use Rattle.std.proofs.lemmas.Nat.Bits.{same_from_bits, bit_at_and}
-use Rattle.std.specs.Simd.Lanes.{mask_l}
+use Rattle.std.proofs.lemmas.List.{length-map}
+use Rattle.std.proofs.lemmas.Simd.{mask_l-mod}
+use Rattle.std.specs.Simd.Lanes.{top, mask_l, zip2}
 use Rattle.lane_scan.specs.Rows.{Row}
 use Rattle.lane_scan.specs.parts.Columns.{rows_of}
 
@@ -19,12 +21,6 @@ and_bits true false = refl
 and_bits false true = refl
 and_bits false false = refl
 
-or_bits : (a b : Bool) → bit_or (bit a) (bit b) ≡ bit (a || b)
-or_bits true true = refl
-or_bits true false = refl
-or_bits false true = refl
-or_bits false false = refl
-
 -- a bit below a number
 abbrev on_bit : ℕ → ℕ → ℕ
 on_bit low high = low + 2 * high
@@ -38,19 +34,6 @@ and_on_bits a b m n =
     ∙ and_block 1 m n (bit a) (bit b) (bit_small a) (bit_small b)
     ∙ ap (λ low. bit_and m n * 2 ^ 1 + low) (and_bits a b)
     ∙ sym (as_block (bit (a && b)) (bit_and m n))
-
-or_on_bits : (a b : Bool) (m n : ℕ) → bit_or (on_bit (bit a) m) (on_bit (bit b) n) ≡ on_bit (bit (a || b)) (bit_or m n)
-or_on_bits a b m n =
-    (λ i. bit_or (as_block (bit a) m i) (as_block (bit b) n i))
-    ∙ or_block 1 m n (bit a) (bit b) (bit_small a) (bit_small b)
-    ∙ ap (λ low. bit_or m n * 2 ^ 1 + low) (or_bits a b)
-    ∙ sym (as_block (bit (a || b)) (bit_or m n))
-
--- both of two tests of one element
-pub mask-or : (p q : ℕ → Bool) (xs : List ℕ) → bit_or (mask_l (map p xs)) (mask_l (map q xs)) ≡ mask_l (map (λ x. p x || q x) xs)
-mask-or p q [] = refl
-mask-or p q (x ∷ xs) =
-    or_on_bits (p x) (q x) (mask_l (map p xs)) (mask_l (map q xs)) ∙ ap (on_bit (bit (p x || q x))) (mask-or p q xs)
 
 -- each of three columns under a test of its own, as one test of the rows
 pub mask-rows : (p q r : ℕ → Bool) (xs ys zs : List ℕ) → length ys ≡ length xs → length zs ≡ length xs
@@ -101,3 +84,33 @@ mask-without_first (false ∷ tests) some =
     ap (bit_and (0 + 2 * mask_l tests)) (let e : 0 + 2 * mask_l tests - 1 ≡ 1 + 2 * (mask_l tests - 1) = omega arith in e)
     ∙ and_on_bits false true (mask_l tests) (mask_l tests - 1)
     ∙ ap (λ n. 0 + 2 * n) (mask-without_first tests more)
+
+-- a lane of a comparison
+abbrev lane : ℕ → ℕ → ℕ
+lane x y = cond (eqb x y) (2 ^ 32 - 1) 0
+
+top_either : (t u : Bool) → top 31 (bit_or (cond t (2 ^ 32 - 1) 0) (cond u (2 ^ 32 - 1) 0)) ≡ t || u
+top_either true true = refl
+top_either true false = refl
+top_either false true = refl
+top_either false false = refl
+
+tops_either : (a b : ℕ) (xs : List ℕ)
+    → map (top 31) (zip2 bit_or (zip2 lane xs (replicate (length xs) a)) (zip2 lane xs (replicate (length xs) b)))
+    ≡ map (λ x. eqb x a || eqb x b) xs
+tops_either a b [] = refl
+tops_either a b (x ∷ xs) = (λ i. top_either (eqb x a) (eqb x b) i ∷ tops_either a b xs i)
+
+-- `to_bitmask` of two comparisons, either of which may hold
+pub mask-either : (a b n : ℕ) (xs : List ℕ) → length xs ≡ n → n ≤ 64
+    → mask_l (map (top 31) (zip2 bit_or (zip2 lane xs (replicate n a)) (zip2 lane xs (replicate n b)))) % 2 ^ 64
+    ≡ mask_l (map (λ x. eqb x a || eqb x b) xs)
+mask-either a b n xs long small =
+    let tests : List Bool = map (λ x. eqb x a || eqb x b) xs in
+    ap (λ k. mask_l (map (top 31) (zip2 bit_or (zip2 lane xs (replicate k a)) (zip2 lane xs (replicate k b)))) % 2 ^ 64) (sym long)
+    ∙ ap (λ l. mask_l l % 2 ^ 64) (tops_either a b xs)
+    ∙ mask_l-mod tests 64 (omega (arith, length-map xs (λ x. eqb x a || eqb x b), long, small))
+
+-- nothing passes a test whose first part nothing passes
+pub mask-none : (m n : ℕ) → m ≡ 0 → bit_and m n ≡ 0
+mask-none m n none = omega (arith, and_le_l m n, none)

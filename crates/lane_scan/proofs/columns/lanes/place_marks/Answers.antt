@@ -1,7 +1,7 @@
-use Rattle.std.proofs.Common.{◌≡◌, ◌+◌, ◌==◌, ◌^◌, length, take, drop, map, true, ap, ◌∙◌, arith}
+use Rattle.std.proofs.Common.{◌≡◌, ◌+◌, ◌^◌, length, take, drop, map, true, ap, ◌∙◌, arith}
 use Rattle.std.specs.Simd.Lanes.{mask_l}
 use Rattle.std.proofs.lemmas.Simd.{length-chunk}
-use Rattle.lane_scan.proofs.Masks.{mask-all, mask-or}
+use Rattle.lane_scan.proofs.Masks.{mask-all}
 use Rattle.lane_scan.proofs.columns.lanes.place_marks.Goals as goal
 
 pub returns-in-Any : goal.returns-in-Any
@@ -15,7 +15,4 @@ pub returns-in-Is : goal.returns-in-Is
 returns-in-Is c = rw c.in-Is.is c.equal_marks.ensures
 
 pub returns-in-IsOrWildcard : goal.returns-in-IsOrWildcard
-returns-in-IsOrWildcard c =
-    let chunk = take 32 (drop c.args.at c.args.column.now) in
-    rw (c.in-IsOrWildcard.is, c.equal_marks-in-IsOrWildcard.ensures, c.equal_marks-in-IsOrWildcard-2.ensures)
-    (mask-or (λ number. number == 0) (λ number. number == c.in-IsOrWildcard.wanted) chunk)
+returns-in-IsOrWildcard c = rw c.in-IsOrWildcard.is c.wildcard_or_equal_marks.ensures
