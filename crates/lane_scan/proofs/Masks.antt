@@ -1,6 +1,6 @@
 -- Masks of tests: the bit of each is set where the test is true.
 use Rattle.std.proofs.Common.{◌≤◌, eqb, replicate, ◌%◌, ◌≡◌, ℕ, suc, ◌+◌, ◌-◌, ◌*◌, ◌^◌, ◌<◌, Bool, true, false, ◌&&◌, ◌||◌, cond, List, [], ◌∷◌, map, length, bit_and, bit_or, refl, sym, ap, ◌∙◌, arith}
-use Rattle.std.proofs.lemmas.Nat.{and_le_l, and_block}
+use Rattle.std.proofs.lemmas.Nat.{and_block}
 use Rattle.std.proofs.lemmas.Nat.Bits.{same_from_bits, bit_at_and}
 use Rattle.std.proofs.lemmas.List.{length-map}
 use Rattle.std.proofs.lemmas.Simd.{mask_l-mod}
@@ -110,7 +110,3 @@ mask-either a b n xs long small =
     ap (λ k. mask_l (map (top 31) (zip2 bit_or (zip2 lane xs (replicate k a)) (zip2 lane xs (replicate k b)))) % 2 ^ 64) (sym long)
     ∙ ap (λ l. mask_l l % 2 ^ 64) (tops_either a b xs)
     ∙ mask_l-mod tests 64 (omega (arith, length-map xs (λ x. eqb x a || eqb x b), long, small))
-
--- nothing passes a test whose first part nothing passes
-pub mask-none : (m n : ℕ) → m ≡ 0 → bit_and m n ≡ 0
-mask-none m n none = omega (arith, and_le_l m n, none)

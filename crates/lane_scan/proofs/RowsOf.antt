@@ -6,7 +6,7 @@ use Rattle.lane_scan.specs.Rows.{Row}
 use Rattle.lane_scan.specs.parts.Columns.{rows_of, AreColumns}
 use Rattle.lane_scan.specs.parts.Tests.{passes, meets}
 use Rattle.lane_scan.specs.declared.tests_of_rows.RowTest.{RowTest}
-use Rattle.lane_scan.proofs.Masks.{mask-rows, mask-none}
+use Rattle.lane_scan.proofs.Masks.{mask-rows}
 
 pub length-rows : (xs ys zs : List ℕ) → length ys ≡ length xs → length zs ≡ length xs → length (rows_of xs ys zs) ≡ length xs
 length-rows [] ys zs e f = refl
@@ -111,9 +111,3 @@ module _ {xs ys zs : List ℕ} {rows : List Row} (columns : AreColumns xs ys zs)
   rows-pushed x y z =
       rows-push xs ys zs x y z columns.as_many_users columns.as_many_privileges
       ∙ ap (λ l. l ++ record { client = x; user = y; privilege = z } ∷ []) is
-
--- and none of these rows is as asked where no client is
-pub columns-none : {xs ys zs : List ℕ} {rows : List Row} (at n : ℕ) (test : RowTest) → AreColumns xs ys zs → rows_of xs ys zs ≡ rows
-    → mask_l (map (passes test.client) (take n (drop at xs))) ≡ 0 → 0 ≡ mask_l (map (meets test) (take n (drop at rows)))
-columns-none {xs} {ys} {zs} {rows} at n test columns is none =
-    sym (mask-none (mask_l (map (passes test.client) (take n (drop at xs)))) _ none) ∙ columns-masks at n test columns is

@@ -17,11 +17,7 @@ impl Columns {
         requires { at + 32 ≤ length self.now }
         ensures { result ≡ mask_l (map (meets test) (take 32 (drop at self.now))) }
     {
-        let clients = place_marks(&self.clients, at, test.client);
-        if clients == 0 {
-            return 0;
-        }
-        clients
+        place_marks(&self.clients, at, test.client)
             & (place_marks(&self.users, at, test.user)
                 & place_marks(&self.privileges, at, test.privilege))
     }
