@@ -1,0 +1,5 @@
+pub mod Masks
+pub mod Numbers
+pub mod RowsOf
+pub mod Marking
+pub mod Scanning
