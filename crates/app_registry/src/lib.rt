@@ -25,6 +25,3 @@ pub use name_sets::NameSet;
 pub use refusals::{GRANT_LIMIT, INSTALL_LIMIT, PACKAGE_LIMIT, RegistryRefusal, USER_LIMIT};
 pub use registry::Registry;
 pub use users::{User, UserType};
-
-#[cfg(test)]
-mod tests;

@@ -70,6 +70,3 @@ fn is_after(policy: &Policy, other: &Policy) -> bool
         .then_with(|| policy.key.cmp(&other.key))
         .is_gt()
 }
-
-#[cfg(test)]
-mod tests;

@@ -27,6 +27,3 @@ pub use databases::{Database, Erased, has_cycle};
 pub use limits::{MOST_BUCKETS, MOST_POLICIES};
 pub use policy_changes::{Change, Changes};
 pub use refusals::StoreRefusal;
-
-#[cfg(test)]
-mod tests;

@@ -29,6 +29,3 @@ pub use names::{Name, NameRefusal, name_fault};
 pub use questions::Question;
 pub use results::{Kind, PolicyResult};
 pub use short_texts::Short;
-
-#[cfg(test)]
-mod tests;

@@ -22,6 +22,3 @@ mod store_commands;
 pub use commands::Command;
 pub use desks::{Applied, Desk, LAST_COMMIT};
 pub use refusals::Refusal;
-
-#[cfg(test)]
-mod tests;

@@ -11,8 +11,6 @@ mod grounds;
 mod places;
 mod reasons;
 mod stands;
-#[cfg(test)]
-mod tests;
 mod usages;
 mod word_tests;
 mod wording;

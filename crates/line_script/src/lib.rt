@@ -21,8 +21,6 @@ mod results;
 mod rules_broken;
 mod spots;
 mod steps;
-#[cfg(test)]
-mod tests;
 mod verbs;
 mod word_forms;
 

@@ -10,8 +10,6 @@ mod lines;
 mod parts;
 mod placeholders;
 mod templates;
-#[cfg(test)]
-mod tests;
 mod usual;
 
 pub use expansion::expand;

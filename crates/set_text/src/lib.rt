@@ -22,8 +22,6 @@ mod results;
 mod sets;
 mod stamps;
 mod templates;
-#[cfg(test)]
-mod tests;
 mod users;
 mod writing;
 

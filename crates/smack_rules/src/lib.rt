@@ -22,6 +22,4 @@ mod pair_rules;
 mod rule;
 mod spelling;
 mod table;
-#[cfg(test)]
-mod tests;
 mod words;

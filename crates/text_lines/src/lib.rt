@@ -42,22 +42,3 @@ pub fn split_line(text: &[u8]) -> Option<(&[u8], &[u8])>
         None => Some((text, &[])),
     }
 }
-
-#[cfg(test)]
-mod tests {
-    use super::*;
-
-    #[test]
-    fn takes_lines_apart(rt: HostRuntime) {
-        let mut rest: &[u8] = b"a b\n\nlast";
-        for want in [b"a b".as_slice(), b"".as_slice(), b"last".as_slice()] {
-            let cut = split_line(rest);
-            assert!(rt; cut.is_some());
-            if let Some((line, after)) = cut {
-                assert_eq!(rt; line, want);
-                rest = after;
-            }
-        }
-        assert!(rt; split_line(rest).is_none());
-    }
-}

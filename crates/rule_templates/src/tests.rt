@@ -1,4 +1,0 @@
-//! Worked texts and packages.
-
-mod expansions;
-mod texts;
