@@ -103,12 +103,12 @@ fn with_policies(alloc: Global, count: u32) -> Result<Desk, Fail> {
 
 #[test]
 fn room_for_the_buckets_of_the_layout(rt: HostRuntime) -> Result<(), Fail> {
-    let desk = with_buckets(rt.alloc(), 248)?;
+    let desk = with_buckets(rt.alloc(), 1_016)?;
     assert_eq!(rt; limit(&desk, &Command::Layout), None);
     let desk = accepted(rt.alloc(), &desk, "bucket more deny")?;
     assert_eq!(rt;
         limit(&desk, &Command::Layout),
-        Some((Counted::Buckets, 256))
+        Some((Counted::Buckets, 1_024))
     );
     Ok(())
 }

@@ -169,8 +169,8 @@ const REFUSALS: [(Refusal, &[u8]); 14] = [
         b"refused 11 limit grants 65536\n",
     ),
     (
-        Refusal::Limit(Counted::Buckets, 256),
-        b"refused 11 limit buckets 256\n",
+        Refusal::Limit(Counted::Buckets, 1024),
+        b"refused 11 limit buckets 1024\n",
     ),
     (
         Refusal::Limit(Counted::Policies, 65536),

@@ -55,10 +55,10 @@ pub fn expanded(alloc: Global, text: &str) -> Result<String, Fail> {
     Ok(all)
 }
 
-// 256 buckets and 64 users: the fault that is named is a later one, of which there is one more than there may be.
+// 1,024 buckets and 64 users: the fault that is named is a later one, of which there is one more than there may be.
 const BUCKETS_AND_USERS: &[&str] = &[
-    "_b00001 0: buckets = ;0x0;\n[255 b#;0x0;\n]",
-    "buckets 257: buckets = ;0x0;\n[256 b#;0x0;\n]",
+    "_b00001 0: buckets = ;0x0;\n[1023 b#;0x0;\n]",
+    "buckets 1025: buckets = ;0x0;\n[1024 b#;0x0;\n]",
     "buckets 0: users = [64 1#;guest\n]",
     "users 65: users = [65 1#;guest\n]",
 ];
