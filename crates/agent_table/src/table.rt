@@ -80,6 +80,18 @@ impl Questions {
         }
     }
 
+    /// A table as `new` makes it, but for the number to come, which is this one. Takes no memory.
+    pub fn starting_at(alloc: Global, first: u32) -> Questions
+        ensures { result ≡ record fresh { next = first } }
+    {
+        Questions {
+            questions: Vec::new(alloc),
+            queues: BTreeMap::new(alloc),
+            next: first,
+            stopped: false,
+        }
+    }
+
     /// Takes an agent in, for a kind that has none. Refuses, in this order, `Stopped` and `Taken`.
     pub fn register(&mut self, kind: Kind) -> Result<(), RegisterRefusal>
         requires agent { IsTrue (is_agent kind.0) }
@@ -285,6 +297,3 @@ fn told(question: &OpenQuestion) -> Result<Asked, AllocError>
         metadata: question.metadata.copy()?,
     })
 }
-
-#[cfg(test)]
-mod tests;

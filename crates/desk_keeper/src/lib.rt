@@ -8,8 +8,6 @@ mod folders;
 mod keeper;
 mod prepared;
 mod refusals;
-#[cfg(test)]
-mod tests;
 
 pub use folders::KeptDesk;
 pub use keeper::Keeper;

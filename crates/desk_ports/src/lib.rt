@@ -22,8 +22,6 @@ mod port_faults;
 mod shown;
 mod stops;
 mod streams;
-#[cfg(test)]
-mod tests;
 
 pub use boxed::Boxed;
 pub use byte_list::Bytes;

@@ -32,6 +32,3 @@ pub use promise::freshness;
 pub use refusals::{MOST_ENTRIES, MOST_WAITING, WorldRefusal};
 pub use replies::{Given, Reply};
 pub use worlds::{World, run};
-
-#[cfg(test)]
-mod tests;

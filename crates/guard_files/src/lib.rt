@@ -13,8 +13,6 @@ mod set_reading;
 mod settling;
 mod steps;
 mod store_names;
-#[cfg(test)]
-mod tests;
 mod vault;
 
 pub use laws::{agreement_keeps_recovery, list_reads_back};

@@ -1,8 +1,4 @@
+mod disk_calls;
 mod endings;
-mod failing_calls;
-mod folders;
-mod limits;
-mod notes;
+mod interrupted;
 mod runs;
-mod streams;
-mod words;

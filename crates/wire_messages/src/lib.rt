@@ -40,6 +40,3 @@ pub use messages::{Framed, Message};
 pub use operations::{Heard, Operation};
 pub use refusals::{EncodeRefusal, WireRefusal};
 pub use verdicts::{BorrowedRow, PackedVerdict};
-
-#[cfg(test)]
-mod tests;

@@ -15,7 +15,7 @@ pub fn failing_sink(alloc: Global, call: u64) -> Result<MemSink, AllocError> {
 }
 
 /// An empty folder.
-pub fn empty_disk(alloc: Global) -> Result<MemDisk, AllocError> {
+fn empty_disk(alloc: Global) -> Result<MemDisk, AllocError> {
     let fails = FailList::of(Vec::new(alloc));
     MemDisk::new(alloc, set_in_order(alloc, &[])?, fails)
 }

@@ -1,3 +1,0 @@
-mod event_texts;
-mod lists;
-mod outcomes;

@@ -1,0 +1,51 @@
+// Bytes in pieces.
+use crate::hearing::put_taken;
+use case_words::{Failure, frame_bytes};
+use std::alloc::{AllocError, Global};
+use wire_messages::{Feeder, Heard, WireRefusal};
+
+// The refusal in two words.
+fn short_text(alloc: Global, refusal: Option<WireRefusal>) -> Result<String, AllocError> {
+    match refusal {
+        None => String::from_str(alloc, "heard"),
+        Some(WireRefusal::TooShort(length)) => format!(in alloc; "short {length}"),
+        Some(WireRefusal::TooLong(length)) => format!(in alloc; "long {length}"),
+        Some(WireRefusal::BadOperation(number)) => format!(in alloc; "operation {number}"),
+        Some(WireRefusal::BadField(place)) => format!(in alloc; "field {place}"),
+        Some(WireRefusal::Trailing(place)) => format!(in alloc; "behind {place}"),
+        Some(WireRefusal::Memory(error)) => Err(error),
+    }
+}
+
+fn feed_text(alloc: Global, feeder: &mut Feeder, piece: &[u8]) -> Result<String, Failure> {
+    let answer = feeder.feed(piece);
+    let short = short_text(alloc, answer.err())?;
+    Ok(format!(in alloc; "{short}, {} rest; ", feeder.rest())?)
+}
+
+// The sequence numbers of the messages that wait.
+fn waiting_text(alloc: Global, feeder: &mut Feeder) -> Result<String, Failure> {
+    let mut list = Vec::new(alloc);
+    for _ in 0..16 {
+        put_taken(&mut list, feeder)?;
+    }
+    let mut text = String::new(alloc);
+    text.push_str("messages")?;
+    for framed in &list {
+        text.push_str(format!(in alloc; " {}", framed.sequence)?.as_str())?;
+    }
+    Ok(text)
+}
+
+/// What a feeder answers to each of these pieces, which stand between ` | `, and how many bytes rest then; and at last
+/// which messages wait.
+pub fn pieces(alloc: Global, heard: Heard, words: &str) -> Result<String, Failure> {
+    let mut feeder = Feeder::new(alloc, heard);
+    let mut text = String::new(alloc);
+    for piece in words.split('|') {
+        let bytes = frame_bytes(alloc, piece)?;
+        text.push_str(feed_text(alloc, &mut feeder, &bytes)?.as_str())?;
+    }
+    text.push_str(waiting_text(alloc, &mut feeder)?.as_str())?;
+    Ok(text)
+}
