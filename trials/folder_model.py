@@ -55,9 +55,17 @@ def at_rest(files, held):
     return others | held | {b"list": b"".join(b"%s\n" % name for name in sorted(held))}
 
 
+def is_no_store(files):
+    """Whether a folder has files of a policy state, but neither the list nor the guard: it is refused."""
+    marked = b"list" in files or b"guard" in files
+    return not marked and any(is_own(name) and not name.endswith(b"~") for name in files)
+
+
 def answered(files, answers):
     """What `local` writes over a folder with these files, its status, and the files afterwards. `answers` gives the lines
     of a script's answers from a device on."""
+    if is_no_store(files):
+        return b"", 6, files
     try:
         held = recovered(files)
     except Damaged as damaged:

@@ -37,7 +37,8 @@ impl Folder {
         };
         file.write_all(bytes)?;
         file.set_len(bytes.len() as u64)?;
-        file.sync_all()
+        file.sync_all()?;
+        file.metadata().map(|_| ())
     }
 
     fn remove(&self, name: &str) -> io::Result<()> {
@@ -50,15 +51,31 @@ impl Folder {
         self.held.sync_all()
     }
 
-    fn commit(&self, primaries: &[String], backups: &[String]) -> io::Result<()> {
-        for name in backups {
-            self.write(name, BYTES)?;
+    // A backup of a file that does not change is a link to it.
+    fn link(&self, name: &str, to: &str) -> io::Result<()> {
+        let (path, to) = (self.path.join(name), self.path.join(to));
+        assert!(fs::symlink_metadata(&to)?.is_file());
+        match fs::hard_link(&to, &path) {
+            Err(error) if error.kind() == ErrorKind::AlreadyExists => {
+                assert!(fs::symlink_metadata(&path)?.is_file());
+                fs::remove_file(&path)?;
+                fs::hard_link(&to, &path)
+            }
+            linked => linked,
+        }
+    }
+
+    fn commit(&self, primaries: &[String], backups: &[String], first: &[u8]) -> io::Result<()> {
+        self.write(&backups[0], first)?;
+        for (primary, backup) in primaries.iter().zip(backups).skip(1) {
+            self.link(backup, primary)?;
         }
         self.sync()?;
         self.write("guard", b"")?;
         self.sync()?;
-        for name in primaries {
-            self.write(name, BYTES)?;
+        self.link(&primaries[0], &backups[0])?;
+        for primary in &primaries[1..] {
+            assert!(fs::symlink_metadata(self.path.join(primary))?.is_file());
         }
         self.sync()?;
         self.remove("guard")?;
@@ -73,15 +90,21 @@ impl Folder {
 fn main() -> io::Result<()> {
     let words: Vec<String> = env::args().collect();
     let count: u32 = words[2].parse().unwrap();
-    let primaries: Vec<String> = (0..15).map(|number| format!("_{number}")).collect();
-    let backups: Vec<String> = (0..15).map(|number| format!("_{number}~")).collect();
+    let mut primaries: Vec<String> = (0..14).map(|number| format!("_{number}")).collect();
+    primaries.push("list".to_string());
+    let backups: Vec<String> = primaries.iter().map(|name| format!("{name}~")).collect();
     let _made = fs::create_dir(&words[1]);
     let held = File::open(&words[1])?;
     let folder = Folder { path: PathBuf::from(&words[1]), held };
     folder.sync()?;
     let start = Instant::now();
-    for _ in 0..count {
-        folder.commit(&primaries, &backups)?;
+    for number in 0..count {
+        if number == 0 {
+            for name in &primaries {
+                folder.write(name, BYTES)?;
+            }
+        }
+        folder.commit(&primaries, &backups, [b"1\n", b"2\n"][number as usize % 2])?;
     }
     println!("{}", start.elapsed().as_micros());
     Ok(())

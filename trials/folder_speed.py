@@ -27,7 +27,7 @@ def built(scratch):
     source = scratch / "crates" / "folder_commit" / "src"
     source.mkdir(parents=True)
     shutil.copy(HERE / "folder_commit.rt.txt", source / "main.rt")
-    lines = ["desk_ports: thiserror", "folder_disk: desk_ports arrayvec", "folder_commit: desk_ports folder_disk anyhow"]
+    lines = ["desk_ports: thiserror", "folder_disk: desk_ports arrayvec sha2", "folder_commit: desk_ports folder_disk anyhow"]
     (scratch / "crates.txt").write_text("\n".join(lines) + "\n")
     first = scratch / "first"
     made = subprocess.run(["rt", "run", "--", str(first), "1"], cwd=source.parent, stdout=subprocess.PIPE, stderr=subprocess.STDOUT)

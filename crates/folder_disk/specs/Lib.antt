@@ -1,4 +1,5 @@
 pub mod Holding
 pub mod LastFailure
 pub mod Paths
+pub mod StoreNames
 pub mod Untold

@@ -10,38 +10,50 @@ ghost use Rattle.folder_disk.specs.LastFailure.{last_failure, failure_after_refu
 ghost use Rattle.folder_disk.specs.Untold.{untold};
 
 use crate::failures::{Failure, FolderStep};
+use crate::file_marks::FileMark;
 use crate::file_name_bytes::is_file_name;
+use crate::known_files::KnownFiles;
 use crate::paths::Path;
-use crate::{files, paths};
+use crate::{files, folders, paths};
 use desk_ports::{Bytes, Disk, Failed, FileName, PortFault};
 use std::alloc::AllocError;
 use std::fs::File;
-use std::io::ErrorKind;
-use std::rt::Files;
+use std::io::{self, ErrorKind};
+use std::rt::{Clock, Files};
+
+mod settled_writes;
 
 /// A folder of the machine as a disk. It follows no link out of the folder, and makes files that only their owner may
 /// read and write. It counts each error of the machine, and keeps the last one that it counted.
 ///
 /// At its first call it takes the exclusive advisory lock on the folder, which it holds until it is dropped. Where
-/// another open of the folder holds it, or the folder can't be opened, this call fails, nothing in the folder was asked
-/// for, and the next call tries again. A program that does not ask for the lock is not kept out of the folder.
+/// another open of the folder holds it for five more seconds, or the folder can't be opened, or has files of a policy
+/// state but neither `list` nor `guard`, this call fails, nothing in the folder was changed, and the next call tries
+/// again. A program that does not ask for the lock is not kept out of the folder.
+///
+/// Once all files are made sure of, a file that has the bytes which it is to be given is left as it is, and a name whose
+/// bytes the file of the same name with or without a `~` has becomes one more name of that file.
 ///
 /// A call that changes it asks for no memory, but for the text of the path that a failure shows, which may be lacking.
 ///
 /// It tells nothing of what its files hold. That a real folder keeps what a disk promises is trusted.
 #[derive(Drop)]
-pub struct FolderDisk<R: Files<File = File> + AllocGlobal + Clone + Drop> {
+pub struct FolderDisk<R: Files<File = File> + Clock + AllocGlobal + Clone + Drop> {
     rt: R,
     folder: String,
+    // Why the folder could not be made.
+    unmade: Option<io::Error>,
     // The open folder, with the lock on it.
     held: Option<File>,
     // Whether each file of the folder is made sure of. Each is as it is written, so that no name has to be noted.
     is_settled: bool,
+    // What the bytes of some files come to. Of use only while each file is made sure of.
+    known: KnownFiles,
     faults: u64,
     failure: Option<Failure>,
 }
 
-impl<R: Files<File = File> + AllocGlobal + Clone + Drop> FolderDisk<R> {
+impl<R: Files<File = File> + Clock + AllocGlobal + Clone + Drop> FolderDisk<R> {
     /// The folder of this path, which is made where there is none: its owner alone may use it. Where it can't be
     /// made, that is the first error that is counted. No lock is asked for yet.
     pub fn open(rt: R, folder: &str) -> Result<FolderDisk<R>, AllocError>
@@ -49,12 +61,16 @@ impl<R: Files<File = File> + AllocGlobal + Clone + Drop> FolderDisk<R> {
         ensures told { IfOk result (λ disk. disk.faults ≡ (if is_some disk.failure then 1 else 0)) }
     {
         let folder = String::from_str(rt.alloc(), folder)?;
-        let failure = files::make_folder(&rt, folder.as_str()).err();
+        let known = KnownFiles::new(rt.alloc())?;
+        let unmade = folders::make_folder(&rt, folder.as_str()).err();
+        let failure = Failure::unmade(rt.alloc(), folder.as_str(), &unmade);
         Ok(FolderDisk {
             held: None,
             rt,
             folder,
+            unmade,
             is_settled: false,
+            known,
             faults: u64::from(failure.is_some()),
             failure,
         })
@@ -67,7 +83,7 @@ impl<R: Files<File = File> + AllocGlobal + Clone + Drop> FolderDisk<R> {
         self.failure.as_ref()
     }
 
-    // Opens and locks the folder, where it is not held yet.
+    // Opens and locks the folder, where it is not held yet, and looks whether it is a store or may become one.
     fn hold(&mut self) -> Result<(), Failure>
         ensures held { OnOk result (IsHeld self.new.held) }
         ensures count { self.new.faults ≡ self.old.faults }
@@ -75,9 +91,22 @@ impl<R: Files<File = File> + AllocGlobal + Clone + Drop> FolderDisk<R> {
         ensures kept { OnErr result (self.new ≡ self.old) }
     {
         if self.held.is_none() {
-            self.held = Some(files::lock_folder(&self.rt, self.folder.as_str())?);
+            self.held = Some(self.lock()?);
         }
         Ok(())
+    }
+
+    fn lock(&self) -> Result<File, Failure> {
+        if let Some(failure) = Failure::unmade(
+            self.rt.alloc(),
+            self.folder.as_str(),
+            &self.unmade,
+        ) {
+            return Err(failure);
+        }
+        let opened = folders::lock_folder(&self.rt, self.folder.as_str())?;
+        folders::look_over(&self.rt, self.folder.as_str())?;
+        Ok(opened)
     }
 
     // The path of a file, for a step that is asked for next.
@@ -107,7 +136,7 @@ impl<R: Files<File = File> + AllocGlobal + Clone + Drop> FolderDisk<R> {
         requires { IsHeld self.now.held }
         ensures { IfOk result (λ names. NamesRise names.items) }
     {
-        files::list(&self.rt, self.folder.as_str())
+        folders::list(&self.rt, self.folder.as_str())
     }
 
     fn read_file(&mut self, name: &FileName) -> Result<Option<Bytes>, Failure>
@@ -117,14 +146,18 @@ impl<R: Files<File = File> + AllocGlobal + Clone + Drop> FolderDisk<R> {
         self.read_held(name)
     }
 
-    fn read_held(&self, name: &FileName) -> Result<Option<Bytes>, Failure>
-        requires { IsHeld self.now.held }
+    fn read_held(&mut self, name: &FileName) -> Result<Option<Bytes>, Failure>
+        requires { IsHeld self.old.held }
+        ensures count { self.new.faults ≡ self.old.faults }
     {
         let path = self.path_of(name.as_slice(), FolderStep::OpenFile)?;
-        match files::read(&self.rt, path.as_str())? {
-            Some(bytes) => Ok(Some(Bytes::of(bytes))),
-            None => Ok(None),
+        let Some(read) = files::read(&self.rt, path.as_str())? else {
+            return Ok(None);
+        };
+        if self.is_settled && self.faults == 0 {
+            self.note_read(path.as_str(), &read);
         }
+        Ok(Some(Bytes::of(read.bytes)))
     }
 
     fn write_file(&mut self, name: &FileName, bytes: &[u8]) -> Result<(), Failure>
@@ -132,14 +165,19 @@ impl<R: Files<File = File> + AllocGlobal + Clone + Drop> FolderDisk<R> {
         ensures settled { self.new.is_settled ≡ self.old.is_settled }
     {
         self.hold()?;
-        self.write_held(name, bytes)
+        let path = self.path_of(name.as_slice(), FolderStep::WriteFile)?;
+        if self.is_settled {
+            return self.write_settled(name, path.as_str(), bytes);
+        }
+        self.write_anew(path.as_str(), bytes)?;
+        Ok(())
     }
 
-    fn write_held(&self, name: &FileName, bytes: &[u8]) -> Result<(), Failure>
+    // Writes the bytes, whatever the file holds, and makes sure of it.
+    fn write_anew(&self, path: &str, bytes: &[u8]) -> Result<Option<FileMark>, Failure>
         requires { IsHeld self.now.held }
     {
-        let path = self.path_of(name.as_slice(), FolderStep::WriteFile)?;
-        files::write(&self.rt, path.as_str(), bytes)
+        files::write(&self.rt, path, bytes)
     }
 
     fn remove_file(&mut self, name: &FileName) -> Result<(), Failure>
@@ -150,10 +188,13 @@ impl<R: Files<File = File> + AllocGlobal + Clone + Drop> FolderDisk<R> {
         self.remove_held(name)
     }
 
-    fn remove_held(&self, name: &FileName) -> Result<(), Failure>
-        requires { IsHeld self.now.held }
+    fn remove_held(&mut self, name: &FileName) -> Result<(), Failure>
+        requires { IsHeld self.old.held }
+        ensures count { self.new.faults ≡ self.old.faults }
+        ensures settled { self.new.is_settled ≡ self.old.is_settled }
     {
         let path = self.path_of(name.as_slice(), FolderStep::RemoveFile)?;
+        self.known.forget(path.as_str());
         files::remove(&self.rt, path.as_str())
     }
 
@@ -186,10 +227,10 @@ impl<R: Files<File = File> + AllocGlobal + Clone + Drop> FolderDisk<R> {
     fn sync_found(&self) -> Result<(), Failure>
         requires { IsHeld self.now.held }
     {
-        let mut dir = files::open_names(&self.rt, self.folder.as_str())?;
-        let mut room = [0; files::NAMES_BYTES];
+        let mut dir = folders::open_names(&self.rt, self.folder.as_str())?;
+        let mut room = [0; folders::NAMES_BYTES];
         for _ in 0..u64::MAX {
-            let names = files::next_names(
+            let names = folders::next_names(
                 self.rt.alloc(),
                 self.folder.as_str(),
                 &mut dir,
@@ -218,7 +259,7 @@ impl<R: Files<File = File> + AllocGlobal + Clone + Drop> FolderDisk<R> {
 
     fn sync_parent(&self) -> Result<(), Failure> {
         match paths::parent_path(self.folder.as_str()) {
-            Some(path) => files::sync_folder(&self.rt, path.as_str()),
+            Some(path) => folders::sync_folder(&self.rt, path.as_str()),
             None => Err(self.long_path(FolderStep::Sync)),
         }
     }
@@ -227,7 +268,7 @@ impl<R: Files<File = File> + AllocGlobal + Clone + Drop> FolderDisk<R> {
         requires { IsHeld self.now.held }
     {
         match &self.held {
-            Some(opened) => files::sync_open_folder(&self.rt, self.folder.as_str(), opened),
+            Some(opened) => folders::sync_open_folder(&self.rt, self.folder.as_str(), opened),
             None => unreachable!(),
         }
     }
@@ -239,6 +280,7 @@ impl<R: Files<File = File> + AllocGlobal + Clone + Drop> FolderDisk<R> {
         ensures unsettled { self.new.is_settled ≡ false }
     {
         self.is_settled = false;
+        self.known.forget_all();
         self.faults = self.faults.saturating_add(1);
         self.failure = Some(failure);
         Failed
@@ -270,7 +312,7 @@ impl<R: Files<File = File> + AllocGlobal + Clone + Drop> FolderDisk<R> {
     }
 }
 
-impl<R: Files<File = File> + AllocGlobal + Clone + Drop> Disk for FolderDisk<R> {
+impl<R: Files<File = File> + Clock + AllocGlobal + Clone + Drop> Disk for FolderDisk<R> {
     ghost faults = { λ disk. disk.faults };
 
     ghost state = { λ disk. None };

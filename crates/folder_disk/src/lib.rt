@@ -5,13 +5,16 @@
 #![tactic(auto)]
 
 mod failures;
+mod file_marks;
 mod file_name_bytes;
 mod files;
 mod folder_disk;
+mod folders;
+mod known_files;
+mod lock_holders;
 mod paths;
-#[cfg(test)]
-mod tests;
+mod store_signs;
 
 pub use failures::{Failure, FolderStep};
-pub use files::MOST_FILE_BYTES;
+pub use files::{MOST_FILE_BYTES, write_whole};
 pub use folder_disk::FolderDisk;

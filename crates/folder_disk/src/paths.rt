@@ -1,8 +1,9 @@
 // Paths of a folder's files, and of the folder that it stands in. A path lies in its value, so none asks for memory.
 ghost use Rattle.std.specs.Prelude.{◌≡◌, ◌≤◌, ◌<◌, [], ◌∷◌, ◌++◌, length, IfSome, IfNone, OnOk, OnErr};
 ghost use Rattle.desk_ports.specs.FileName.{IsFileName};
-ghost use Rattle.folder_disk.specs.Paths.{file_path as path_of_file, parent_path as path_of_parent, names_path as path_of_names};
+ghost use Rattle.folder_disk.specs.Paths.{file_path as path_of_file, parent_path as path_of_parent, names_path as path_of_names, partner_name};
 
+use crate::file_name_bytes::is_file_name;
 use arrayvec::{ArrayString, CapacityError};
 
 /// The most bytes of a path that the machine takes.
@@ -21,6 +22,32 @@ pub fn file_path(folder: &str, name: &[u8]) -> Option<Path>
     for byte in name {
         push_ascii(&mut path, *byte).ok()?;
     }
+    Some(path)
+}
+
+/// The path of a file's backup, or of the file that this one is a backup of. `None` where that is no file name, or is
+/// longer than the machine takes.
+pub fn partner_path(folder: &str, name: &[u8]) -> Option<Path>
+    requires { IsFileName name.now }
+    ensures { IfSome result (λ path. path.bytes ≡ path_of_file folder.now (partner_name name.now)) }
+{
+    if !name.ends_with(b"~".as_slice()) {
+        return backup_path(folder, name);
+    }
+    let front = &name[..name.len().saturating_sub(1)];
+    if is_file_name(front) {
+        file_path(folder, front)
+    } else {
+        None
+    }
+}
+
+fn backup_path(folder: &str, name: &[u8]) -> Option<Path>
+    requires { IsFileName name.now }
+    ensures { IfSome result (λ path. path.bytes ≡ path_of_file folder.now (name.now ++ 126 ∷ [])) }
+{
+    let mut path = file_path(folder, name)?;
+    path.try_push_str("~").ok()?;
     Some(path)
 }
 

@@ -16,6 +16,7 @@ mod notes;
 mod program;
 mod questions;
 mod rule_notes;
+mod standard_descriptors;
 mod standard_streams;
 #[cfg(test)]
 mod tests;
@@ -27,6 +28,7 @@ use desk_ports::shown_bytes;
 use folder_disk::FolderDisk;
 use host_folder::{DIRECTORY, MOST_BYTES, folder_path};
 use host_words::host_words;
+use standard_descriptors::take_descriptors;
 use standard_streams::{InputSource, OutputSink, run_on};
 use std::alloc::AllocError;
 use std::io::IsTerminal;
@@ -50,6 +52,7 @@ fn main(rt: HostRuntime) -> ExitCode {
 
 // Runs the program on standard input and output and on its folder. How it ends.
 fn run_on_host(rt: &HostRuntime) -> Result<u8, AllocError> {
+    take_descriptors(rt);
     let folder = folder_path(rt, rt.alloc())?;
     let mut disk = FolderDisk::open(rt.clone()?, folder.as_str())?;
     let mut source = InputSource::over(rt.stdin());

@@ -1,0 +1,144 @@
+// What a disk knows of files that are made sure of. It has the room that it was made with: neither names nor bytes are
+// kept, but of some files what their bytes come to, and by what the machine shows the file again.
+ghost use Rattle.std.specs.Prelude.{◌≡◌, ◌<◌, None, vec_len};
+ghost use Rattle.std.specs.Prelude.{replicate};
+
+use crate::file_marks::FileMark;
+use sha2::{Digest, Sha256};
+use std::alloc::{AllocError, Global};
+
+/// How many files are known at most.
+const PLACES: usize = 4_096;
+
+/// At how many places, one behind the other, a file may be known.
+const TRIED: usize = 16;
+
+/// What the bytes of a file come to: their digest by SHA-256, which no two texts are known to share.
+pub type BytesDigest = [u8; 32];
+
+pub fn digest_of(bytes: &[u8]) -> BytesDigest {
+    Sha256::digest(bytes)
+}
+
+/// A file that is made sure of, its path as a number, and the digest of its bytes.
+#[derive(Clone, Copy, Debug)]
+struct KnownFile {
+    key: u64,
+    digest: BytesDigest,
+    mark: FileMark,
+}
+
+/// Files that are known, each at one of some places that follow from its path. Where two paths give one number, or all
+/// places of a file are taken, one of the files is no longer known.
+#[derive(Drop)]
+pub struct KnownFiles {
+    places: Vec<Option<KnownFile>>,
+}
+
+impl KnownFiles {
+    pub fn new(alloc: Global) -> Result<KnownFiles, AllocError> {
+        let mut places = Vec::with_capacity(alloc, PLACES)?;
+        for _ in 0..PLACES {
+            places.push(None)?;
+        }
+        Ok(KnownFiles { places })
+    }
+
+    /// The mark of the file of this path, where it is known to have bytes of this digest.
+    pub fn mark_of(&self, path: &str, digest: &BytesDigest) -> Option<FileMark> {
+        let known = self.at(self.place_of(key_of(path))?)?;
+        if known.digest == *digest {
+            Some(known.mark)
+        } else {
+            None
+        }
+    }
+
+    /// From now on the file of this path is known by this mark to have bytes of this digest.
+    pub fn note(&mut self, path: &str, digest: BytesDigest, mark: FileMark) {
+        let key = key_of(path);
+        let place = self.place_for(key);
+        if let Some(known) = self.places.get_mut(place) {
+            *known = Some(KnownFile { key, digest, mark });
+        }
+    }
+
+    /// From now on nothing is known of the file of this path.
+    pub fn forget(&mut self, path: &str) {
+        let Some(place) = self.place_of(key_of(path)) else {
+            return;
+        };
+        if let Some(known) = self.places.get_mut(place) {
+            *known = None;
+        }
+    }
+
+    /// From now on nothing is known of any file.
+    pub fn forget_all(&mut self)
+        ensures { self.new.places.items ≡ replicate (vec_len self.old.places) None }
+    {
+        self.places.as_mut_slice().fill(None);
+    }
+
+    fn at(&self, place: usize) -> Option<KnownFile> {
+        match self.places.get(place) {
+            Some(known) => *known,
+            None => None,
+        }
+    }
+
+    fn has_key(&self, place: usize, key: u64) -> bool {
+        match self.at(place) {
+            Some(known) => known.key == key,
+            None => false,
+        }
+    }
+
+    // The place at which this key is known.
+    fn place_of(&self, key: u64) -> Option<usize> {
+        for turn in 0..TRIED {
+            let place = tried_place(key, turn);
+            if self.has_key(place, key) {
+                return Some(place);
+            }
+        }
+        None
+    }
+
+    // A place that is free.
+    fn free_place(&self, key: u64) -> Option<usize> {
+        for turn in 0..TRIED {
+            let place = tried_place(key, turn);
+            if self.at(place).is_none() {
+                return Some(place);
+            }
+        }
+        None
+    }
+
+    // The place at which this key is known from now on.
+    fn place_for(&self, key: u64) -> usize {
+        if let Some(place) = self.place_of(key) {
+            return place;
+        }
+        match self.free_place(key) {
+            Some(place) => place,
+            None => tried_place(key, 0),
+        }
+    }
+}
+
+fn tried_place(key: u64, turn: usize) -> usize
+    requires { turn < 16 }
+{
+    ((key % PLACES as u64) as usize + turn) % PLACES
+}
+
+// A path as a number, by the hash of Fowler, Noll and Vo. Two paths may give one number.
+fn key_of(path: &str) -> u64 {
+    let mut key = 0xcbf2_9ce4_8422_2325u64;
+    for byte in path.as_bytes() {
+        key = (key ^ u64::from(*byte)).wrapping_mul(0x0000_0100_0000_01b3);
+    }
+    key
+}
