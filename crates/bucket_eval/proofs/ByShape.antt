@@ -32,7 +32,7 @@ use Rattle.bucket_eval.proofs.Lesser.{combined, combined-joined, combined-swappe
 
 -- ---- a key that matches ties with the sought one of its shape
 
-equal-same : (o : Ordering) → is_eq o ≡ true → o ≡ Equal
+pub equal-same : (o : Ordering) → is_eq o ≡ true → o ≡ Equal
 equal-same Less h = cc
 equal-same Equal h = refl
 equal-same Greater h = cc
@@ -106,7 +106,7 @@ key-ties key question matches =
 -- ---- where a search ends
 
 module _ (question : Question) (shape : ℕ) where
-  misfit : (policy : Policy) → is_eq (key_cmp policy.key (sought question shape)) ≡ false
+  pub misfit : (policy : Policy) → is_eq (key_cmp policy.key (sought question shape)) ≡ false
       → fits question shape policy ≡ false
   misfit policy apart = settled (fits question shape policy) refl
     where

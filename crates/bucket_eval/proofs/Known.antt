@@ -250,7 +250,7 @@ fewer-unknown (x ∷ old) (y ∷ new) (suc at) grows none is =
 
 -- ---- the places of an answer fit a slot
 
-length-policies : (buckets : List Bucket) (at : ℕ) (bucket : Bucket) → slice_get buckets at ≡ Some bucket
+pub length-policies : (buckets : List Bucket) (at : ℕ) (bucket : Bucket) → slice_get buckets at ≡ Some bucket
     → length bucket.policies ≤ length (flat_map placed_of buckets)
 length-policies [] at bucket is = cc
 length-policies (first ∷ buckets) zero bucket is =

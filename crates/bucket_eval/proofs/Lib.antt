@@ -9,6 +9,9 @@ mod Held
 pub mod Places
 mod Targets
 mod Depth
+mod Root
+mod Marks
+mod Tabling
 mod Kept
 mod Known
 mod Settled

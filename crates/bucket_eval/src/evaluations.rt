@@ -1,16 +1,18 @@
 ghost use Rattle.std.specs.Prelude.{◌≡◌, ◌<◌, ◌≤◌, length, slice_get, IfSome, IsSome, Some};
 ghost use Rattle.bucket_store.specs.WellFormed.{IsKept};
 ghost use Rattle.bucket_eval.specs.Evaluation.{answer};
-ghost use Rattle.bucket_eval.specs.Found.{outcome_at, answer_of, row_of};
+ghost use Rattle.bucket_eval.specs.Found.{outcome_at, answer_of};
 ghost use Rattle.bucket_eval.specs.parts.Buckets.{IsHeld};
+ghost use Rattle.bucket_eval.specs.parts.Finding.{IsRight};
 ghost use Rattle.bucket_eval.specs.parts.Slots.{answer_to};
 
-use crate::answers::{Answer, Cause, Found, Row};
+use crate::answers::{Answer, Found};
+use crate::lending::lend;
 use crate::nested::{Asked, Held};
 use crate::settling::settled;
-use crate::slots::{Slot, policy_at};
+use crate::slots::Slot;
 use bucket_store::Database;
-use cynara_keys::{BorrowedQuestion, BucketName, Key, PolicyResult, Question, Short};
+use cynara_keys::{BorrowedQuestion, Question};
 
 /// As many slots as a database can have buckets.
 const MOST_SLOTS: usize = 1024;
@@ -45,11 +47,28 @@ pub fn plain_borrowed(
     ensures kind { IfSome (outcome_at database.now result) (λ outcome. result.kind.0 ≡ outcome.result.kind) }
     ensures there { IsSome (outcome_at database.now result) }
 {
+    found_from(database, start, question, recursive)
+}
+
+// The same, for lifetimes that are one.
+fn found_from<'a>(
+    database: &'a Database,
+    start: usize,
+    question: &'a BorrowedQuestion<'a>,
+    recursive: bool,
+) -> Found
+    requires { start < length database.now.buckets }
+    ensures answer { IfSome (slice_get database.now.buckets start) (λ heading.
+        outcome_at database.now result ≡ Some (answer database.now heading.name question.now recursive)) }
+    ensures kind { IfSome (outcome_at database.now result) (λ outcome. result.kind.0 ≡ outcome.result.kind) }
+    ensures there { IsSome (outcome_at database.now result) }
+{
     let buckets = database.buckets();
     let asked = Asked {
         buckets,
         question,
         deep: recursive,
+        finder: None,
     };
     from_the_start(&asked, start).found
 }
@@ -58,6 +77,7 @@ pub fn plain_borrowed(
 fn from_the_start<'a>(asked: &Asked<'a>, start: usize) -> Held<'a>
     requires kept { IsKept asked.now.buckets.now }
     requires there { start < length asked.now.buckets.now }
+    requires right { IsRight asked.now }
     ensures { IfSome (slice_get asked.now.buckets.now start) (λ bucket.
         IsHeld asked.now.buckets.now (answer_to asked.now bucket.name) result) }
 {
@@ -71,6 +91,7 @@ fn by_few_slots<'a>(asked: &Asked<'a>, start: usize) -> Held<'a>
     requires kept { IsKept asked.now.buckets.now }
     requires there { start < length asked.now.buckets.now }
     requires few { length asked.now.buckets.now ≤ 16 }
+    requires right { IsRight asked.now }
     ensures { IfSome (slice_get asked.now.buckets.now start) (λ bucket.
         IsHeld asked.now.buckets.now (answer_to asked.now bucket.name) result) }
 {
@@ -81,6 +102,7 @@ fn by_few_slots<'a>(asked: &Asked<'a>, start: usize) -> Held<'a>
 fn by_slots<'a>(asked: &Asked<'a>, start: usize) -> Held<'a>
     requires kept { IsKept asked.now.buckets.now }
     requires there { start < length asked.now.buckets.now }
+    requires right { IsRight asked.now }
     ensures { IfSome (slice_get asked.now.buckets.now start) (λ bucket.
         IsHeld asked.now.buckets.now (answer_to asked.now bucket.name) result) }
 {
@@ -93,39 +115,5 @@ pub fn describe(database: &Database, found: Found) -> Answer
     requires { IsSome (outcome_at database.now found) }
     ensures { IfSome (outcome_at database.now found) (λ outcome. result ≡ answer_of outcome) }
 {
-    let bucket = &database.buckets()[found.bucket];
-    match found.policy {
-        Some(place) => {
-            let policy = policy_at(bucket, place);
-            described(bucket.name(), &policy.result, Some(row_of(&policy.key)))
-        }
-        None => described(bucket.name(), bucket.fallback(), None),
-    }
-}
-
-fn described(bucket: &BucketName, ruling: &PolicyResult, row: Option<Row>) -> Answer
-    ensures { result ≡ record {
-      kind = record { 0 = ruling.now.kind };
-      metadata = ruling.now.metadata;
-      cause = record { bucket = bucket.now; row = row };
-    } }
-{
-    Answer {
-        kind: ruling.kind(),
-        metadata: Short::of(ruling.metadata().as_slice()),
-        cause: Cause {
-            bucket: Short::of(bucket.as_slice()),
-            row,
-        },
-    }
-}
-
-fn row_of(key: &Key) -> Row
-    ensures { result ≡ row_of key.now }
-{
-    Row {
-        client: Short::of(key.client()),
-        user: Short::of(key.user()),
-        privilege: Short::of(key.privilege()),
-    }
+    lend(database, found).to_answer()
 }

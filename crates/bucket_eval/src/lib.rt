@@ -13,17 +13,23 @@ ghost use Rattle.bucket_eval.specs.Least.{counts, decision_cmp, least_policy, De
 
 mod answers;
 mod evaluations;
+mod indexes;
 mod laws;
+mod lending;
+mod names;
 mod nested;
 mod settling;
 mod shapes;
 mod slots;
+mod tables;
 mod windows;
 
 pub use answers::{Answer, Cause, Found, Row, Verdict};
 use cynara_keys::{Kind, Policy, Question};
 pub use evaluations::{describe, plain, plain_borrowed};
+pub use indexes::{Index, Scratch};
 pub use laws::depth_changes_nothing;
+pub use lending::{BorrowedAnswer, lend};
 
 /// The place of the policy that decides the question, from 0: the least by result (kind, then metadata) and then by key
 /// of the policies that match the question and whose result isn't NONE, and the first of equal ones. `None` where there

@@ -1,21 +1,24 @@
 // What the policies of one bucket contribute to a question, by what is known of the buckets that they point to.
-ghost use Rattle.std.specs.Prelude.{◌≡◌, ◌≤◌, length, slice_get, Some};
+ghost use Rattle.std.specs.Prelude.{◌≡◌, ◌<◌, ◌≤◌, length, slice_get, IfSome, Some};
 ghost use Rattle.std.specs.List.{filter_map, position};
 ghost use Rattle.std.specs.List.Sorted.{IsStrictlySortedBy};
 ghost use Rattle.cynara_keys.specs.Minimum.{first_least};
 ghost use Rattle.cynara_keys.specs.Text.{same_text};
-ghost use Rattle.bucket_store.specs.Order.{bucket_cmp};
+ghost use Rattle.bucket_store.specs.Order.{bucket_cmp, policy_cmp};
 ghost use Rattle.bucket_store.specs.Walk.{points};
 ghost use Rattle.bucket_store.specs.WellFormed.{IsKept};
 ghost use Rattle.bucket_eval.specs.Evaluation.{contribution_cmp, outcome_of};
 ghost use Rattle.bucket_eval.specs.parts.Buckets.{chosen, comes_after};
-ghost use Rattle.bucket_eval.specs.parts.Shapes.{in_shape};
+ghost use Rattle.bucket_eval.specs.parts.Shapes.{FitsAt, in_shape};
+ghost use Rattle.bucket_eval.specs.parts.Finding.{IsRight};
 ghost use Rattle.bucket_eval.specs.parts.Slots.{AreSound, Looks, Reaches, answer_to, offered_to};
 ghost use Rattle.bucket_eval.specs.parts.Windows.{FailsOutside, matches};
 
 use crate::answers::Found;
+use crate::names::Names;
 use crate::shapes::{SHAPES, place_of_shape};
 use crate::slots::{Slot, known, own};
+use crate::tables::{Numbers, Table};
 use crate::windows::{Window, window_of};
 use bucket_store::Bucket;
 use cynara_keys::{BorrowedQuestion, Key, Kind, Policy, PolicyResult};
@@ -44,6 +47,16 @@ pub struct Asked<'a> {
     pub buckets: &'a [Bucket],
     pub question: &'a BorrowedQuestion<'a>,
     pub deep: bool,
+    pub finder: Option<Finder<'a>>,
+}
+
+/// What an index finds the places of policies by: numbers of names, tables of places by the numbers of keys for each
+/// bucket, and the numbers of the question.
+#[derive(Clone, Copy)]
+pub struct Finder<'a> {
+    pub names: &'a Names,
+    pub tables: &'a [Option<Table>],
+    pub numbers: Numbers,
 }
 
 /// What following a policy came to.
@@ -79,9 +92,13 @@ pub fn least_offer<'a>(
     requires there { slice_get asked.now.buckets.now at ≡ Some bucket.now }
     requires room { length asked.now.buckets.now ≤ length slots.now }
     requires sound { AreSound asked.now slots.now }
+    requires right { IsRight asked.now }
     ensures { Looks asked.now slots.now bucket.now.name
         (first_least contribution_cmp (filter_map (offered_to asked.now bucket.now.name) bucket.now.policies)) result }
 {
+    if asked.finder.is_some() {
+        return least_by_shape(asked, slots, at, bucket);
+    }
     let window = window_of(bucket.policies(), asked.question, FEW);
     if window.end - window.start <= FEW {
         return least_in_turn(asked, slots, at, bucket, window);
@@ -133,6 +150,7 @@ fn least_by_shape<'a>(
     requires there { slice_get asked.now.buckets.now at ≡ Some bucket.now }
     requires room { length asked.now.buckets.now ≤ length slots.now }
     requires sound { AreSound asked.now slots.now }
+    requires right { IsRight asked.now }
     ensures { Looks asked.now slots.now bucket.now.name
         (first_least contribution_cmp (filter_map (offered_to asked.now bucket.now.name) bucket.now.policies)) result }
 {
@@ -162,13 +180,47 @@ fn offer_in_shape<'a>(
     requires there { slice_get asked.now.buckets.now at ≡ Some bucket.now }
     requires room { length asked.now.buckets.now ≤ length slots.now }
     requires sound { AreSound asked.now slots.now }
+    requires right { IsRight asked.now }
     ensures { Looks asked.now slots.now bucket.now.name (first_least contribution_cmp (filter_map
         (in_shape shape (offered_to asked.now bucket.now.name)) bucket.now.policies)) result }
 {
     let policies = bucket.policies();
-    match place_of_shape(policies, asked.question, shape) {
+    match place_in_shape(asked, at, policies, shape) {
         Some(place) => offer_of(asked, slots, at, bucket, place, &policies[place]),
         None => Looked::Silent,
+    }
+}
+
+// Where the policy of the bucket stands whose key has this shape and matches the question.
+fn place_in_shape(asked: &Asked<'_>, at: usize, policies: &[Policy], shape: usize) -> Option<usize>
+    requires rising { IsStrictlySortedBy policy_cmp policies.now }
+    requires there { IfSome (slice_get asked.now.buckets.now at) (λ bucket. bucket.policies ≡ policies.now) }
+    requires within { at < length asked.now.buckets.now }
+    requires right { IsRight asked.now }
+    ensures { FitsAt asked.now.question.now shape policies.now result }
+{
+    let Some(finder) = asked.finder else {
+        return place_of_shape(policies, asked.question, shape);
+    };
+    match table_at(finder.tables, at) {
+        Some(table) => table.place_of_shape(
+            finder.names,
+            policies,
+            asked.question,
+            &finder.numbers,
+            shape,
+        ),
+        None => place_of_shape(policies, asked.question, shape),
+    }
+}
+
+// The table at the place, if there is one.
+fn table_at(tables: &[Option<Table>], at: usize) -> Option<&Table>
+    ensures { IfSome result (λ table. slice_get tables.now at ≡ Some (Some table.now)) }
+{
+    match tables.get(at) {
+        Some(Some(table)) => Some(table),
+        _ => None,
     }
 }
 

@@ -73,8 +73,8 @@ fn compare_field(field: &[u8], name: &[u8], wild: bool) -> Ordering
     field.cmp(name)
 }
 
-// Whether the policy's key has this shape and matches the question.
-fn fits(policy: &Policy, question: &BorrowedQuestion<'_>, shape: usize) -> bool
+/// Whether the policy's key has this shape and matches the question.
+pub fn fits(policy: &Policy, question: &BorrowedQuestion<'_>, shape: usize) -> bool
     ensures { result ≡ shapes.fits question.now shape policy.now }
 {
     policy.key.matches_borrowed(question) && shape_of(&policy.key) == shape

@@ -98,7 +98,8 @@ fn slot_at(slots: &[Slot], at: usize) -> Slot
     slots[at]
 }
 
-fn bucket_at(buckets: &[Bucket], at: usize) -> &Bucket
+/// The bucket at the place.
+pub fn bucket_at(buckets: &[Bucket], at: usize) -> &Bucket
     requires { at < length buckets.now }
     ensures { slice_get buckets.now at ≡ Some result.now }
 {

@@ -9,8 +9,8 @@ use Rattle.bucket_eval.proofs.Offers.{offered-one, offers-none}
 use Rattle.bucket_eval.proofs.Kept.{rising-at}
 use Rattle.bucket_eval.proofs.nested.offer_in_shape.Goals as goal
 
-pub place_of_shape-requires : goal.place_of_shape-requires
-place_of_shape-requires c =
+pub place_in_shape-requires-clause-rising : goal.place_in_shape-requires-clause-rising
+place_in_shape-requires-clause-rising c =
     subst (IsStrictlySortedBy policy_cmp) (sym c.policies-policies.ensures)
     (rising-at c.args.asked.now.buckets.now c.args.at c.args.bucket.now c.requires.kept.keys_rise c.requires.there)
 
@@ -20,7 +20,7 @@ returns-in-Some c =
     let asked = c.args.asked.now in
     let bucket = c.args.bucket.now in
     let policy = c.index-policies-place.result in
-    let at = subst (FitsAt asked.question.now c.args.shape _) c.in-Some.is c.place_of_shape.ensures in
+    let at = subst (FitsAt asked.question.now c.args.shape _) c.in-Some.is c.place_in_shape.ensures in
     subst (λ made. Looks asked c.args.slots.now bucket.name made c.offer_of.result)
     (sym (offered-one asked.buckets.now asked.question.now asked.deep (length asked.buckets.now) bucket.name c.args.shape
     bucket.policies c.in-Some.place policy
@@ -34,7 +34,7 @@ pub returns-in-None : goal.returns-in-None
 returns-in-None c =
     let asked = c.args.asked.now in
     let bucket = c.args.bucket.now in
-    let at = subst (FitsAt asked.question.now c.args.shape _) c.in-None.is c.place_of_shape.ensures in
+    let at = subst (FitsAt asked.question.now c.args.shape _) c.in-None.is c.place_in_shape.ensures in
     offers-none asked.buckets.now asked.question.now asked.deep (length asked.buckets.now) bucket.name c.args.shape
     bucket.policies
     (subst (λ policies. FitsAt asked.question.now c.args.shape policies None) c.policies-policies.ensures at)

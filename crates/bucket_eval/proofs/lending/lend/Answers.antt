@@ -1,11 +1,10 @@
-use Rattle.std.proofs.Common.{◌≡◌, None, Some, IfSome, refl, sym, ap, ◌∙◌, subst}
+use Rattle.std.proofs.Common.{◌≡◌, None, Some, refl, sym, ap, ◌∙◌}
 use Rattle.std.specs.Option.{option_map}
 use Rattle.std.proofs.lemmas.Option.{slice_get_read}
 use Rattle.cynara_keys.specs.declared.keys.Policy.{Policy}
 use Rattle.bucket_eval.specs.Evaluation.{Outcome}
-use Rattle.bucket_eval.specs.Found.{answer_of}
 use Rattle.bucket_eval.proofs.Places.{bucket-there, policy-there, outcome_at-bucket}
-use Rattle.bucket_eval.proofs.evaluations.describe.Goals as goal
+use Rattle.bucket_eval.proofs.lending.lend.Goals as goal
 
 -- the policy at the place is there
 pub policy_at-policy-requires : goal.policy_at-policy-requires
@@ -17,7 +16,7 @@ policy_at-policy-requires c =
     policy-there c.args.database.now c.buckets.result.now c.args.found c.index-buckets-found.result c.in-Some.place
     c.buckets.ensures.buckets c.buckets.ensures.in_order.names_rise there c.in-Some.is c.requires
 
--- the policy is described
+-- the policy's result is lent
 pub returns-in-Some : goal.returns-in-Some
 returns-in-Some c =
     let within = bucket-there c.args.database.now c.buckets.result.now c.args.found c.buckets.ensures.buckets
@@ -25,34 +24,28 @@ returns-in-Some c =
     let bucket = c.index-buckets-found.result in
     let policy = c.policy_at-policy.result.now in
     let there = slice_get_read c.buckets.result.now _ c.args.found.bucket bucket refl within c.index-buckets-found.is in
-    let found = outcome_at-bucket c.args.database.now c.buckets.result.now c.args.found bucket (Some c.in-Some.place)
+    outcome_at-bucket c.args.database.now c.buckets.result.now c.args.found bucket (Some c.in-Some.place)
     c.buckets.ensures.buckets c.buckets.ensures.in_order.names_rise there c.in-Some.is
     ∙ ap (option_map (λ (p : Policy). let outcome : Outcome = record {
       result = p.result;
       cause = record { bucket = bucket.name; key = Some p.key };
     } in outcome))
-    c.policy_at-policy.ensures in
-    subst (λ o. IfSome o (λ outcome. c.described.result ≡ answer_of outcome)) (sym found)
-    (c.described.ensures
-    ∙ (λ i. record {
-      kind = record { 0 = policy.result.kind };
-      metadata = policy.result.metadata;
-      cause = record { bucket = c.name.ensures i; row = Some (c.row_of.ensures i) };
+    c.policy_at-policy.ensures
+    ∙ (λ i. Some (record {
+      result = policy.result;
+      cause = record { bucket = sym c.name.ensures i; key = Some policy.key };
     }))
 
--- the fallback is described
+-- the fallback is lent
 pub returns-in-None : goal.returns-in-None
 returns-in-None c =
     let within = bucket-there c.args.database.now c.buckets.result.now c.args.found c.buckets.ensures.buckets
     c.requires in
     let bucket = c.index-buckets-found.result in
     let there = slice_get_read c.buckets.result.now _ c.args.found.bucket bucket refl within c.index-buckets-found.is in
-    let found = outcome_at-bucket c.args.database.now c.buckets.result.now c.args.found bucket None
-    c.buckets.ensures.buckets c.buckets.ensures.in_order.names_rise there c.in-None.is in
-    subst (λ o. IfSome o (λ outcome. c.described-in-None.result ≡ answer_of outcome)) (sym found)
-    (c.described-in-None.ensures
-    ∙ (λ i. record {
-      kind = record { 0 = (c.fallback.ensures i).kind };
-      metadata = (c.fallback.ensures i).metadata;
-      cause = record { bucket = c.name-in-None.ensures i; row = None };
+    outcome_at-bucket c.args.database.now c.buckets.result.now c.args.found bucket None
+    c.buckets.ensures.buckets c.buckets.ensures.in_order.names_rise there c.in-None.is
+    ∙ (λ i. Some (record {
+      result = sym c.fallback.ensures i;
+      cause = record { bucket = sym c.name-in-None.ensures i; key = None };
     }))

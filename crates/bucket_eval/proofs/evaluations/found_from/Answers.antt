@@ -1,6 +1,6 @@
 use Rattle.std.proofs.Common.{refl}
 use Rattle.bucket_eval.proofs.Places.{held-answer, held-kind, held-there}
-use Rattle.bucket_eval.proofs.evaluations.plain_borrowed.Goals as goal
+use Rattle.bucket_eval.proofs.evaluations.found_from.Goals as goal
 
 pub returns-clause-answer : goal.returns-clause-answer
 returns-clause-answer c =

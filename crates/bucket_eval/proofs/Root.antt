@@ -1,0 +1,76 @@
+-- The root bucket is the first.
+use Rattle.std.proofs.Common.{◌≡◌, ◌<◌, ◌||◌, ℕ, zero, suc, Bool, true, false, List, [], ◌∷◌, length, map, slice_get, Some, IfSome}
+use Rattle.std.proofs.Common.{refl, sym, ap, ◌∙◌, subst, arith}
+use Rattle.std.specs.declared.cmp.Ordering.TheVariants.{Less}
+use Rattle.std.specs.List.{AllByRecursion, list_any}
+use Rattle.std.specs.List.Sorted.{IsStrictlySortedBy}
+use Rattle.std.proofs.lemmas.Bool.{false≢true}
+use Rattle.std.proofs.lemmas.List.{length-map}
+use Rattle.cynara_keys.specs.Key.{Question}
+use Rattle.cynara_keys.specs.Text.{same_text, text_cmp}
+use Rattle.cynara_keys.proofs.Order.{same_text-≡}
+use Rattle.bucket_store.specs.Bucket.{Bucket}
+use Rattle.bucket_store.specs.Database.{Database, Heading, database_of, heading_of, root}
+use Rattle.bucket_store.specs.Order.{bucket_cmp, heading_cmp}
+use Rattle.bucket_store.specs.WellFormed.{IsKept, IsWellFormed}
+use Rattle.bucket_eval.specs.Evaluation.{answer, answer_within}
+use Rattle.bucket_eval.specs.Found.{outcome_at as outcome_by_places}
+use Rattle.bucket_eval.specs.declared.nested.Held.{Held}
+use Rattle.bucket_eval.specs.parts.Buckets.{IsHeld}
+use Rattle.bucket_eval.proofs.Places.{held-answer}
+
+-- nothing comes before the empty text
+before-empty : (name other : List ℕ) → other ≡ [] → text_cmp name other ≡ Less → name ≡ []
+before-empty [] other empty less = refl
+before-empty (x ∷ name) other empty less =
+    let never : text_cmp (x ∷ name) [] ≡ Less = ap (text_cmp (x ∷ name)) (sym empty) ∙ less in cc
+
+root-behind : (name : List ℕ) (headings : List Heading)
+    → AllByRecursion (λ (later : Heading). text_cmp name later.name ≡ Less) headings
+    → list_any (λ (heading : Heading). same_text heading.name []) headings ≡ true → name ≡ []
+root-behind name [] less any = absurd (false≢true any)
+root-behind name (heading ∷ headings) less any =
+    here (same_text heading.name []) refl any (root-behind name headings less.1)
+  where
+    here : (is_root : Bool) → same_text heading.name [] ≡ is_root
+        → (is_root || list_any (λ (other : Heading). same_text other.name []) headings) ≡ true
+        → (list_any (λ (other : Heading). same_text other.name []) headings ≡ true → name ≡ []) → name ≡ []
+    here true is found rest = before-empty name heading.name (same_text-≡ heading.name [] is) less.0
+    here false is found rest = rest found
+
+root-named : (first : Heading) (headings : List Heading) (is_root : Bool) → same_text first.name [] ≡ is_root
+    → AllByRecursion (λ (later : Heading). text_cmp first.name later.name ≡ Less) headings
+    → (is_root || list_any (λ (heading : Heading). same_text heading.name []) headings) ≡ true → first.name ≡ []
+root-named first headings true is less any = same_text-≡ first.name [] is
+root-named first headings false is less any = root-behind first.name headings less any
+
+-- the first bucket is the root
+root-first : (headings : List Heading) → IsStrictlySortedBy heading_cmp headings
+    → list_any (λ (heading : Heading). same_text heading.name []) headings ≡ true
+    → (heading : Heading) × (slice_get headings 0 ≡ Some heading) × (heading.name ≡ []) × (0 < length headings)
+unfolding IsStrictlySortedBy
+root-first [] rise any = absurd (false≢true any)
+root-first (first ∷ headings) rise any =
+    (first, refl, root-named first headings (same_text first.name []) refl rise.0 any, omega arith)
+
+pub root-there : (database : Database) (buckets : List Bucket) → database_of buckets ≡ database → IsWellFormed database
+    → 0 < length buckets
+root-there database buckets same formed =
+    let first = root-first database.buckets formed.names_rise formed.sound.root in
+    let some : 0 < length (map heading_of buckets) =
+    subst (λ (d : Database). 0 < length d.buckets) (sym same) first.3 in
+    subst (λ n. 0 < n) (length-map buckets heading_of) some
+
+-- what the first bucket answers is the answer from the root
+pub root-answer : (database : Database) (buckets : List Bucket) (question : Question) (held : Held)
+    → database_of buckets ≡ database → IsKept buckets → IsWellFormed database
+    → IfSome (slice_get buckets 0) (λ bucket.
+    IsHeld buckets (answer_within (database_of buckets) question true (length buckets) bucket.name) held)
+    → outcome_by_places database held.found ≡ Some (answer database root question true)
+root-answer database buckets question held same kept formed is =
+    let first = root-first database.buckets formed.names_rise formed.sound.root in
+    let found : outcome_by_places database held.found ≡ Some (answer database first.0.name question true) =
+    subst (λ o. IfSome o (λ (heading : Heading).
+    outcome_by_places database held.found ≡ Some (answer database heading.name question true))) first.1
+    (held-answer database buckets question true (length buckets) 0 held same kept.names_rise refl is) in
+    found ∙ ap (λ name. Some (answer database name question true)) first.2
