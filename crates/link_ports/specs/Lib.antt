@@ -1,0 +1,5 @@
+pub mod Told
+pub mod LinkMarks
+pub mod Traffic
+pub mod LinkContent
+pub mod NetCounts

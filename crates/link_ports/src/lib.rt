@@ -1,0 +1,20 @@
+//! What the product asks of connections: traits of links, diallers, doors and nets, and their forms in memory.
+//!
+//! A link joins two programs. A dialler makes links to doors, a door accepts them, and a net is a dialler that also opens
+//! doors. Each has a count of failures that rises by one where a call failed and else stays. What an object tells of
+//! itself it may also leave untold; the clauses on what is told hold where it is.
+#![tactic(auto)]
+
+mod dials;
+mod door_kinds;
+mod doors;
+mod gates;
+mod links;
+mod nets;
+
+pub use dials::Dial;
+pub use door_kinds::DoorKind;
+pub use doors::Door;
+pub use gates::{Gate, GateStep, OpenGate};
+pub use links::{HangEnd, Link};
+pub use nets::Net;
