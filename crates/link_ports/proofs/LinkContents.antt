@@ -1,5 +1,5 @@
 -- What calls of a link in memory do to what it tells of what is to come.
-use Rattle.std.proofs.Common.{◌≡◌, ◌≤◌, ℕ, ◌-◌, Bool, true, false, if◌then◌else◌, List, ◌++◌, take, drop, Option, Some, None, sym, ◌∙◌, ap, subst, refl, arith}
+use Rattle.std.proofs.Common.{◌≡◌, ◌≤◌, ℕ, ◌-◌, Bool, true, false, if◌then◌else◌, List, ◌++◌, take, drop, Option, Some, None, sym, ◌∙◌, ap, refl, arith}
 use Rattle.std.proofs.lemmas.List.{take-append-drop}
 use Rattle.desk_ports.specs.Faults.{last_count, next_count}
 use Rattle.link_ports.specs.LinkContent.{LinkContent, GivesBytes}

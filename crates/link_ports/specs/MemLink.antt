@@ -1,7 +1,7 @@
 -- A link in memory, as contracts see it.
 use Rattle.std.specs.Prelude.{◌≡◌, ◌⊎◌, ◌<◌, ℕ, ◌-◌, ◌==◌, min, Bool, true, false, if◌then◌else◌, List, [], length, take, drop, Option, Some, None, Result, Ok, Err}
 use Rattle.desk_ports.specs.Faults.{next_count}
-use Rattle.link_ports.specs.LinkMarks.{LinkMarks, fresh_marks, with_end_taken, marks_after_receive, marks_after_look}
+use Rattle.link_ports.specs.LinkMarks.{with_end_taken, marks_after_receive, marks_after_look}
 use Rattle.link_ports.specs.LinkTally.{Tally, fresh_tally, with_failure}
 use Rattle.link_ports.specs.CallNumbers.{Numbers, IsToFail, with_next}
 use Rattle.link_ports.specs.Traffic.{Traffic, with_received, with_sent}

@@ -1,5 +1,5 @@
 -- A net in memory, as contracts see it.
-use Rattle.std.specs.Prelude.{◌≡◌, ◌⊎◌, ℕ, List, [], ◌∷◌, Option, Some, Result, Ok, Err}
+use Rattle.std.specs.Prelude.{◌≡◌, ◌⊎◌, ℕ, List, [], ◌∷◌, Some, Result, Ok, Err}
 use Rattle.desk_ports.specs.Faults.{next_count}
 use Rattle.link_ports.specs.CallNumbers.{Numbers, IsToFail, with_next}
 use Rattle.link_ports.specs.GivenBack.{Returns, no_returns, with_one_out}
