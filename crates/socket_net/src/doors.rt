@@ -1,5 +1,6 @@
 // Where links to a service come in.
-ghost use Rattle.std.specs.Prelude.{◌≡◌, None, Some, IfOk};
+ghost use Rattle.std.specs.Prelude.{◌≡◌, None, Some};
+ghost use Rattle.std.specs.Option.{option_copied};
 ghost use Rattle.link_ports.specs.LinkMarks.{fresh_marks};
 ghost use Rattle.socket_net.specs.Tallies.{marks_of};
 
@@ -45,7 +46,9 @@ impl SocketDoor {
     }
 
     /// The last error of the machine that was counted.
-    pub fn failure(&self) -> Option<&CallFailure> {
+    pub fn failure(&self) -> Option<&CallFailure>
+        ensures { option_copied result ≡ self.now.failures.last }
+    {
         self.failures.last.as_ref()
     }
 

@@ -1,5 +1,6 @@
 // One end of a connection over a socket.
 ghost use Rattle.std.specs.Prelude.{◌≡◌, None};
+ghost use Rattle.std.specs.Option.{option_copied};
 ghost use Rattle.desk_ports.specs.Faults.{next_count};
 ghost use Rattle.desk_ports.specs.PortFault.{count_after_refusal};
 ghost use Rattle.link_ports.specs.LinkMarks.{fresh_marks};
@@ -57,7 +58,9 @@ impl SocketLink {
     }
 
     /// The last error of the machine that was counted.
-    pub fn failure(&self) -> Option<&CallFailure> {
+    pub fn failure(&self) -> Option<&CallFailure>
+        ensures { option_copied result ≡ self.now.tally.failures.last }
+    {
         self.tally.failures.last.as_ref()
     }
 

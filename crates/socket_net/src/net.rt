@@ -1,9 +1,9 @@
 // The sockets of a directory.
-ghost use Rattle.std.specs.Prelude.{◌≡◌, None, Some, IfOk, OnOk, string_bytes};
+ghost use Rattle.std.specs.Prelude.{◌≡◌, None, IfOk, IfSome, string_bytes, Some};
 ghost use Rattle.std.specs.Option.{option_copied};
 ghost use Rattle.desk_ports.specs.Faults.{next_count};
-ghost use Rattle.desk_ports.specs.PortFault.{count_after_call, count_after_refusal};
-ghost use Rattle.socket_net.specs.LastFailure.{last_failure, failure_after_refusal};
+ghost use Rattle.desk_ports.specs.PortFault.{count_after_refusal};
+ghost use Rattle.socket_net.specs.LastFailure.{failure_after_refusal};
 ghost use Rattle.socket_net.specs.Paths.{socket_path};
 
 use crate::doors::SocketDoor;
@@ -84,7 +84,10 @@ impl<R: Files + HostNet + AllocGlobal + Drop> SocketNet<R> {
     }
 
     // The last failure of a link or a door of this kind. Of a link that counted none, the other end closed it.
-    fn failure_of(&self, kind: DoorKind, last: Option<CallFailure>) -> Failure {
+    fn failure_of(&self, kind: DoorKind, last: Option<CallFailure>) -> Failure
+        ensures step { IfSome last (λ call. result.step ≡ call.step) }
+        ensures error { IfSome last (λ call. result.error ≡ call.error) }
+    {
         match last {
             Some(CallFailure { step, error }) => self.failure_at(kind, step, error),
             None => self.failure_at(
