@@ -46,6 +46,10 @@ impl Places {
         self.links.get_mut(number(word))?.take()
     }
 
+    pub fn take_end(&mut self, word: &str) -> Option<SocketEnd> {
+        self.ends.get_mut(number(word))?.take()
+    }
+
     pub fn put_door(&mut self, word: &str, door: SocketDoor) {
         if let Some(place) = self.doors.get_mut(number(word)) {
             *place = Some(door);
@@ -80,7 +84,7 @@ impl Places {
             "send" => self.send(rt, words)?,
             "receive" => self.receive(rt, words)?,
             "up" => self.look(rt, words)?,
-            "end" => self.take_end(rt, words)?,
+            "end" => self.make_end(rt, words)?,
             "hang" => self.hang(words.first),
             "give" => self.give_to_net(words),
             "back" => self.give_to_door(words),
@@ -226,7 +230,7 @@ impl Places {
     }
 
     // end LINK END
-    fn take_end(&mut self, rt: &HostRuntime, words: &Words<'_>) -> io::Result<()> {
+    fn make_end(&mut self, rt: &HostRuntime, words: &Words<'_>) -> io::Result<()> {
         let Some(link) = self.link(words.first) else {
             return Ok(());
         };
@@ -242,7 +246,7 @@ impl Places {
     }
 
     // hang END
-    pub fn hang(&mut self, word: &str) {
+    fn hang(&mut self, word: &str) {
         if let Some(Some(end)) = self.ends.get_mut(number(word)) {
             end.hang_up();
         }

@@ -2,7 +2,7 @@
 use crate::places::Places;
 use crate::words::{Words, kind, number};
 use desk_ports::PortFault;
-use link_ports::{Dial, Door, DoorKind, Link, Net};
+use link_ports::{Dial, Door, DoorKind, HangEnd, Link, Net};
 use socket_net::{SocketDoor, SocketLink, SocketNet};
 use std::alloc::Global;
 use std::sync::Arc;
@@ -206,7 +206,7 @@ fn end<T: Threads>(
     }
 }
 
-// rouse LINK END: a thread waits for bytes of the link, and the end hangs up.
+// rouse LINK END: a thread waits for bytes of the link, and in another one the end hangs up.
 fn rouse<T: Threads>(
     rt: &HostRuntime,
     threads: &T,
@@ -214,6 +214,9 @@ fn rouse<T: Threads>(
     words: &Words<'_>,
 ) -> io::Result<()> {
     let Some(mut link) = places.take_link(words.first) else {
+        return Ok(());
+    };
+    let Some(mut end) = places.take_end(words.second) else {
         return Ok(());
     };
     let started = thread::spawn(threads, move || {
@@ -224,7 +227,9 @@ fn rouse<T: Threads>(
         return Ok(());
     };
     thread::sleep(rt, Duration::from_millis(100));
-    places.hang(words.second);
+    if let Ok(thread) = thread::spawn(threads, move || end.hang_up()) {
+        thread.join(threads);
+    }
     match thread.join(threads) {
         Ok(count) => println!(rt; "roused with {count}"),
         Err(_) => println!(rt; "roused by a failure"),
