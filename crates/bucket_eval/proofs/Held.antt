@@ -1,6 +1,6 @@
 -- What policies and buckets answer, and what is left of that as contributions.
-use Rattle.std.proofs.Common.{◌≡◌, ℕ, ◌<◌, Bool, true, cond, List, suc, ◌-◌, slice_get, option_and_then, Option, None}
-use Rattle.std.proofs.Common.{Some, arith, sym, ap, ◌∙◌, subst}
+use Rattle.std.proofs.Common.{◌≡◌, ℕ, Bool, true, cond, List, suc, slice_get, option_and_then, Option, None}
+use Rattle.std.proofs.Common.{Some, sym, ap, ◌∙◌, subst}
 use Rattle.std.specs.List.{filter_map}
 use Rattle.std.specs.List.Sorted.{IsStrictlySortedBy}
 use Rattle.cynara_keys.specs.Minimum.{first_least}

@@ -1,15 +1,13 @@
 -- Policies by the marks of their keys.
-use Rattle.std.proofs.Common.{◌≡◌, ℕ, ◌+◌, ◌*◌, ◌<◌, ◌≤◌, ◌%◌, ◌&&◌, ◌==◌, Bool, true, false, cond, nat_lt, nat_le, List, [], ◌∷◌, length}
-use Rattle.std.proofs.Common.{get_or, slice_get, option_and_then, Option, None, Some, Result, Ok, is_some, refl, sym, ap, ◌∙◌}
+use Rattle.std.proofs.Common.{◌≡◌, ℕ, ◌<◌, ◌%◌, ◌==◌, Bool, true, false, cond, nat_lt, nat_le, List, [], length}
+use Rattle.std.proofs.Common.{get_or, option_and_then, Option, None, Some, Ok, is_some, refl, sym, ap, ◌∙◌}
 use Rattle.std.proofs.Common.{subst, arith}
-use Rattle.std.specs.declared.cmp.Ordering.{Ordering}
-use Rattle.std.specs.declared.cmp.Ordering.TheVariants.{Less, Equal, Greater}
+use Rattle.std.specs.declared.cmp.Ordering.TheVariants.{Equal}
 use Rattle.std.specs.Cmp.{first_so, second_so}
-use Rattle.std.specs.List.{AllByRecursion, position}
+use Rattle.std.specs.List.{position}
 use Rattle.std.specs.List.Sorted.{IsStrictlySortedBy}
-use Rattle.std.specs.Option.{option_map}
 use Rattle.std.specs.Ordering.{is_eq}
-use Rattle.std.proofs.lemmas.Bool.{false≢true, true≢false, and_from, ltb-true}
+use Rattle.std.proofs.lemmas.Bool.{false≢true, and_from, ltb-true}
 use Rattle.std.proofs.lemmas.List.Elements.{recursion_from_All}
 use Rattle.std.proofs.lemmas.List.Quantifiers.{position-Some}
 use Rattle.std.proofs.lemmas.Option.{get_or_from_slice_get, same_Some, slice_get-get_or, slice_get_within}
@@ -22,7 +20,7 @@ use Rattle.bucket_store.specs.Order.{policy_cmp}
 use Rattle.bucket_store.specs.parts.Search.{StandsAt}
 use Rattle.bucket_store.proofs.Searching.{searched}
 use Rattle.bucket_eval.specs.declared.tables.Numbers.{Numbers}
-use Rattle.bucket_eval.specs.parts.Numbers.{HasMark, IsMarked, IsTable, if_small, join, joined, mark_of, number_of}
+use Rattle.bucket_eval.specs.parts.Numbers.{IsMarked, IsTable, if_small, join, joined, mark_of, number_of}
 use Rattle.bucket_eval.specs.parts.Shapes.{FitsAt, fits, sought, sought_field}
 use Rattle.bucket_eval.specs.parts.Tables.{AreNumbers, sought_mark}
 use Rattle.bucket_eval.proofs.ByShape.{equal-same, misfit}

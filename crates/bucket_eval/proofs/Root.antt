@@ -1,5 +1,5 @@
 -- The root bucket is the first.
-use Rattle.std.proofs.Common.{◌≡◌, ◌<◌, ◌||◌, ℕ, zero, suc, Bool, true, false, List, [], ◌∷◌, length, map, slice_get, Some, IfSome}
+use Rattle.std.proofs.Common.{◌≡◌, ◌<◌, ◌||◌, ℕ, Bool, true, false, List, [], ◌∷◌, length, map, slice_get, Some, IfSome}
 use Rattle.std.proofs.Common.{refl, sym, ap, ◌∙◌, subst, arith}
 use Rattle.std.specs.declared.cmp.Ordering.TheVariants.{Less}
 use Rattle.std.specs.List.{AllByRecursion, list_any}
@@ -11,7 +11,7 @@ use Rattle.cynara_keys.specs.Text.{same_text, text_cmp}
 use Rattle.cynara_keys.proofs.Order.{same_text-≡}
 use Rattle.bucket_store.specs.Bucket.{Bucket}
 use Rattle.bucket_store.specs.Database.{Database, Heading, database_of, heading_of, root}
-use Rattle.bucket_store.specs.Order.{bucket_cmp, heading_cmp}
+use Rattle.bucket_store.specs.Order.{heading_cmp}
 use Rattle.bucket_store.specs.WellFormed.{IsKept, IsWellFormed}
 use Rattle.bucket_eval.specs.Evaluation.{answer, answer_within}
 use Rattle.bucket_eval.specs.Found.{outcome_at as outcome_by_places}

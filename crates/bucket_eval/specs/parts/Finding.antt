@@ -1,5 +1,5 @@
 -- What places of policies are found by.
-use Rattle.std.specs.Prelude.{List, ℕ, Option, Some, None}
+use Rattle.std.specs.Prelude.{List, Option, Some, None}
 use Rattle.cynara_keys.specs.Key.{Question}
 use Rattle.bucket_store.specs.Bucket.{Bucket}
 use Rattle.bucket_eval.specs.declared.nested.Asked.{Asked}

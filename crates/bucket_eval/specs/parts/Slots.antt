@@ -1,14 +1,12 @@
 -- What is known already of a question: for each bucket the places of its answer, or nothing.
-use Rattle.std.specs.Prelude.{◌≡◌, ◌≤◌, ℕ, Bool, true, List, [], ◌∷◌, ◌==◌, if◌then◌else◌, Option, None, Some, is_some, ◌+◌}
+use Rattle.std.specs.Prelude.{◌≡◌, ℕ, Bool, true, List, [], ◌∷◌, ◌==◌, if◌then◌else◌, Option, None, Some, is_some, ◌+◌}
 use Rattle.std.specs.Prelude.{length, slice_get, option_and_then}
 use Rattle.bucket_store.specs.Bucket.{Bucket}
 use Rattle.bucket_store.specs.Database.{Placed, database_of}
 use Rattle.bucket_store.specs.Walk.{IsStep, target}
-use Rattle.cynara_keys.specs.Key.{Question}
 use Rattle.cynara_keys.specs.declared.keys.Policy.{Policy}
 use Rattle.bucket_eval.specs.Evaluation.{Outcome, Contribution, answer_within}
 use Rattle.bucket_eval.specs.declared.nested.Asked.{Asked}
-use Rattle.bucket_eval.specs.declared.nested.Held.{Held}
 use Rattle.bucket_eval.specs.declared.nested.Looked.{Looked}
 use Rattle.bucket_eval.specs.declared.nested.Looked.TheVariants.{Offered, Silent, Waits}
 use Rattle.bucket_eval.specs.declared.nested.Reached.{Reached}

@@ -1,4 +1,4 @@
-use Rattle.std.proofs.Common.{◌≡◌, ◌+◌, ◌++◌, ◌∷◌, [], List, Option, Some, IfSome, length, sym, ap, ◌∙◌, subst, arith, rules, length-append}
+use Rattle.std.proofs.Common.{◌≡◌, ◌++◌, ◌∷◌, [], List, Option, Some, IfSome, length, sym, ap, subst, arith, rules, length-append}
 use Rattle.cynara_keys.specs.declared.keys.Policy.{Policy}
 use Rattle.bucket_eval.specs.declared.tables.Table.{Table}
 use Rattle.bucket_eval.specs.parts.Numbers.{IsTable}

@@ -1,4 +1,4 @@
-use Rattle.std.proofs.Common.{◌+◌, length, None, Some, sym, ap, ◌∙◌, subst, arith}
+use Rattle.std.proofs.Common.{◌+◌, length, Some, sym, ap, ◌∙◌, subst, arith}
 use Rattle.bucket_eval.specs.parts.Buckets.{Offers}
 use Rattle.bucket_eval.specs.parts.Slots.{Looks}
 use Rattle.bucket_eval.proofs.Kept.{rising-at}

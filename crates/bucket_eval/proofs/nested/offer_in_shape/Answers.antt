@@ -1,7 +1,5 @@
-use Rattle.std.proofs.Common.{◌≡◌, List, ℕ, zero, suc, [], ◌∷◌, get_or, slice_get, None, Some, sym, subst, length}
-use Rattle.std.specs.List.{AllByRecursion}
+use Rattle.std.proofs.Common.{◌≡◌, get_or, None, Some, sym, subst, length}
 use Rattle.std.specs.List.Sorted.{IsStrictlySortedBy}
-use Rattle.bucket_store.specs.Bucket.{Bucket}
 use Rattle.bucket_store.specs.Order.{policy_cmp}
 use Rattle.bucket_eval.specs.parts.Shapes.{FitsAt}
 use Rattle.bucket_eval.specs.parts.Slots.{Looks}

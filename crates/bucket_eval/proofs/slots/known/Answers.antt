@@ -1,6 +1,6 @@
 use Rattle.std.proofs.Common.{sym, ◌∙◌}
 use Rattle.bucket_eval.specs.parts.Slots.{none_or}
-use Rattle.bucket_eval.proofs.Known.{spot-bucket, spot-none, spot-policy, spot_at-is, told-at, told-held}
+use Rattle.bucket_eval.proofs.Known.{spot-bucket, spot-policy, told-at, told-held}
 use Rattle.bucket_eval.proofs.Known.{spot-held-fallback, spot-held-policy}
 use Rattle.bucket_eval.proofs.slots.known.Goals as goal
 

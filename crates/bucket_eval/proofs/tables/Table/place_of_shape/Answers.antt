@@ -1,4 +1,4 @@
-use Rattle.std.proofs.Common.{◌≡◌, None, Some, sym, ◌∙◌}
+use Rattle.std.proofs.Common.{◌≡◌, Some, sym, ◌∙◌}
 use Rattle.std.proofs.lemmas.Option.{get_or_from_slice_get}
 use Rattle.bucket_eval.specs.parts.Numbers.{mark_of}
 use Rattle.bucket_eval.specs.parts.Shapes.{sought}
