@@ -87,7 +87,7 @@ module _ (buckets : List Bucket) (rise : IsStrictlySortedBy bucket_cmp buckets) 
       (get_or_default buckets at d (bucket_of [] (record { kind = 0; metadata = [] }) []) lt)
       ∙ ap (λ text. text_cmp text name) is ∙ tied_itself text_total name)
 
-  placed-at : (at : ℕ) (name : List ℕ) → at < length buckets → name_at buckets at ≡ name
+  pub placed-at : (at : ℕ) (name : List ℕ) → at < length buckets → name_at buckets at ≡ name
       → Some at ≡ position (λ (bucket : Bucket). same_text bucket.name name) buckets
   placed-at at name lt is = bucket-place name buckets (Ok at) (stands at name lt is) tt
 

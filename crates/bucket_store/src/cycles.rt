@@ -11,7 +11,7 @@ ghost use Rattle.bucket_store.specs.parts.Reaching.{IsFlagged, with_links, with_
 use crate::Bucket;
 use crate::endings::mark_ending;
 use crate::flags::{is_set, none_set, set};
-use crate::links::link_place;
+use crate::links::{link_place, no_places};
 use cynara_keys::Policy;
 use std::alloc::{AllocError, Global};
 
@@ -22,7 +22,8 @@ pub fn least_on_cycle(alloc: Global, buckets: &[Bucket]) -> Result<Option<usize>
     ensures { IfOk result (IsLeast buckets.now) }
 {
     let mut ended = none_set(alloc, buckets.len())?;
-    least_left(alloc, buckets, &mut ended)
+    let mut remembered = no_places(alloc)?;
+    least_left(alloc, buckets, &mut ended, &mut remembered)
 }
 
 // The same: of the buckets from which a walk may come to a cycle, the first that is on one.
@@ -30,14 +31,15 @@ fn least_left(
     alloc: Global,
     buckets: &[Bucket],
     ended: &mut [bool],
+    remembered: &mut [usize],
 ) -> Result<Option<usize>, AllocError>
     requires rise { IsStrictlySortedBy bucket_cmp buckets.now }
     requires told { AreEnding buckets.now ended.old }
     ensures { IfOk result (IsLeast buckets.now) }
 {
-    mark_ending(buckets, ended);
+    mark_ending(buckets, ended, remembered);
     for at in 0..buckets.len() {
-        if !is_set(ended, at) && is_on_cycle(alloc, buckets, at)? {
+        if !is_set(ended, at) && is_on_cycle(alloc, buckets, remembered, at)? {
             return Ok(Some(at));
         }
     }
@@ -45,7 +47,12 @@ fn least_left(
 }
 
 // Whether a walk of at least one policy leads from the bucket to itself.
-fn is_on_cycle(alloc: Global, buckets: &[Bucket], at: usize) -> Result<bool, AllocError>
+fn is_on_cycle(
+    alloc: Global,
+    buckets: &[Bucket],
+    remembered: &mut [usize],
+    at: usize,
+) -> Result<bool, AllocError>
     requires rise { IsStrictlySortedBy bucket_cmp buckets.now }
     requires there { at < length buckets.now }
     ensures on { IfOk result
@@ -55,12 +62,13 @@ fn is_on_cycle(alloc: Global, buckets: &[Bucket], at: usize) -> Result<bool, All
 {
     let mut flags = none_set(alloc, buckets.len())?;
     let mut places = Vec::with_capacity(alloc, buckets.len())?;
-    leads_back(buckets, at, &mut flags, &mut places)
+    leads_back(buckets, remembered, at, &mut flags, &mut places)
 }
 
 // The same, with the places that walks from the bucket lead to.
 fn leads_back(
     buckets: &[Bucket],
+    remembered: &mut [usize],
     at: usize,
     flags: &mut [bool],
     places: &mut Vec<usize>,
@@ -74,10 +82,16 @@ fn leads_back(
     ensures off { IfOk result
         (λ on. IsFalse on → IsOnCycle (flat_map placed_of buckets.now) (name_at buckets.now at) → ⊥) }
 {
-    add_links(buckets, buckets[at].policies(), flags, places)?;
+    add_links(buckets, remembered, buckets[at].policies(), flags, places)?;
     let mut next = 0;
     while next < places.len() {
-        add_links(buckets, buckets[places[next]].policies(), flags, places)?;
+        add_links(
+            buckets,
+            remembered,
+            buckets[places[next]].policies(),
+            flags,
+            places,
+        )?;
         next += 1;
     }
     Ok(is_set(flags, at))
@@ -86,6 +100,7 @@ fn leads_back(
 // Adds the places of the buckets that the policies point to.
 fn add_links(
     buckets: &[Bucket],
+    remembered: &mut [usize],
     policies: &[Policy],
     flags: &mut [bool],
     places: &mut Vec<usize>,
@@ -98,7 +113,7 @@ fn add_links(
     ensures flagged { OnOk result (IsFlagged flags.new places.new.items) }
 {
     for policy in policies {
-        if let Some(at) = link_place(buckets, &policy.result) {
+        if let Some(at) = link_place(buckets, remembered, &policy.result) {
             add_place(flags, places, at)?;
         }
     }

@@ -10,7 +10,7 @@ ghost use Rattle.bucket_store.specs.parts.Ending as ending;
 ghost use Rattle.bucket_store.specs.parts.Ending.{AreEnding, ChangeEnds, Ends, LinkEnds, name_at};
 
 use crate::flags::{is_set, none_set, set};
-use crate::links::link_place;
+use crate::links::{link_place, no_places};
 use crate::{Bucket, Change};
 use cynara_keys::{Policy, PolicyResult};
 use std::alloc::{AllocError, Global};
@@ -26,23 +26,34 @@ pub fn changes_end(
     ensures { IfOk result (λ ends. IsTrue ends → AllByRecursion (ChangeEnds buckets.now) changes.now) }
 {
     let mut ended = none_set(alloc, buckets.len())?;
-    Ok(all_end(buckets, &mut ended, changes))
+    let mut remembered = no_places(alloc)?;
+    Ok(all_end(buckets, &mut ended, &mut remembered, changes))
 }
 
-fn all_end(buckets: &[Bucket], ended: &mut [bool], changes: &[Change]) -> bool
+fn all_end(
+    buckets: &[Bucket],
+    ended: &mut [bool],
+    remembered: &mut [usize],
+    changes: &[Change],
+) -> bool
     requires rise { IsStrictlySortedBy bucket_cmp buckets.now }
     requires told { AreEnding buckets.now ended.old }
     ensures { IsTrue result → AllByRecursion (ChangeEnds buckets.now) changes.now }
 {
     for change in changes {
-        if !change_ends(buckets, ended, change) {
+        if !change_ends(buckets, ended, remembered, change) {
             return false;
         }
     }
     true
 }
 
-fn change_ends(buckets: &[Bucket], ended: &mut [bool], change: &Change) -> bool
+fn change_ends(
+    buckets: &[Bucket],
+    ended: &mut [bool],
+    remembered: &mut [usize],
+    change: &Change,
+) -> bool
     requires rise { IsStrictlySortedBy bucket_cmp buckets.now }
     requires told { AreEnding buckets.now ended.old }
     ensures told { AreEnding buckets.now ended.new }
@@ -52,19 +63,19 @@ fn change_ends(buckets: &[Bucket], ended: &mut [bool], change: &Change) -> bool
         Change::Set {
             result: outcome,
             ..
-        } => link_ends(buckets, ended, outcome, buckets.len()),
+        } => link_ends(buckets, ended, remembered, outcome, buckets.len()),
         Change::Delete { .. } => true,
     }
 }
 
 /// Sets the flags of buckets from which no walk comes to a cycle: of all of them, where there is none.
-pub fn mark_ending(buckets: &[Bucket], ended: &mut [bool])
+pub fn mark_ending(buckets: &[Bucket], ended: &mut [bool], remembered: &mut [usize])
     requires rise { IsStrictlySortedBy bucket_cmp buckets.now }
     requires told { AreEnding buckets.now ended.old }
     ensures { AreEnding buckets.now ended.new }
 {
     for at in 0..buckets.len() {
-        if !bucket_ends(buckets, ended, at, buckets.len()) {
+        if !bucket_ends(buckets, ended, remembered, at, buckets.len()) {
             return;
         }
     }
@@ -73,7 +84,13 @@ pub fn mark_ending(buckets: &[Bucket], ended: &mut [bool])
 // Whether no walk from the bucket comes to a cycle. Answers no after so many policies in turn, and sets the flag of each
 // bucket of which it is known.
 #[cycle(ending)]
-fn bucket_ends(buckets: &[Bucket], ended: &mut [bool], at: usize, most: usize) -> bool
+fn bucket_ends(
+    buckets: &[Bucket],
+    ended: &mut [bool],
+    remembered: &mut [usize],
+    at: usize,
+    most: usize,
+) -> bool
     requires rise { IsStrictlySortedBy bucket_cmp buckets.now }
     requires there { at < length buckets.now }
     requires told { AreEnding buckets.now ended.old }
@@ -86,7 +103,7 @@ fn bucket_ends(buckets: &[Bucket], ended: &mut [bool], at: usize, most: usize) -
     if most == 0 {
         return false;
     }
-    if !policies_end(buckets, ended, buckets[at].policies(), most - 1) {
+    if !policies_end(buckets, ended, remembered, buckets[at].policies(), most - 1) {
         return false;
     }
     set(ended, at);
@@ -95,7 +112,13 @@ fn bucket_ends(buckets: &[Bucket], ended: &mut [bool], at: usize, most: usize) -
 
 // The same for each bucket that one of the policies points to.
 #[cycle(ending)]
-fn policies_end(buckets: &[Bucket], ended: &mut [bool], policies: &[Policy], most: usize) -> bool
+fn policies_end(
+    buckets: &[Bucket],
+    ended: &mut [bool],
+    remembered: &mut [usize],
+    policies: &[Policy],
+    most: usize,
+) -> bool
     requires rise { IsStrictlySortedBy bucket_cmp buckets.now }
     requires told { AreEnding buckets.now ended.old }
     ensures told { AreEnding buckets.now ended.new }
@@ -103,7 +126,7 @@ fn policies_end(buckets: &[Bucket], ended: &mut [bool], policies: &[Policy], mos
         → AllByRecursion (λ (policy : PolicyContent). LinkEnds buckets.now policy.result) policies.now }
 {
     for policy in policies {
-        if !link_ends(buckets, ended, &policy.result, most) {
+        if !link_ends(buckets, ended, remembered, &policy.result, most) {
             return false;
         }
     }
@@ -112,14 +135,20 @@ fn policies_end(buckets: &[Bucket], ended: &mut [bool], policies: &[Policy], mos
 
 // The same for the bucket that the result sends on to, if it does.
 #[cycle(ending)]
-fn link_ends(buckets: &[Bucket], ended: &mut [bool], outcome: &PolicyResult, most: usize) -> bool
+fn link_ends(
+    buckets: &[Bucket],
+    ended: &mut [bool],
+    remembered: &mut [usize],
+    outcome: &PolicyResult,
+    most: usize,
+) -> bool
     requires rise { IsStrictlySortedBy bucket_cmp buckets.now }
     requires told { AreEnding buckets.now ended.old }
     ensures told { AreEnding buckets.now ended.new }
     ensures ends { IsTrue result → LinkEnds buckets.now outcome.now }
 {
-    match link_place(buckets, outcome) {
-        Some(at) => bucket_ends(buckets, ended, at, most),
+    match link_place(buckets, remembered, outcome) {
+        Some(at) => bucket_ends(buckets, ended, remembered, at, most),
         None => true,
     }
 }
