@@ -1,14 +1,14 @@
 #!/usr/bin/env python3
 """Random lists of events for the world of `desk_world`, with what a model of the table of events says they lead to.
 
-Writes lines `events => outcome` in the text form of `crates/desk_world/src/tests/event_texts.rt`; a test compares them:
+Writes lines `events => outcome` in the text form of `crates/world_cases/src/event_texts.rt`; that program compares them:
 
     python3 trials/world_lists.py 10000 1 > /tmp/lists.txt
-    cd crates/desk_world && rt try --test --data lists.txt=/tmp/lists.txt
+    cd crates/world_cases && rt try < /tmp/lists.txt | diff /tmp/lists.txt -
     python3 trials/world_lists.py --all 3 > /tmp/lists.txt        every list of up to three events of a small set
 
-Some 1,500 random lists are compared within a minute; `--seconds N` gives the test more time. The model shares no code with
-the crate: states are dictionaries from a privilege to a kind, and events are methods."""
+`--seconds N` gives the program more time. The model shares no code with the crate: states are dictionaries from a privilege
+to a kind, and events are methods."""
 import itertools
 import random
 import sys
@@ -316,6 +316,14 @@ SMALL = ["dial 1", "enter 0", "ask 1 p", "send 1", "read 0 0", "write 0", "deliv
          "leave 10"]
 
 
+# the outcome as the program tells it: of more than twenty replies their number and the last one
+def told(text):
+    replies = [reply.strip() for reply in text.split(";") if reply.strip()]
+    if len(replies) > 20:
+        return f"{len(replies)} replies, the last {replies[-1]};"
+    return text.strip() or "no reply"
+
+
 def main():
     if sys.argv[1] == "--all":
         counts = range(int(sys.argv[2]) + 1)
@@ -324,7 +332,7 @@ def main():
         draw = random.Random(int(sys.argv[2]))
         lists = (random_list(draw) for _ in range(int(sys.argv[1])))
     for events in lists:
-        print("; ".join(events), "=>", outcome(events))
+        print("; ".join(events), "=>", told(outcome(events)))
 
 
 main()
