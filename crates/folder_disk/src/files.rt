@@ -1,6 +1,7 @@
 // What the machine is asked to do with files, one small step a function.
 ghost use Rattle.std.specs.Prelude.{◌≡◌, ◌≤◌, ◌<◌, ◌^◌, vec_len, IfSome, IfOk, OnOk};
 ghost use Rattle.std.specs.Io.KnownBytes.{Appends};
+ghost use Rattle.folder_disk.specs.Limits.{most_file_bytes};
 
 use crate::failures::{Failure, FolderStep, told};
 use crate::file_marks::{FileMark, PlainFile};
@@ -27,7 +28,7 @@ pub struct FileRead {
 /// All bytes of the plain file of the path, where they are no more than the limit. `None` where there is none. A link
 /// is not followed.
 pub fn read<R: Files + AllocGlobal + Drop>(rt: &R, path: &str) -> Result<Option<FileRead>, Failure>
-    ensures { IfOk result (λ read. IfSome read (λ file. vec_len file.bytes ≤ MOST_FILE_BYTES)) }
+    ensures { IfOk result (λ read. IfSome read (λ file. vec_len file.bytes ≤ most_file_bytes)) }
 {
     let seen = told(rt.alloc(), FolderStep::OpenFile, path, plain_file(rt, path))?;
     let Some(seen) = seen else {
@@ -163,7 +164,7 @@ fn open_seen<R: Files + Drop>(
 // All bytes of a file that was seen to have this length, where they are no more than the limit. A read that is
 // interrupted is tried again.
 fn read_whole<F: Read + OpenFile + Drop>(alloc: Global, file: F, length: u64) -> io::Result<Vec<u8>>
-    ensures limit { IfOk result (λ bytes. vec_len bytes ≤ MOST_FILE_BYTES) }
+    ensures limit { IfOk result (λ bytes. vec_len bytes ≤ most_file_bytes) }
     ensures whole { IfOk result (λ bytes. IfSome (F.Read.remaining file) (λ left. bytes.items ≡ left)) }
 {
     if length > MOST_FILE_BYTES {
