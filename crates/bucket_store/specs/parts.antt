@@ -5,3 +5,5 @@ pub mod Closure
 pub mod Batch
 pub mod Merge
 pub mod OneBucket
+pub mod Numbering
+pub mod Rows

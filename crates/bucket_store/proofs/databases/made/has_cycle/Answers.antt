@@ -1,10 +1,9 @@
-use Rattle.std.proofs.Common.{◌≡◌, ℕ, Bool, false, List, [], ◌∷◌, map, Some, None, refl, sym, ap, ◌∙◌}
+use Rattle.std.proofs.Common.{◌≡◌, ℕ, Bool, false, List, [], ◌∷◌, map, None, refl, sym, ap}
 use Rattle.std.specs.Option.{is_some, option_map}
 use Rattle.std.specs.List.{find}
 use Rattle.bucket_store.specs.Database.{Heading, database_of}
 use Rattle.bucket_store.specs.Walk.{is_on_cycle}
 use Rattle.bucket_store.specs.declared.refusals.StoreRefusal.TheVariants.{Cycle}
-use Rattle.bucket_store.specs.parts.Closure.{IsFirstLoop, closed, link_rows}
 use Rattle.bucket_store.proofs.Leading.{no-loop, first-loop}
 use Rattle.bucket_store.proofs.Walks.{tested-NoCycle}
 use Rattle.bucket_store.proofs.databases.made.has_cycle.Goals as goal
