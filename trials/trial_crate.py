@@ -13,7 +13,7 @@ CRATES = HERE.parent / "crates"
 def below(names):
     """The crates of the repository at or below these, with their lines of `crates.txt`."""
     lines = (HERE.parent / "crates.txt").read_text().splitlines()
-    needs = {name: words.split() for name, _, words in (line.partition(":") for line in lines) if words}
+    needs = {name: words.split() for name, colon, words in (line.partition(":") for line in lines) if colon}
     found, waiting = {}, list(names)
     while waiting:
         name = waiting.pop()

@@ -13,3 +13,6 @@ pub mod Accepting
 pub mod Sorting
 pub mod Merging
 pub mod OneBucket
+pub mod NameNumbering
+pub mod AskedNumbers
+pub mod RowChoice

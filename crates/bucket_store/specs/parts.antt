@@ -6,3 +6,5 @@ pub mod Reaching
 pub mod Batch
 pub mod Merge
 pub mod OneBucket
+pub mod Numbering
+pub mod Rows

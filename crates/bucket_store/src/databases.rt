@@ -12,7 +12,7 @@ mod made;
 
 use crate::batches::{adds_link, changed_buckets, is_over};
 use crate::buckets::Bucket;
-use crate::copies::{admitted, all_buckets, not_admitted};
+use crate::copies::all_buckets;
 use crate::cycles::least_on_cycle;
 use crate::edits::{has_room, is_bad, with_heading, with_policies, without_bucket};
 use crate::endings::changes_end;
@@ -20,6 +20,7 @@ use crate::limits::{MOST_BUCKETS, MOST_POLICIES};
 use crate::named::all_named;
 use crate::one_bucket::place_of_changes;
 use crate::searches::place_of_bucket;
+use crate::selections::{admitted, not_admitted};
 use crate::{Change, StoreRefusal};
 use cynara_keys::{BucketName, Counted, Filter, Kind, Policy, PolicyResult};
 pub use made::has_cycle;

@@ -13,14 +13,18 @@ mod edits;
 mod endings;
 mod flags;
 mod in_place;
+mod key_rows;
 mod limits;
 mod links;
 mod merges;
+mod name_numbers;
 mod named;
 mod one_bucket;
 mod policy_changes;
 mod refusals;
+mod row_copies;
 mod searches;
+mod selections;
 
 pub use buckets::Bucket;
 pub use databases::{Database, Erased, has_cycle};
