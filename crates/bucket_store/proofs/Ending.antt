@@ -1,8 +1,7 @@
 -- Walks that come to no cycle: what holds of the buckets that a bucket's policies point to holds of the bucket.
 use Rattle.std.proofs.Common.{◌≡◌, ℕ, ◌+◌, ◌<◌, ◌≤◌, zero, suc, Bool, true, false, List, [], ◌∷◌, ◌++◌, length, map, get_or, take, set, replicate, eqb}
-use Rattle.std.proofs.Common.{Option, Some, None, Ok, refl, sym, ap, ◌∙◌, subst, arith, cond}
+use Rattle.std.proofs.Common.{Some, None, Ok, refl, sym, ap, ◌∙◌, subst, arith, cond}
 use mathlib.Core.Logic.{⊎_elim}
-use Rattle.std.specs.declared.cmp.Ordering.TheVariants.{Equal}
 use Rattle.std.specs.List.{AllByRecursion, Contains, flat_map, position}
 use Rattle.std.specs.List.Sorted.{IsStrictlySortedBy}
 use Rattle.std.proofs.lemmas.Bool.{true≢false, cases_eq, cases_lt}
@@ -16,11 +15,11 @@ use Rattle.cynara_keys.proofs.Order.{text_total}
 use Rattle.bucket_store.specs.Bucket.{Bucket}
 use Rattle.bucket_store.specs.Database.{Placed, placed_of}
 use Rattle.bucket_store.specs.Order.{bucket_cmp}
-use Rattle.bucket_store.specs.Walk.{target, IsWalk, end_of, Leads, IsOnCycle}
+use Rattle.bucket_store.specs.Walk.{IsWalk, end_of, Leads, IsOnCycle}
 use Rattle.bucket_store.specs.parts.Search.{StandsAt}
 use Rattle.bucket_store.specs.parts.Edit.{bucket_of}
-use Rattle.bucket_store.specs.parts.Ending.{bucket_at, name_at, link_place, Ends, LinkEnds, flag, AreEnding, IsLeast}
-use Rattle.bucket_store.proofs.Lists.{All-append, All-map}
+use Rattle.bucket_store.specs.parts.Ending.{bucket_at, name_at, link_place, Ends, LinkEnds, AreEnding, IsLeast}
+use Rattle.bucket_store.proofs.Lists.{All-append}
 use Rattle.bucket_store.proofs.Searching.{found}
 use Rattle.bucket_store.proofs.Sound.{All-flat, bucket-place}
 

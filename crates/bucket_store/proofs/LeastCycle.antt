@@ -1,6 +1,6 @@
 -- The least bucket on a cycle is the one that the refusal names.
-use Rattle.std.proofs.Common.{◌≡◌, ℕ, ◌<◌, suc, zero, Bool, true, false, List, [], ◌∷◌, length, map, get_or, Some, None}
-use Rattle.std.proofs.Common.{sym, ap, ◌∙◌, cond, arith}
+use Rattle.std.proofs.Common.{◌≡◌, ℕ, ◌<◌, suc, zero, Bool, true, false, List, [], ◌∷◌, length, map, get_or, Some}
+use Rattle.std.proofs.Common.{ap, ◌∙◌, cond, arith}
 use Rattle.std.specs.Option.{option_map}
 use Rattle.std.specs.List.{AllByRecursion, find, flat_map}
 use Rattle.std.proofs.lemmas.Bool.{false_from_ne_true}

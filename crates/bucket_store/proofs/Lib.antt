@@ -9,6 +9,7 @@ pub mod Ending
 pub mod Reaching
 pub mod LeastCycle
 pub mod Changing
+pub mod PutLinks
 pub mod Accepting
 pub mod Sorting
 pub mod Merging

@@ -1,9 +1,9 @@
 -- The places that walks from a bucket lead to: once the links of each are among them, they are all that walks lead to.
-use Rattle.std.proofs.Common.{◌≡◌, ◌≢◌, ℕ, ◌+◌, ◌<◌, ◌≤◌, zero, suc, Bool, true, false, not, cond, ◌||◌, eqb, List, [], ◌∷◌}
+use Rattle.std.proofs.Common.{◌≡◌, ℕ, ◌+◌, ◌<◌, ◌≤◌, zero, suc, Bool, true, false, not, cond, ◌||◌, eqb, List, [], ◌∷◌}
 use Rattle.std.proofs.Common.{◌++◌, length, get_or, set, take, replicate, Option, Some, None, refl, sym, ap, ◌∙◌, subst, arith}
 use Rattle.std.proofs.Common.{append-nil}
 use mathlib.Core.Logic.{⊎_elim}
-use Rattle.std.specs.List.{AllByRecursion, Contains, filter, flat_map, list_any, position}
+use Rattle.std.specs.List.{AllByRecursion, Contains, filter, flat_map, position}
 use Rattle.std.specs.List.Sorted.{IsStrictlySortedBy}
 use Rattle.std.proofs.lemmas.Bool.{true≢false, cases_eq, eqb-true, eq-eqb, ne_eqb, or_cases, or_left, or_right}
 use Rattle.std.proofs.lemmas.List.{append_assoc, get_or-replicate, get_or-set_same, get_or-set_other, length-append, length-replicate}

@@ -30,6 +30,7 @@ pub fn changes_end(
     Ok(all_end(buckets, &mut ended, &mut remembered, changes))
 }
 
+// The same, with the flags of the buckets of which it is known.
 fn all_end(
     buckets: &[Bucket],
     ended: &mut [bool],
@@ -48,6 +49,7 @@ fn all_end(
     true
 }
 
+// The same for one change.
 fn change_ends(
     buckets: &[Bucket],
     ended: &mut [bool],

@@ -1,4 +1,4 @@
-use Rattle.std.proofs.Common.{◌≡◌, ℕ, Bool, false, List, [], ◌∷◌, map, Some, None, refl, sym, ap, ◌∙◌}
+use Rattle.std.proofs.Common.{◌≡◌, ℕ, Bool, false, List, [], ◌∷◌, map, None, refl, sym, ap}
 use Rattle.std.specs.Option.{is_some, option_map}
 use Rattle.std.specs.List.{find}
 use Rattle.bucket_store.specs.Database.{Heading, database_of}
