@@ -2,7 +2,7 @@
 //
 // Sending, receiving and asking whether a connection is up are stated for each reader and writer that tells its bytes. A
 // socket tells none.
-ghost use Rattle.std.specs.Prelude.{◌≡◌, ◌≤◌, length, take, IfOk, OnOk, OnErr};
+ghost use Rattle.std.specs.Prelude.{◌≤◌, length, take, IfOk, OnOk, OnErr};
 ghost use Rattle.desk_ports.specs.Content.{Took, Stays, Appended};
 
 use std::fs::Permissions;
