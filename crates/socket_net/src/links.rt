@@ -42,6 +42,7 @@ impl SocketLink {
         ensures marks { marks_of result.tally ≡ fresh_marks }
         ensures failure { result.tally.failures.last ≡ None }
         ensures kind { result.kind ≡ kind }
+        ensures stream { result.stream ≡ stream }
     {
         SocketLink {
             stream,

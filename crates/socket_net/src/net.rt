@@ -1,5 +1,5 @@
 // The sockets of a directory.
-ghost use Rattle.std.specs.Prelude.{◌≡◌, None, IfOk, IfSome, string_bytes, Some};
+ghost use Rattle.std.specs.Prelude.{◌≡◌, ◌<◌, None, Some, IfOk, IfSome, OnErr, length, string_bytes};
 ghost use Rattle.std.specs.Option.{option_copied};
 ghost use Rattle.desk_ports.specs.Faults.{next_count};
 ghost use Rattle.desk_ports.specs.PortFault.{count_after_refusal};
@@ -64,7 +64,8 @@ impl<R: Files + HostNet + AllocGlobal + Drop> SocketNet<R> {
 
     // The path of a socket, for a step that is asked for next.
     fn path_of(&self, kind: DoorKind, step: SocketStep) -> Result<Path, Failure>
-        ensures { IfOk result (λ path. path.bytes ≡ socket_path (string_bytes self.now.directory) kind) }
+        ensures path { IfOk result (λ path. path.bytes ≡ socket_path (string_bytes self.now.directory) kind) }
+        ensures long { OnErr result (107 < length (socket_path (string_bytes self.now.directory) kind)) }
     {
         match path_in(self.directory.as_str(), socket_name(kind)) {
             Some(path) => Ok(path),

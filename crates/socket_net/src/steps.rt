@@ -1,5 +1,9 @@
 // What the machine is asked to do with sockets, one small step a function.
-ghost use Rattle.std.specs.Prelude.{◌≡◌, ◌≤◌, length, IfOk};
+//
+// Sending, receiving and asking whether a connection is up are stated for each reader and writer that tells its bytes. A
+// socket tells none.
+ghost use Rattle.std.specs.Prelude.{◌≤◌, length, take, IfOk, OnOk, OnErr};
+ghost use Rattle.desk_ports.specs.Content.{Took, Stays, Appended};
 
 use std::fs::Permissions;
 use std::io::{Error, ErrorKind, Read, Write};
@@ -126,8 +130,10 @@ pub fn shut_down(stream: &UnixStream) -> io::Result<()> {
 
 /// The next bytes, at the front of the slice. None where the connection was closed, also where the other end left with
 /// bytes that it never read, which the machine calls a reset.
-pub fn receive(stream: &mut UnixStream, into: &mut [u8]) -> io::Result<usize>
-    ensures { IfOk result (λ count. count ≤ length into.old) }
+pub fn receive<S: Read>(stream: &mut S, into: &mut [u8]) -> io::Result<usize>
+    ensures within { IfOk result (λ count. count ≤ length into.old) }
+    ensures given { IfOk result (λ count. Took (S.remaining stream.old) (take count into.new) (S.remaining stream.new)) }
+    ensures kept { OnErr result (Stays (S.remaining stream.old) (S.remaining stream.new)) }
 {
     for _ in 0..MOST_TRIES {
         match stream.read(into) {
@@ -142,13 +148,17 @@ pub fn receive(stream: &mut UnixStream, into: &mut [u8]) -> io::Result<usize>
 
 /// Sends all bytes. A short write is carried on, and an interrupted one tried again. Where the other end is gone this is an
 /// error, and the machine sends no signal.
-pub fn send(stream: &mut UnixStream, from: &[u8]) -> io::Result<()> {
+pub fn send<W: Write>(stream: &mut W, from: &[u8]) -> io::Result<()>
+    ensures { OnOk result (Appended (W.contents stream.old) from.now (W.contents stream.new)) }
+{
     stream.write_all(from)
 }
 
-/// Whether the connection is up: it was not hung up, and the other end did not close it. It waits for nobody, and takes no
-/// byte of what was received.
-pub fn is_up(stream: &mut UnixStream) -> io::Result<bool> {
+/// Whether the connection is up: it was not hung up, and the other end did not close it. It waits for nobody, takes no byte
+/// of what was received, and sends none.
+pub fn is_up<W: Write>(stream: &mut W) -> io::Result<bool>
+    ensures { Stays (W.contents stream.old) (W.contents stream.new) }
+{
     match stream.write(&[]) {
         Ok(_) => Ok(true),
         Err(e) if e.kind() == ErrorKind::BrokenPipe => Ok(false),
