@@ -1,7 +1,7 @@
 use cynara_keys::{Kind, Question};
 
 /// A question that was put to an agent. The log keeps all of them, also over stops.
-#[derive(Debug, Drop)]
+#[derive(Drop)]
 pub struct AgentEntry {
     /// The run of the service in which it was put.
     pub run: u32,

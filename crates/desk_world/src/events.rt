@@ -2,7 +2,7 @@ use cynara_keys::{Kind, Question};
 use desk_state::Command;
 
 /// One atomic step of the running service or of a client. Clients, links, asks and log entries go by number, from 0.
-#[derive(Debug, Drop)]
+#[derive(Drop)]
 pub enum Event {
     /// One half of the making of a connection.
     Connect {

@@ -2,7 +2,7 @@ use bucket_eval::Verdict;
 use cynara_keys::Question;
 
 /// A verdict that a client keeps, with its question.
-#[derive(Debug, Drop)]
+#[derive(Drop)]
 pub struct Known {
     pub question: Question,
     pub verdict: Verdict,

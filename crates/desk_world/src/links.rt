@@ -2,7 +2,7 @@ use crate::replies::Reply;
 use cynara_keys::{Kind, Question, Short};
 
 /// A question that a client asked.
-#[derive(Debug, Drop)]
+#[derive(Drop)]
 pub struct Asked {
     pub client: u32,
     pub question: Question,
@@ -12,7 +12,7 @@ pub struct Asked {
 }
 
 /// A connection of a client, with its worker's part.
-#[derive(Clone, Copy, Debug)]
+#[derive(Clone, Copy)]
 pub struct Link {
     pub client: u32,
     /// The run of the service in which it was dialled.
