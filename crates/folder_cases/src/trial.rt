@@ -1,8 +1,8 @@
 // A disk over a folder of its own, whose calls are printed with what they answer.
 use desk_ports::{Disk, FileName, PortFault};
-use folder_disk::FolderDisk;
+use folder_disk::{FolderDisk, MOST_FILE_BYTES};
 use std::alloc::Global;
-use std::fs::Metadata;
+use std::fs::{Metadata, OpenFile, OpenOptions};
 use std::os::unix::fs::{MetadataExt, symlink};
 use std::time::Duration;
 use std::{fs, thread};
@@ -49,8 +49,17 @@ impl Trial {
         Trial::over(rt, folder)
     }
 
-    pub fn rt(&self) -> &HostRuntime {
-        &self.rt
+    /// Goes on with another disk over the folder.
+    pub fn begin_anew(&mut self) -> anyhow::Result<()> {
+        self.disk = FolderDisk::open(self.rt.clone()?, self.folder.as_str())?;
+        Ok(())
+    }
+
+    /// Goes on with a disk over a folder of this name, which is made.
+    pub fn begin_fresh(&mut self, shows: &str, folder: &str) -> anyhow::Result<()> {
+        begin(&self.rt, shows, folder)?;
+        self.folder = String::from_str(self.rt.alloc(), folder)?;
+        self.begin_anew()
     }
 
     pub fn path_of(&self, name: &str) -> anyhow::Result<String> {
@@ -217,6 +226,31 @@ impl Trial {
             self.path_of(name)?.as_str(),
             self.path_of(other)?.as_str(),
         )?)
+    }
+
+    /// Makes a file with one byte more than is read.
+    pub fn place_large(&self, name: &str) -> anyhow::Result<()> {
+        let path = self.path_of(name)?;
+        let large = OpenOptions::new()
+            .write(true)
+            .create(true)
+            .open(&self.rt, path.as_str())?;
+        Ok(large.set_len(MOST_FILE_BYTES + 1)?)
+    }
+
+    /// Makes files with names of each length, which take more room than one call of the machine gives at once.
+    pub fn place_many(&self) -> anyhow::Result<()> {
+        let mut name = String::new(self.rt.alloc());
+        for _ in 0..255 {
+            name.push('n')?;
+            self.place(name.as_str(), "x")?;
+        }
+        Ok(())
+    }
+
+    /// Takes a file away as another program does.
+    pub fn delete(&self, name: &str) -> anyhow::Result<()> {
+        Ok(fs::remove_file(&self.rt, self.path_of(name)?.as_str())?)
     }
 
     /// Makes a folder in the folder.
