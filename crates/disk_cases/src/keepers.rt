@@ -2,7 +2,7 @@
 use app_registry::{Ident, IdentRefusal, Install, NameSet, Scope, UserType};
 use case_words::{Failure, Found, Runs, first_number, first_word, put_bytes, put_word};
 use cynara_keys::{BucketName, Filter, FilterField};
-use desk_keeper::{Keeper, KeeperRefusal};
+use desk_keeper::{Keeper, KeeperRefusal, PreparedCommit};
 use desk_ports::{FailList, MemDisk, set_in_order};
 use desk_state::{Command, Refusal};
 use std::alloc::Global;
@@ -130,25 +130,56 @@ pub fn commits(alloc: Global, disk: &mut MemDisk, words: &str) -> Result<String,
     Ok(text)
 }
 
+// The commits before and after, and how many policies are erased.
+fn prepared_text(alloc: Global, prepared: &PreparedCommit) -> Result<String, Failure> {
+    let next = prepared.desk().commit();
+    Ok(format!(in alloc;
+        "from {} erased {} to {next}",
+        prepared.base(),
+        prepared.erased()
+    )?)
+}
+
+fn prepare_text(
+    alloc: Global,
+    keeper: &Keeper<MemDisk>,
+    command: &Command,
+) -> Result<String, Failure> {
+    if !keeper.is_decided() {
+        return Err(Failure::Refused);
+    }
+    match keeper.prepare(command) {
+        Ok(prepared) => prepared_text(alloc, &prepared),
+        Err(_) => Err(Failure::Refused),
+    }
+}
+
+fn remount(keeper: &mut Keeper<MemDisk>) -> Result<(), Failure> {
+    match keeper.remount() {
+        Ok(()) => Ok(()),
+        Err(_) => Err(Failure::Refused),
+    }
+}
+
+// What is prepared, and what a remount then gives.
+fn put_prepared(
+    alloc: Global,
+    keeper: &mut Keeper<MemDisk>,
+    command: &Command,
+) -> Result<String, Failure> {
+    let text = prepare_text(alloc, keeper, command)?;
+    remount(keeper)?;
+    Ok(format!(in alloc; "{text} at {}", keeper.desk().commit())?)
+}
+
 /// `prepare COMMAND`: what is prepared for a commit that is not made: the commit before, how many policies are erased,
 /// the commit after, and what a remount then gives.
 pub fn prepared(alloc: Global, disk: &mut MemDisk, words: &str) -> Result<String, Failure> {
-    let Ok(mut keeper) = Keeper::mount(alloc, disk) else {
-        return Err(Failure::Refused);
-    };
-    let Ok(prepared) = keeper.prepare(&command(alloc, words)?) else {
-        return Err(Failure::Refused);
-    };
-    let Ok(()) = keeper.remount() else {
-        return Err(Failure::Refused);
-    };
-    let next = prepared.desk().commit();
-    Ok(format!(in alloc;
-        "from {} erased {} to {next} at {}",
-        prepared.base(),
-        prepared.erased(),
-        keeper.desk().commit()
-    )?)
+    let command = command(alloc, words)?;
+    match Keeper::mount(alloc, disk) {
+        Ok(mut keeper) => put_prepared(alloc, &mut keeper, &command),
+        Err(_) => Err(Failure::Refused),
+    }
 }
 
 // What stops after so many calls leave, for each number below this one and the greatest.
@@ -196,21 +227,28 @@ fn standing(alloc: Global, keeper: &Keeper<MemDisk>) -> Result<String, Failure> 
     Ok(format!(in alloc; "{decided} {}", keeper.desk().commit())?)
 }
 
-// What the commits are answered where the call of this number fails, and what is given before a remount and after it.
-fn answered_where(alloc: Global, words: &str, failing: u64) -> Result<String, Failure> {
-    let mut fails = Vec::new(alloc);
-    fails.push(failing)?;
-    let mut disk = MemDisk::new(alloc, set_in_order(alloc, &[])?, FailList::of(fails))?;
-    let Ok(mut keeper) = Keeper::mount(alloc, &mut disk) else {
-        return Ok(String::from_str(alloc, "no mount")?);
-    };
-    let answers = commit_each(alloc, &mut keeper, words)?;
-    let before = standing(alloc, &keeper)?;
-    let Ok(()) = keeper.remount() else {
-        return Err(Failure::Refused);
-    };
-    let after = standing(alloc, &keeper)?;
+// What the commits are answered, and what is given before a remount and after it.
+fn answered(alloc: Global, keeper: &mut Keeper<MemDisk>, words: &str) -> Result<String, Failure> {
+    let answers = commit_each(alloc, keeper, words)?;
+    let before = standing(alloc, keeper)?;
+    remount(keeper)?;
+    let after = standing(alloc, keeper)?;
     Ok(format!(in alloc; "[{answers} {before} {after}]")?)
+}
+
+fn failing_disk(alloc: Global, call: u64) -> Result<MemDisk, Failure> {
+    let mut fails = Vec::new(alloc);
+    fails.push(call)?;
+    Ok(MemDisk::new(alloc, set_in_order(alloc, &[])?, FailList::of(fails))?)
+}
+
+// The same where the call of this number fails.
+fn answered_where(alloc: Global, words: &str, failing: u64) -> Result<String, Failure> {
+    let mut disk = failing_disk(alloc, failing)?;
+    match Keeper::mount(alloc, &mut disk) {
+        Ok(mut keeper) => answered(alloc, &mut keeper, words),
+        Err(_) => Ok(String::from_str(alloc, "no mount")?),
+    }
 }
 
 /// `commit-failing MOST COMMAND, ..`: what is answered where each call up to this number fails, from an empty folder on.

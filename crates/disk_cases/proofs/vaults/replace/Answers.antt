@@ -9,9 +9,9 @@ use Rattle.disk_cases.proofs.vaults.replace.Goals as goal
 
 -- the test of each name passed
 pub prepare-requires-clause-listable : goal.prepare-requires-clause-listable
-prepare-requires-clause-listable g c =
+prepare-requires-clause-listable c =
     let passed : c.are_listable.result ≡ true = search rules in
-    AllPass-from_list_all may_stand (names_of c.in_ok-set.set)
-    (list_all-map may_stand (λ (file : SetFile). file.name) c.in_ok-set.set
+    AllPass-from_list_all may_stand (names_of c.args.set)
+    (list_all-map may_stand (λ (file : SetFile). file.name) c.args.set
     ∙ ap (list_all (λ (file : SetFile). may_stand file.name)) (sym c.as_slice.ensures.files)
     ∙ sym c.are_listable.ensures ∙ passed)
