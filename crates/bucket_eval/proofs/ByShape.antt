@@ -42,7 +42,7 @@ field-ties : (field : Field) (name : List ℕ) → field_matches field name ≡ 
 field-ties Any name matches = refl
 field-ties (Exact own) name matches = equal-same _ (text_cmp-equal own name ∙ matches)
 
-client-wild : (client user privilege : Bool) → nat_le 4 (shape_by client user privilege) ≡ client
+pub client-wild : (client user privilege : Bool) → nat_le 4 (shape_by client user privilege) ≡ client
 client-wild true true true = refl
 client-wild true true false = refl
 client-wild true false true = refl
@@ -52,7 +52,7 @@ client-wild false true false = refl
 client-wild false false true = refl
 client-wild false false false = refl
 
-user-wild : (client user privilege : Bool) → nat_le 2 (shape_by client user privilege % 4) ≡ user
+pub user-wild : (client user privilege : Bool) → nat_le 2 (shape_by client user privilege % 4) ≡ user
 user-wild true true true = refl
 user-wild true true false = refl
 user-wild true false true = refl
@@ -62,7 +62,7 @@ user-wild false true false = refl
 user-wild false false true = refl
 user-wild false false false = refl
 
-privilege-wild : (client user privilege : Bool) → (shape_by client user privilege % 2 == 1) ≡ privilege
+pub privilege-wild : (client user privilege : Bool) → (shape_by client user privilege % 2 == 1) ≡ privilege
 privilege-wild true true true = refl
 privilege-wild true true false = refl
 privilege-wild true false true = refl

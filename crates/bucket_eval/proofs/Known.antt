@@ -120,7 +120,7 @@ pub record Told (asked : Asked) (at : ℕ) (spot : Spot) : Type 0 where
   pub there : slice_get asked.buckets.now at ≡ Some bucket
   pub is : outcome_of_spot asked.buckets.now spot ≡ Some (answer_to asked bucket.name)
 
-element-at : {X : Type 0} (xs : List X) (at : ℕ) → at < length xs → (x : X) × (slice_get xs at ≡ Some x)
+pub element-at : {X : Type 0} (xs : List X) (at : ℕ) → at < length xs → (x : X) × (slice_get xs at ≡ Some x)
 element-at [] at within = absurd (omega arith)
 element-at (x ∷ xs) zero within = (x, refl)
 element-at (x ∷ xs) (suc at) within = element-at xs at (omega arith)

@@ -1,18 +1,21 @@
 -- Policies by the marks of their keys.
 use Rattle.std.proofs.Common.{◌≡◌, ℕ, ◌<◌, ◌%◌, ◌==◌, Bool, true, false, cond, nat_lt, nat_le, List, [], length}
-use Rattle.std.proofs.Common.{get_or, option_and_then, Option, None, Some, Ok, is_some, refl, sym, ap, ◌∙◌}
-use Rattle.std.proofs.Common.{subst, arith}
+use Rattle.std.proofs.Common.{slice_get, get_or, option_and_then, Option, None, Some, Ok, is_some, refl, sym, ap, ◌∙◌}
+use Rattle.std.proofs.Common.{subst, arith, ◌≢◌}
+use Rattle.std.proofs.Math.Seq.{get_or-append_seam}
 use Rattle.std.specs.declared.cmp.Ordering.TheVariants.{Equal}
 use Rattle.std.specs.Cmp.{first_so, second_so}
 use Rattle.std.specs.List.{position}
 use Rattle.std.specs.List.Sorted.{IsStrictlySortedBy}
 use Rattle.std.specs.Ordering.{is_eq}
-use Rattle.std.proofs.lemmas.Bool.{false≢true, and_from, ltb-true}
+use Rattle.std.proofs.lemmas.Bool.{false≢true, and_from, ltb-true, eqb-true, eq-eqb}
 use Rattle.std.proofs.lemmas.List.Elements.{recursion_from_All}
 use Rattle.std.proofs.lemmas.List.Quantifiers.{position-Some}
 use Rattle.std.proofs.lemmas.Option.{get_or_from_slice_get, same_Some, slice_get-get_or, slice_get_within}
-use Rattle.cynara_keys.specs.Field.{field_text, wildcard}
-use Rattle.cynara_keys.specs.Key.{Key, Question, key_cmp, same_key}
+use Rattle.cynara_keys.specs.Field.{field_matches, field_text, wildcard}
+use Rattle.cynara_keys.specs.declared.fields.Field.{Field}
+use Rattle.cynara_keys.specs.declared.fields.Field.TheVariants.{Any, Exact}
+use Rattle.cynara_keys.specs.Key.{Key, Question, key_cmp, key_matches, same_key}
 use Rattle.cynara_keys.specs.Text.{same_text}
 use Rattle.cynara_keys.specs.declared.keys.Policy.{Policy}
 use Rattle.cynara_keys.proofs.Order.{key_cmp-equal, key_total, same_text-≡, ≡-same_text}
@@ -21,9 +24,9 @@ use Rattle.bucket_store.specs.parts.Search.{StandsAt}
 use Rattle.bucket_store.proofs.Searching.{searched}
 use Rattle.bucket_eval.specs.declared.tables.Numbers.{Numbers}
 use Rattle.bucket_eval.specs.parts.Numbers.{IsMarked, IsTable, if_small, join, joined, mark_of, number_of}
-use Rattle.bucket_eval.specs.parts.Shapes.{FitsAt, fits, sought, sought_field}
-use Rattle.bucket_eval.specs.parts.Tables.{AreNumbers, sought_mark}
-use Rattle.bucket_eval.proofs.ByShape.{equal-same, misfit}
+use Rattle.bucket_eval.specs.parts.Shapes.{FitsAt, fits, is_wild, shape_of, sought, sought_field}
+use Rattle.bucket_eval.specs.parts.Tables.{AreNumbers, IsShaped, sought_mark}
+use Rattle.bucket_eval.proofs.ByShape.{client-wild, equal-same, misfit, privilege-wild, user-wild}
 
 -- ---- numbers of texts
 
@@ -189,3 +192,77 @@ module _ (names : List (List ℕ)) (policies : List Policy) (places : ℕ → Op
       → FitsAt question shape policies None
   unplaced-fits mark sought_is none =
       none-fits (λ other is. ap places (same_Some _ _ (sym is ∙ sought_is)) ∙ none)
+
+  -- what stands at the place ties with the sought key
+  pub placed-ties : (mark place : ℕ) (policy : Policy) → mark_of names (sought question shape) ≡ Some mark
+      → places mark ≡ Some place → slice_get policies place ≡ Some policy
+      → is_eq (key_cmp policy.key (sought question shape)) ≡ true
+  placed-ties mark place policy sought_is is there =
+      let has = table.sound mark place is in
+      let same : has.policy ≡ policy = same_Some _ _ (sym has.there ∙ there) in
+      subst (λ (p : Policy). is_eq (key_cmp p.key (sought question shape)) ≡ true) same
+      (ap is_eq (marks-tie names has.policy.key (sought question shape) mark has.is sought_is))
+
+-- ---- shapes
+
+-- no policy fits where none has the shape
+pub unshaped-fits : (policies : List Policy) (shapes : List Bool) (question : Question) (shape : ℕ)
+    → IsShaped policies shapes → slice_get shapes shape ≡ Some false → FitsAt question shape policies None
+unshaped-fits policies shapes question shape shaped none =
+    recursion_from_All (λ policy. fits question shape policy ≡ false) policies
+    (λ k d within. apart k (get_or policies k d) (slice_get-get_or policies k d within)
+    (fits question shape (get_or policies k d)) refl)
+  where
+    apart : (place : ℕ) (policy : Policy) → slice_get policies place ≡ Some policy → (fit : Bool)
+        → fits question shape policy ≡ fit → fit ≡ false
+    apart place policy there true is =
+        let own : shape_of policy.key ≡ shape = eqb-true _ _ (second_so _ _ is) in
+        absurd (shaped place policy there (ap (slice_get shapes) own ∙ none))
+    apart place policy there false is = refl
+
+field-fits : (field : Field) (name : List ℕ) (wild : Bool) → wild ≡ is_wild field
+    → same_text (field_text field) (field_text (sought_field wild name)) ≡ true → field_matches field name ≡ true
+field-fits Any name wild is same = refl
+field-fits (Exact own) name true is same = cc
+field-fits (Exact own) name false is same = same
+
+-- a key of the shape that ties with the sought one matches the question
+pub tied-matches : (key : Key) (question : Question) (shape : ℕ) → shape_of key ≡ shape
+    → is_eq (key_cmp key (sought question shape)) ≡ true → key_matches key question ≡ true
+tied-matches key question shape shaped ties =
+    let client = is_wild key.client in
+    let user = is_wild key.user in
+    let privilege = is_wild key.privilege in
+    let same : same_key key (sought question shape) ≡ true =
+    sym (key_cmp-equal key (sought question shape)) ∙ ties in
+    and_from _ _
+    (field-fits key.client question.client (nat_le 4 shape)
+    (ap (nat_le 4) (sym shaped) ∙ client-wild client user privilege) (first_so _ _ same))
+    (and_from _ _
+    (field-fits key.user question.user (nat_le 2 (shape % 4))
+    (ap (λ n. nat_le 2 (n % 4)) (sym shaped) ∙ user-wild client user privilege) (first_so _ _ (second_so _ _ same)))
+    (field-fits key.privilege question.privilege (shape % 2 == 1)
+    (ap (λ n. n % 2 == 1) (sym shaped) ∙ privilege-wild client user privilege) (second_so _ _ (second_so _ _ same))))
+
+pub shape-fits : (policy : Policy) (question : Question) (shape : ℕ) → shape_of policy.key ≡ shape
+    → is_eq (key_cmp policy.key (sought question shape)) ≡ true → fits question shape policy ≡ true
+shape-fits policy question shape shaped ties =
+    and_from _ _ (tied-matches policy.key question shape shaped ties) (eq-eqb _ _ shaped)
+
+pub shape-misfits : (policy : Policy) (question : Question) (shape : ℕ) → shape_of policy.key ≢ shape
+    → fits question shape policy ≡ false
+shape-misfits policy question shape apart = by-fit (fits question shape policy) refl
+  where
+    by-fit : (fit : Bool) → fits question shape policy ≡ fit → fit ≡ false
+    by-fit true is = absurd (apart (eqb-true _ _ (second_so _ _ is)))
+    by-fit false is = refl
+
+-- the policy at the place of one that fits matches
+pub fits-matches : (question : Question) (shape : ℕ) (policies : List Policy) (place : ℕ) (policy : Policy)
+    → FitsAt question shape policies (Some place) → policy ≡ get_or policies place policy
+    → key_matches policy.key question ≡ true
+fits-matches question shape policies place policy at is =
+    let same : policy ≡ at.element =
+    is ∙ (λ i. get_or (at.parts i) (sym at.length_front i) policy)
+    ∙ get_or-append_seam at.front at.element at.back policy in
+    subst (λ (p : Policy). key_matches p.key question ≡ true) (sym same) (first_so _ _ at.passes)

@@ -3,6 +3,7 @@ use Rattle.std.proofs.Common.{◌≡◌, ℕ, ◌+◌, ◌<◌, ◌≤◌, ◌==
 use Rattle.std.proofs.Common.{nat_lt, slice_get, option_and_then, Option, None, Some, is_some, refl, sym, ap, ◌∙◌, subst, arith, inl, inr}
 use Rattle.std.specs.List.{position, position_or_len}
 use Rattle.std.specs.Option.{option_map}
+use Rattle.std.proofs.Math.ListN.{set}
 use Rattle.std.proofs.lemmas.Bool.{cases_lt, lt-ltb, le-ltb, eqb-true, eq-eqb}
 use Rattle.std.proofs.lemmas.List.{length-map}
 use Rattle.std.proofs.lemmas.Option.{same_Some, slice_get-map, slice_get_within}
@@ -14,7 +15,8 @@ use Rattle.bucket_store.specs.WellFormed.{IsKept}
 use Rattle.bucket_eval.specs.Evaluation.{policies_of}
 use Rattle.bucket_eval.specs.declared.tables.Table.{Table}
 use Rattle.bucket_eval.specs.parts.Numbers.{HasMark, IsMarked, IsTable, IsTableTo, if_small, mark_of, number_of}
-use Rattle.bucket_eval.specs.parts.Tables.{AreTables, AreTablesOf, places_in}
+use Rattle.bucket_eval.specs.parts.Shapes.{shape_of}
+use Rattle.bucket_eval.specs.parts.Tables.{AreTables, AreTablesOf, IsShaped, IsShapedTo, IsTableOf}
 use Rattle.bucket_eval.proofs.Buckets.{policies_of-at}
 
 -- ---- numbers
@@ -108,6 +110,44 @@ module _ (names : List (List ℕ)) (policies : List Policy) where
       ];
     }
 
+-- ---- shapes
+
+set-stays : (shapes : List Bool) (at k : ℕ) → slice_get (set shapes at true) k ≡ Some false
+    → slice_get shapes k ≡ Some false
+set-stays [] at k is = is
+set-stays (shape ∷ shapes) zero zero is = cc
+set-stays (shape ∷ shapes) zero (suc k) is = is
+set-stays (shape ∷ shapes) (suc at) zero is = is
+set-stays (shape ∷ shapes) (suc at) (suc k) is = set-stays shapes at k is
+
+set-there : (shapes : List Bool) (at : ℕ) → slice_get (set shapes at true) at ≡ Some false → ⊥
+set-there [] at is = cc
+set-there (shape ∷ shapes) zero is = cc
+set-there (shape ∷ shapes) (suc at) is = set-there shapes at is
+
+pub shaped-more : (policies : List Policy) (shapes : List Bool) (at : ℕ) (policy : Policy)
+    → slice_get policies at ≡ Some policy → IsShapedTo policies shapes at
+    → IsShapedTo policies (set shapes (shape_of policy.key) true) (at + 1)
+shaped-more policies shapes at policy there shaped = λ place other less other_there lacks.
+    elim (cases_lt place at) [
+      | inl before ↦
+          shaped place other before other_there (set-stays shapes (shape_of policy.key) (shape_of other.key) lacks)
+      | inr from ↦
+          (let here : at ≡ place = omega arith in
+          let same : policy ≡ other = same_Some _ _ (sym there ∙ ap (slice_get policies) here ∙ other_there) in
+          set-there shapes (shape_of policy.key)
+          (ap (λ (p : Policy). slice_get (set shapes (shape_of policy.key) true) (shape_of p.key)) same ∙ lacks))
+    ]
+
+pub shaped-none : (policies : List Policy) (shapes : List Bool) → IsShapedTo policies shapes 0
+shaped-none policies shapes = λ place policy less. absurd (omega arith)
+
+pub shaped-all : (policies : List Policy) (shapes : List Bool) (count : ℕ) → length policies ≤ count
+    → IsShapedTo policies shapes count → IsShaped policies shapes
+shaped-all policies shapes count all shaped = λ place policy there.
+    let within = slice_get_within policies place policy there in
+    shaped place policy (omega (arith, within)) there
+
 -- ---- the tables of all buckets
 
 get-append : {X : Type 0} (xs : List X) (x : X) (k : ℕ) → k < length xs → slice_get (xs ++ x ∷ []) k ≡ slice_get xs k
@@ -130,7 +170,7 @@ get-past (y ∷ xs) x (suc k) past = get-past xs x k (omega arith)
 pub tables-more : (names : List (List ℕ)) (buckets : List Bucket) (tables : List (Option Table)) (table : Option Table)
     (at : ℕ) (bucket : Bucket) → AreTables names buckets tables → at ≡ length tables
     → slice_get buckets at ≡ Some bucket
-    → ((own : Table) → table ≡ Some own → IsTable names bucket.policies (places_in own))
+    → ((own : Table) → table ≡ Some own → IsTableOf names bucket.policies own)
     → AreTables names buckets (tables ++ table ∷ [])
 tables-more names buckets tables table at bucket are here there is = λ k other own other_there own_there.
     elim (cases_lt k at) [
@@ -144,7 +184,7 @@ tables-more names buckets tables table at bucket are here there is = λ k other 
             let same : bucket ≡ other = same_Some _ _ (sym there ∙ ap (slice_get buckets) (sym at_k) ∙ other_there) in
             let made : table ≡ Some own =
             same_Some _ _ (sym (get-last tables table k (at_k ∙ here)) ∙ own_there) in
-            subst (λ (b : Bucket). IsTable names b.policies (places_in own)) same (is own made))
+            subst (λ (b : Bucket). IsTableOf names b.policies own) same (is own made))
       ]
     ]
 
@@ -187,5 +227,5 @@ pub tables-of-database : (names : List (List ℕ)) (database : Database) (bucket
 tables-of-database names database buckets tables same kept are =
     λ others other_same other_kept at bucket table there table_there.
     let twin = twin-of buckets others at bucket kept other_kept (same ∙ sym other_same) there in
-    subst (λ policies. IsTable names policies (places_in table)) twin.policies
+    subst (λ policies. IsTableOf names policies table) twin.policies
     (are at twin.other table twin.there table_there)

@@ -1,7 +1,8 @@
 // What the policies of one bucket contribute to a question, by what is known of the buckets that they point to.
-ghost use Rattle.std.specs.Prelude.{◌≡◌, ◌<◌, ◌≤◌, length, slice_get, IfSome, Some};
+ghost use Rattle.std.specs.Prelude.{◌≡◌, ◌<◌, ◌≤◌, length, slice_get, IfSome, Some, true};
 ghost use Rattle.std.specs.List.{filter_map, position};
 ghost use Rattle.std.specs.List.Sorted.{IsStrictlySortedBy};
+ghost use Rattle.cynara_keys.specs.Key.{key_matches};
 ghost use Rattle.cynara_keys.specs.Minimum.{first_least};
 ghost use Rattle.cynara_keys.specs.Text.{same_text};
 ghost use Rattle.bucket_store.specs.Order.{bucket_cmp, policy_cmp};
@@ -186,7 +187,7 @@ fn offer_in_shape<'a>(
 {
     let policies = bucket.policies();
     match place_in_shape(asked, at, policies, shape) {
-        Some(place) => offer_of(asked, slots, at, bucket, place, &policies[place]),
+        Some(place) => offer_of_match(asked, slots, at, bucket, place, &policies[place]),
         None => Looked::Silent,
     }
 }
@@ -243,6 +244,26 @@ fn offer_of<'a>(
     if !policy.key.matches_borrowed(asked.question) {
         return Looked::Silent;
     }
+    offer_of_match(asked, slots, at, bucket, place, policy)
+}
+
+// The same of a policy whose key matches the question.
+fn offer_of_match<'a>(
+    asked: &Asked<'a>,
+    slots: &[Slot],
+    at: usize,
+    bucket: &'a Bucket,
+    place: usize,
+    policy: &'a Policy,
+) -> Looked<'a>
+    requires kept { IsKept asked.now.buckets.now }
+    requires bucket { slice_get asked.now.buckets.now at ≡ Some bucket.now }
+    requires policy { slice_get bucket.now.policies place ≡ Some policy.now }
+    requires room { length asked.now.buckets.now ≤ length slots.now }
+    requires sound { AreSound asked.now slots.now }
+    requires matches { key_matches policy.now.key asked.now.question.now ≡ true }
+    ensures { Looks asked.now slots.now bucket.now.name (offered_to asked.now bucket.now.name policy.now) result }
+{
     match answered(asked, slots, at, bucket, place, policy) {
         Reached::Answers(held) => {
             if held.found.kind == Kind::NONE {

@@ -73,15 +73,17 @@ fn compare_field(field: &[u8], name: &[u8], wild: bool) -> Ordering
     field.cmp(name)
 }
 
-/// Whether the policy's key has this shape and matches the question.
-pub fn fits(policy: &Policy, question: &BorrowedQuestion<'_>, shape: usize) -> bool
+// Whether the policy's key has this shape and matches the question.
+fn fits(policy: &Policy, question: &BorrowedQuestion<'_>, shape: usize) -> bool
     ensures { result ≡ shapes.fits question.now shape policy.now }
 {
     policy.key.matches_borrowed(question) && shape_of(&policy.key) == shape
 }
 
-fn shape_of(key: &Key) -> usize
-    ensures { result ≡ shapes.shape_of key.now }
+/// The shape of the key.
+pub fn shape_of(key: &Key) -> usize
+    ensures shape { result ≡ shapes.shape_of key.now }
+    ensures bound { result < 8 }
 {
     weight(key.client(), 4) + (weight(key.user(), 2) + weight(key.privilege(), 1))
 }

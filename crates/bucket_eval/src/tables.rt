@@ -1,22 +1,24 @@
 // The places of a bucket's policies by the numbers of their keys.
-ghost use Rattle.std.specs.Prelude.{◌≡◌, ◌==◌, ◌<◌, ◌≤◌, ℕ, if◌then◌else◌, length, slice_get, IfSome, IfOk, Some};
+ghost use Rattle.std.specs.Prelude.{◌≡◌, ◌==◌, ◌<◌, ◌≤◌, ℕ, true, false, IsTrue, if◌then◌else◌, length, slice_get, IfSome, IfOk, Some};
 ghost use Rattle.std.specs.List.Sorted.{IsStrictlySortedBy};
+ghost use Rattle.std.proofs.Math.ListN.{set};
 ghost use Rattle.bucket_store.specs.Order.{policy_cmp};
-ghost use Rattle.bucket_eval.specs.parts.Numbers.{IsTable, join, mark_of, number_of};
+ghost use Rattle.bucket_eval.specs.parts.Numbers.{join, mark_of};
 ghost use Rattle.bucket_eval.specs.parts.Shapes.{FitsAt};
-ghost use Rattle.bucket_eval.specs.parts.Tables.{AreNumbers, places_in, sought_mark};
-ghost use Rattle.bucket_eval.specs.parts.Shapes as shapes;
+ghost use Rattle.bucket_eval.specs.parts.Tables.{AreNumbers, IsTableOf, places_in, sought_mark};
 
 use crate::names::Names;
-use crate::shapes::fits;
+use crate::shapes::shape_of;
 use cynara_keys::{BorrowedQuestion, Key, Policy};
 use std::alloc::{AllocError, Global};
 use std::collections::HashMap;
 
-/// The place of the policy whose key has a mark.
+/// The place of the policy whose key has a mark, and which shapes of keys there are.
 #[derive(Drop)]
 pub struct Table {
     pub places: HashMap<u64, u32>,
+    // Whether a policy has the shape.
+    pub shapes: [bool; 8],
 }
 
 /// The numbers of the wildcard and of the names of a question.
@@ -106,28 +108,43 @@ impl Table {
     ) -> Result<Option<Table>, AllocError>
         requires { length policies.now ≤ 65536 }
         ensures { IfOk result (λ table. IfSome table (λ table.
-            IsTable names.now policies.now (places_in table))) }
+            IsTableOf names.now policies.now table)) }
     {
         let mut table = Table {
             places: HashMap::with_capacity(alloc, policies.len())?,
+            shapes: [false; 8],
         };
         for place in 0..policies.len() {
-            let Some(mark) = mark_of(names, &policy_in(policies, place).key) else {
+            let key = &policy_in(policies, place).key;
+            let Some(mark) = mark_of(names, key) else {
                 return Ok(None);
             };
-            table.put(mark, place as u32)?;
+            table.put(mark, place as u32, shape_of(key))?;
         }
         Ok(Some(table))
     }
 
-    // Puts a place under a mark.
-    fn put(&mut self, mark: u64, place: u32) -> Result<(), AllocError>
-        ensures { IfOk result (λ done. (other : ℕ)
+    // Puts a place under a mark, for a policy of this shape.
+    fn put(&mut self, mark: u64, place: u32, shape: usize) -> Result<(), AllocError>
+        requires { shape < 8 }
+        ensures shaped { IfOk result (λ done. self.new.shapes ≡ set self.old.shapes shape true) }
+        ensures marked { IfOk result (λ done. (other : ℕ)
             → places_in self.new other ≡ (if other == mark then Some place else places_in self.old other)) }
     {
+        self.shapes[shape] = true;
         match self.places.insert(mark, place) {
             Ok(_) => Ok(()),
             Err(_) => Err(AllocError),
+        }
+    }
+
+    // Whether no policy has this shape.
+    fn lacks(&self, shape: usize) -> bool
+        ensures { IsTrue result → slice_get self.now.shapes shape ≡ Some false }
+    {
+        match self.shapes.get(shape) {
+            Some(there) => !*there,
+            None => false,
         }
     }
 
@@ -150,18 +167,22 @@ impl Table {
         numbers: &Numbers,
         shape: usize,
     ) -> Option<usize>
-        requires table { IsTable names.now policies.now (places_in self.now) }
+        requires table { IsTableOf names.now policies.now self.now }
         requires rising { IsStrictlySortedBy policy_cmp policies.now }
         requires numbers { AreNumbers names.now question.now numbers.now }
         ensures { FitsAt question.now shape policies.now result }
     {
+        let _ = question;
+        if self.lacks(shape) {
+            return None;
+        }
         let Some(mark) = sought_mark(numbers, shape) else {
             return None;
         };
         let Some(place) = self.place(mark) else {
             return None;
         };
-        if fits(policy_in(policies, place), question, shape) {
+        if shape_of(&policy_in(policies, place).key) == shape {
             return Some(place);
         }
         None

@@ -1,8 +1,7 @@
 use Rattle.std.proofs.Common.{◌≡◌, ◌++◌, ◌∷◌, [], List, Option, Some, IfSome, length, sym, ap, subst, arith, rules, length-append}
 use Rattle.cynara_keys.specs.declared.keys.Policy.{Policy}
 use Rattle.bucket_eval.specs.declared.tables.Table.{Table}
-use Rattle.bucket_eval.specs.parts.Numbers.{IsTable}
-use Rattle.bucket_eval.specs.parts.Tables.{AreTables, places_in}
+use Rattle.bucket_eval.specs.parts.Tables.{AreTables, IsTableOf}
 use Rattle.bucket_eval.proofs.Known.{length-policies}
 use Rattle.bucket_eval.proofs.Tabling.{tables-more}
 use Rattle.bucket_eval.proofs.indexes.tables_of.Goals as goal
@@ -25,8 +24,8 @@ loop-at-preserved c =
       subst (AreTables c.args.names.now c.args.buckets.now) (sym pushed)
           (tables-more c.args.names.now c.args.buckets.now c.loop-at.tables.items c.in_ok-table.table c.loop-at.at
           c.bucket_at.result.now c.loop-at.invariant.0 at c.bucket_at.ensures
-          (λ own made. subst (λ policies. IsTable c.args.names.now policies (places_in own)) c.policies.ensures
-          (if-made (λ (table : Table). IsTable c.args.names.now c.policies.result.now (places_in table)) c.in_ok-table.table
+          (λ own made. subst (λ policies. IsTableOf c.args.names.now policies own) c.policies.ensures
+          (if-made (λ (table : Table). IsTableOf c.args.names.now c.policies.result.now table) c.in_ok-table.table
           own c.in_ok-table.ensures made))),
       (let more = length-append c.loop-at.tables.items (c.in_ok-table.table ∷ []) in
           let new = ap (λ (tables : List (Option Table)). length tables) pushed in
