@@ -16,7 +16,8 @@ told_content false content before told = (refl, ap (in_some content) told)
     in_some other (Some now) = now
 
 -- one call fewer is left
-pub left_after_call : (closed_after made : ℕ) → closed_after ≤ last_count → closed_after - next_count made ≡ (closed_after - made) - 1
+pub left_after_call : (closed_after made : ℕ) → closed_after ≤ last_count
+    → closed_after - next_count made ≡ (closed_after - made) - 1
 left_after_call closed_after made bound = grind (arith, bound)
 
 -- bytes that are received come first of what was to come
@@ -27,13 +28,15 @@ gives_bytes old new count room given first bound made before told =
     let content : LinkContent = record { to_come = old.to_come; calls_left = calls_left old } in
     let stands : (old.has_end ≡ false) × (content ≡ before) = told_content old.has_end content before told in
     let rest : List ℕ = drop count old.to_come in
-    let after : ℕ → LinkContent = λ left. record { to_come = rest; calls_left = left } in (
+    let after : ℕ → LinkContent = λ left. record { to_come = rest; calls_left = left } in
+    let left : ℕ = old.closed_after - next_count old.numbers.made in
+    let fewer : left ≡ before.calls_left - 1 = left_after_call old.closed_after old.numbers.made bound
+    ∙ ap (λ (now : LinkContent). now.calls_left - 1) stands.1 in (
       rest,
       sym (ap (λ (now : LinkContent). now.to_come) stands.1)
           ∙ sym (take-append-drop count old.to_come)
           ∙ ap (λ (front : List ℕ). front ++ rest) (sym first),
       ap content_of made
-          ∙ ap (λ (has_end : Bool). if has_end then None else Some (after (old.closed_after - next_count old.numbers.made))) stands.0
-          ∙ ap (λ (left : ℕ). Some (after left))
-          (left_after_call old.closed_after old.numbers.made bound ∙ ap (λ (now : LinkContent). now.calls_left - 1) stands.1),
+          ∙ ap (λ (has_end : Bool). if has_end then None else Some (after left)) stands.0
+          ∙ ap (λ (count : ℕ). Some (after count)) fewer,
     )

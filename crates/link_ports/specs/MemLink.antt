@@ -9,8 +9,8 @@ use Rattle.link_ports.specs.LinkContent.{LinkContent}
 use Rattle.desk_ports.specs.declared.port_faults.PortFault.{PortFault}
 use Rattle.desk_ports.specs.declared.port_faults.PortFault.TheVariants.{Memory}
 
--- The bytes to come; the bytes received and sent so far; the numbers of its calls; after how many calls it reads as closed;
--- what it counts of itself; and whether a hang end was ever taken from it, which may hang it up at any time.
+-- The bytes to come; the bytes received and sent so far; the numbers of its calls; after how many calls it reads as
+-- closed; what it counts of itself; and whether a hang end was ever taken from it, which may hang it up at any time.
 pub record HeldLink : Type 0 where
   pub to_come : List ℕ
   pub traffic : Traffic

@@ -22,7 +22,8 @@ pub trait Dial {
     /// The links given back, in order, where it tells them.
     ghost given_back: { Self → Option (List Self.Link) };
 
-    /// A new link to a door of this kind: no call of it has failed, no hang end was taken from it, and it bears no mark.
+    /// A new link to a door of this kind: no call of it has failed, no hang end was taken from it, and it bears no
+    /// mark.
     fn dial(&mut self, door: DoorKind) -> Result<Self::Link, PortFault>
         ensures fresh { IfOk result (λ link. Self.Link.faults link ≡ 0) }
         ensures unmarked { IfOk result (λ link. Self.Link.marks link ≡ fresh_marks) }
@@ -31,8 +32,8 @@ pub trait Dial {
         ensures count { faults self.new ≡ count_after result (faults self.old) }
         ensures bound { NeverFalls (faults self.old) (faults self.new) };
 
-    /// Takes a link back and closes it. That counts as a failure where no hang end was taken from the link, and a call of it
-    /// failed, its input had ended or it was down.
+    /// Takes a link back and closes it. That counts as a failure where no hang end was taken from the link, and a
+    /// call of it failed, its input had ended or it was down.
     fn give_back(&mut self, link: Self::Link)
         ensures given { AppendsTold (given_back self.old) link (given_back self.new) }
         ensures dials { dials self.new ≡ dials self.old }

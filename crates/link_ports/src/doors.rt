@@ -22,7 +22,8 @@ pub trait Door: Drop {
     /// The links given back, in order, where it tells them.
     ghost given_back: { Self → Option (List Self.Link) };
 
-    /// The next link: no call of it has failed, no hang end was taken from it, and it bears no mark. It may wait for one.
+    /// The next link: no call of it has failed, no hang end was taken from it, and it bears no mark. It may wait for
+    /// one.
     fn accept(&mut self) -> Result<Self::Link, PortFault>
         ensures fresh { IfOk result (λ link. Self.Link.faults link ≡ 0) }
         ensures unmarked { IfOk result (λ link. Self.Link.marks link ≡ fresh_marks) }

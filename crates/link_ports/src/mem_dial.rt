@@ -13,8 +13,8 @@ use desk_ports::{FailList, PortFault};
 use std::alloc::{AllocError, Global};
 use std::marker::Model;
 
-/// A dialler in memory, for tests. It hands out its links in order, whatever door is asked for, and tells those given back.
-/// A dial fails where its number is listed and where no link is left.
+/// A dialler in memory, for tests. It hands out its links in order, whatever door is asked for, and tells those given
+/// back. A dial fails where its number is listed and where no link is left.
 #[derive(Drop)]
 pub struct MemDial {
     stock: Stock,

@@ -13,8 +13,8 @@ use desk_ports::{FailList, PortFault};
 use std::alloc::{AllocError, Global};
 use std::marker::Model;
 
-/// A door in memory, for tests. It accepts its links in order, never waits, and tells those given back. An `accept` fails
-/// where its number is listed and where no link is left.
+/// A door in memory, for tests. It accepts its links in order, never waits, and tells those given back. An `accept`
+/// fails where its number is listed and where no link is left.
 #[derive(Drop)]
 pub struct MemDoor {
     kind: Option<DoorKind>,

@@ -34,10 +34,10 @@ impl HangEnd for MemEnd {
     }
 }
 
-/// A link in memory, for tests. It always tells the bytes received and sent, and what is to come as long as no hang end was
-/// taken from it. It reads as closed after so many calls of `send`, `receive`, `is_up` and `hang_end`, or once it was hung
-/// up: then `receive` gives 0 and `is_up` answers false. It fails at the listed calls, and in `send` where it finds no
-/// memory.
+/// A link in memory, for tests. It always tells the bytes received and sent, and what is to come as long as no hang
+/// end was taken from it. It reads as closed after so many calls of `send`, `receive`, `is_up` and `hang_end`, or
+/// once it was hung up: then `receive` gives 0 and `is_up` answers false. It fails at the listed calls, and in `send`
+/// where it finds no memory.
 #[derive(Drop)]
 pub struct MemLink {
     bytes: Bytes,

@@ -18,10 +18,10 @@ use std::alloc::{AllocError, Global};
 use std::marker::Model;
 use std::mem;
 
-/// A net in memory, for tests. A dial hands out the next link of its kind, and the first `door` of a kind takes all that are
-/// left of it; a later one has none. It tells the links given back and the doors that it closed. `dial` and `door` are its
-/// numbered calls. A dial fails where its number is listed and where no link is left, a `door` where its number is listed.
-/// `knock` does nothing, since its doors never wait.
+/// A net in memory, for tests. A dial hands out the next link of its kind, and the first `door` of a kind takes all
+/// that are left of it; a later one has none. It tells the links given back and the doors that it closed. `dial` and
+/// `door` are its numbered calls. A dial fails where its number is listed and where no link is left, a `door` where
+/// its number is listed. `knock` does nothing, since its doors never wait.
 #[derive(Drop)]
 pub struct MemNet {
     alloc: Global,
