@@ -56,8 +56,7 @@ class Runs:
 
 
 def main():
-    if not os.environ.get("BUILT"):
-        program.build()
+    program.build()
     with tempfile.TemporaryDirectory(dir=program.ROOM) as name:
         runs = Runs(pathlib.Path(name))
         runs.bare([], DEVICE)

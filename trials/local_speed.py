@@ -89,8 +89,8 @@ def calls_of_sets(folder, count):
 def of_one_set(folder, packages):
     """The milliseconds, the durable calls, and the system calls a file of one `set` at so many packages."""
     count, _ = store_of(device_of(packages), folder / "store")
-    calls = calls_of_sets(folder, 5)
-    calls.subtract(calls_of_sets(folder, 3))
+    calls = calls_of_sets(folder, 4)
+    calls.subtract(calls_of_sets(folder, 2))
     empty = statistics.median(run(folder, ["local"], b"")[0] for _ in range(3))
     full, _ = run(folder, ["local"], sets(COMMITS))
     durable = calls["fsync"] + calls["fdatasync"] + calls["syncfs"]

@@ -157,10 +157,9 @@ def calls_of(log, store):
             opened.pop(result, None)
             if path in (inside[:-1], inside):
                 opened[result] = "folder"
-            elif path.startswith(inside) and b"/" not in path[len(inside):]:
-                if kind == "creat" or "O_WRONLY" in words or "O_RDWR" in words or "O_RDONLY" in words:
-                    opened[result] = "file"
-                    calls.append((answers, ("open", result, path[len(inside):], "O_CREAT" in words, "O_TRUNC" in words)))
+            elif path.startswith(inside) and path != inside + b"..":
+                opened[result] = "file"
+                calls.append((answers, ("open", result, path[len(inside):], "O_CREAT" in words, "O_TRUNC" in words)))
         elif kind in ("write", "pwrite64"):
             if descriptor == 1:
                 answers += texts[0].count(b"\n")
@@ -182,14 +181,14 @@ def calls_of(log, store):
     return calls
 
 
-def lay(store, files):
-    """Makes a folder of the model on the machine, links as links."""
+def lay(store, files, copied=False):
+    """Makes a folder of the model on the machine, links as links, or as files of their own, as a copy of the folder has them."""
     shutil.rmtree(store, ignore_errors=True)
     store.mkdir()
     first = {}
     for name, file in files.items():
         path = store / os.fsdecode(name)
-        if file in first:
+        if file in first and not copied:
             os.link(first[file], path)
         else:
             path.write_bytes(file.bytes)
@@ -240,8 +239,8 @@ class Runs:
         return calls, states
 
     def looked_at(self, files):
-        """What the next run leaves of a folder: its files, and the most names that one has."""
-        lay(self.store, files)
+        """What the next run leaves of a folder, or of a copy of it: its files, and the most names that one has."""
+        lay(self.store, files, self.draw.random() < 0.2)
         environment = {**os.environ, "PRIVILEGE_DIR": str(self.scratch)}
         done = subprocess.run([program.PROGRAM, "local"], input=b"status\n", env=environment, stdout=subprocess.PIPE, stderr=subprocess.PIPE)
         most = max((path.lstat().st_nlink for path in self.store.iterdir()), default=1)
@@ -253,8 +252,7 @@ def main():
         sys.exit(__doc__)
     count = int(sys.argv[1]) if len(sys.argv) > 1 else 1_000
     draw = random.Random(int(sys.argv[2]) if len(sys.argv) > 2 else 1)
-    if "--built" not in os.environ.get("POWER_CUTS", ""):
-        program.build()
+    program.build()
     progress, kinds = program.Progress(count), collections.Counter()
     lines = SCRIPT.splitlines(keepends=True)
     with tempfile.TemporaryDirectory(dir=program.ROOM) as name:

@@ -46,7 +46,7 @@ class Folders:
     def damaged(self, files):
         """Files that are changed as another program might, or as a stop or an old folder leaves them."""
         files = dict(files)
-        kind = self.draw.randrange(8)
+        kind = self.draw.randrange(9)
         own = [name for name in files if folder_model.is_own(name)]
         if kind < 3 and own:
             damages = Damages(self.draw)
@@ -63,6 +63,9 @@ class Folders:
             files[b"guard"] = b""
             for name in own:
                 files[name] = files[name][:self.draw.randrange(len(files[name]) + 1)]
+        elif kind == 7:
+            # as a person may leave it, or as another program's folder is
+            files = {name: text for name, text in files.items() if name not in (b"guard", b"list")}
         files[self.draw.choice(OTHERS)] = self.draw.randbytes(3)
         return {name: text for name, text in files.items() if is_kept(name)}
 

@@ -15,6 +15,9 @@ use std::{fs, io};
 /// The most bytes of a file that is read.
 pub const MOST_FILE_BYTES: u64 = 268_435_456;
 
+/// How many bytes of a file are compared at once.
+const COMPARED_BYTES: usize = 16_384;
+
 /// Files are made for their owner alone.
 const FILE_MODE: u32 = 0o600;
 
@@ -99,6 +102,36 @@ pub fn stands<R: Files + Drop>(rt: &R, path: &str, mark: &FileMark) -> bool {
         Ok(Some(seen)) => seen.mark == *mark,
         _ => false,
     }
+}
+
+/// Whether the plain file that was seen by this mark stands at the path, was not written since, and has these bytes.
+pub fn holds<R: Files + Drop>(rt: &R, path: &str, mark: &FileMark, bytes: &[u8]) -> bool {
+    if !stands(rt, path, mark) {
+        return false;
+    }
+    match open_seen(rt, path, OpenOptions::new().read(true), mark) {
+        Ok(mut file) => has_bytes(&mut file, bytes),
+        Err(_) => false,
+    }
+}
+
+// Whether these bytes, and no others, are read of a file. They are read through a buffer on the stack.
+fn has_bytes<F: Read>(file: &mut F, bytes: &[u8]) -> bool {
+    let mut room = [0; COMPARED_BYTES];
+    let mut left = bytes;
+    for _ in 0..u64::MAX {
+        let Ok(count) = file.read(&mut room) else {
+            return false;
+        };
+        if count == 0 {
+            return left.is_empty();
+        }
+        let Some(rest) = left.strip_prefix(&room[..count]) else {
+            return false;
+        };
+        left = rest;
+    }
+    false
 }
 
 /// Makes this path one more name of the file of another path, in place of the plain file that it may have led to.

@@ -1,4 +1,4 @@
-ghost use Rattle.std.specs.Prelude.{◌≡◌, ◌≤◌, true, false, Some, None, is_some, if◌then◌else◌, IfOk, OnOk, OnErr, string_bytes};
+ghost use Rattle.std.specs.Prelude.{◌≡◌, ◌≤◌, replicate, vec_len, true, false, Some, None, is_some, if◌then◌else◌, IfOk, OnOk, OnErr, string_bytes};
 ghost use Rattle.std.specs.Option.{option_copied};
 ghost use Rattle.desk_ports.specs.FileName.{IsFileName};
 ghost use Rattle.folder_disk.specs.Paths.{file_path};
@@ -278,6 +278,7 @@ impl<R: Files<File = File> + Clock + AllocGlobal + Clone + Drop> FolderDisk<R> {
         ensures count { self.new.faults ≡ next_count self.old.faults }
         ensures last { self.new.failure ≡ Some failure }
         ensures unsettled { self.new.is_settled ≡ false }
+        ensures forgotten { self.new.known.places.items ≡ replicate (vec_len self.old.known.places) None }
     {
         self.is_settled = false;
         self.known.forget_all();

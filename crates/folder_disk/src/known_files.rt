@@ -1,5 +1,5 @@
 // What a disk knows of files that are made sure of. It has the room that it was made with: neither names nor bytes are
-// kept, but of some files what their bytes come to, and by what the machine shows the file again.
+// kept, but of some files by what the machine shows them again, and what their bytes come to.
 ghost use Rattle.std.specs.Prelude.{◌≡◌, ◌<◌, None, vec_len};
 ghost use Rattle.std.specs.Prelude.{replicate};
 
@@ -20,12 +20,19 @@ pub fn digest_of(bytes: &[u8]) -> BytesDigest {
     Sha256::digest(bytes)
 }
 
-/// A file that is made sure of, its path as a number, and the digest of its bytes.
+/// What is known of a file that is made sure of: by what the machine shows it, and what its bytes come to, where that was
+/// reckoned.
+#[derive(Clone, Copy, Debug)]
+pub struct Known {
+    pub mark: FileMark,
+    pub digest: Option<BytesDigest>,
+}
+
+/// What is known of the file of a path, with its path as a number.
 #[derive(Clone, Copy, Debug)]
 struct KnownFile {
     key: u64,
-    digest: BytesDigest,
-    mark: FileMark,
+    known: Known,
 }
 
 /// Files that are known, each at one of some places that follow from its path. Where two paths give one number, or all
@@ -44,22 +51,17 @@ impl KnownFiles {
         Ok(KnownFiles { places })
     }
 
-    /// The mark of the file of this path, where it is known to have bytes of this digest.
-    pub fn mark_of(&self, path: &str, digest: &BytesDigest) -> Option<FileMark> {
-        let known = self.at(self.place_of(key_of(path))?)?;
-        if known.digest == *digest {
-            Some(known.mark)
-        } else {
-            None
-        }
+    /// What is known of the file of this path.
+    pub fn of(&self, path: &str) -> Option<Known> {
+        Some(self.at(self.place_of(key_of(path))?)?.known)
     }
 
-    /// From now on the file of this path is known by this mark to have bytes of this digest.
-    pub fn note(&mut self, path: &str, digest: BytesDigest, mark: FileMark) {
+    /// From now on this is known of the file of this path.
+    pub fn note(&mut self, path: &str, known: Known) {
         let key = key_of(path);
         let place = self.place_for(key);
-        if let Some(known) = self.places.get_mut(place) {
-            *known = Some(KnownFile { key, digest, mark });
+        if let Some(noted) = self.places.get_mut(place) {
+            *noted = Some(KnownFile { key, known });
         }
     }
 

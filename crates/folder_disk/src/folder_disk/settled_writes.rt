@@ -4,9 +4,8 @@ ghost use Rattle.folder_disk.specs.Holding.{IsHeld};
 
 use super::FolderDisk;
 use crate::failures::Failure;
-use crate::file_marks::FileMark;
 use crate::files::FileRead;
-use crate::known_files::{BytesDigest, digest_of};
+use crate::known_files::{Known, digest_of};
 use crate::{files, paths};
 use desk_ports::FileName;
 use std::fs::File;
@@ -21,7 +20,11 @@ impl<R: Files<File = File> + Clock + AllocGlobal + Clone + Drop> FolderDisk<R> {
         ensures count { self.new.faults ≡ self.old.faults }
         ensures settled { self.new.is_settled ≡ true }
     {
-        self.known.note(path, digest_of(&read.bytes), read.mark);
+        let known = Known {
+            mark: read.mark,
+            digest: Some(digest_of(&read.bytes)),
+        };
+        self.known.note(path, known);
     }
 
     // Has the file of this path hold these bytes: by nothing where it holds them, by a link where its backup does, or the
@@ -37,44 +40,72 @@ impl<R: Files<File = File> + Clock + AllocGlobal + Clone + Drop> FolderDisk<R> {
         ensures count { self.new.faults ≡ self.old.faults }
         ensures settled { self.new.is_settled ≡ true }
     {
-        let digest = digest_of(bytes);
-        if self.known_mark(path, &digest).is_some() {
+        if let Some(known) = self.known_as(path, bytes) {
+            self.note_unchanged(path, known, bytes);
             return Ok(());
         }
         self.known.forget(path);
-        let mut mark = self.link_partner(name, path, &digest);
-        if mark.is_none() {
-            mark = self.write_anew(path, bytes)?;
+        if let Some(known) = self.link_partner(name, path, bytes) {
+            self.known.note(path, known);
+            return Ok(());
         }
-        if let Some(mark) = mark {
-            self.known.note(path, digest, mark);
+        if let Some(mark) = self.write_anew(path, bytes)? {
+            self.known.note(path, Known { mark, digest: None });
         }
         Ok(())
     }
 
-    // The mark of the file of this path, where it is known to have these bytes, and stands there unchanged.
-    fn known_mark(&self, path: &str, digest: &BytesDigest) -> Option<FileMark>
+    // A file that stays as it is may stay so for long: what its bytes come to is reckoned once. Of one that changes each
+    // time it never is.
+    fn note_unchanged(&mut self, path: &str, known: Known, bytes: &[u8])
+        requires settled { self.old.is_settled ≡ true }
+        ensures count { self.new.faults ≡ self.old.faults }
+        ensures settled { self.new.is_settled ≡ true }
+    {
+        if known.digest.is_some() {
+            return;
+        }
+        let known = Known {
+            mark: known.mark,
+            digest: Some(digest_of(bytes)),
+        };
+        self.known.note(path, known);
+    }
+
+    // What is known of the file of this path, where it has these bytes, and stands there unchanged.
+    fn known_as(&self, path: &str, bytes: &[u8]) -> Option<Known>
         requires held { IsHeld self.now.held }
         requires settled { self.now.is_settled ≡ true }
     {
-        let mark = self.known.mark_of(path, digest)?;
-        if files::stands(&self.rt, path, &mark) {
-            Some(mark)
+        let known = self.known.of(path)?;
+        if known.mark.length() == bytes.len() as u64 && self.stands_as(path, &known, bytes) {
+            Some(known)
         } else {
             None
         }
     }
 
-    // Makes the path one more name of its partner, where that is known to have these bytes. The mark of the partner, where
-    // that is done.
-    fn link_partner(&self, name: &FileName, path: &str, digest: &BytesDigest) -> Option<FileMark>
+    fn stands_as(&self, path: &str, known: &Known, bytes: &[u8]) -> bool
+        requires held { IsHeld self.now.held }
+        requires settled { self.now.is_settled ≡ true }
+    {
+        match &known.digest {
+            Some(digest) => {
+                *digest == digest_of(bytes) && files::stands(&self.rt, path, &known.mark)
+            }
+            None => files::holds(&self.rt, path, &known.mark, bytes),
+        }
+    }
+
+    // Makes the path one more name of its partner, where that has these bytes. What is known of that, where it is done.
+    fn link_partner(&self, name: &FileName, path: &str, bytes: &[u8]) -> Option<Known>
         requires held { IsHeld self.now.held }
         requires settled { self.now.is_settled ≡ true }
     {
         let partner = paths::partner_path(self.folder.as_str(), name.as_slice())?;
-        let mark = self.known_mark(partner.as_str(), digest)?;
+        let known = self.known_as(partner.as_str(), bytes)?;
         if files::link(&self.rt, partner.as_str(), path) {
-            Some(mark)
+            Some(known)
         } else {
             None
         }
