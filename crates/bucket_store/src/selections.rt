@@ -11,8 +11,8 @@ use crate::row_copies::{policies_at, policies_besides};
 use cynara_keys::{Filter, Policy};
 use std::alloc::{AllocError, Global};
 
-/// A bucket of fewer policies needs no columns.
-const LEAST_FOR_COLUMNS: usize = 32_768;
+/// A bucket of fewer policies goes without columns: to number its names takes longer than to ask for each policy.
+const LEAST_FOR_COLUMNS: usize = 65_536;
 
 /// The policies whose keys the filter admits.
 pub fn admitted(
