@@ -6,8 +6,8 @@
 //! makes changes in the database itself. With `last-` in front, the last answer alone is printed. `fresh` begins anew.
 //!
 //! `keep` keeps a copy of the policy state, which `kept LINE` asks; `share` keeps one of the database, which `unshare` drops
-//! when it has said how many policies it has. `rules`, `expand`, `installs`, `grants`, `label-of` and `buckets`
-//! ask.
+//! when it has said how many policies it has. `rules PACKAGE`, `expand PACKAGE`, `label-of APP`,
+//! `installs`, `grants` and `buckets` ask.
 
 use crate::{databases, desks, registries};
 use app_registry::{Ident, Registry};
@@ -58,7 +58,8 @@ impl States {
             "database" => databases::follow(&mut self.database, command, out),
             "in-place" => databases::change(&mut self.database, command, out),
             "changed" => desks::changed(&mut self.desk, command, out),
-            _ => desks::obey(alloc, &mut self.desk, command, out),
+            "desk" => desks::obey(alloc, &mut self.desk, command, out),
+            _ => None,
         }
     }
 
