@@ -1,12 +1,12 @@
-//! What buckets answer, found in three ways beside each other: `plain` with `describe`, `Index::verdict`, and the answer that
-//! `Index::decide` lends.
+//! What buckets answer, found in three ways beside each other: `plain` with `describe`, `Index::verdict`, and the
+//! answer that `Index::decide` lends.
 //!
-//! A case is a line of standard input, which is printed with its answer. `fresh` begins a database with the root bucket alone.
-//! `bucket NAME RESULT` makes a bucket, or changes its fallback. `set BUCKET CLIENT USER PRIVILEGE RESULT` sets a policy. `chain
-//! COUNT WAYS` makes so many buckets, of which each has so many policies to the next, and lets the root point to the first. `check
-//! CLIENT USER PRIVILEGE` prints the answer from the root bucket and its cause, and `from BUCKET CLIENT USER PRIVILEGE` that of another
-//! bucket by `plain` alone, and `flat` the same without what buckets below answer. A blank line, and one that begins with `#`,
-//! is printed as it is.
+//! A case is a line of standard input, which is printed with its answer. `fresh` begins a database with the root
+//! bucket alone. `bucket NAME RESULT` makes a bucket, or changes its fallback. `set BUCKET CLIENT USER PRIVILEGE
+//! RESULT` sets a policy. `chain COUNT WAYS` makes so many buckets, of which each has so many policies to the next,
+//! and lets the root point to the first. `check CLIENT USER PRIVILEGE` prints the answer from the root bucket and
+//! its cause, and `from BUCKET CLIENT USER PRIVILEGE` that of another bucket by `plain` alone, and `flat` the same
+//! without what buckets below answer. A blank line, and one that begins with `#`, is printed as it is.
 #![tactic(auto)]
 
 mod answers;
