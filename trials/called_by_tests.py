@@ -1,9 +1,9 @@
 #!/usr/bin/env python3
-"""What the test functions of each crate called before cases took their place: `called_by_tests.py [REVISION] [CRATE..]`.
+"""called_by_tests.py [REVISION] [CRATE..]: what the test functions of each crate called before cases took their place.
 
-Reads the sources of a revision of this repository (not given: one that has all tests), and lists for each crate the public
-functions that may want memory, the refusals and the limits, a line each: `CRATE KIND NAME FILES`, with the files of its tests
-that name it, or `-`. With `--missing` it prints the lines whose name `cases.md`, beside this file, does not have."""
+Reads the sources of a revision of this repository (not given: one that has all tests), and lists for each crate the
+public functions that may want memory, the refusals and the limits, a line each: `CRATE KIND NAME FILES`, with the files
+of its tests that name it, or `-`. With `--missing` it prints the lines whose name is not in `cases.md`, beside this file."""
 
 import pathlib
 import re
