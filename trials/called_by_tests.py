@@ -3,7 +3,7 @@
 
 Reads the sources of a revision of this repository (not given: one that has all tests), and lists for each crate the
 public functions that may want memory, the refusals and the limits, a line each: `CRATE KIND NAME FILES`, with the files
-of its tests that name it, or `-`. With `--missing` it prints the lines whose name `cases.md` beside it does not have."""
+of its tests that name it, or `-`. With `--missing` it prints the lines whose name `cases.md` beside it lacks."""
 
 import pathlib
 import re
