@@ -1,9 +1,9 @@
 #!/usr/bin/env python3
-"""What the test functions of each crate called before cases took their place: `called_by_tests.py [REVISION] [CRATE..]`.
+"""called_by_tests.py [REVISION] [CRATE..]: what the test functions of each crate called before cases took their place.
 
-Reads the sources of a revision of this repository (not given: one that has all tests), and lists for each crate the public
-functions that may want memory, the refusals and the limits, a line each: `CRATE KIND NAME FILES`, with the files of its tests
-that name it, or `-`. With `--missing` it prints the lines that `cases.md`, beside this file, does not have."""
+Reads the sources of a revision of this repository (not given: one that has all tests), and lists for each crate the
+public functions that may want memory, the refusals and the limits, a line each: `CRATE KIND NAME FILES`, with the files
+of its tests that name it, or `-`. With `--missing` it prints the lines whose name `cases.md` beside it lacks."""
 
 import pathlib
 import re
@@ -112,7 +112,7 @@ def main():
     known = (TRIALS / "cases.md").read_text() if "--missing" in sys.argv else ""
     revision = words[0] if words else REVISION
     for crate, kind, item, files in lines(revision, words[1:]):
-        if f"| `{crate}` | {kind} | `{item}` |" not in known:
+        if not re.search(r"\b" + item.split("::")[-1] + r"\b", known):
             print(crate, kind, item, ",".join(files) or "-")
 
 
