@@ -2,5 +2,6 @@ pub mod Expanded
 pub mod Fixed
 pub mod LabelsMade
 pub mod LineSpelled
+pub mod ProcessesMade
 pub mod Reading
 pub mod TextSpelled

@@ -2,6 +2,7 @@ pub mod Limits
 pub mod Expansion
 pub mod PackageLabels
 pub mod Placeholder
+pub mod Processes
 pub mod Template
 pub mod TemplateLine
 pub mod TemplateRead
