@@ -19,14 +19,14 @@ use Rattle.bucket_store.specs.Change.{with_changes}
 use Rattle.bucket_store.specs.Refusal.{named_by}
 use Rattle.bucket_store.specs.declared.policy_changes.Change.{Change}
 use Rattle.app_registry.specs.Install.{is_install_of}
-use Rattle.app_registry.specs.Registry.{RegistryLists, has_user, packages, grant_count, with_user, with_install}
+use Rattle.app_registry.specs.Registry.{RegistryLists, has_user, has_package, packages, grant_count, with_user, with_install}
 use Rattle.app_registry.specs.declared.installs.Install.{Install}
 use Rattle.app_registry.specs.declared.installs.Scope.{Scope}
 use Rattle.app_registry.specs.declared.installs.Scope.TheVariants.{Everyone, One}
 use Rattle.app_registry.specs.Limits.{most_users, most_packages, most_installs, most_grants}
 use Rattle.app_registry.specs.declared.users.User.{User}
 use Rattle.app_registry.specs.declared.users.UserType.{UserType}
-use Rattle.desk_state.specs.declared.commands.Command.TheVariants.{Layout, UserSet, UserRemove, Install as InstallCommand, Uninstall}
+use Rattle.desk_state.specs.declared.commands.Command.TheVariants.{Layout, UserSet, UserRemove, Install as InstallCommand, Uninstall, Convert}
 use Rattle.desk_state.specs.Layout.{has_layout, settled, laid_out}
 use Rattle.desk_state.specs.parts.Linking.{link_changes, IsMemory}
 use Rattle.bucket_store.specs.WellFormed.{IsSound}
@@ -430,10 +430,14 @@ scope-kept commit users (One uid) = unknown-kept commit users uid
 owner-kept : (commit : ℕ) (lists : RegistryLists) (install : Install) → KeepsRefusal commit (registry.owner_fault lists install)
 owner-kept commit lists install =
     keeps-or commit (registry.unknown_scope lists.users install.scope)
-    (option_or (registry.other_package lists.installs install) (registry.other_author lists.installs install))
+    (option_or (registry.other_package lists.installs install)
+    (option_or (registry.other_author lists.installs install) (registry.other_kind lists.installs install)))
     (scope-kept commit lists.users install.scope)
-    (keeps-or commit (registry.other_package lists.installs install) (registry.other_author lists.installs install)
-    (packaged (find (registry.is_elsewhere install) lists.installs)) (authored (find (registry.is_by_another install) lists.installs)))
+    (keeps-or commit (registry.other_package lists.installs install)
+    (option_or (registry.other_author lists.installs install) (registry.other_kind lists.installs install))
+    (packaged (find (registry.is_elsewhere install) lists.installs))
+    (keeps-or commit (registry.other_author lists.installs install) (registry.other_kind lists.installs install)
+    (authored (find (registry.is_by_another install) lists.installs)) (kinded (find (registry.is_of_other_kind install) lists.installs))))
   where
     packaged : (other : Option Install) → KeepsRefusal commit (option_map (λ (one : Install). registered.OtherPackage one.package) other)
     packaged None = nothing commit
@@ -442,6 +446,10 @@ owner-kept commit lists install =
     authored : (other : Option Install) → KeepsRefusal commit (option_map (λ (one : Install). registered.OtherAuthor one.author) other)
     authored None = nothing commit
     authored (Some other) = kept commit (registered.OtherAuthor other.author) refl
+
+    kinded : (other : Option Install) → KeepsRefusal commit (option_map (λ (one : Install). registered.OtherHybrid one.hybrid) other)
+    kinded None = nothing commit
+    kinded (Some other) = kept commit (registered.OtherHybrid other.hybrid) refl
 
 installs-limit : (commit : ℕ) (installs : List Install) → IsLimit commit (registry.installs_limit installs)
 installs-limit commit installs =
@@ -480,6 +488,18 @@ module _ (desk : DeskState) where
   on_uninstall app scope allowed = record {
     allowed = allowed;
     rule = at (list_any (is_install_of app scope) desk.registry.installs);
+    count = no-limit desk.commit;
+    request = refl;
+  }
+    where
+      at : (b : Bool) → KeepsRefusal desk.commit (cond b None (Some registered.NotInstalled))
+      at true = nothing desk.commit
+      at false = kept desk.commit registered.NotInstalled refl
+
+  pub on_convert : (name : List ℕ) (hybrid : Bool) → IsAllowed desk (Convert name hybrid) → IsOnRegistry desk (Convert name hybrid)
+  on_convert name hybrid allowed = record {
+    allowed = allowed;
+    rule = at (has_package desk.registry name);
     count = no-limit desk.commit;
     request = refl;
   }

@@ -12,7 +12,7 @@ ghost use Rattle.app_registry.specs.Manifest.{grant, install_grants, grants, sco
 ghost use Rattle.desk_state.specs.parts.Following as following;
 
 use crate::names::{MAIN, MANIFESTS, type_bucket};
-use app_registry::{Ident, Install, Registry, Scope, UserType, package_label, user_name};
+use app_registry::{Ident, Install, Registry, Scope, UserType, install_label, user_name};
 use bucket_store::Change;
 use cynara_keys::{
     BucketName, BucketNameRefusal, Field, Key, Kind, Metadata, MetadataRefusal, Name, NameRefusal,
@@ -77,7 +77,7 @@ pub fn link_to(alloc: Global, target: &[u8]) -> Result<PolicyResult, AllocError>
     }
 }
 
-/// Appends changes that allow, or take away, what the installs of a package grant.
+/// Appends changes that allow, or take away, what the installs of a package grant, each to its label.
 pub fn change_package(
     alloc: Global,
     changes: &mut Vec<Change>,
@@ -213,8 +213,9 @@ fn grant_change(
 fn install_client(alloc: Global, install: &Install) -> Result<Name, AllocError>
     ensures { IfOk result (λ name. name ≡ install_label install.now) }
 {
-    let _ = install.package.as_slice();
-    let label = package_label(alloc, &install.package)?;
+    let _package = install.package.as_slice();
+    let _app = install.app.as_slice();
+    let label = install_label(alloc, install)?;
     known_name(alloc, label.as_slice())
 }
 
