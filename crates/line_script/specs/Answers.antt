@@ -48,6 +48,10 @@ abbrev pub author_text : Option (List ℕ) → List ℕ
 author_text None = codes "-"
 author_text (Some author) = author
 
+-- whether a package is hybrid
+abbrev pub hybrid_text : Bool → List ℕ
+hybrid_text hybrid = if hybrid then codes "yes" else codes "no"
+
 -- ---- answers to commands
 
 -- a command was accepted
@@ -69,6 +73,7 @@ rule_text (refusal.BadKind kind) = codes "6 bad-kind"
 rule_text (refusal.UnknownUser uid) = codes "7 unknown-user"
 rule_text (refusal.OtherPackage name) = codes "8 other-package"
 rule_text (refusal.OtherAuthor author) = codes "9 other-author"
+rule_text (refusal.OtherHybrid hybrid) = codes "14 other-hybrid"
 rule_text refusal.NotInstalled = codes "10 not-installed"
 rule_text (refusal.Limit counted most) = codes "11 limit"
 rule_text (refusal.Cycle name) = codes "12 cycle"
@@ -82,6 +87,7 @@ subject_text (refusal.BadKind kind) = codes " " ++ decimal kind.0
 subject_text (refusal.UnknownUser uid) = codes " " ++ decimal uid
 subject_text (refusal.OtherPackage name) = codes " " ++ name
 subject_text (refusal.OtherAuthor author) = codes " " ++ author_text author
+subject_text (refusal.OtherHybrid hybrid) = codes " " ++ hybrid_text hybrid
 subject_text (refusal.Limit counted most) = codes " " ++ (counted_text counted ++ (codes " " ++ decimal most))
 subject_text (refusal.Cycle name) = codes " " ++ bucket_text name
 subject_text other = []

@@ -1,5 +1,5 @@
 -- The lines of a script, as one function from the place in the script and the bytes of a line to its step.
-use Rattle.std.specs.Prelude.{ℕ, Bool, true, ◌==◌, if◌then◌else◌, List, [], ◌∷◌, ◌++◌, Option, Some, None, option_map, codes}
+use Rattle.std.specs.Prelude.{ℕ, Bool, true, false, ◌==◌, if◌then◌else◌, List, [], ◌∷◌, ◌++◌, Option, Some, None, option_map, codes}
 use Rattle.std.specs.List.{list_all}
 use Rattle.std.specs.Result.{result_ok}
 use Rattle.cynara_keys.specs.Text.{same_text, text_cmp}
@@ -14,7 +14,7 @@ use Rattle.rule_templates.specs.Template.{with_one_more}
 use Rattle.rule_templates.specs.declared.lines.TemplateLine.{TemplateLine}
 use Rattle.desk_state.specs.declared.commands.Command.TheVariants as command
 use Rattle.line_script.specs.Words.{words_of, word, end_of, ◌>>=◌}
-use Rattle.line_script.specs.WordForms.{bucket_at, name_at, field_at, filter_field_at, depth_at, result_at, uid_at, user_type_at, scope_at, ident_at, author_at, label_at, request_at}
+use Rattle.line_script.specs.WordForms.{bucket_at, name_at, field_at, filter_field_at, depth_at, result_at, uid_at, user_type_at, scope_at, package_kind_at, ident_at, author_at, label_at, request_at}
 use Rattle.line_script.specs.Verbs.{verb_at}
 use Rattle.line_script.specs.Block.{Block, outside, batch, template, failed}
 use Rattle.line_script.specs.declared.verbs.Verb.{Verb}
@@ -115,9 +115,10 @@ nouser_at words = do
   ended ← end_of uid.1
   Some (step.Command (command.UserRemove uid.0))
 
--- `install PACKAGE AUTHOR APP SCOPE` and any number of privileges, whose order and repeats say nothing
-unfoldable pub install_at : List (List ℕ) → Option Step
-install_at words = do
+-- `install PACKAGE AUTHOR APP SCOPE` and any number of privileges, whose order and repeats say nothing. Behind `hybrid` the
+-- same words install into a hybrid package.
+unfoldable pub install_at : Bool → List (List ℕ) → Option Step
+install_at hybrid words = do
   name ← word ident_at words
   author ← word author_at name.1
   app ← word ident_at author.1
@@ -129,7 +130,16 @@ install_at words = do
     app = app.0;
     scope = scope.0;
     privileges = rising text_cmp privileges;
+    hybrid = hybrid;
   })))
+
+-- `convert PACKAGE KIND`
+unfoldable pub convert_at : List (List ℕ) → Option Step
+convert_at words = do
+  name ← word ident_at words
+  hybrid ← word package_kind_at name.1
+  ended ← end_of hybrid.1
+  Some (step.Command (command.Convert name.0 hybrid.0))
 
 -- `remove APP SCOPE`
 unfoldable pub remove_at : List (List ℕ) → Option Step
@@ -199,7 +209,9 @@ line_at verb.Erase words = erase_at words
 line_at verb.Layout words = layout_at words
 line_at verb.User words = user_at words
 line_at verb.NoUser words = nouser_at words
-line_at verb.Install words = install_at words
+line_at verb.Install words = install_at false words
+line_at verb.Hybrid words = install_at true words
+line_at verb.Convert words = convert_at words
 line_at verb.Remove words = remove_at words
 line_at verb.List words = list_at words
 line_at verb.Check words = check_at words

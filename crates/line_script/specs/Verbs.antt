@@ -2,7 +2,7 @@
 use Rattle.std.specs.Prelude.{ℕ, List, [], ◌∷◌, Option, find, codes}
 use Rattle.cynara_keys.specs.Text.{same_text}
 use Rattle.line_script.specs.declared.verbs.Verb.{Verb}
-use Rattle.line_script.specs.declared.verbs.Verb.TheVariants.{Set, Check, Unset, Bucket, Drop, Erase, List as ListRows, From, Layout, User, NoUser, Install, Remove, Access, Status}
+use Rattle.line_script.specs.declared.verbs.Verb.TheVariants.{Set, Check, Unset, Bucket, Drop, Erase, List as ListRows, From, Layout, User, NoUser, Install, Hybrid, Convert, Remove, Access, Status}
 
 -- the word of each
 abbrev pub verb_text : Verb → List ℕ
@@ -18,13 +18,15 @@ verb_text Layout = codes "layout"
 verb_text User = codes "user"
 verb_text NoUser = codes "nouser"
 verb_text Install = codes "install"
+verb_text Hybrid = codes "hybrid"
+verb_text Convert = codes "convert"
 verb_text Remove = codes "remove"
 verb_text Access = codes "access"
 verb_text Status = codes "status"
 
 abbrev pub verbs : List Verb
 verbs =
-    Set ∷ Check ∷ Unset ∷ Bucket ∷ Drop ∷ Erase ∷ ListRows ∷ From ∷ Layout ∷ User ∷ NoUser ∷ Install ∷ Remove ∷ Access ∷ Status ∷ []
+    Set ∷ Check ∷ Unset ∷ Bucket ∷ Drop ∷ Erase ∷ ListRows ∷ From ∷ Layout ∷ User ∷ NoUser ∷ Install ∷ Hybrid ∷ Convert ∷ Remove ∷ Access ∷ Status ∷ []
 
 -- what the first word of a line says
 unfoldable pub verb_at : List ℕ → Option Verb

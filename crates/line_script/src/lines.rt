@@ -10,7 +10,8 @@ ghost use Rattle.line_script.specs.declared.steps.Step.TheVariants as step;
 
 use crate::changes::{set_line, set_step, unset_line, unset_step};
 use crate::commands::{
-    bucket_line, drop_line, erase_line, layout_line, nouser_line, remove_line, user_line,
+    bucket_line, convert_line, drop_line, erase_line, layout_line, nouser_line, remove_line,
+    user_line,
 };
 use crate::installs::install_line;
 use crate::line_words::Words;
@@ -108,7 +109,9 @@ fn line_behind<'a>(
         Verb::Layout => layout_line(alloc, words),
         Verb::User => user_line(alloc, words),
         Verb::NoUser => nouser_line(alloc, words),
-        Verb::Install => install_line(alloc, words),
+        Verb::Install => install_line(alloc, words, false),
+        Verb::Hybrid => install_line(alloc, words, true),
+        Verb::Convert => convert_line(alloc, words),
         Verb::Remove => remove_line(alloc, words),
         Verb::List => list_line(alloc, words),
         Verb::Check => check_line(words),

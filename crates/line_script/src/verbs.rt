@@ -16,13 +16,15 @@ pub enum Verb {
     User,
     NoUser,
     Install,
+    Hybrid,
+    Convert,
     Remove,
     Access,
     Status,
 }
 
 /// All of them, in that order.
-pub const VERBS: [Verb; 15] = [
+pub const VERBS: [Verb; 17] = [
     Verb::Set,
     Verb::Check,
     Verb::Unset,
@@ -35,6 +37,8 @@ pub const VERBS: [Verb; 15] = [
     Verb::User,
     Verb::NoUser,
     Verb::Install,
+    Verb::Hybrid,
+    Verb::Convert,
     Verb::Remove,
     Verb::Access,
     Verb::Status,
@@ -58,6 +62,8 @@ impl Verb {
             Verb::User => b"user",
             Verb::NoUser => b"nouser",
             Verb::Install => b"install",
+            Verb::Hybrid => b"hybrid",
+            Verb::Convert => b"convert",
             Verb::Remove => b"remove",
             Verb::Access => b"access",
             Verb::Status => b"status",
