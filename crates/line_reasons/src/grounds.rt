@@ -240,13 +240,14 @@ fn verb_forms(verb: Verb) -> &'static [Form]
         Verb::Layout | Verb::Status => &[],
         Verb::User => &[Form::Uid, Form::UserType],
         Verb::NoUser => &[Form::Uid],
-        Verb::Install => &[
+        Verb::Install | Verb::Hybrid => &[
             Form::Ident,
             Form::Author,
             Form::Ident,
             Form::Scope,
             Form::Names,
         ],
+        Verb::Convert => &[Form::Ident, Form::PackageKind],
         Verb::Remove => &[Form::Ident, Form::Scope],
         Verb::Check => &[Form::Name, Form::Name, Form::Name],
         Verb::From => &[

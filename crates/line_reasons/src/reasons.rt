@@ -41,6 +41,7 @@ pub enum Reason {
     BadUserType,
     BadUser,
     BadScope,
+    BadPackageKind,
     BadModes,
     BadRequest,
     BadPlaceholder,
@@ -97,6 +98,7 @@ impl Reason {
                 "no user: a number from 0 to 4294967295 without a sign or leading zeros",
             Reason::BadScope =>
                 "no scope: `*`, or the number of a user from 0 to 4294967295 without a sign or leading zeros",
+            Reason::BadPackageKind => "no kind of a package: hybrid or plain",
             Reason::BadModes => "no modes: at most 64 of the letters rwxatlb and of -",
             Reason::BadRequest =>
                 "no modes to ask for: at most 64 of the letters rwxatl and of -, a letter among them",

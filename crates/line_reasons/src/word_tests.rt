@@ -8,7 +8,7 @@ ghost use Rattle.smack_rules.specs.Modes.{stands_in, is_empty, letters_that, mod
 ghost use Rattle.rule_templates.specs.TemplateLine.{word_of};
 ghost use Rattle.line_script.specs.Numbers.{number_that};
 ghost use Rattle.line_script.specs.WordForms.{bucket_at, name_at, field_at, filter_field_at, depth_at, result_at, uid_at};
-ghost use Rattle.line_script.specs.WordForms.{user_type_at, scope_at, ident_at, author_at, label_at, request_at};
+ghost use Rattle.line_script.specs.WordForms.{user_type_at, scope_at, package_kind_at, ident_at, author_at, label_at, request_at};
 ghost use Rattle.line_reasons.specs.parts.Texts.{begins, cut_at, by_cut};
 ghost use Rattle.line_reasons.specs.parts.Forms as forms;
 
@@ -33,6 +33,7 @@ impl Form {
             Form::Uid => is_uid(text),
             Form::UserType => is_user_type(text),
             Form::Scope => is_scope(text),
+            Form::PackageKind => is_package_kind(text),
             Form::Ident => is_ident(text),
             Form::Author => is_author(text),
             Form::Label => is_label(text),
@@ -54,6 +55,7 @@ impl Form {
             Form::Uid => begins_uid(front),
             Form::UserType => begins_user_type(front),
             Form::Scope => begins(front, b"*") || begins_uid(front),
+            Form::PackageKind => begins_package_kind(front),
             Form::Ident => is_ident_run(front),
             Form::Author => begins(front, b"-") || is_ident_run(front),
             Form::Label => is_label_run(front),
@@ -160,6 +162,21 @@ fn begins_depth(front: &[u8]) -> bool
     ensures { result ≡ forms.begins_word Form.Depth front.now }
 {
     begins(front, b"deep") || begins(front, b"flat")
+}
+
+fn is_package_kind(text: &[u8]) -> bool
+    ensures { result ≡ is_some (package_kind_at text.now) }
+{
+    if text == b"hybrid".as_slice() {
+        return true;
+    }
+    text == b"plain".as_slice()
+}
+
+fn begins_package_kind(front: &[u8]) -> bool
+    ensures { result ≡ forms.begins_word Form.PackageKind front.now }
+{
+    begins(front, b"hybrid") || begins(front, b"plain")
 }
 
 #[tactic(auto, using(crate::proofs::WordFronts::type_known))]

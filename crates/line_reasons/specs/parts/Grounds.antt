@@ -10,7 +10,7 @@ use Rattle.line_script.specs.declared.verbs.Verb.TheVariants as verb
 use Rattle.line_script.specs.declared.spots.Spot.{Spot}
 use Rattle.line_script.specs.declared.spots.Spot.TheVariants as spot
 use Rattle.line_reasons.specs.declared.forms.Form.{Form}
-use Rattle.line_reasons.specs.declared.forms.Form.TheVariants.{Bucket, Field, Name, Names, FilterField, Depth, Result, Uid, UserType, Scope, Ident, Author, Label, Request, TemplateLabel, Modes, MoreModes}
+use Rattle.line_reasons.specs.declared.forms.Form.TheVariants.{Bucket, Field, Name, Names, FilterField, Depth, Result, Uid, UserType, Scope, PackageKind, Ident, Author, Label, Request, TemplateLabel, Modes, MoreModes}
 use Rattle.line_reasons.specs.declared.grounds.Ground.{Ground}
 use Rattle.line_reasons.specs.declared.grounds.Ground.TheVariants.{Outside, Batch, Template, Rules}
 use Rattle.line_reasons.specs.parts.Texts.{begins, cut_at, by_cut}
@@ -29,6 +29,8 @@ verb_forms verb.Layout = []
 verb_forms verb.User = Uid ∷ UserType ∷ []
 verb_forms verb.NoUser = Uid ∷ []
 verb_forms verb.Install = Ident ∷ Author ∷ Ident ∷ Scope ∷ Names ∷ []
+verb_forms verb.Hybrid = Ident ∷ Author ∷ Ident ∷ Scope ∷ Names ∷ []
+verb_forms verb.Convert = Ident ∷ PackageKind ∷ []
 verb_forms verb.Remove = Ident ∷ Scope ∷ []
 verb_forms verb.List = Bucket ∷ FilterField ∷ FilterField ∷ FilterField ∷ []
 verb_forms verb.Check = Name ∷ Name ∷ Name ∷ []
@@ -47,6 +49,8 @@ changes_policies verb.Layout = false
 changes_policies verb.User = false
 changes_policies verb.NoUser = false
 changes_policies verb.Install = false
+changes_policies verb.Hybrid = false
+changes_policies verb.Convert = false
 changes_policies verb.Remove = false
 changes_policies verb.List = false
 changes_policies verb.Check = false
