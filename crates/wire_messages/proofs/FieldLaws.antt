@@ -475,14 +475,15 @@ privileges_exact = record { takes = taken; again = again }
         ∙ rw ((number_exact w32 (2 ^ 32) wide32).again end (length names) (flat_map field.name.spelled names ++ rest)
         good.0) (rising_again end None names rest good.1.0 good.1.1)
 
-pub install_exact : IsExact field.install right.IsInstall
-install_exact =
+pub install_exact : (hybrid : Bool) → IsExact (field.install hybrid) (right.IsInstall hybrid)
+install_exact hybrid =
     seen_exact _ _ (field.ident ⊗ (field.author ⊗ (field.ident ⊗ (field.scope ⊗ field.privileges))))
     (pair_exact field.ident (field.author ⊗ (field.ident ⊗ (field.scope ⊗ field.privileges))) ident_exact
     (pair_exact field.author (field.ident ⊗ (field.scope ⊗ field.privileges)) author_exact
     (pair_exact field.ident (field.scope ⊗ field.privileges) ident_exact
     (pair_exact field.scope field.privileges scope_exact privileges_exact))))
-    {Good = right.IsInstall} (λ x good. (refl, good)) (λ y good. (good, refl))
+    {Good = right.IsInstall hybrid} (λ x good. (refl, (refl, good)))
+    (λ y good. (good.1, λ i. record y { hybrid = sym good.0 i }))
 
 -- ---- templates
 

@@ -33,6 +33,8 @@ pub fn operation(message: &Message) -> Operation
         Message::Listing { .. } => Operation::Listing,
         Message::AdminCheck { .. } => Operation::AdminCheck,
         Message::Stop => Operation::Stop,
+        Message::InstallHybrid { .. } => Operation::InstallHybrid,
+        Message::Convert { .. } => Operation::Convert,
         Message::Register { .. } => Operation::Register,
         Message::AgentAnswer { .. } => Operation::AgentAnswer,
         Message::Judged { .. } => Operation::Judged,
@@ -97,6 +99,11 @@ pub fn put_fields(out: &mut Bytes, message: &Message) -> Result<(), AllocError>
             put_question(out, question)
         }
         Message::Stop => Ok(()),
+        Message::InstallHybrid { install } => put_install(out, install),
+        Message::Convert { package, hybrid } => {
+            put_ident(out, package)?;
+            put_flag(out, *hybrid)
+        }
         Message::Register { kind } => put_kind(out, *kind),
         Message::AgentAnswer { number, allowed } => {
             put4(out, *number)?;

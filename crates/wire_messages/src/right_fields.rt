@@ -2,7 +2,7 @@
 // nothing: that a name is a name is what its type knows.
 ghost use Rattle.std.specs.Prelude.{◌<◌, ◌^◌, length};
 ghost use Rattle.std.specs.List.{AllByRecursion};
-ghost use Rattle.wire_messages.specs.Commands.{IsByRule, message_of};
+ghost use Rattle.wire_messages.specs.Commands.{IsByRule, install_message, message_of};
 ghost use Rattle.wire_messages.specs.Right.{IsName, IsBucket, IsIdent, IsAuthor, IsFilterField, IsKey, IsFilter};
 ghost use Rattle.wire_messages.specs.Right.{IsKind, IsRuling, IsChange, IsScope, ArePrivileges, IsInstall, IsTold};
 ghost use Rattle.wire_messages.specs.Right.{IsRight, HasRoom};
@@ -130,13 +130,19 @@ fn privileges_are_right(names: &NameSet)
 }
 
 fn install_is_right(install: &Install)
-    ensures { length install.now.privileges < 2 ^ 32 → IsInstall install.now }
+    ensures { length install.now.privileges < 2 ^ 32 → IsInstall install.now.hybrid install.now }
 {
     ident_is_right(&install.package);
     author_is_right(&install.author);
     ident_is_right(&install.app);
     scope_is_right(install.scope);
     privileges_are_right(&install.privileges);
+}
+
+fn install_message_is_right(install: &Install)
+    ensures { HasRoom (install_message install.now) → IsRight (install_message install.now) }
+{
+    install_is_right(install);
 }
 
 /// The message of a command has no field that is wrong, where there is room for its list or its template.
@@ -162,11 +168,12 @@ pub fn command_is_right(command: &Command)
         Command::UserRemove { uid } => {
             let _uid = *uid;
         }
-        Command::Install { install } => install_is_right(install),
+        Command::Install { install } => install_message_is_right(install),
         Command::Uninstall { app, scope } => {
             ident_is_right(app);
             scope_is_right(*scope);
         }
+        Command::Convert { package, .. } => ident_is_right(package),
     }
 }
 
@@ -187,6 +194,7 @@ pub fn refusal_is_right(refusal: &Refusal)
         }
         Refusal::OtherPackage(name) => ident_is_right(name),
         Refusal::OtherAuthor(author) => author_is_right(author),
+        Refusal::OtherHybrid(_) => {}
         Refusal::NotInstalled => {}
         Refusal::Limit(_, limit) => {
             let _limit = *limit;
