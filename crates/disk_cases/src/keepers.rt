@@ -22,6 +22,7 @@ fn install(alloc: Global, app: &str) -> Result<Install, Failure> {
         app: ident(alloc, app)?,
         scope: Scope::Everyone,
         privileges: NameSet::of(Vec::new(alloc))?,
+        hybrid: false,
     })
 }
 

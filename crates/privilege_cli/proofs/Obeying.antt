@@ -48,6 +48,7 @@ refused-rule desk command (refusal.BadKind kind) names refuses = refuses
 refused-rule desk command (refusal.UnknownUser uid) names refuses = refuses
 refused-rule desk command (refusal.OtherPackage name) names refuses = refuses
 refused-rule desk command (refusal.OtherAuthor author) names refuses = refuses
+refused-rule desk command (refusal.OtherHybrid hybrid) names refuses = refuses
 refused-rule desk command refusal.NotInstalled names refuses = refuses
 refused-rule desk command (refusal.Limit counted most) names refuses = refuses
 refused-rule desk command (refusal.Cycle name) names refuses = refuses
