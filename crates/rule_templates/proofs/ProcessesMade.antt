@@ -6,7 +6,7 @@ use Rattle.std.proofs.lemmas.List.{map-append}
 use Rattle.cynara_keys.specs.Text.{same_text}
 use Rattle.app_registry.specs.Label.{install_label}
 use Rattle.app_registry.specs.declared.installs.Install.{Install}
-use Rattle.rule_templates.specs.Processes.{labels_of}
+use Rattle.rule_templates.specs.Processes.{distinct_labels}
 use Rattle.rule_templates.specs.parts.Last.{ends_with, last_of, tail_of}
 
 -- a list that has a first element
@@ -66,7 +66,7 @@ each-once-snoc (first ∷ labels) label = from-snoc first labels label
 
 -- the labels of installs with one more behind them
 pub labels-snoc : (installs : List Install) (install : Install)
-    → labels_of (installs ++ install ∷ []) ≡ labels_of installs ++ tail_of (labels_of installs) (install_label install)
+    → distinct_labels (installs ++ install ∷ []) ≡ distinct_labels installs ++ tail_of (distinct_labels installs) (install_label install)
 labels-snoc installs install =
     ap (dedup same_text) (map-append install_label installs (install ∷ []))
     ∙ each-once-snoc (map install_label installs) (install_label install)

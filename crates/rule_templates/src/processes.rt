@@ -1,7 +1,7 @@
 //! The labels with which the applications of a package run.
 
 ghost use Rattle.std.specs.Prelude.{◌≡◌, ◌++◌, IfOk, OnOk};
-ghost use Rattle.rule_templates.specs.Processes.{labels_of};
+ghost use Rattle.rule_templates.specs.Processes.{distinct_labels};
 ghost use Rattle.rule_templates.specs.parts.Last.{ends_with, last_of, tail_of};
 
 use app_registry::{Install, install_label};
@@ -10,7 +10,7 @@ use std::alloc::{AllocError, Global};
 
 /// The labels of the installs of a package, which stand together: each once, in the order of the applications' names.
 pub(crate) fn process_labels(alloc: Global, installs: &[Install]) -> Result<Vec<Label>, AllocError>
-    ensures { IfOk result (λ labels. labels.items ≡ labels_of installs.now) }
+    ensures { IfOk result (λ labels. labels.items ≡ distinct_labels installs.now) }
 {
     let mut labels = Vec::new(alloc);
     for install in installs {

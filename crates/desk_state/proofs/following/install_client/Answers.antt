@@ -17,4 +17,4 @@ labelled install sound own = at install.hybrid
 pub known_name-requires : goal.known_name-requires
 known_name-requires c =
     let is : c.as_slice.result.now ≡ install_label c.args.install.now = c.as_slice.ensures.value ∙ c.in_ok-label.ensures in
-    subst (λ text. name_fault text ≡ None) (sym is) (labelled c.args.install.now c.as_slice-_package.ensures.ident c.as_slice-_app.ensures.ident)
+    subst (λ text. name_fault text ≡ None) (sym is) (labelled c.args.install.now c.as_slice-package.ensures.ident c.as_slice-app.ensures.ident)

@@ -1,7 +1,7 @@
 use Rattle.std.proofs.Common.{◌≡◌, ◌++◌, ◌∷◌, [], ◌+◌, take, sym, ap, ◌∙◌}
 use Rattle.std.proofs.lemmas.List.{take_more}
 use Rattle.app_registry.specs.Label.{install_label}
-use Rattle.rule_templates.specs.Processes.{labels_of}
+use Rattle.rule_templates.specs.Processes.{distinct_labels}
 use Rattle.rule_templates.specs.parts.Last.{tail_of}
 use Rattle.rule_templates.proofs.ProcessesMade.{labels-snoc}
 use Rattle.rule_templates.proofs.processes.process_labels.Goals as goal
@@ -18,4 +18,4 @@ loop-install-preserved c =
     let label = c.in_ok-install_label.ensures in
     c.in_ok-push_label.ensures
     ∙ (λ k. c.loop-install.invariant k ++ tail_of (c.loop-install.invariant k) (label k))
-    ∙ sym (labels-snoc before install) ∙ sym (ap labels_of more)
+    ∙ sym (labels-snoc before install) ∙ sym (ap distinct_labels more)

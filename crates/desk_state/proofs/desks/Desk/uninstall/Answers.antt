@@ -35,11 +35,11 @@ settle-requires c =
     let has : has_layout desk.database ≡ true = laid_known (has_layout desk.database) c.requires.known in
     let registries : c.in-Ok.registry ≡ without_install desk.registry c.args.app.now c.args.scope =
     c.in-Ok.ensures.registry ∙ ap (λ (lists : RegistryLists). without_install lists c.args.app.now c.args.scope) c.registry.ensures.registry in
-    let before : c.registry-2.result.now ≡ desk.registry = c.registry-2.ensures.registry in
+    let before : c.registry-3.result.now ≡ desk.registry = c.registry-3.ensures.registry in
     let accepted : registry.uninstall_fault desk.registry c.args.app.now c.args.scope ≡ None =
     subst (λ (lists : RegistryLists). registry.uninstall_fault lists c.args.app.now c.args.scope ≡ None) c.registry.ensures.registry c.in-Ok.ensures.accepted in
     let installs : c.installs.result.now ≡ desk.registry.installs =
-    c.installs.ensures.installs ∙ ap (λ (lists : RegistryLists). lists.installs) c.registry-3.ensures.registry in
+    c.installs.ensures.installs ∙ ap (λ (lists : RegistryLists). lists.installs) c.registry-2.ensures.registry in
     let idents : AllByRecursion (λ (install : Install). ident_fault install.package ≡ None) desk.registry.installs =
     subst (AllByRecursion (λ (install : Install). ident_fault install.package ≡ None)) installs c.idents_fit.ensures in
     let installed = was_installed (list_any (is_install_of c.args.app.now c.args.scope) desk.registry.installs) accepted in

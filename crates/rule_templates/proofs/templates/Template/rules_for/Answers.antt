@@ -4,7 +4,7 @@ use Rattle.std.specs.Option.{option_copied}
 use Rattle.std.proofs.lemmas.Grind.{common_steps}
 use Rattle.app_registry.specs.Registry.{author_of}
 use Rattle.rule_templates.specs.Expansion.{package_line_rules}
-use Rattle.rule_templates.specs.Processes.{process_labels, labels_of}
+use Rattle.rule_templates.specs.Processes.{process_labels, distinct_labels}
 use Rattle.rule_templates.specs.parts.Labels.{package_line_rules_in}
 use Rattle.rule_templates.proofs.Expanded.{lines_in}
 use Rattle.rule_templates.proofs.templates.Template.rules_for.Goals as goal
@@ -18,7 +18,7 @@ returns c =
     let all : c.loop-line.rules.items ≡ flat_map (package_line_rules_in labels c.in_ok-processes.processes.items) lines =
     grind (arith, common_steps) in
     let processes : c.in_ok-processes.processes.items ≡ process_labels registry name =
-    c.in_ok-processes.ensures ∙ ap labels_of c.installs_of.ensures in
+    c.in_ok-processes.ensures ∙ ap distinct_labels c.installs_of.ensures in
     let author = c.author_of.ensures in
     all ∙ (λ i. flat_map (package_line_rules_in (c.in_ok-labels.ensures i) (processes i)) lines)
     ∙ lines_in name (option_copied c.author_of.result) (process_labels registry name) lines
