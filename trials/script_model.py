@@ -106,11 +106,13 @@ def step_of(line):
             return "user", uid_of(uid), kind
         case [b"nouser", uid] if uid_of(uid) is not None:
             return "nouser", uid_of(uid)
-        case [b"install", package, author, app, scope, *privileges]:
+        case [b"install" | b"hybrid" as word, package, author, app, scope, *privileges]:
             is_known = is_ident(package) and (author == b"-" or is_ident(author)) and is_ident(app)
             if not is_known or scope_of(scope) is None or not all(map(is_name, privileges)):
                 return None
-            return "install", package, None if author == b"-" else author, app, scope_of(scope), set(privileges)
+            return word.decode(), package, None if author == b"-" else author, app, scope_of(scope), set(privileges)
+        case [b"convert", package, b"hybrid" | b"plain" as kind] if is_ident(package):
+            return "convert", package, kind == b"hybrid"
         case [b"remove", app, scope] if is_ident(app) and scope_of(scope) is not None:
             return "remove", app, scope_of(scope)
         case [b"access", subject, object_, modes] if is_label(subject) and is_label(object_) and is_request(modes):
