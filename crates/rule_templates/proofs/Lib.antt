@@ -1,5 +1,6 @@
 pub mod Expanded
 pub mod Fixed
+pub mod Kinds
 pub mod LabelsMade
 pub mod LineSpelled
 pub mod ProcessesMade

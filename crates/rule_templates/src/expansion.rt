@@ -3,6 +3,8 @@
 ghost use Rattle.std.specs.Prelude.{◌≡◌, ◌++◌, IsTrue, IfOk, OnOk};
 ghost use Rattle.app_registry.specs.Registry.{has_package};
 ghost use Rattle.rule_templates.specs.Expansion.{expansion, rule_of};
+ghost use Rattle.rule_templates.specs.Kinds.{labels_by_kind};
+ghost use Rattle.rule_templates.specs.Processes.{process_labels};
 ghost use Rattle.rule_templates.specs.parts.Labels.{line_rules_in, each_rules_in, package_line_rules_in};
 
 use crate::labels::PackageLabels;
@@ -23,8 +25,12 @@ pub fn expand(
     package: &Ident,
 ) -> Result<Vec<Rule>, AllocError>
     requires { IsTrue (has_package registry.now «package».now) }
-    ensures { IfOk result (λ rules. rules.items ≡ expansion template.now registry.now «package».now) }
+    ensures rules { IfOk result (λ rules. rules.items ≡ expansion template.now registry.now «package».now) }
+    // What `~PROCESS~` stands for: the labels of the applications of a hybrid package, and that of a plain package alone.
+    ensures processes { process_labels registry.now «package».now ≡ labels_by_kind registry.now «package».now }
 {
+    // A registry keeps that all installs of a package are of one kind.
+    let _installs = registry.installs();
     template.rules_for(registry, package)
 }
 
