@@ -14,10 +14,10 @@ use app_registry::{Ident, Registry};
 use smack_rules::{Label, Rule};
 use std::alloc::{AllocError, Global};
 
-/// The Smack rules of a package: the template's lines in order, each placeholder replaced by the package's label. In a hybrid
-/// package a line with `~PROCESS~` gives one rule for each application, in the order of their names, with that application's
-/// label. A line with `~AUTHOR~` is left out where the package has no author. Linear in the template and the package's
-/// installs, which are found by binary searches.
+/// The Smack rules of a package: the template's lines in order, each placeholder replaced by the package's label. In a
+/// hybrid package a line with `~PROCESS~` gives one rule for each application, in the order of their names, with that
+/// application's label. A line with `~AUTHOR~` is left out where the package has no author. Linear in the template and the
+/// package's installs, which are found by binary searches.
 pub fn expand(
     alloc: Global,
     template: &Template,

@@ -169,9 +169,9 @@ impl Template {
         *self.lines.allocator()
     }
 
-    /// The rules that the template gives for a package of the registry: its lines in order, each placeholder replaced by the
-    /// package's label. In a hybrid package a line with `~PROCESS~` gives a rule for each application. A line with `~AUTHOR~`
-    /// is left out without an author.
+    /// The rules that the template gives for a package of the registry: its lines in order, each placeholder replaced by
+    /// the package's label. In a hybrid package a line with `~PROCESS~` gives a rule for each application. A line with
+    /// `~AUTHOR~` is left out without an author.
     pub fn rules_for(&self, registry: &Registry, package: &Ident) -> Result<Vec<Rule>, AllocError>
         ensures { IfOk result (λ rules. rules.items ≡ expansion self.now registry.now «package».now) }
     {
