@@ -271,9 +271,6 @@ pub convert-rest : (name : List ℕ) (hybrid : Bool) (installs : List Install)
 convert-rest name hybrid [] = refl
 convert-rest name hybrid (install ∷ installs) = at (is_of_package name install) refl (convert-rest name hybrid installs)
   where
-    rest : List Install → List Install
-    rest others = filter (λ (other : Install). not (is_of_package name other)) others
-
     at : (b : Bool) → is_of_package name install ≡ b
         → filter (λ (other : Install). not (is_of_package name other)) (map (of_kind name hybrid) installs)
         ≡ filter (λ (other : Install). not (is_of_package name other)) installs
@@ -282,10 +279,14 @@ convert-rest name hybrid (install ∷ installs) = at (is_of_package name install
         ≡ cond (not b) (install ∷ filter (λ (other : Install). not (is_of_package name other)) installs)
         (filter (λ (other : Install). not (is_of_package name other)) installs)
     at true is same =
-        ap (λ t. cond (not t) (record install { hybrid = hybrid } ∷ rest (map (of_kind name hybrid) installs)) (rest (map (of_kind name hybrid) installs))) is
+        ap (λ t. cond (not t)
+        (record install { hybrid = hybrid } ∷ filter (λ (other : Install). not (is_of_package name other)) (map (of_kind name hybrid) installs))
+        (filter (λ (other : Install). not (is_of_package name other)) (map (of_kind name hybrid) installs))) is
         ∙ same
     at false is same =
-        ap (λ t. cond (not t) (install ∷ rest (map (of_kind name hybrid) installs)) (rest (map (of_kind name hybrid) installs))) is
+        ap (λ t. cond (not t)
+        (install ∷ filter (λ (other : Install). not (is_of_package name other)) (map (of_kind name hybrid) installs))
+        (filter (λ (other : Install). not (is_of_package name other)) (map (of_kind name hybrid) installs))) is
         ∙ ap (λ others. install ∷ others) same
 
 -- what holds of all is so of the one that is found

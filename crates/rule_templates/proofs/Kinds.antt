@@ -121,27 +121,28 @@ kind-of-first name first other first_is free of =
     kept false h = cc
 
 -- the first one found, and that it heads those of the package
-record Heads (name : List ℕ) (installs : List Install) : Type 0 where
+record Heads (P : Install → Type 0) (name : List ℕ) (installs : List Install) : Type 0 where
   first : Install
   others : List Install
   found : find (is_of_package name) installs ≡ Some first
   heads : filter (is_of_package name) installs ≡ first ∷ others
   named : first.«package» ≡ name
-  free : (P : Install → Type 0) → AllByRecursion P installs → P first
+  holds : AllByRecursion P installs → P first
 
-heads-of : (name : List ℕ) (installs : List Install) → list_any (is_of_package name) installs ≡ true → Heads name installs
-heads-of name [] any = absurd (true≢false (sym any))
-heads-of name (install ∷ installs) any = by (is_of_package name install) refl any (heads-of name installs)
+heads-of : (P : Install → Type 0) (name : List ℕ) (installs : List Install) → list_any (is_of_package name) installs ≡ true
+    → Heads P name installs
+heads-of P name [] any = absurd (true≢false (sym any))
+heads-of P name (install ∷ installs) any = by (is_of_package name install) refl any (heads-of P name installs)
   where
     by : (b : Bool) → is_of_package name install ≡ b → (b || list_any (is_of_package name) installs) ≡ true
-        → (list_any (is_of_package name) installs ≡ true → Heads name installs) → Heads name (install ∷ installs)
+        → (list_any (is_of_package name) installs ≡ true → Heads P name installs) → Heads P name (install ∷ installs)
     by true is any later = record {
       first = install;
       others = filter (is_of_package name) installs;
       found = ap (λ b. cond b (Some install) (find (is_of_package name) installs)) is;
       heads = ap (λ b. cond b (install ∷ filter (is_of_package name) installs) (filter (is_of_package name) installs)) is;
       named = same_text-≡ install.«package» name is;
-      free = λ P all. all.0;
+      holds = λ all. all.0;
     }
     by false is any later =
         let rest = later any in record {
@@ -150,16 +151,16 @@ heads-of name (install ∷ installs) any = by (is_of_package name install) refl 
           found = ap (λ b. cond b (Some install) (find (is_of_package name) installs)) is ∙ rest.found;
           heads = ap (λ b. cond b (install ∷ filter (is_of_package name) installs) (filter (is_of_package name) installs)) is ∙ rest.heads;
           named = rest.named;
-          free = λ P all. rest.free P all.1;
+          holds = λ all. rest.holds all.1;
         }
 
 pub labels-by-kind : (registry : RegistryLists) (name : List ℕ) → IsRegistry registry.users registry.installs
     → has_package registry name ≡ true → process_labels registry name ≡ labels_by_kind registry name
 labels-by-kind registry name is there =
     let installs = registry.installs in
-    let head = heads-of name installs there in
+    let head = heads-of (λ install. other_kind installs install ≡ None) name installs there in
     let first = head.first in
-    let free = from_kind installs first (head.free (λ install. other_kind installs install ≡ None) is.one_kind) in
+    let free = from_kind installs first (head.holds is.one_kind) in
     let all : AllByRecursion (IsOfKind name first.hybrid) (first ∷ head.others) =
     subst (AllByRecursion (IsOfKind name first.hybrid)) head.heads
     (kept_where (λ other. is_of_other_kind first other ≡ false) (IsOfKind name first.hybrid) (is_of_package name)
