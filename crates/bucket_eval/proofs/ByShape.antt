@@ -23,11 +23,10 @@ use Rattle.cynara_keys.specs.Key.{Question}
 use Rattle.cynara_keys.proofs.Minimum.{first_least-all}
 use Rattle.cynara_keys.proofs.Order.{text_cmp-equal, key_total, result_total}
 use Rattle.bucket_store.specs.Order.{policy_cmp}
-use Rattle.bucket_store.specs.parts.Closure.{OnlyAt}
 use Rattle.bucket_store.specs.parts.Search.{StandsAt, BelongsAt}
 use Rattle.bucket_store.proofs.Lists.{All-weaker, All-append}
 use Rattle.bucket_eval.specs.Evaluation.{Contribution, contribution_cmp}
-use Rattle.bucket_eval.specs.parts.Shapes.{is_wild, shape_by, shape_of, sought_field, sought, fits, FitsAt}
+use Rattle.bucket_eval.specs.parts.Shapes.{is_wild, shape_by, shape_of, sought_field, sought, fits, FitsAt, OnlyAt}
 use Rattle.bucket_eval.specs.parts.Shapes.{in_shape, below_shape}
 use Rattle.bucket_eval.proofs.Lesser.{combined, combined-joined, combined-swapped}
 

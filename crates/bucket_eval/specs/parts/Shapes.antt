@@ -1,6 +1,6 @@
 -- The shape of a key, as a number: 4 where the client is the wildcard, 2 where the user is, and 1 where the privilege
 -- is, added up.
-use Rattle.std.specs.Prelude.{◌≡◌, ℕ, ◌+◌, ◌%◌, Bool, true, false, ◌&&◌, ◌==◌, if◌then◌else◌, nat_lt, nat_le, List}
+use Rattle.std.specs.Prelude.{◌≡◌, ℕ, ◌+◌, ◌%◌, Bool, true, false, ◌&&◌, ◌==◌, if◌then◌else◌, nat_lt, nat_le, List, ◌∷◌, ◌++◌, length}
 use Rattle.std.specs.Prelude.{Option, None, Some}
 use Rattle.std.specs.List.{AllByRecursion}
 use Rattle.cynara_keys.specs.Key.{key_matches}
@@ -9,7 +9,6 @@ use Rattle.cynara_keys.specs.declared.fields.Field.TheVariants.{Any, Exact}
 use Rattle.cynara_keys.specs.Key.{Key}
 use Rattle.cynara_keys.specs.declared.keys.Policy.{Policy}
 use Rattle.cynara_keys.specs.Key.{Question}
-use Rattle.bucket_store.specs.parts.Closure.{OnlyAt}
 use Rattle.bucket_eval.specs.Evaluation.{Contribution}
 
 abbrev pub is_wild : Field → Bool
@@ -37,6 +36,17 @@ sought question shape = record {
 -- whether the policy's key matches the question and has the shape
 abbrev pub fits : Question → ℕ → Policy → Bool
 fits question shape policy = key_matches policy.key question && (shape_of policy.key == shape)
+
+-- the element at the place passes the test, and no other does
+pub record OnlyAt {X : Type 0} (test : X → Bool) (list : List X) (at : ℕ) : Type 0 where
+  pub front : List X
+  pub element : X
+  pub back : List X
+  pub parts : list ≡ front ++ element ∷ back
+  pub length_front : length front ≡ at
+  pub before : AllByRecursion (λ other. test other ≡ false) front
+  pub passes : test element ≡ true
+  pub behind : AllByRecursion (λ other. test other ≡ false) back
 
 -- the policy at the place fits and no other does, or none fits
 abbrev pub FitsAt : Question → ℕ → List Policy → Option ℕ → Type 0
