@@ -13,7 +13,8 @@ use Rattle.guard_files.specs.OwnName.{guard_name, list_name, primary_name, backu
 use Rattle.std.specs.Str.{bytes_eq}
 use Rattle.guard_files.specs.Holding.{is_among}
 use Rattle.guard_files.specs.Recovery.{Recovered, backup_set, primary_set, recover}
-use Rattle.guard_files.specs.Settled.{IsSettled}
+use Rattle.guard_files.specs.ListFile.{Listing, listing, is_one}
+use Rattle.guard_files.specs.Settled.{IsLeftCurrent}
 
 -- the refusal that a fault of the disk leads to
 abbrev pub refused : PortFault → VaultRefusal
@@ -56,9 +57,21 @@ pub record IsLeftRefused {D : Type 0} (faults : D → ℕ) (state : D → Option
   pub damaged : IfDamaged refusal (λ file. WhereTold (state old) (λ before. (recover before.current ≡ Err file)
       × (state new ≡ Some (with_all_durable before))))
 
--- the disk tells a store at rest that holds this set, or none
+-- the disk tells a store at rest that holds this set, or none, and whose list is of version 2
 abbrev pub EndsAtRest : Option (List SetFile) → Option DiskState → Type 0
-EndsAtRest held told = (after : DiskState) × (told ≡ Some after) × IsSettled held after
+EndsAtRest held told = (after : DiskState) × (told ≡ Some after) × IsLeftCurrent held after
+
+-- Whether a mount ends with a save of the set that it found: no guard stood, and the list was of version 1.
+abbrev pub is_old : FileMap → Bool
+is_old files = not (is_some (files guard_name)) && old_list (files list_name)
+
+abbrev pub old_listing : Option Listing → Bool
+old_listing None = false
+old_listing (Some said) = is_one said.version
+
+abbrev pub old_list : Option (List ℕ) → Bool
+old_list None = false
+old_list (Some bytes) = old_listing (listing bytes)
 
 -- the names of the files of a set, none where there is none
 abbrev pub set_names : Option (List SetFile) → List (List ℕ)
