@@ -13,7 +13,7 @@ use Rattle.guard_files.specs.OwnName.{guard_name, list_name, primary_name, backu
 use Rattle.std.specs.Str.{bytes_eq}
 use Rattle.guard_files.specs.Holding.{is_among}
 use Rattle.guard_files.specs.Recovery.{Recovered, backup_set, primary_set, recover}
-use Rattle.guard_files.specs.ListFile.{Listing, listing, is_one}
+use Rattle.guard_files.specs.ListFile.{Version, One, Two, Listing, listing}
 use Rattle.guard_files.specs.Settled.{IsLeftCurrent}
 
 -- the refusal that a fault of the disk leads to
@@ -65,9 +65,13 @@ EndsAtRest held told = (after : DiskState) × (told ≡ Some after) × IsLeftCur
 abbrev pub is_old : FileMap → Bool
 is_old files = not (is_some (files guard_name)) && old_list (files list_name)
 
+abbrev pub is_one : Version → Bool
+is_one One = true
+is_one Two = false
+
 abbrev pub old_listing : Option Listing → Bool
 old_listing None = false
-old_listing (Some said) = is_one said.version
+old_listing (Some read) = is_one read.version
 
 abbrev pub old_list : Option (List ℕ) → Bool
 old_list None = false
