@@ -61,10 +61,7 @@ pub record IsLeftRefused {D : Type 0} (faults : D → ℕ) (state : D → Option
 abbrev pub EndsAtRest : Option (List SetFile) → Option DiskState → Type 0
 EndsAtRest held told = (after : DiskState) × (told ≡ Some after) × IsLeftCurrent held after
 
--- Whether a mount ends with a save of the set that it found: no guard stood, and the list was of version 1.
-abbrev pub is_old : FileMap → Bool
-is_old files = not (is_some (files guard_name)) && old_list (files list_name)
-
+-- whether a list file, if there is one, is of version 1
 abbrev pub is_one : Version → Bool
 is_one One = true
 is_one Two = false
@@ -76,6 +73,10 @@ old_listing (Some read) = is_one read.version
 abbrev pub old_list : Option (List ℕ) → Bool
 old_list None = false
 old_list (Some bytes) = old_listing (listing bytes)
+
+-- Whether a mount ends with a save of the set that it found: no guard stood, and the list was of version 1.
+abbrev pub is_old : FileMap → Bool
+is_old files = not (is_some (files guard_name)) && old_list (files list_name)
 
 -- the names of the files of a set, none where there is none
 abbrev pub set_names : Option (List SetFile) → List (List ℕ)
