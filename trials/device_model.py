@@ -1,6 +1,8 @@
 """The policies, users and installs of a device in plain Python: what each command makes of them, which rule refuses it, and
 what a question is answered."""
 
+from typing import NamedTuple
+
 from script_model import ALLOW, BUCKET, DENY, NONE, ROOT
 from smack_model import USUAL_TEMPLATE, decision_text, expanded, label_of
 
@@ -43,13 +45,24 @@ def admits(filters, key):
     return all(own == b"#" or own == text for own, text in zip(filters, key))
 
 
+class Install(NamedTuple):
+    package: bytes
+    author: bytes | None
+    privileges: set
+    hybrid: bool = False
+
+
+def install_label(app, install):
+    return label_of(install.package, app if install.hybrid else None)
+
+
 class Device:
     def __init__(self):
         self.commit = 0
         self.fallbacks = {ROOT: (DENY, b"")}
         self.policies = {ROOT: {}}
         self.users = {}
-        # (application, scope) to (package, author, privileges)
+        # (application, scope) to what is installed
         self.installs = {}
         self.template = USUAL_TEMPLATE
 
@@ -86,9 +99,16 @@ class Device:
         return [b" ".join(words)]
 
     def do_access(self, subject, object_, modes):
-        packages = {package: author for package, author, _ in self.installs.values()}
-        rules = [rule for package in sorted(packages) for rule in expanded(self.template, package, packages[package])]
+        rules = [rule for package in sorted(self.packages()) for rule in self.package_rules(package)]
         return [decision_text(rules, subject, object_, modes)]
+
+    def packages(self):
+        return {install.package for install in self.installs.values()}
+
+    def package_rules(self, package):
+        installs = {app: install for (app, _), install in self.installs.items() if install.package == package}
+        first = next(iter(installs.values()))
+        return expanded(self.template, package, first.author, installs.keys() if first.hybrid else None)
 
     def evaluate(self, bucket, deep, question, known):
         """The result of a bucket, with the bucket and key where it was written (the key is None for a fallback)."""
@@ -234,18 +254,18 @@ class Device:
 
     def register(self, users, installs):
         """The users and installs become these, with what they make of the two buckets that are kept for them."""
-        grants = sum(len(privileges) for _, _, privileges in installs.values())
+        grants = sum(len(install.privileges) for install in installs.values())
         main = {ANY: (BUCKET, MANIFESTS)}
         main.update({(b"*", b"%d" % uid, b"*"): (BUCKET, TYPE_BUCKETS[kind]) for uid, kind in users.items()})
         manifests = {
-            (label_of(package), b"*" if scope == b"*" else b"%d" % scope, privilege): (ALLOW, b"")
-            for (_, scope), (package, _, privileges) in installs.items()
-            for privilege in privileges
+            (install_label(app, install), b"*" if scope == b"*" else b"%d" % scope, privilege): (ALLOW, b"")
+            for (app, scope), install in installs.items()
+            for privilege in install.privileges
         }
         others = self.count() - len(self.policies[MAIN]) - len(self.policies[MANIFESTS])
         self.expect_within(
             users=len(users),
-            packages=len({package for package, _, _ in installs.values()}),
+            packages=len({install.package for install in installs.values()}),
             installs=len(installs),
             grants=grants,
             policies=others + len(main) + len(manifests),
@@ -267,17 +287,35 @@ class Device:
         users = {other: kind for other, kind in self.users.items() if other != uid}
         return self.register(users, {at: install for at, install in self.installs.items() if at[1] != uid})
 
-    def do_install(self, package, author, app, scope, privileges):
+    def do_install(self, package, author, app, scope, privileges, hybrid=False):
         self.expect_layout()
         if scope != b"*" and scope not in self.users:
             raise Refused(7, b"unknown-user", b"%d" % scope)
-        for (other, _), (other_package, _, _) in self.installs.items():
-            if other == app and other_package != package:
-                raise Refused(8, b"other-package", other_package)
-        for other_package, other_author, _ in self.installs.values():
-            if other_package == package and other_author != author:
-                raise Refused(9, b"other-author", other_author or b"-")
-        return self.register(self.users, {**self.installs, (app, scope): (package, author, privileges)})
+        for (other, _), there in self.installs.items():
+            if other == app and there.package != package:
+                raise Refused(8, b"other-package", there.package)
+        own = [there for there in self.installs.values() if there.package == package]
+        for there in own:
+            if there.author != author:
+                raise Refused(9, b"other-author", there.author or b"-")
+        for there in own:
+            if there.hybrid != hybrid:
+                raise Refused(14, b"other-hybrid", b"yes" if there.hybrid else b"no")
+        install = Install(package, author, privileges, hybrid)
+        return self.register(self.users, {**self.installs, (app, scope): install})
+
+    def do_hybrid(self, package, author, app, scope, privileges):
+        return self.do_install(package, author, app, scope, privileges, True)
+
+    def do_convert(self, package, hybrid):
+        self.expect_layout()
+        if package not in self.packages():
+            raise Refused(10, b"not-installed")
+        is_own = lambda install: install.package == package
+        return self.register(
+            self.users,
+            {at: it._replace(hybrid=hybrid) if is_own(it) else it for at, it in self.installs.items()},
+        )
 
     def do_remove(self, app, scope):
         self.expect_layout()

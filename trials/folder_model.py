@@ -7,6 +7,7 @@ from device_model import Device
 from set_model import Damaged, Sets, files_of
 
 FILE_NAME = re.compile(rb"[A-Za-z0-9._~-]{1,255}")
+VERSION = b"version 2\n"
 FIXED = [b"guard", b"list", b"stamp", b"buckets", b"users", b"apps", b"template"]
 
 
@@ -21,11 +22,16 @@ def may_stand_in_list(name):
 
 
 def listed(text, name):
-    """The names of a list file. Damage where it is none."""
-    names = text.split(b"\n")
+    """The names of a list file of either version. Damage where it is none."""
+    names = text.removeprefix(VERSION).split(b"\n")
     if names.pop() or not all(map(may_stand_in_list, names)) or any(low >= high for low, high in zip(names, names[1:])):
         raise Damaged(name, 0)
     return names
+
+
+def list_of(held):
+    """The list file of version 2 that names these files."""
+    return VERSION + b"".join(b"%s\n" % name for name in sorted(held))
 
 
 def recovered(files):
@@ -48,11 +54,11 @@ def device_of(held):
 
 
 def at_rest(files, held):
-    """The files of a folder with this set, after a mount: those of others stay."""
+    """The files of a folder with this set, after a mount: those of others stay, and the list is of version 2."""
     others = {name: text for name, text in files.items() if not is_own(name)}
     if held is None:
         return others
-    return others | held | {b"list": b"".join(b"%s\n" % name for name in sorted(held))}
+    return others | held | {b"list": list_of(held)}
 
 
 def is_no_store(files):

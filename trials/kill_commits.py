@@ -86,8 +86,10 @@ def second_is_refused(environment, held):
 def files_fault(store):
     """What is wrong with the files of a folder at rest."""
     files = set(os.listdir(store))
-    listed = set((store / "list").read_text().splitlines()) | {"list"} if "list" in files else set()
-    return sorted(files ^ listed)
+    if "list" not in files:
+        return sorted(files)
+    version, *names = (store / "list").read_text().splitlines()
+    return sorted(files ^ {"list", *names}) if version == "version 2" else [f"list, which begins with {version}"]
 
 
 def main():

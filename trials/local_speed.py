@@ -117,7 +117,7 @@ def write_files(files, store):
     store.mkdir(parents=True)
     for name, text in files.items():
         (store / os.fsdecode(name)).write_bytes(text)
-    (store / "list").write_bytes(b"".join(b"%s\n" % name for name in sorted(files)))
+    (store / "list").write_bytes(b"version 2\n" + b"".join(b"%s\n" % name for name in sorted(files)))
     return len(files), sum(map(len, files.values()))
 
 

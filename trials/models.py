@@ -10,7 +10,7 @@ import pathlib
 import sys
 
 from device_model import LIMITS, Device
-from script_model import Reader
+from script_model import Reader, number_of
 from smack_model import decision_text, is_label, is_request, rule_of
 
 MOST_BYTES = 16_777_216
@@ -65,6 +65,15 @@ def smack_access(subject, object_, modes, text):
     return decision_text(rules, subject, object_, modes) + b"\n", 0
 
 
+def sample(count):
+    """What `sample_model.py` answers, which runs the generated script: the guest is denied every third application."""
+    denied = (count + 2) // 3
+    return (
+        b"sample %d\ncommits %d\nchecks %d\nallow %d\ndeny %d\n"
+        % (count, 5 + count + denied, 4 * count, 4 * count - denied, denied)
+    )
+
+
 def answered(words, text):
     """What the program answers to these words and this input."""
     match words:
@@ -72,6 +81,8 @@ def answered(words, text):
             return local(text)
         case [b"smack-access", subject, object_, modes]:
             return smack_access(subject, object_, modes, text)
+        case [b"sample", word] if number_of(word, 1, 1000) is not None:
+            return sample(int(word)), 0
     return BAD_COMMAND_LINE
 
 

@@ -9,7 +9,7 @@ since the last sync of the folder, and each file that was written since its own 
 is, a front of either, or other bytes. Such a folder is made, links as links, and is to recover to the state of the last answered
 command or of the one then under way, by a model of recovery and by the next run of `local`, which is to leave the files of that
 state alone, no `~`, and each file with one name. Every other folder is a stop of a run on an earlier such folder: of a mount, a
-repair, or the commits behind it. Ends with status 1 at the first folder that is otherwise."""
+repair, or the commits behind it; some of them have a list of version 1. Ends with status 1 at the first folder that is otherwise."""
 
 import collections
 import os
@@ -199,6 +199,12 @@ def texts_of(files):
     return {name: file.bytes for name, file in files.items()}
 
 
+def aged(files):
+    """The folder as an earlier release left it, with a list of version 1, which the next mount writes anew."""
+    text = files[b"list"].bytes.removeprefix(folder_model.VERSION)
+    return {**files, b"list": File(text, text)}
+
+
 def found_in(store):
     return {os.fsencode(path.name): path.read_bytes() for path in store.iterdir()}
 
@@ -261,6 +267,8 @@ def main():
         while done < count:
             # A run on a folder that a stop left, or on none, and stops at some of its calls.
             begin = draw.choice([left, left, {}])
+            if b"list" in begin and b"guard" not in begin and draw.random() < 0.3:
+                begin = aged(begin)
             first = folder_model.device_of(folder_model.recovered(texts_of(begin))).commit
             script = b"".join(lines[first % len(lines):][:draw.randrange(1, 5)]) if first < len(lines) else b"set ADMIN c * q allow\n"
             calls, states = runs.recorded(begin, script)

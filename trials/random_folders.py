@@ -66,6 +66,10 @@ class Folders:
         elif kind == 7:
             # as a person may leave it, or as another program's folder is
             files = {name: text for name, text in files.items() if name not in (b"guard", b"list")}
+        elif kind == 8 and b"list" in files:
+            # as an earlier release leaves it, or one that is not known yet
+            first = self.draw.choice([b"", b"", b"", b"version 1\n", b"version 3\n", 2 * folder_model.VERSION])
+            files[b"list"] = first + files[b"list"].removeprefix(folder_model.VERSION)
         files[self.draw.choice(OTHERS)] = self.draw.randbytes(3)
         return {name: text for name, text in files.items() if is_kept(name)}
 

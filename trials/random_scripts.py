@@ -5,7 +5,7 @@ USER_TYPES = [b"system", b"admin", b"normal", b"guest"]
 BUCKETS = [b".", b"A", b"B", b"C", b"D", b"E", b"_", b"b" * 64]
 FALLBACKS = [b"deny", b"none", b"allow", b"agent:7:a"]
 BUILT_IN = [b"MAIN", b"MANIFESTS", b"ADMIN", b"USER_TYPE_SYSTEM", b"USER_TYPE_ADMIN", b"USER_TYPE_NORMAL", b"USER_TYPE_GUEST"]
-CLIENTS = [b"c", b"d", b"User::Pkg::pk", b"User::Pkg::x", b"**", b"A" * 255]
+CLIENTS = [b"c", b"d", b"User::Pkg::pk", b"User::Pkg::x", b"User::Pkg::pk::App::a", b"User::Pkg::x::App::b", b"**", b"A" * 255]
 UIDS = [b"0", b"1", b"7", b"10", b"5001", b"4294967295"]
 USERS = [b"u", *UIDS]
 PRIVILEGES = [b"p", b"q", b"http://tizen.org/privilege/camera", b"!", b"~", b"##"]
@@ -17,6 +17,7 @@ APPLICATIONS = [b"a", b"b", b"a1", b"a-2", b"_.", b"y" * 100]
 LABELS = [
     b"System", b"User", b"User::Home", b"User::Pkg::pk::RO", b"User::Author::web", b"_", b"^", b"*", b"#", b"L" * 255,
     *(10 * [b"User::Pkg::pk", b"User::Pkg::x", b"System"]),
+    *(5 * [b"User::Pkg::pk::App::a", b"User::Pkg::pk::App::b", b"User::Pkg::x::App::a"]),
 ]
 PLACEHOLDERS = [b"~PROCESS~", b"~PATH_RW~", b"~PATH_RO~", b"~AUTHOR~"]
 BAD_WORDS = [
@@ -27,14 +28,14 @@ BAD_WORDS = [
 ]
 BAD_LINES = [
     b" ", b"\t", b"end", b"End", b"batch ", b" layout", b"layout x", b"status 0", b"stop", b"Status", b"template x", b"serve 1",
-    b"\xef\xbb\xbfstatus", b"status\r", b"set", b"set .", b"check", b"install pk - a", b"access A X b", b"access A X -",
+    b"\xef\xbb\xbfstatus", b"status\r", b"set", b"set .", b"check", b"install pk - a", b"hybrid pk - a", b"convert pk", b"convert pk pure", b"access A X b", b"access A X -",
 ]
 # How often each kind of line comes, by the kind of script.
 THEMES = {
     "policies": {"set": 8, "unset": 1, "batch": 1, "check": 8, "list": 1, "erase": 1, "status": 1, "skipped": 1},
     "buckets": {"set": 10, "unset": 1, "batch": 2, "bucket": 5, "drop": 1, "check": 4, "from": 6, "list": 1, "erase": 1},
     "device": {
-        "layout": 1, "user": 4, "nouser": 1, "install": 8, "remove": 3, "template": 1, "set": 6, "bucket": 1, "drop": 1, "batch": 1,
+        "layout": 1, "user": 4, "nouser": 1, "install": 6, "hybrid": 4, "convert": 2, "remove": 3, "template": 1, "set": 6, "bucket": 1, "drop": 1, "batch": 1,
         "check": 10, "from": 3, "list": 3, "erase": 1, "access": 6, "status": 1, "skipped": 1,
     },
 }
@@ -113,6 +114,12 @@ class Scripts:
         privileges = [self.one(PRIVILEGES) for _ in range(self.draw.choice([0, 1, 1, 2, 5]))]
         words = [self.one(PACKAGES), self.one(AUTHORS), self.one(APPLICATIONS), self.name(UIDS, [b"*"]), *privileges]
         return [b"install " + b" ".join(words)]
+
+    def hybrid(self):
+        return [line.replace(b"install", b"hybrid", 1) for line in self.install()]
+
+    def convert(self):
+        return [b"convert %s %s" % (self.one(PACKAGES), self.one([b"hybrid", b"plain"]))]
 
     def remove(self):
         return [b"remove %s %s" % (self.one(APPLICATIONS), self.name(UIDS, [b"*"]))]

@@ -12,7 +12,7 @@ import tempfile
 
 import models
 import random_scripts
-from device_model import LIMITS, Device
+from device_model import LIMITS, Device, Install
 from program import Progress
 from script_model import ALLOW, MOST_TEMPLATE_LINES, USER_TYPES
 from set_damages import Damages
@@ -25,7 +25,7 @@ DAMAGES = [(0, 0), *(3 * [(0, 1)]), *(3 * [(1, 0)]), (0, 2), (0, 4), (2, 0), (3,
 AT_ONCE = 250
 SHOWN = 5
 COMMANDS = {
-    "set": 8, "batch": 2, "bucket": 4, "drop": 1, "unset": 1, "user": 4, "nouser": 1, "install": 10, "remove": 1,
+    "set": 8, "batch": 2, "bucket": 4, "drop": 1, "unset": 1, "user": 4, "nouser": 1, "install": 8, "hybrid": 6, "convert": 2, "remove": 1,
     "template": 1,
 }
 
@@ -64,15 +64,15 @@ def full_state(counted, more):
     if counted == "users":
         device.users = {uid: b"guest" for uid in range(most)}
     elif counted == "packages":
-        device.installs = {(b"a%d" % number, b"*"): (b"p%d" % number, None, set()) for number in range(most)}
+        device.installs = {(b"a%d" % number, b"*"): Install(b"p%d" % number, None, set()) for number in range(most)}
     elif counted == "installs":
         packages = [b"p%d" % (number % 1_000) for number in range(most)]
-        device.installs = {(b"a%d" % at, b"*"): (package, b"au", {b"p"}) for at, package in enumerate(packages)}
+        device.installs = {(b"a%d" % at, b"*"): Install(package, b"au", {b"p"}) for at, package in enumerate(packages)}
     elif counted == "grants":
         # installs of one package that ask for the same, so that there are half as many policies
         half = {b"p%d" % number for number in range(most // 2)}
-        device.installs = {(app, b"*"): (b"pk", None, half) for app in (b"a", b"b")}
-        device.installs[b"c", b"*"] = b"pk", None, set([b"p1"][:more])
+        device.installs = {(app, b"*"): Install(b"pk", None, half) for app in (b"a", b"b")}
+        device.installs[b"c", b"*"] = Install(b"pk", None, set([b"p1"][:more]))
     elif counted == "buckets":
         names = [b"b%d" % number for number in range(most - len(device.policies))]
         device.policies |= {name: {} for name in names}

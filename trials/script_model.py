@@ -10,6 +10,9 @@ USER_TYPES = (b"system", b"admin", b"normal", b"guest")
 IN_NAMES = b"ABCDEFGHIJKLMNOPQRSTUVWXYZabcdefghijklmnopqrstuvwxyz0123456789"
 ROOT = b""
 MOST_TEMPLATE_LINES = 64
+# Lines that are known in scripts for the program's own folder alone, and in those for a service alone.
+OF_LOCAL = ("access", "status")
+OF_ADMIN = ("stop",)
 
 
 def is_printable(word, most):
@@ -100,17 +103,19 @@ def step_of(line):
             return "evaluate", ROOT, True, question
         case [b"from", bucket, b"deep" | b"flat" as mode, *question] if bucket_of(bucket) is not None and len(question) == 3:
             return ("evaluate", bucket_of(bucket), mode == b"deep", question) if all(map(is_name, question)) else None
-        case [b"layout" | b"status" as word]:
+        case [b"layout" | b"status" | b"stop" as word]:
             return (word.decode(),)
         case [b"user", uid, kind] if uid_of(uid) is not None and kind in USER_TYPES:
             return "user", uid_of(uid), kind
         case [b"nouser", uid] if uid_of(uid) is not None:
             return "nouser", uid_of(uid)
-        case [b"install", package, author, app, scope, *privileges]:
+        case [b"install" | b"hybrid" as word, package, author, app, scope, *privileges]:
             is_known = is_ident(package) and (author == b"-" or is_ident(author)) and is_ident(app)
             if not is_known or scope_of(scope) is None or not all(map(is_name, privileges)):
                 return None
-            return "install", package, None if author == b"-" else author, app, scope_of(scope), set(privileges)
+            return word.decode(), package, None if author == b"-" else author, app, scope_of(scope), set(privileges)
+        case [b"convert", package, b"hybrid" | b"plain" as kind] if is_ident(package):
+            return "convert", package, kind == b"hybrid"
         case [b"remove", app, scope] if is_ident(app) and scope_of(scope) is not None:
             return "remove", app, scope_of(scope)
         case [b"access", subject, object_, modes] if is_label(subject) and is_label(object_) and is_request(modes):
@@ -122,7 +127,8 @@ class Reader:
     """Takes the lines of a script in turn. A line that opens a block, one within it, a blank line and a comment ask for
     nothing."""
 
-    def __init__(self):
+    def __init__(self, place="local"):
+        self.unknown = OF_ADMIN if place == "local" else OF_LOCAL
         self.block = None
         self.within = []
 
@@ -137,7 +143,8 @@ class Reader:
         if line in (b"batch", b"template"):
             self.block, self.within = line, []
             return ()
-        return step_of(line)
+        step = step_of(line)
+        return None if step and step[0] in self.unknown else step
 
     def batch_step(self, line):
         if line == b"end":

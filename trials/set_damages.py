@@ -3,6 +3,7 @@ a line of a file, or in the set as a whole. Some of it leaves the set right."""
 
 import re
 
+from device_model import Install
 from random_scripts import BAD_WORDS, PRIVILEGES
 from script_model import ALLOW, BUCKET, DENY, NONE
 from set_model import ANY, BUILT_IN, FIXED, MAIN, MANIFESTS, sort_of
@@ -99,12 +100,12 @@ class Damages:
         if not device.installs:
             return
         app, scope = self.one(device.installs)
-        package, author, privileges = device.installs[app, scope]
+        package, author, privileges, hybrid = device.installs[app, scope]
         if self.draw.random() < 0.5:
             del device.installs[app, scope]
         if self.draw.random() < 0.3:
             scope = self.one([b"*", *device.users, 7, 2**32])
-        match self.draw.randrange(6):
+        match self.draw.randrange(7):
             case 0:
                 package = self.one([b"pk", b"x", b"other", b".x"])
             case 1:
@@ -115,7 +116,9 @@ class Damages:
                 privileges = privileges ^ {self.one(PRIVILEGES), self.one([b"q", *BAD_WORDS])}
             case 4:
                 return
-        device.installs[app, scope] = package, author, privileges
+            case 5:
+                hybrid = not hybrid
+        device.installs[app, scope] = Install(package, author, privileges, hybrid)
 
     def state_commit(self, device):
         device.commit = self.one([0, 2**32, 2**64 - 1, 2**64, 10**20])

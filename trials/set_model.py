@@ -6,13 +6,14 @@ The model says in plain Python how a policy state is spelled as files, and what 
 nothing with the crates. A set is a dictionary from names to texts. `files_of` spells a state, and `answer` says whether
 a set is that of a state, or else its first fault."""
 
+import pathlib
 import re
 import sys
 
-from device_model import ANY, BUILT_IN, LIMITS, MAIN, MANIFESTS, TYPE_BUCKETS, Device
+from device_model import ANY, BUILT_IN, LIMITS, MAIN, MANIFESTS, TYPE_BUCKETS, Device, Install, install_label
 from script_model import ALLOW, BUCKET, DENY, MOST_TEMPLATE_LINES, NONE, ROOT, USER_TYPES
 from script_model import is_ident, is_name, is_printable
-from smack_model import MODES, expanded, label_of, template_rule_of
+from smack_model import MODES, template_rule_of
 
 FIXED = (b"apps", b"buckets", b"stamp", b"template", b"users")
 PLAIN = (DENY, b""), (NONE, b""), (ALLOW, b"")
@@ -59,13 +60,14 @@ def scope_text(scope):
 
 
 def install_order(install):
-    (app, scope), (package, _, _) = install
-    return package, app, -1 if scope == b"*" else scope
+    (app, scope), it = install
+    return it.package, app, -1 if scope == b"*" else scope
 
 
 def install_text(install):
-    (app, scope), (package, author, privileges) = install
-    return b";".join([package, author or b"", app, scope_text(scope), *sorted(privileges)])
+    (app, scope), it = install
+    package = (b"+" if it.hybrid else b"") + it.package
+    return b";".join([package, it.author or b"", app, scope_text(scope), *sorted(it.privileges)])
 
 
 def rule_text(rule):
@@ -75,10 +77,9 @@ def rule_text(rule):
 
 
 def load_files(device):
-    authors = {package: author for package, author, _ in device.installs.values()}
     return {
-        b"r." + package: text_of(map(rule_text, expanded(device.template, package, author)))
-        for package, author in authors.items()
+        b"r." + package: text_of(map(rule_text, device.package_rules(package)))
+        for package in device.packages()
     }
 
 
@@ -108,9 +109,9 @@ def main_of(device):
 def manifests_of(device):
     """The policies of `MANIFESTS` that the installs call for."""
     return {
-        (label_of(package), scope_text(scope), privilege): (ALLOW, b"")
-        for (_, scope), (package, _, privileges) in device.installs.items()
-        for privilege in privileges
+        (install_label(app, install), scope_text(scope), privilege): (ALLOW, b"")
+        for (app, scope), install in device.installs.items()
+        for privilege in install.privileges
     }
 
 
@@ -150,7 +151,7 @@ class Sets:
         self.files = files
         self.device = Device()
         self.device.fallbacks, self.device.policies, self.device.template = {}, {}, []
-        self.bucket, self.package_of, self.author_of, self.grants = None, {}, {}, 0
+        self.bucket, self.package_of, self.author_of, self.kind_of, self.grants = None, {}, {}, {}, 0
 
     def read(self):
         device = self.device
@@ -224,6 +225,7 @@ class Sets:
         fields = line.split(b";")
         expect(len(fields) >= 4)
         package, author, app, scope, *privileges = fields
+        hybrid, package = package[0:1] == b"+", package.removeprefix(b"+")
         author = author or None
         expect(is_ident(package) and is_ident(app) and (author is None or is_ident(author)))
         expect(all(map(is_name, privileges)) and all(one < next_ for one, next_ in zip(privileges, privileges[1:])))
@@ -231,7 +233,8 @@ class Sets:
         expect(scope == b"*" or scope in self.device.users)
         expect(self.package_of.setdefault(app, package) == package)
         expect(self.author_of.setdefault(package, author) == author)
-        install = (app, scope), (package, author, privileges)
+        expect(self.kind_of.setdefault(package, hybrid) == hybrid)
+        install = (app, scope), Install(package, author, privileges, hybrid)
         self.device.installs.update([install])
         self.grants += len(privileges)
         expect(len(self.author_of) <= LIMITS["packages"] and len(self.device.installs) <= LIMITS["installs"])
@@ -301,8 +304,19 @@ def self_test():
     device.do_install(b"pk", None, b"a1", b"*", {b"p"})
     if files_of(device) != worked:
         sys.exit(f"the worked state is spelled {files_of(device)}")
+    hybrid = Device()
+    hybrid.do_layout()
+    hybrid.do_hybrid(b"pk", None, b"a1", b"*", {b"p"})
+    hybrid.do_hybrid(b"pk", None, b"a2", b"*", {b"p", b"q"})
+    after = pathlib.Path(__file__).resolve().parent.parent / "examples" / "hybrid_package_in_files" / "after"
+    typed = {file.name.encode(): file.read_bytes() for file in after.iterdir() if file.name != "list"}
+    if files_of(hybrid) != typed:
+        sys.exit(f"the state with a hybrid package is spelled {files_of(hybrid)}")
     cases = [
         (worked, b"desk same"),
+        (typed, b"desk same"),
+        (typed | {b"apps": typed[b"apps"].replace(b"+pk;;a2", b"pk;;a2")}, b"damaged apps 2"),
+        (worked | {b"apps": b"++pk;;a1;*;p\n"}, b"damaged apps 1"),
         (worked | {b"stamp": b"02\n"}, b"damaged stamp 1"),
         (worked | {b"buckets": worked[b"buckets"].replace(b"0x0", b"0X0", 1)}, b"damaged buckets 1"),
         (worked | {b"_a.b": b""}, b"damaged _a.b 0"),
@@ -311,7 +325,7 @@ def self_test():
     for files, wanted in cases:
         if answer(files) != wanted:
             sys.exit(f"the model answers {answer(files)}, and {wanted} is wanted")
-    print(f"{len(cases) + 1} worked cases, answered as wanted")
+    print(f"{len(cases) + 2} worked cases, answered as wanted")
 
 
 if __name__ == "__main__":

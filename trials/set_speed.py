@@ -11,7 +11,7 @@ import subprocess
 import sys
 import tempfile
 
-from device_model import LIMITS, Device
+from device_model import LIMITS, Device, Install
 from script_model import ALLOW, BUCKET
 from set_model import MAIN, MANIFESTS, files_of, main_of, manifests_of
 from set_program import answers, built
@@ -31,7 +31,7 @@ def full_device():
         package, author = b"org.tizen.package%d" % (number // 8), b"author%d" % (number // 80)
         scope = b"*" if number % 4 else 5_000 + number % LIMITS["users"]
         privileges = {b"http://tizen.org/privilege/p%d" % (number % 8 * 4 + more) for more in range(4)}
-        device.installs[b"org.tizen.app%d" % number, scope] = package, author, privileges
+        device.installs[b"org.tizen.app%d" % number, scope] = Install(package, author, privileges)
     device.policies[MAIN], device.policies[MANIFESTS] = main_of(device), manifests_of(device)
     own = [b"bucket%03d" % number for number in range(LIMITS["buckets"] - len(device.policies))]
     for name, following in zip(own, [*own[1:], b"ADMIN"]):

@@ -42,19 +42,25 @@ def template_rule_of(line):
     return rule
 
 
-def label_of(package):
-    return b"User::Pkg::" + package
+def label_of(package, app=None):
+    """The label of a package, or that of an application of its own."""
+    return b"User::Pkg::" + package + (b"" if app is None else b"::App::" + app)
 
 
-def expanded(template, package, author):
-    """The rules that a template gives for a package; without an author the lines that name it are left out."""
+def expanded(template, package, author, apps=None):
+    """The rules that a template gives for a package; without an author the lines that name it are left out. Of a hybrid package
+    the applications are given, for each of which a line with `~PROCESS~` has a rule."""
     label = label_of(package)
-    labels = {b"~PROCESS~": label, b"~PATH_RW~": label, b"~PATH_RO~": label + b"::RO"}
+    labels = {b"~PATH_RW~": label, b"~PATH_RO~": label + b"::RO"}
     if author is not None:
         labels[b"~AUTHOR~"] = b"User::Author::" + author
     for subject, object_, *modes in template:
-        if author is not None or b"~AUTHOR~" not in (subject, object_):
-            yield [labels.get(subject, subject), labels.get(object_, object_), *modes]
+        if author is None and b"~AUTHOR~" in (subject, object_):
+            continue
+        is_each = apps is not None and b"~PROCESS~" in (subject, object_)
+        for process in [label_of(package, app) for app in sorted(apps)] if is_each else [label]:
+            own = labels | {b"~PROCESS~": process}
+            yield [own.get(subject, subject), own.get(object_, object_), *modes]
 
 
 def decide(rules, subject, object_, asked):

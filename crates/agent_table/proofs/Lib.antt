@@ -7,3 +7,4 @@ mod Answering
 mod Keeping
 mod Finding
 mod Pairing
+mod Leaving

@@ -22,12 +22,12 @@ use Rattle.agent_table.proofs.Waiting.{find-passes}
 
 -- ---- lists
 
-AllByRecursion-map : {X : Type 0} (P Q : X → Type 0) (f : X → X) → ((x : X) → P x → Q (f x)) → (xs : List X)
+pub AllByRecursion-map : {X : Type 0} (P Q : X → Type 0) (f : X → X) → ((x : X) → P x → Q (f x)) → (xs : List X)
     → AllByRecursion P xs → AllByRecursion Q (map f xs)
 AllByRecursion-map P Q f step [] all = tt
 AllByRecursion-map P Q f step (x ∷ xs) all = (step x all.0, AllByRecursion-map P Q f step xs all.1)
 
-AllByRecursion-filter : {X : Type 0} (P : X → Type 0) (test : X → Bool) (xs : List X) → AllByRecursion P xs
+pub AllByRecursion-filter : {X : Type 0} (P : X → Type 0) (test : X → Bool) (xs : List X) → AllByRecursion P xs
     → AllByRecursion P (filter test xs)
 AllByRecursion-filter P test [] all = all
 AllByRecursion-filter P test (x ∷ xs) all =
@@ -38,7 +38,7 @@ AllByRecursion-filter P test (x ∷ xs) all =
       | false ↦ rest
     ]
 
-AllByRecursion-find : {X : Type 0} (P : X → Type 0) (test : X → Bool) (xs : List X) (x : X) → AllByRecursion P xs
+pub AllByRecursion-find : {X : Type 0} (P : X → Type 0) (test : X → Bool) (xs : List X) (x : X) → AllByRecursion P xs
     → find test xs ≡ Some x → P x
 AllByRecursion-find P test [] x all found = cc
 AllByRecursion-find {X} P test (y ∷ xs) x all found =
@@ -52,18 +52,18 @@ AllByRecursion-find {X} P test (y ∷ xs) x all found =
 
 -- ---- one open question
 
-abbrev AnsweredAs : State → Option Bool → Type 0
+abbrev pub AnsweredAs : State → Option Bool → Type 0
 AnsweredAs Waiting given = Unit {0}
 AnsweredAs Given given = Unit {0}
 AnsweredAs (Answered allowed) given = given ≡ Some allowed
 AnsweredAs Gone given = Unit {0}
 
 -- the question is the one put under its number, and its answer the one given to it
-record Stands (puts : ℕ → Option Question) (given : ℕ → Option Bool) (bound : ℕ)
+pub record Stands (puts : ℕ → Option Question) (given : ℕ → Option Bool) (bound : ℕ)
     (question : OpenQuestion) : Type 0 where
-  below : question.number < bound
-  was_put : puts question.number ≡ Some question.question
-  was_answered : AnsweredAs question.state (given question.number)
+  pub below : question.number < bound
+  pub was_put : puts question.number ≡ Some question.question
+  pub was_answered : AnsweredAs question.state (given question.number)
 
 AnsweredAs-once_left : (state : State) (given : Option Bool) → AnsweredAs state given
     → AnsweredAs (once_left state) given
@@ -160,7 +160,7 @@ module _ (puts : ℕ → Option Question) (given : ℕ → Option Bool) (table :
       ])
       table.questions all
 
-all-stand : (run : List Call)
+pub all-stand : (run : List Call)
     → AllByRecursion (Stands (λ n. question_put n run) (λ n. answer_given n run) (table_after run).next)
     (table_after run).questions
 all-stand [] = tt
@@ -221,11 +221,11 @@ all-paired run number =
 
 -- ---- numbers to come
 
-after_next-next : (found : Option OpenQuestion) (table : Table) → (after_next found table).next ≡ table.next
+pub after_next-next : (found : Option OpenQuestion) (table : Table) → (after_next found table).next ≡ table.next
 after_next-next None table = refl
 after_next-next (Some found) table = refl
 
-after_take-next : (reply : Result Taken TakeRefusal) (number : ℕ) (table : Table)
+pub after_take-next : (reply : Result Taken TakeRefusal) (number : ℕ) (table : Table)
     → (after_take reply number table).next ≡ table.next
 after_take-next (Ok taken) number table = refl
 after_take-next (Err (UnknownNumber other)) number table = refl
@@ -233,7 +233,7 @@ after_take-next (Err (AgentGone other)) number table = refl
 after_take-next (Err Stopped) number table = refl
 after_take-next (Err NotYet) number table = refl
 
-cond-next : (b : Bool) (one other : Table) → one.next ≡ other.next → (cond b one other).next ≡ other.next
+pub cond-next : (b : Bool) (one other : Table) → one.next ≡ other.next → (cond b one other).next ≡ other.next
 cond-next true one other same = same
 cond-next false one other same = refl
 

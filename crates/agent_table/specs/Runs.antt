@@ -1,7 +1,10 @@
 -- Whole runs of calls on a table: what was put under a number, and what was answered to it.
-use Rattle.std.specs.Prelude.{◌≡◌, ℕ, Bool, ◌&&◌, ◌==◌, if◌then◌else◌, List, [], ◌∷◌, Option, Some, None, is_none}
+use Rattle.std.specs.Prelude.{◌≡◌, ℕ, Bool, true, false, ◌&&◌, ◌||◌, ◌==◌, if◌then◌else◌, List, [], ◌∷◌, Option, Some}
+use Rattle.std.specs.Prelude.{None, is_none}
 use Rattle.cynara_keys.specs.declared.results.Kind.{Kind}
 use Rattle.cynara_keys.specs.Key.{Question}
+use Rattle.agent_table.specs.declared.refusals.TakeRefusal.{TakeRefusal}
+use Rattle.agent_table.specs.declared.refusals.TakeRefusal.TheVariants.{AgentGone}
 use Rattle.agent_table.specs.declared.table.Taken.{Taken}
 use Rattle.agent_table.specs.OpenQuestion.{numbered, first_waiting, is_owed_by}
 use Rattle.agent_table.specs.Table.{Table, fresh, after_register, after_put, after_next, after_answer}
@@ -65,3 +68,41 @@ answer_given number (stop ∷ earlier) = answer_given number earlier
 pub record IsPaired (number : ℕ) (run : List Call) (taken : Taken) : Type 0 where
   pub question : question_put number run ≡ Some taken.question
   pub allowed : answer_given number run ≡ Some taken.allowed
+
+-- the kind whose agent the question under the number was put to in a run, if one was put
+abbrev pub kind_put : ℕ → List Call → Option ℕ
+kind_put number [] = None
+kind_put number (register kind ∷ earlier) = kind_put number earlier
+kind_put number (put kind question metadata ∷ earlier) =
+    if is_none (put_fault kind (table_after earlier)) && (table_after earlier).next == number then Some kind.0
+    else kind_put number earlier
+kind_put number (next kind ∷ earlier) = kind_put number earlier
+kind_put number (answer kind other allowed ∷ earlier) = kind_put number earlier
+kind_put number (take other ∷ earlier) = kind_put number earlier
+kind_put number (drop_agent kind ∷ earlier) = kind_put number earlier
+kind_put number (stop ∷ earlier) = kind_put number earlier
+
+abbrev pub is_kind : ℕ → Option ℕ → Bool
+is_kind kind None = false
+is_kind kind (Some other) = other == kind
+
+-- whether the agent that the question under the number was put to left in a run, after the question was put
+abbrev pub agent_has_left : ℕ → List Call → Bool
+agent_has_left number [] = false
+agent_has_left number (register kind ∷ earlier) = agent_has_left number earlier
+agent_has_left number (put kind question metadata ∷ earlier) = agent_has_left number earlier
+agent_has_left number (next kind ∷ earlier) = agent_has_left number earlier
+agent_has_left number (answer kind other allowed ∷ earlier) = agent_has_left number earlier
+agent_has_left number (take other ∷ earlier) = agent_has_left number earlier
+agent_has_left number (drop_agent kind ∷ earlier) = is_kind kind (kind_put number earlier) || agent_has_left number earlier
+agent_has_left number (stop ∷ earlier) = agent_has_left number earlier
+
+-- its agent left after the question under the number was put, and before it was answered
+pub record HasLostItsAgent (number : ℕ) (run : List Call) : Type 0 where
+  pub left : agent_has_left number run ≡ true
+  pub unanswered : answer_given number run ≡ None
+
+-- a refusal that tells of an agent that left names the question that lost it
+abbrev pub TellsOfTheLoss : ℕ → List Call → TakeRefusal → Type 0
+TellsOfTheLoss number run (AgentGone other) = (other ≡ number) × HasLostItsAgent number run
+TellsOfTheLoss number run refusal = Unit {0}

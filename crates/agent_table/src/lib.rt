@@ -14,5 +14,5 @@ mod waiting_numbers;
 
 pub use limits::{MOST_NUMBERS, MOST_OPEN};
 pub use refusals::{AnswerRefusal, PutRefusal, RegisterRefusal, TakeRefusal};
-pub use runs::answers_are_paired;
+pub use runs::{answers_are_paired, gone_where_the_agent_left};
 pub use table::{Asked, Questions, Taken};

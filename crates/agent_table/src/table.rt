@@ -1,8 +1,10 @@
 ghost use Rattle.std.specs.Prelude.{◌≡◌, ◌<◌, length, None, slice_get};
 ghost use Rattle.std.specs.Prelude.{IsTrue, IsSome, IfSome, MatchOption, IfOk, IfErr, OnOk, OnErr};
+ghost use Rattle.std.specs.List.{AllByRecursion};
 ghost use Rattle.std.specs.Option.{option_map};
 ghost use Rattle.cynara_keys.specs.PolicyResult.{is_agent};
 ghost use Rattle.agent_table.specs.OpenQuestion.{numbered, first_waiting};
+ghost use Rattle.agent_table.specs.Rising.{Rises, numbers_of};
 ghost use Rattle.agent_table.specs.Table.{fresh, after_register, after_put, after_next, after_answer};
 ghost use Rattle.agent_table.specs.Table.{after_drop_agent, after_stop};
 ghost use Rattle.agent_table.specs.Refusals.{register_fault, put_fault, RefusesAgent, RefusesQuestion};
@@ -277,6 +279,15 @@ impl Questions {
         ensures { self.new ≡ after_stop self.old }
     {
         self.stopped = true;
+    }
+
+    /// A law of every table, which does nothing when it is called: the numbers of the open questions rise in the order in
+    /// which these were put, and the next one is above them all.
+    pub fn numbers_rise(&self)
+        ensures rising { Rises (numbers_of self.now.questions) }
+        ensures below { AllByRecursion (λ number. number < self.now.next) (numbers_of self.now.questions) }
+    {
+        let _next = self.next;
     }
 
     /// Whether the table was stopped. Takes no memory.

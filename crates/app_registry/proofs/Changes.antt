@@ -9,15 +9,15 @@ use Rattle.std.proofs.lemmas.Cmp.{nat_list_eq_equiv, nat_eq_equiv}
 use Rattle.std.proofs.lemmas.List.Kept.{IsStrictlySortedBy-filter}
 use Rattle.cynara_keys.specs.Text.{same_text}
 use Rattle.cynara_keys.specs.declared.limits.Counted.TheVariants.{Users}
-use Rattle.app_registry.specs.Install.{install_cmp, is_for_user, same_author}
-use Rattle.app_registry.specs.Refusal.{unknown_user, unknown_scope, is_elsewhere, other_package, is_by_another, other_author, over, installs_limit, owner_fault}
+use Rattle.app_registry.specs.Install.{install_cmp, is_for_user, same_author, same_kind}
+use Rattle.app_registry.specs.Refusal.{unknown_user, unknown_scope, is_elsewhere, other_package, is_by_another, other_author, is_of_other_kind, other_kind, over, installs_limit, owner_fault}
 use Rattle.app_registry.specs.Registry.{user_cmp, has_user}
 use Rattle.app_registry.specs.Rising.{placed}
 use Rattle.app_registry.specs.Rules.{IsRegistry}
 use Rattle.app_registry.specs.declared.installs.Install.{Install}
 use Rattle.app_registry.specs.declared.installs.Scope.{Scope}
 use Rattle.app_registry.specs.declared.installs.Scope.TheVariants.{Everyone, One}
-use Rattle.app_registry.specs.declared.refusals.RegistryRefusal.TheVariants.{UnknownUser, OtherPackage, OtherAuthor}
+use Rattle.app_registry.specs.declared.refusals.RegistryRefusal.TheVariants.{UnknownUser, OtherPackage, OtherAuthor, OtherHybrid}
 use Rattle.app_registry.specs.Limits.{most_users}
 use Rattle.app_registry.specs.declared.users.User.{User}
 use Rattle.app_registry.specs.declared.users.UserType.TheVariants.{System}
@@ -88,7 +88,23 @@ is_by_another-flip a b =
     let authors = same_author-flip b.author a.author in
     λ i. names i && not (authors i)
 
-and-not : (a b : Bool) → b ≡ true → (a && not b) ≡ false
+same_kind-flip : (a b : Bool) → same_kind a b ≡ same_kind b a
+same_kind-flip true true = refl
+same_kind-flip true false = refl
+same_kind-flip false true = refl
+same_kind-flip false false = refl
+
+pub same_kind-itself : (hybrid : Bool) → same_kind hybrid hybrid ≡ true
+same_kind-itself true = refl
+same_kind-itself false = refl
+
+is_of_other_kind-flip : (a b : Install) → is_of_other_kind a b ≡ is_of_other_kind b a
+is_of_other_kind-flip a b =
+    let names = nat_list_eq_equiv.symm b.«package» a.«package» in
+    let kinds = same_kind-flip b.hybrid a.hybrid in
+    λ i. names i && not (kinds i)
+
+pub and-not : (a b : Bool) → b ≡ true → (a && not b) ≡ false
 and-not true b h = ap not h
 and-not false b h = refl
 
@@ -101,6 +117,11 @@ is_by_another-itself : (install : Install) → is_by_another install install ≡
 is_by_another-itself install =
     and-not (same_text install.«package» install.«package») (same_author install.author install.author)
     (same_author-itself install.author)
+
+is_of_other_kind-itself : (install : Install) → is_of_other_kind install install ≡ false
+is_of_other_kind-itself install =
+    and-not (same_text install.«package» install.«package») (same_kind install.hybrid install.hybrid)
+    (same_kind-itself install.hybrid)
 
 module _ (clash : Install → Install → Bool) (flips : (a b : Install) → clash a b ≡ clash b a)
     (itself : (install : Install) → clash install install ≡ false) where
@@ -124,27 +145,38 @@ module _ (clash : Install → Install → Bool) (flips : (a b : Install) → cla
       AllByRecursion-placed install_total (λ another. clash other another ≡ false) install installs (flips other install ∙ new) old)
       installs all free)
 
-abbrev InOnePackage : List Install → Install → Type 0
+abbrev pub InOnePackage : List Install → Install → Type 0
 InOnePackage installs install = other_package installs install ≡ None
 
-abbrev ByOneAuthor : List Install → Install → Type 0
+abbrev pub ByOneAuthor : List Install → Install → Type 0
 ByOneAuthor installs install = other_author installs install ≡ None
 
-from_package : (installs : List Install) (install : Install) → InOnePackage installs install
+abbrev pub OfOneKind : List Install → Install → Type 0
+OfOneKind installs install = other_kind installs install ≡ None
+
+pub from_package : (installs : List Install) (install : Install) → InOnePackage installs install
     → AllByRecursion (λ other. is_elsewhere install other ≡ false) installs
 from_package installs install h = none_does (is_elsewhere install) installs (option_map-none _ _ h)
 
-to_package : (installs : List Install) (install : Install) → AllByRecursion (λ other. is_elsewhere install other ≡ false) installs
+pub to_package : (installs : List Install) (install : Install) → AllByRecursion (λ other. is_elsewhere install other ≡ false) installs
     → InOnePackage installs install
 to_package installs install free = ap (option_map (λ other. OtherPackage other.«package»)) (find-none (is_elsewhere install) installs free)
 
-from_author : (installs : List Install) (install : Install) → ByOneAuthor installs install
+pub from_author : (installs : List Install) (install : Install) → ByOneAuthor installs install
     → AllByRecursion (λ other. is_by_another install other ≡ false) installs
 from_author installs install h = none_does (is_by_another install) installs (option_map-none _ _ h)
 
-to_author : (installs : List Install) (install : Install) → AllByRecursion (λ other. is_by_another install other ≡ false) installs
+pub to_author : (installs : List Install) (install : Install) → AllByRecursion (λ other. is_by_another install other ≡ false) installs
     → ByOneAuthor installs install
 to_author installs install free = ap (option_map (λ other. OtherAuthor other.author)) (find-none (is_by_another install) installs free)
+
+pub from_kind : (installs : List Install) (install : Install) → OfOneKind installs install
+    → AllByRecursion (λ other. is_of_other_kind install other ≡ false) installs
+from_kind installs install h = none_does (is_of_other_kind install) installs (option_map-none _ _ h)
+
+pub to_kind : (installs : List Install) (install : Install) → AllByRecursion (λ other. is_of_other_kind install other ≡ false) installs
+    → OfOneKind installs install
+to_kind installs install free = ap (option_map (λ other. OtherHybrid other.hybrid)) (find-none (is_of_other_kind install) installs free)
 
 packages-filter : (q : Install → Bool) (installs : List Install) → AllByRecursion (InOnePackage installs) installs
     → AllByRecursion (InOnePackage (filter q installs)) (filter q installs)
@@ -159,6 +191,13 @@ authors-filter q installs all =
     AllByRecursion-weaker _ (ByOneAuthor (filter q installs)) (to_author (filter q installs)) (filter q installs)
     (free-filter is_by_another is_by_another-flip is_by_another-itself q installs
     (AllByRecursion-weaker _ _ (from_author installs) installs all))
+
+kinds-filter : (q : Install → Bool) (installs : List Install) → AllByRecursion (OfOneKind installs) installs
+    → AllByRecursion (OfOneKind (filter q installs)) (filter q installs)
+kinds-filter q installs all =
+    AllByRecursion-weaker _ (OfOneKind (filter q installs)) (to_kind (filter q installs)) (filter q installs)
+    (free-filter is_of_other_kind is_of_other_kind-flip is_of_other_kind-itself q installs
+    (AllByRecursion-weaker _ _ (from_kind installs) installs all))
 
 packages-placed : (install : Install) (installs : List Install) → InOnePackage installs install
     → AllByRecursion (InOnePackage installs) installs
@@ -178,6 +217,15 @@ authors-placed install installs own all =
     (free-placed is_by_another is_by_another-flip is_by_another-itself install installs (from_author installs install own)
     (AllByRecursion-weaker _ _ (from_author installs) installs all))
 
+kinds-placed : (install : Install) (installs : List Install) → OfOneKind installs install
+    → AllByRecursion (OfOneKind installs) installs
+    → AllByRecursion (OfOneKind (placed install_cmp install installs)) (placed install_cmp install installs)
+kinds-placed install installs own all =
+    AllByRecursion-weaker _ (OfOneKind (placed install_cmp install installs)) (to_kind (placed install_cmp install installs))
+    (placed install_cmp install installs)
+    (free-placed is_of_other_kind is_of_other_kind-flip is_of_other_kind-itself install installs (from_kind installs install own)
+    (AllByRecursion-weaker _ _ (from_kind installs) installs all))
+
 -- ---- registries
 
 pub IsRegistry-fresh : IsRegistry [] []
@@ -188,6 +236,7 @@ IsRegistry-fresh = record {
   users_known = tt;
   one_package = tt;
   one_author = tt;
+  one_kind = tt;
   users_fit = refl;
   installs_fit = refl;
 }
@@ -210,6 +259,7 @@ module _ {users : List User} {installs : List Install} (registry : IsRegistry us
         (λ uid. has_user-placed users user uid registry.users_rise) install.scope) installs registry.users_known;
     one_package = registry.one_package;
     one_author = registry.one_author;
+    one_kind = registry.one_kind;
     users_fit = fits;
     installs_fit = registry.installs_fit;
   }
@@ -219,6 +269,7 @@ module _ {users : List User} {installs : List Install} (registry : IsRegistry us
   IsRegistry-with_install install sound fits =
       let scope = or-none (unknown_scope users install.scope) _ sound in
       let owner = or-none (other_package installs install) _ scope.1 in
+      let signed = or-none (other_author installs install) _ owner.1 in
       record {
         users_rise = registry.users_rise;
         installs_rise = placed_rises install_total install installs registry.installs_rise;
@@ -226,7 +277,8 @@ module _ {users : List User} {installs : List Install} (registry : IsRegistry us
             AllByRecursion-placed install_total (λ other. unknown_scope users other.scope ≡ None) install installs scope.0
             registry.users_known;
         one_package = packages-placed install installs owner.0 registry.one_package;
-        one_author = authors-placed install installs owner.1 registry.one_author;
+        one_author = authors-placed install installs signed.0 registry.one_author;
+        one_kind = kinds-placed install installs signed.1 registry.one_kind;
         users_fit = registry.users_fit;
         installs_fit = fits;
       }
@@ -238,6 +290,7 @@ module _ {users : List User} {installs : List Install} (registry : IsRegistry us
     users_known = AllByRecursion-filter (λ install. unknown_scope users install.scope ≡ None) q installs registry.users_known;
     one_package = packages-filter q installs registry.one_package;
     one_author = authors-filter q installs registry.one_author;
+    one_kind = kinds-filter q installs registry.one_kind;
     users_fit = registry.users_fit;
     installs_fit = installs_limit-filter q installs registry.installs_fit;
   }
@@ -279,6 +332,7 @@ module _ {users : List User} {installs : List Install} (registry : IsRegistry us
             (λ install. scope_without users uid install.scope) installs registry.users_known;
         one_package = without.one_package;
         one_author = without.one_author;
+        one_kind = without.one_kind;
         users_fit = over-fits Users most_users (length users) (length (filter keeps users)) registry.users_fit (length-filter-le keeps users);
         installs_fit = without.installs_fit;
       }

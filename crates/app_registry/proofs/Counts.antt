@@ -172,17 +172,3 @@ module _ (q : Install → Bool) where
       (both-none
       (over-fits Installs most_installs (length installs) (length (filter q installs)) others_fit.0 (length-filter-le q installs))
       (over-fits Grants most_grants (grant_count installs) (grant_count (filter q installs)) others_fit.1 (grants-filter installs)))
-
--- what fits grants no more than there is room for
-pub grants-fit : (installs : List Install) → installs_limit installs ≡ None → grant_count installs ≤ most_grants
-grants-fit installs fits =
-    let packages_fit = or-none (over Packages most_packages (length (packages installs))) _ fits in
-    let others_fit = or-none (over Installs most_installs (length installs)) _ packages_fit.1 in
-    ltb-false _ _ (within Grants most_grants (ltb most_grants (grant_count installs)) others_fit.1)
-
-pub fits-from_parts : (installs : List Install) → over Packages most_packages (length (packages installs)) ≡ None
-    → over Installs most_installs (length installs) ≡ None → grant_count installs ≤ most_grants
-    → installs_limit installs ≡ None
-fits-from_parts installs packages_fit installs_fit room =
-    let still : ltb most_grants (grant_count installs) ≡ false = grind (arith, nat_tests, room) in
-    both-none packages_fit (both-none installs_fit (ap (λ b. cond b (Some (Limit Grants most_grants)) None) still))

@@ -7,6 +7,7 @@ pub mod Counts
 pub mod Search
 pub mod Packages
 pub mod Changes
+mod Converting
 pub mod Grants
 mod Indexing
 mod Undoing

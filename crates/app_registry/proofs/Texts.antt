@@ -3,6 +3,7 @@ use Rattle.std.proofs.Common.{◌≡◌, ℕ, ◌+◌, ◌/◌, ◌%◌, ◌^◌
 use Rattle.std.specs.List.{AllByRecursion, position_or_len}
 use Rattle.std.proofs.lemmas.Bool.{ltb-false}
 use Rattle.std.proofs.lemmas.Bool.Decides.{nat_tests}
+use Rattle.std.proofs.lemmas.List.{length-append}
 use Rattle.std.proofs.lemmas.Fmt.{decimal_by_steps, decimal_nonempty, length-decimal-le}
 use Rattle.std.specs.Fmt.{digits, digits_onto, digit_glyph}
 use Rattle.cynara_keys.specs.Text.{is_visible, same_text}
@@ -14,7 +15,7 @@ use Rattle.smack_rules.specs.Label.{is_label_byte, label_fault, byte_fault as la
 use Rattle.smack_rules.specs.declared.label.LabelRefusal.TheVariants.{Empty as LabelEmpty, TooLong as LabelTooLong}
 use Rattle.app_registry.specs.declared.idents.IdentRefusal.TheVariants.{Empty, TooLong}
 use Rattle.app_registry.specs.Ident.{is_ident_byte, begins_with_mark, byte_fault, ident_fault}
-use Rattle.app_registry.specs.Label.{package_label}
+use Rattle.app_registry.specs.Label.{package_label, app_label}
 
 -- no element passes the test
 abbrev pub NonePass : (ℕ → Bool) → List ℕ → Type 0
@@ -162,6 +163,17 @@ sound_ident name sound =
     let tests = tested _ _ (begins_with_mark name) (position (λ byte. not (is_ident_byte byte)) name) sound in
     record { short = ltb-false _ _ tests.0; none_wrong = none_from_position _ name tests.1 }
 
+-- a text with no fault of a label
+label_fault-none : (text : List ℕ) → eqb (length text) 0 ≡ false → ltb 255 (length text) ≡ false
+    → NonePass (λ byte. not (is_label_byte byte)) text → label_byte_fault text None ≡ None → label_fault text ≡ None
+label_fault-none text some short right free =
+    let bad = position (λ byte. not (is_label_byte byte)) text in
+    let rest = λ (long : Bool). cond long (Some LabelTooLong) (label_byte_fault text bad) in
+    ap (λ empty. cond empty (Some LabelEmpty) (rest (ltb 255 (length text)))) some
+    ∙ ap rest short
+    ∙ ap (label_byte_fault text) (position-none (λ byte. not (is_label_byte byte)) text right)
+    ∙ free
+
 -- the front of the label of a package, and then the name
 labelled : (p : ℕ → Bool) (name : List ℕ) → NonePass p (codes "User::Pkg::") → NonePass p name → NonePass p (package_label name)
 labelled p name front behind = NonePass-append p (codes "User::Pkg::") name front behind
@@ -186,12 +198,42 @@ module _ (name : List ℕ) (sound : ident_fault name ≡ None) where
       (NonePass-weaker _ (λ byte. not (is_visible byte)) is_visible-ident name (sound_ident name sound).none_wrong)
 
   pub label_fault-package_label : label_fault (package_label name) ≡ None
-  label_fault-package_label =
-      let bad = position (λ byte. not (is_label_byte byte)) (package_label name) in
-      let rest = λ (long : Bool). cond long (Some LabelTooLong) (label_byte_fault (package_label name) bad) in
-      ap (λ empty. cond empty (Some LabelEmpty) (rest (ltb 255 (length (package_label name))))) some
-      ∙ ap rest short
-      ∙ ap (label_byte_fault (package_label name)) (position-none (λ byte. not (is_label_byte byte)) (package_label name) all_label_bytes)
+  label_fault-package_label = label_fault-none (package_label name) some short all_label_bytes refl
 
   pub name_fault-package_label : name_fault (package_label name) ≡ None
   name_fault-package_label = name_fault-none (package_label name) some short all_visible refl
+
+-- the label of a package, what parts, and then the name of the application
+with_app : (p : ℕ → Bool) (name app : List ℕ) → NonePass p (package_label name) → NonePass p (codes "::App::") → NonePass p app
+    → NonePass p (app_label name app)
+with_app p name app front parts behind =
+    NonePass-append p (package_label name) (codes "::App::" ++ app) front (NonePass-append p (codes "::App::") app parts behind)
+
+module _ (name app : List ℕ) (sound : ident_fault name ≡ None) (own : ident_fault app ≡ None) where
+  some_app : eqb (length (app_label name app)) 0 ≡ false
+  some_app = grind (arith, nat_tests)
+
+  short_app : ltb 255 (length (app_label name app)) ≡ false
+  short_app =
+      let first = sound_ident name sound in
+      let second = sound_ident app own in
+      let both = length-append name (codes "::App::" ++ app) in
+      grind (arith, nat_tests, first.short, second.short, both)
+
+  app_label_bytes : NonePass (λ byte. not (is_label_byte byte)) (app_label name app)
+  app_label_bytes =
+      with_app (λ byte. not (is_label_byte byte)) name app (all_label_bytes name sound)
+      (refl, (refl, (refl, (refl, (refl, (refl, (refl, tt)))))))
+      (NonePass-weaker _ (λ byte. not (is_label_byte byte)) is_label_byte-ident app (sound_ident app own).none_wrong)
+
+  app_visible : NonePass (λ byte. not (is_visible byte)) (app_label name app)
+  app_visible =
+      with_app (λ byte. not (is_visible byte)) name app (all_visible name sound)
+      (refl, (refl, (refl, (refl, (refl, (refl, (refl, tt)))))))
+      (NonePass-weaker _ (λ byte. not (is_visible byte)) is_visible-ident app (sound_ident app own).none_wrong)
+
+  pub label_fault-app_label : label_fault (app_label name app) ≡ None
+  label_fault-app_label = label_fault-none (app_label name app) some_app short_app app_label_bytes refl
+
+  pub name_fault-app_label : name_fault (app_label name app) ≡ None
+  name_fault-app_label = name_fault-none (app_label name app) some_app short_app app_visible refl

@@ -1,5 +1,5 @@
 -- Installs: their order, and which are of a package, of an application, for a user.
-use Rattle.std.specs.Prelude.{ℕ, Bool, true, false, ◌&&◌, ◌==◌, List, Option, Some, None}
+use Rattle.std.specs.Prelude.{ℕ, Bool, true, false, ◌&&◌, ◌==◌, not, List, Option, Some, None}
 use Rattle.std.specs.declared.cmp.Ordering.{Ordering}
 use Rattle.std.specs.Ordering.{is_lt, on, then_cmp}
 use Rattle.cynara_keys.specs.Text.{same_text, text_cmp}
@@ -31,6 +31,11 @@ is_install_of app scope install = is_of_app app install && same_scope install.sc
 abbrev pub is_for_user : ℕ → Scope → Bool
 is_for_user uid Everyone = false
 is_for_user uid (One own) = own == uid
+
+-- both are of hybrid packages, or neither is
+abbrev pub same_kind : Bool → Bool → Bool
+same_kind true other = other
+same_kind false other = not other
 
 -- the same author, or none in both
 abbrev pub same_author : Option (List ℕ) → Option (List ℕ) → Bool

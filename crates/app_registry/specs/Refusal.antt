@@ -4,13 +4,13 @@ use Rattle.std.specs.List.{list_any}
 use Rattle.std.specs.Option.{option_or}
 use Rattle.cynara_keys.specs.declared.limits.Counted.{Counted}
 use Rattle.cynara_keys.specs.declared.limits.Counted.TheVariants.{Users, Packages, Installs, Grants}
-use Rattle.app_registry.specs.Install.{is_of_package, is_of_app, is_install_of, same_author}
-use Rattle.app_registry.specs.Registry.{RegistryLists, has_user, packages, grant_count, with_user, with_install}
+use Rattle.app_registry.specs.Install.{is_of_package, is_of_app, is_install_of, same_author, same_kind}
+use Rattle.app_registry.specs.Registry.{RegistryLists, has_user, has_package, packages, grant_count, with_user, with_install}
 use Rattle.app_registry.specs.declared.installs.Install.{Install}
 use Rattle.app_registry.specs.declared.installs.Scope.{Scope}
 use Rattle.app_registry.specs.declared.installs.Scope.TheVariants.{Everyone, One}
 use Rattle.app_registry.specs.declared.refusals.RegistryRefusal.{RegistryRefusal}
-use Rattle.app_registry.specs.declared.refusals.RegistryRefusal.TheVariants.{UnknownUser, OtherPackage, OtherAuthor, NotInstalled, Limit, Memory}
+use Rattle.app_registry.specs.declared.refusals.RegistryRefusal.TheVariants.{UnknownUser, OtherPackage, OtherAuthor, OtherHybrid, NotInstalled, Limit, Memory}
 use Rattle.app_registry.specs.Limits.{most_users, most_packages, most_installs, most_grants}
 use Rattle.app_registry.specs.declared.users.User.{User}
 use Rattle.app_registry.specs.declared.users.UserType.{UserType}
@@ -37,11 +37,19 @@ is_by_another install other = is_of_package install.package other && not (same_a
 abbrev pub other_author : List Install → Install → Option RegistryRefusal
 other_author installs install = option_map (λ other. OtherAuthor other.author) (find (is_by_another install) installs)
 
+-- an install of the same package, of the other kind
+abbrev pub is_of_other_kind : Install → Install → Bool
+is_of_other_kind install other = is_of_package install.package other && not (same_kind other.hybrid install.hybrid)
+
+abbrev pub other_kind : List Install → Install → Option RegistryRefusal
+other_kind installs install = option_map (λ other. OtherHybrid other.hybrid) (find (is_of_other_kind install) installs)
+
 -- what stands against an install of this application whatever is counted
 abbrev pub owner_fault : RegistryLists → Install → Option RegistryRefusal
 owner_fault registry install =
     option_or (unknown_scope registry.users install.scope)
-    (option_or (other_package registry.installs install) (other_author registry.installs install))
+    (option_or (other_package registry.installs install)
+    (option_or (other_author registry.installs install) (other_kind registry.installs install)))
 
 -- more than the most
 abbrev pub over : Counted → ℕ → ℕ → Option RegistryRefusal
@@ -66,6 +74,10 @@ install_fault registry install =
 
 abbrev pub uninstall_fault : RegistryLists → List ℕ → Scope → Option RegistryRefusal
 uninstall_fault registry app scope = if list_any (is_install_of app scope) registry.installs then None else Some NotInstalled
+
+-- Nothing else stands against a package of another kind: its installs, and what is counted, are as many as before.
+abbrev pub convert_fault : RegistryLists → List ℕ → Option RegistryRefusal
+convert_fault registry name = if has_package registry name then None else Some NotInstalled
 
 -- The refusal names the fault. Want of memory says nothing of the change.
 abbrev pub Refuses : RegistryRefusal → Option RegistryRefusal → Type 0

@@ -1,10 +1,10 @@
 -- Registries: users in the order of their numbers, and installs in the order of package, application and scope.
-use Rattle.std.specs.Prelude.{ℕ, Bool, ◌==◌, not, List, [], Option, find, filter, map, length, option_and_then}
+use Rattle.std.specs.Prelude.{ℕ, Bool, ◌==◌, not, if◌then◌else◌, List, [], Option, find, filter, map, length, option_map, option_and_then}
 use Rattle.std.specs.declared.cmp.Ordering.{Ordering}
 use Rattle.std.specs.List.{dedup, list_any, sum_by}
 use Rattle.std.specs.Ordering.{nat_cmp, on}
 use Rattle.cynara_keys.specs.Text.{same_text}
-use Rattle.app_registry.specs.Install.{install_cmp, is_of_package, is_install_of, is_for_user}
+use Rattle.app_registry.specs.Install.{install_cmp, is_of_package, is_of_app, is_install_of, is_for_user}
 use Rattle.app_registry.specs.Rising.{placed}
 use Rattle.app_registry.specs.declared.installs.Install.{Install}
 use Rattle.app_registry.specs.declared.installs.Scope.{Scope}
@@ -35,6 +35,14 @@ has_package registry name = list_any (is_of_package name) registry.installs
 abbrev pub author_of : RegistryLists → List ℕ → Option (List ℕ)
 author_of registry name = option_and_then (λ install. install.author) (find (is_of_package name) registry.installs)
 
+-- the package of an application, where it is installed
+abbrev pub package_of : RegistryLists → List ℕ → Option (List ℕ)
+package_of registry app = option_map (λ install. install.package) (find (is_of_app app) registry.installs)
+
+-- the type of a user, where the user is there
+abbrev pub kind_of : RegistryLists → ℕ → Option UserType
+kind_of registry uid = option_map (λ user. user.kind) (find (λ user. user.uid == uid) registry.users)
+
 -- the packages, of installs in their order
 abbrev pub packages : List Install → List (List ℕ)
 packages installs = dedup same_text (map (λ install. install.package) installs)
@@ -58,6 +66,14 @@ without_user registry uid = record {
 -- an install of an application and scope that are there takes the place of the one that was there
 abbrev pub with_install : RegistryLists → Install → RegistryLists
 with_install registry install = record registry { installs = placed install_cmp install registry.installs }
+
+-- an install of the package is of this kind, and one of another package as it was
+abbrev pub of_kind : List ℕ → Bool → Install → Install
+of_kind name hybrid install = if is_of_package name install then record install { hybrid = hybrid } else install
+
+-- all installs of the package are of this kind
+abbrev pub with_kind : RegistryLists → List ℕ → Bool → RegistryLists
+with_kind registry name hybrid = record registry { installs = map (of_kind name hybrid) registry.installs }
 
 abbrev pub without_install : RegistryLists → List ℕ → Scope → RegistryLists
 without_install registry app scope =

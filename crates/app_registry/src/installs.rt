@@ -28,6 +28,8 @@ pub struct Install {
     pub app: Ident,
     pub scope: Scope,
     pub privileges: NameSet,
+    /// Whether the package is hybrid: each of its applications then runs with a label of its own. All installs of a package agree.
+    pub hybrid: bool,
 }
 
 impl Scope {
@@ -103,6 +105,7 @@ impl Install {
             app: self.app.copy()?,
             scope: self.scope,
             privileges: self.privileges.copy()?,
+            hybrid: self.hybrid,
         })
     }
 

@@ -1,9 +1,9 @@
-//! The Smack labels of packages.
+//! The Smack labels of packages and of their applications.
 
 ghost use Rattle.std.specs.Prelude.{IfOk, None, decimal, ◌≡◌};
 ghost use Rattle.cynara_keys.specs.Name.{name_fault};
 ghost use Rattle.smack_rules.specs.Label.{label_fault};
-ghost use Rattle.app_registry.specs.Label.{package_label, install_label};
+ghost use Rattle.app_registry.specs.Label.{package_label, app_label, install_label};
 
 use crate::{Ident, Install};
 use cynara_keys::{Name, NameRefusal};
@@ -13,6 +13,8 @@ use std::alloc::{AllocError, Global};
 
 const FRONT: &[u8] = b"User::Pkg::";
 
+const APP: &[u8] = b"::App::";
+
 /// The label of all that belongs to the package, `User::Pkg::` and its name, as in security-manager.
 pub fn package_label(alloc: Global, package: &Ident) -> Result<Label, AllocError>
     ensures { IfOk result (λ label. label ≡ package_label «package».now) }
@@ -21,7 +23,8 @@ pub fn package_label(alloc: Global, package: &Ident) -> Result<Label, AllocError
     Label::of(alloc, &text)
 }
 
-/// The label with which an installed application runs: that of its package.
+/// The label with which an installed application runs: in a hybrid package `User::Pkg::`, its package, `::App::` and its own
+/// name, else that of its package.
 pub fn install_label(alloc: Global, install: &Install) -> Result<Label, AllocError>
     ensures { IfOk result (λ label. label ≡ install_label install.now) }
 {
@@ -29,8 +32,8 @@ pub fn install_label(alloc: Global, install: &Install) -> Result<Label, AllocErr
     Label::of(alloc, &text)
 }
 
-/// The label of an install, as the client of its keys.
-pub(crate) fn install_client(alloc: Global, install: &Install) -> Result<Name, AllocError>
+/// The label of an install, as the client of its keys. Fails only for lack of memory.
+pub fn install_client(alloc: Global, install: &Install) -> Result<Name, AllocError>
     ensures { IfOk result (λ name. name ≡ install_label install.now) }
 {
     let text = install_text(alloc, install)?;
@@ -50,7 +53,27 @@ fn install_text(alloc: Global, install: &Install) -> Result<Vec<u8>, AllocError>
     ensures label { IfOk result (λ text. label_fault text.items ≡ None) }
     ensures name { IfOk result (λ text. name_fault text.items ≡ None) }
 {
-    package_text(alloc, &install.package)
+    if install.hybrid {
+        app_text(alloc, &install.package, &install.app)
+    } else {
+        package_text(alloc, &install.package)
+    }
+}
+
+// The text of the label of the application's own.
+fn app_text(alloc: Global, package: &Ident, app: &Ident) -> Result<Vec<u8>, AllocError>
+    ensures text { IfOk result (λ text. text.items ≡ app_label «package».now app.now) }
+    ensures label { IfOk result (λ text. label_fault text.items ≡ None) }
+    ensures name { IfOk result (λ text. name_fault text.items ≡ None) }
+{
+    let name = package.as_slice();
+    let own = app.as_slice();
+    let mut text = Vec::with_capacity(alloc, FRONT.len() + name.len() + APP.len() + own.len())?;
+    text.extend_from_slice(FRONT)?;
+    text.extend_from_slice(name)?;
+    text.extend_from_slice(APP)?;
+    text.extend_from_slice(own)?;
+    Ok(text)
 }
 
 // The text of the label of the package.

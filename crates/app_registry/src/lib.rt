@@ -20,7 +20,8 @@ mod users;
 
 pub use idents::{IDENT_LIMIT, Ident, IdentRefusal};
 pub use installs::{Install, Scope};
-pub use labels::{install_label, package_label, user_name};
+pub use labels::{install_client, install_label, package_label, user_name};
+pub use manifests::{grant, scope_field};
 pub use name_sets::NameSet;
 pub use refusals::{GRANT_LIMIT, INSTALL_LIMIT, PACKAGE_LIMIT, RegistryRefusal, USER_LIMIT};
 pub use registry::Registry;

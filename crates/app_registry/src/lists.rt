@@ -1,8 +1,8 @@
 // Lists of users and of installs: how they are copied and changed.
-ghost use Rattle.std.specs.Prelude.{◌≡◌, ◌==◌, not, IfOk, MatchResult, length, filter, insert, slice_set};
+ghost use Rattle.std.specs.Prelude.{◌≡◌, ◌==◌, not, IfOk, MatchResult, length, filter, insert, map, slice_set};
 ghost use Rattle.std.specs.List.Sorted.{IsStrictlySortedBy, IsSearchInRange};
 ghost use Rattle.app_registry.specs.Install.{install_cmp, is_install_of, is_for_user};
-ghost use Rattle.app_registry.specs.Registry.{user_cmp};
+ghost use Rattle.app_registry.specs.Registry.{of_kind, user_cmp};
 ghost use Rattle.app_registry.specs.Rising.{placed};
 
 use crate::{Ident, Install, Scope, User};
@@ -127,6 +127,33 @@ pub fn without_install(
         }
     }
     Ok(list)
+}
+
+/// The installs, those of the package of this kind.
+pub fn with_kind(
+    alloc: Global,
+    installs: &[Install],
+    package: &Ident,
+    hybrid: bool,
+) -> Result<Vec<Install>, AllocError>
+    ensures { IfOk result (λ list. list.items ≡ map (of_kind «package».now hybrid) installs.now) }
+{
+    let mut list = Vec::with_capacity(alloc, installs.len())?;
+    for install in installs {
+        list.push(of_kind(install.copy()?, package, hybrid))?;
+    }
+    Ok(list)
+}
+
+// The install, of this kind where it is of the package.
+fn of_kind(install: Install, package: &Ident, hybrid: bool) -> Install
+    ensures { result ≡ of_kind «package».now hybrid install }
+{
+    if install.package == *package {
+        Install { hybrid, ..install }
+    } else {
+        install
+    }
 }
 
 /// Whether this is the install of the application for the scope.

@@ -1,13 +1,13 @@
 // What is found in lists of users and of installs.
-ghost use Rattle.std.specs.Prelude.{◌≡◌, ◌≤◌, true, false, not, filter, find, length};
+ghost use Rattle.std.specs.Prelude.{◌≡◌, ◌≤◌, ◌==◌, true, false, not, filter, find, length, option_map};
 ghost use Rattle.std.specs.List.Sorted.{IsPartitionPoint, IsStrictlySortedBy};
 ghost use Rattle.std.specs.Option.{option_copied};
 ghost use Rattle.std.specs.List.{list_any};
-ghost use Rattle.app_registry.specs.Install.{comes_before, install_cmp, is_of_app, is_install_of, is_of_package, same_author};
-ghost use Rattle.app_registry.specs.Refusal.{is_elsewhere, is_by_another};
+ghost use Rattle.app_registry.specs.Install.{comes_before, install_cmp, is_of_app, is_install_of, is_of_package, same_author, same_kind};
+ghost use Rattle.app_registry.specs.Refusal.{is_elsewhere, is_by_another, is_of_other_kind};
 ghost use Rattle.app_registry.specs.Registry.{has_user};
 
-use crate::{Ident, Install, Scope, User};
+use crate::{Ident, Install, Scope, User, UserType};
 
 /// The first install of the package, which a binary search finds.
 pub fn first_of_package<'a>(installs: &'a [Install], package: &Ident) -> Option<&'a Install>
@@ -77,6 +77,29 @@ fn by_another_than<'a>(installs: &'a [Install], author: &Option<Ident>) -> Optio
         .find(|other| !same_author(&other.author, author))
 }
 
+/// The first install of the same package of the other kind.
+pub fn of_other_kind<'a>(installs: &'a [Install], install: &Install) -> Option<&'a Install>
+    requires { IsStrictlySortedBy install_cmp installs.now }
+    ensures { option_copied result ≡ find (is_of_other_kind install.now) installs.now }
+{
+    of_other_kind_than(of_package(installs, &install.package), install.hybrid)
+}
+
+// The first install that is not of this kind.
+fn of_other_kind_than(installs: &[Install], hybrid: bool) -> Option<&Install>
+    ensures { option_copied result ≡ find (λ other. not (same_kind other.hybrid hybrid)) installs.now }
+{
+    installs
+        .iter()
+        .find(|other| !same_kind(other.hybrid, hybrid))
+}
+
+fn same_kind(hybrid: bool, other: bool) -> bool
+    ensures { result ≡ same_kind hybrid other }
+{
+    hybrid == other
+}
+
 fn same_author(author: &Option<Ident>, other: &Option<Ident>) -> bool
     ensures { result ≡ same_author author.now other.now }
 {
@@ -92,6 +115,14 @@ pub fn first_of_app<'a>(installs: &'a [Install], app: &Ident) -> Option<&'a Inst
     ensures { option_copied result ≡ find (is_of_app app.now) installs.now }
 {
     installs.iter().find(|install| install.app == *app)
+}
+
+/// The type of the user, where the user is there.
+pub fn kind_of(users: &[User], uid: u32) -> Option<UserType>
+    ensures { result ≡ option_map (λ user. user.kind) (find (λ user. user.uid == uid) users.now) }
+{
+    let user = users.iter().find(|user| user.uid == uid)?;
+    Some(user.kind)
 }
 
 /// Whether the application is installed for the scope.

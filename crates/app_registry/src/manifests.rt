@@ -51,15 +51,22 @@ fn push_each(
     Ok(())
 }
 
-// The key of one privilege.
-fn grant(alloc: Global, client: &Field, user: &Field, privilege: &Name) -> Result<Key, AllocError>
+/// The key with which an install of this client and for these users is granted a privilege. Fails only for lack of memory.
+pub fn grant(
+    alloc: Global,
+    client: &Field,
+    user: &Field,
+    privilege: &Name,
+) -> Result<Key, AllocError>
     ensures { IfOk result (λ key. key ≡ grant client.now user.now privilege.now) }
 {
     let privilege = Field::Exact(privilege.copy()?);
     Key::of_fields(alloc, client, user, &privilege)
 }
 
-fn scope_field(alloc: Global, scope: Scope) -> Result<Field, AllocError>
+/// The users of a scope as the user of keys: the wildcard for everyone, or one number in decimal. Fails only for lack of
+/// memory.
+pub fn scope_field(alloc: Global, scope: Scope) -> Result<Field, AllocError>
     ensures { IfOk result (λ field. field ≡ scope_field scope) }
 {
     match scope {

@@ -29,7 +29,10 @@ pub enum RegistryRefusal {
     /// The package is installed by this other author, or by none.
     #[error("the package is installed by another author")]
     OtherAuthor(Option<Ident>),
-    #[error("the application is not installed for the scope")]
+    /// The package is hybrid, where this is true, or plain, and the install is of the other kind.
+    #[error("the package is of the other kind, hybrid or plain")]
+    OtherHybrid(bool),
+    #[error("there is no such install")]
     NotInstalled,
     /// There would be more of what is counted than this.
     #[error("there is room for {1} of them")]

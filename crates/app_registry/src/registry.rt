@@ -8,10 +8,10 @@ ghost use Rattle.std.specs.Option.{option_copied};
 ghost use Rattle.cynara_keys.specs.Key.{key_cmp};
 ghost use Rattle.app_registry.specs.Label.{label_of};
 ghost use Rattle.app_registry.specs.Manifest.{grants, manifest_rows};
-ghost use Rattle.app_registry.specs.Refusal.{Refuses, owner_fault, user_set_fault, user_remove_fault, install_fault, uninstall_fault};
-ghost use Rattle.app_registry.specs.Registry.{no_entries, has_package, author_of};
+ghost use Rattle.app_registry.specs.Refusal.{Refuses, owner_fault, user_set_fault, user_remove_fault, install_fault, uninstall_fault, convert_fault};
+ghost use Rattle.app_registry.specs.Registry.{no_entries, has_package, author_of, package_of, kind_of};
 ghost use Rattle.app_registry.specs.Rules.{IsRegistry};
-ghost use Rattle.app_registry.specs.Registry.{with_user, without_user, with_install, without_install};
+ghost use Rattle.app_registry.specs.Registry.{with_user, without_user, with_install, without_install, with_kind};
 
 mod in_place;
 mod made;
@@ -20,10 +20,11 @@ use crate::install_lists::InstallList;
 use crate::labels::install_label;
 use crate::limits::{installs_limit, users_limit};
 use crate::lists::{
-    copies, with_install, with_user, without_install, without_installs_for, without_user,
+    copies, with_install, with_kind, with_user, without_install, without_installs_for, without_user,
 };
 use crate::look_ups::{
-    by_another, first_of_app, first_of_package, has_install, has_user, of_package,
+    by_another, first_of_app, first_of_package, has_install, has_user, kind_of, of_other_kind,
+    of_package,
 };
 use crate::manifests::manifest_rows;
 use crate::{Ident, Install, RegistryRefusal, Scope, User, UserType};
@@ -139,8 +140,8 @@ impl Registry {
 
     /// The registry with this install, in place of one of the same application and scope. Refuses, in this order,
     /// `UnknownUser` of the scope, `OtherPackage`, where the application is installed in another package, `OtherAuthor`,
-    /// where an install of the package has another author or only one of them has one, and `Limit` of `Packages`,
-    /// `Installs` and `Grants`.
+    /// where an install of the package has another author or only one of them has one, `OtherHybrid`, where an install of the
+    /// package is of the other kind, and `Limit` of `Packages`, `Installs` and `Grants`.
     pub fn install(&self, install: &Install) -> Result<Registry, RegistryRefusal>
         ensures registry { IfOk result (λ registry. registry ≡ with_install self.now install.now) }
         ensures accepted { OnOk result (install_fault self.now install.now ≡ None) }
@@ -177,6 +178,40 @@ impl Registry {
             users,
             installs: InstallList::of(installs),
         })
+    }
+
+    /// The registry in which all installs of the package are of a hybrid one, or of a plain one. Refuses `NotInstalled`.
+    pub fn convert(&self, package: &Ident, hybrid: bool) -> Result<Registry, RegistryRefusal>
+        ensures registry { IfOk result (λ registry. registry ≡ with_kind self.now «package».now hybrid) }
+        ensures accepted { OnOk result (convert_fault self.now «package».now ≡ None) }
+        ensures refused { IfErr result (λ refusal. Refuses refusal (convert_fault self.now «package».now)) }
+    {
+        if !self.has_package(package) {
+            return Err(RegistryRefusal::NotInstalled);
+        }
+        let installs = with_kind(self.alloc(), self.installs.as_slice(), package, hybrid).map_err(
+            RegistryRefusal::Memory,
+        )?;
+        let users = self.users_copy().map_err(RegistryRefusal::Memory)?;
+        Ok(Registry {
+            users,
+            installs: InstallList::of(installs),
+        })
+    }
+
+    /// The type of the user, where the user is there. Takes no memory.
+    pub fn kind_of(&self, uid: u32) -> Option<UserType>
+        ensures { result ≡ kind_of self.now uid }
+    {
+        kind_of(&self.users, uid)
+    }
+
+    /// The package of the application, where it is installed. Takes no memory.
+    pub fn package_of(&self, app: &Ident) -> Option<&Ident>
+        ensures { option_copied result ≡ package_of self.now app.now }
+    {
+        let install = first_of_app(self.installs.as_slice(), app)?;
+        Some(&install.package)
     }
 
     /// What the installs grant: for each privilege of each install the key of the install's label, the number of the
@@ -244,6 +279,9 @@ impl Registry {
         if let Some(other) = by_another(self.installs.as_slice(), install) {
             let author = other.author_copy().map_err(RegistryRefusal::Memory)?;
             return Err(RegistryRefusal::OtherAuthor(author));
+        }
+        if let Some(other) = of_other_kind(self.installs.as_slice(), install) {
+            return Err(RegistryRefusal::OtherHybrid(other.hybrid));
         }
         Ok(())
     }

@@ -1,9 +1,7 @@
 ghost use Rattle.std.specs.Prelude.{◌≡◌, ◌<◌, ◌≤◌, length, true, slice_get, IfOk, IfSome};
-ghost use Rattle.bucket_store.specs.Database.{root};
 ghost use Rattle.bucket_store.specs.WellFormed.{IsKept};
-ghost use Rattle.bucket_eval.specs.Evaluation.{answer};
-ghost use Rattle.bucket_eval.specs.Found.{answer_of};
 ghost use Rattle.bucket_eval.specs.Lent.{outcome_lent};
+ghost use Rattle.bucket_eval.specs.Root.{root_answer, root_outcome};
 ghost use Rattle.bucket_eval.specs.parts.Buckets.{IsHeld};
 ghost use Rattle.bucket_eval.specs.parts.Finding.{IsRight};
 ghost use Rattle.bucket_eval.specs.parts.Slots.{answer_to};
@@ -84,7 +82,7 @@ impl Index {
 
     /// What the root bucket answers to the question, as `describe` of `plain` would say it. Takes no memory.
     pub fn verdict(&self, scratch: &mut Scratch, question: &Question) -> Answer
-        ensures { result ≡ answer_of (answer self.now root question.now true) }
+        ensures { result ≡ root_answer self.now question.now }
     {
         self.decide(scratch, &question.borrowed()).to_answer()
     }
@@ -95,7 +93,7 @@ impl Index {
         scratch: &mut Scratch,
         question: &BorrowedQuestion<'_>,
     ) -> BorrowedAnswer<'_>
-        ensures { outcome_lent result ≡ answer self.now root question.now true }
+        ensures { outcome_lent result ≡ root_outcome self.now question.now }
     {
         let asked = Asked {
             buckets: self.database.buckets(),

@@ -28,7 +28,7 @@ pub use answers::{Answer, Cause, Found, Row, Verdict};
 use cynara_keys::{Kind, Policy, Question};
 pub use evaluations::{describe, plain, plain_borrowed};
 pub use indexes::{Index, Scratch};
-pub use laws::depth_changes_nothing;
+pub use laws::{depth_changes_nothing, no_cycle};
 pub use lending::{BorrowedAnswer, lend};
 
 /// The place of the policy that decides the question, from 0: the least by result (kind, then metadata) and then by key

@@ -27,6 +27,9 @@ use cynara_keys::{BorrowedQuestion, Key, Kind, Policy, PolicyResult};
 /// A pass over so many policies costs less than a search for each shape.
 const FEW: usize = 64;
 
+/// A pass over so many policies costs less than a look into a table for each shape.
+const TINY: usize = 8;
+
 /// What a bucket answers: where it was found, and the result there.
 #[derive(Clone, Copy)]
 pub struct Held<'a> {
@@ -97,7 +100,7 @@ pub fn least_offer<'a>(
     ensures { Looks asked.now slots.now bucket.now.name
         (first_least contribution_cmp (filter_map (offered_to asked.now bucket.now.name) bucket.now.policies)) result }
 {
-    if asked.finder.is_some() {
+    if asked.finder.is_some() && bucket.policies().len() > TINY {
         return least_by_shape(asked, slots, at, bucket);
     }
     let window = window_of(bucket.policies(), asked.question, FEW);

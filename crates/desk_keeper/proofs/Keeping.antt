@@ -1,22 +1,21 @@
 -- From what a store recovers to, to what its folder keeps.
-use Rattle.std.proofs.Common.{◌≡◌, ℕ, List, Option, Some, Ok, Err, ◌⊎◌, ◌<◌, ap, ◌∙◌, inl, inr}
+use Rattle.std.proofs.Common.{◌≡◌, ℕ, List, Option, Some, Ok, Err, ◌⊎◌, ◌<◌, ap, sym, ◌∙◌, inl, inr}
 use Rattle.desk_ports.specs.declared.file_sets.SetFile.{SetFile}
 use Rattle.desk_ports.specs.FileMap.{FileMap}
-use Rattle.desk_ports.specs.Disk.{DiskState}
-use Rattle.desk_ports.specs.Disk.{WhereTold}
+use Rattle.desk_ports.specs.Disk.{DiskState, WhereTold, with_all_durable}
 use Rattle.desk_ports.specs.Moments.{LeavesOnly}
 use Rattle.desk_ports.proofs.Moments.{LeavesOnly-more}
 use Rattle.guard_files.specs.Mounted.{RecoversAsAllowed, EndsAtRest, IfDamaged as IfStoreDamaged}
 use Rattle.guard_files.specs.declared.refusals.VaultRefusal.{VaultRefusal}
 use Rattle.guard_files.specs.declared.refusals.VaultRefusal.TheVariants as vault
 use Rattle.guard_files.specs.Recovery.{Recovered, recover}
-use Rattle.guard_files.specs.Settled.{IsSettled, IsBeforeOrAfter as IsSetBeforeOrAfter}
+use Rattle.guard_files.specs.Settled.{IsLeftCurrent, IsInSave, IsBeforeOrAfter as IsSetBeforeOrAfter}
 use Rattle.guard_files.proofs.SaveMoments.{settled_leaves}
 use Rattle.desk_state.specs.DeskState.{DeskState}
 use Rattle.set_text.specs.FileNames.{stamp}
 use Rattle.set_text.specs.Reading.{read_of}
 use Rattle.desk_keeper.specs.Kept.{desk_of_set, desk_of, kept}
-use Rattle.desk_keeper.specs.Keeping.{IsKept, EndsKept, StandsAsAllowed, IfDamaged, IsOlder, IsBeforeOrAfter}
+use Rattle.desk_keeper.specs.Keeping.{IsKept, EndsKept, StandsAsAllowed, IfDamaged, LeavesDamaged, IsOlder, IsBeforeOrAfter}
 use Rattle.desk_keeper.specs.parts.Reading.{RefusesSet, NamesStamp, refused}
 use Rattle.desk_keeper.specs.declared.refusals.KeeperRefusal.{KeeperRefusal}
 use Rattle.desk_keeper.specs.declared.refusals.KeeperRefusal.TheVariants.{StoreFault, Damaged, Memory}
@@ -31,16 +30,18 @@ kept-alike files others same = ap desk_of same
 
 -- a store at rest keeps what its set stands for
 pub kept-at-rest : (desk : DeskState) (held : Option (List SetFile)) (state : DiskState) → desk_of_set held ≡ Ok desk
-    → IsSettled held state
+    → IsLeftCurrent held state
     → IsKept desk held state
-kept-at-rest desk held state stands settled = record {
+kept-at-rest desk held state stands left_current = record {
   stands = stands;
-  settled = settled;
-  alone = λ left leaves. kept-of left (Ok held) (settled_leaves held state settled left leaves) ∙ stands;
+  settled = left_current.settled;
+  alone = λ left leaves. kept-of left (Ok held) (settled_leaves held state left_current.settled left leaves) ∙ stands;
+  current = left_current.current;
+  durable = left_current.durable;
 }
 
 pub stands-as : (before : DiskState) (left : FileMap) → RecoversAsAllowed before left → StandsAsAllowed before left
-stands-as before left (other, may, same) = (other, may, kept-alike left other same)
+stands-as before left (other, may, same, others) = (other, may, kept-alike left other same, others)
 
 -- what recovers to one of two sets stands for one of two states
 pub one-of : (before next : DeskState) (held : Option (List SetFile)) (set : List SetFile)
@@ -59,14 +60,14 @@ module _ {D : Type 0} (moment : D → ℕ) (left_since : D → ℕ → FileMap �
       LeavesOnly-more moment left_since old new (RecoversAsAllowed before) (StandsAsAllowed before)
       (stands-as before) leaves
 
-  pub moments-one-of : (before next : DeskState) (held : Option (List SetFile)) (set : List SetFile)
+  pub moments-one-of : (at : DiskState) (before next : DeskState) (held : Option (List SetFile)) (set : List SetFile)
       → desk_of_set held ≡ Ok before
       → read_of set ≡ Ok next
-      → LeavesOnly moment left_since old new (IsSetBeforeOrAfter held (Some set))
+      → LeavesOnly moment left_since old new (IsInSave at held set)
       → LeavesOnly moment left_since old new (IsBeforeOrAfter before next)
-  moments-one-of before next held set stands reads leaves =
-      LeavesOnly-more moment left_since old new (IsSetBeforeOrAfter held (Some set)) (IsBeforeOrAfter before next)
-      (one-of before next held set stands reads) leaves
+  moments-one-of at before next held set stands reads leaves =
+      LeavesOnly-more moment left_since old new (IsInSave at held set) (IsBeforeOrAfter before next)
+      (λ left is. one-of before next held set stands reads left is.sets) leaves
 
 -- what a damaged store and a damaged set are called
 pub store-damage : (told : Option DiskState) (Left : DiskState → Type 0) (refusal : VaultRefusal)
@@ -116,3 +117,20 @@ older-damage told last found (Damaged file line) names older finds =
           ∙ ap (λ number. record { file = stamp; line = number }) names.1,
     )
 older-damage told last found (Memory error) names older finds = tt
+
+-- a damaged store was left as it was found, and one that was read is not damaged
+pub store-unchanged : (told now : Option DiskState) (refusal : VaultRefusal)
+    → IfStoreDamaged refusal
+    (λ file. WhereTold told (λ before. (recover before.current ≡ Err file) × (now ≡ Some (with_all_durable before))))
+    → WhereTold told (λ before. LeavesDamaged (refused refusal) before now)
+store-unchanged told now vault.StoreFault damaged = λ before said file is. tt
+store-unchanged told now (vault.Damaged named) damaged = λ before said file is. (damaged before said).1
+store-unchanged told now (vault.Memory error) damaged = λ before said file is. tt
+
+pub set-unchanged : (told now : Option DiskState) (held : Option (List SetFile)) (refusal : KeeperRefusal)
+    → WhereTold told (λ before. recover before.current ≡ Ok held)
+    → WhereTold told (λ before. LeavesDamaged refusal before now)
+set-unchanged told now held refusal found = λ before said file is. absurd (whole_or_damaged (sym (found before said) ∙ is))
+  where
+    whole_or_damaged : {file : List ℕ} → Ok held ≡ Err file → ⊥
+    whole_or_damaged same = cc

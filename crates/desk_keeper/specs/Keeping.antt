@@ -3,8 +3,10 @@ use Rattle.std.specs.Prelude.{◌≡◌, ◌<◌, ◌⊎◌, ℕ, List, Option, 
 use Rattle.desk_ports.specs.declared.file_sets.SetFile.{SetFile}
 use Rattle.desk_ports.specs.Faults.{next_count}
 use Rattle.desk_ports.specs.FileMap.{FileMap}
-use Rattle.desk_ports.specs.Disk.{DiskState, MayLeave}
-use Rattle.guard_files.specs.Settled.{IsSettled}
+use Rattle.desk_ports.specs.Disk.{DiskState, MayLeave, with_all_durable}
+use Rattle.guard_files.specs.ListFile.{IsCurrent}
+use Rattle.guard_files.specs.Recovery.{recover}
+use Rattle.guard_files.specs.Settled.{IsSettled, KeepsOthers}
 use Rattle.desk_state.specs.DeskState.{DeskState}
 use Rattle.set_text.specs.Fault.{Fault, whole}
 use Rattle.set_text.specs.FileNames as name
@@ -15,11 +17,14 @@ use Rattle.desk_keeper.specs.declared.refusals.KeeperRefusal.TheVariants.{StoreF
 -- ---- at rest
 
 -- The folder keeps this state, as this set or as none. A stop now leaves what stands for the state alone, and the
--- store's own names in the folder are those of the set.
+-- store's own names in the folder are those of the set. The file `list`, where it is there, is of version 2, now and
+-- after a stop.
 pub record IsKept (desk : DeskState) (held : Option (List SetFile)) (state : DiskState) : Type 0 where
   pub stands : desk_of_set held ≡ Ok desk
   pub settled : IsSettled held state
   pub alone : (left : FileMap) → MayLeave state left → kept left ≡ Ok desk
+  pub current : IsCurrent state.current
+  pub durable : IsCurrent state.durable
 
 -- the disk tells a folder that keeps this state
 abbrev pub EndsKept : DeskState → Option (List SetFile) → Option DiskState → Type 0
@@ -27,15 +32,23 @@ EndsKept desk held told = (after : DiskState) × (told ≡ Some after) × IsKept
 
 -- ---- during a mount
 
--- the map stands for what a map that a stop at this state may leave stands for
+-- the map stands for what a map that a stop at this state may leave stands for, and the files of others are as they were
 abbrev pub StandsAsAllowed : DiskState → FileMap → Type 0
-StandsAsAllowed before left = (other : FileMap) × MayLeave before other × (kept left ≡ kept other)
+StandsAsAllowed before left =
+    (other : FileMap) × MayLeave before other × (kept left ≡ kept other) × KeepsOthers before left
 
 -- a fact of the file and line that a refusal names as damage
 abbrev pub IfDamaged : KeeperRefusal → (Fault → Type 0) → Type 0
 IfDamaged StoreFault P = Unit {0}
 IfDamaged (Damaged file line) P = P (record { file = file; line = line })
 IfDamaged (Memory error) P = Unit {0}
+
+-- Where the store itself is damaged, as by its list or an absent file, a refusal that names damage changed nothing but
+-- that all is durable now.
+abbrev pub LeavesDamaged : KeeperRefusal → DiskState → Option DiskState → Type 0
+LeavesDamaged refusal before told =
+    (file : List ℕ) → recover before.current ≡ Err file
+    → IfDamaged refusal (λ fault. told ≡ Some (with_all_durable before))
 
 -- only a fault of the store raises the disk's count, by one
 abbrev pub count_after_refusal : KeeperRefusal → ℕ → ℕ

@@ -4,7 +4,7 @@ ghost use Rattle.std.specs.Option.{option_copied};
 ghost use Rattle.desk_ports.specs.Disk.{WhereTold};
 ghost use Rattle.desk_ports.specs.Moments.{LeavesOnly};
 ghost use Rattle.desk_keeper.specs.Kept.{desk_of_set, kept};
-ghost use Rattle.desk_keeper.specs.Keeping.{EndsKept, StandsAsAllowed, IfDamaged, count_after_mount};
+ghost use Rattle.desk_keeper.specs.Keeping.{EndsKept, StandsAsAllowed, IfDamaged, LeavesDamaged, count_after_mount};
 ghost use Rattle.desk_keeper.specs.parts.Reading.{RefusesSet, refused};
 
 use crate::refusals::KeeperRefusal;
@@ -46,6 +46,8 @@ impl KeptDesk {
             (λ before. LeavesOnly D.moment D.left_since disk.old disk.new (StandsAsAllowed before)) }
         ensures damaged { IfErr result (λ refusal. IfDamaged refusal (λ fault. WhereTold (D.state disk.old)
             (λ before. kept before.current ≡ Err fault))) }
+        ensures unchanged { IfErr result (λ refusal. WhereTold (D.state disk.old)
+            (λ before. LeavesDamaged refusal before (D.state disk.new))) }
         ensures count { D.faults disk.new ≡ count_after_mount result (D.faults disk.old) }
     {
         let found = match Mounted::find(alloc, disk) {

@@ -8,7 +8,7 @@ ghost use Rattle.desk_state.specs.Rules.{Refuses, fault};
 ghost use Rattle.set_text.specs.Files.{files};
 ghost use Rattle.desk_keeper.specs.Kept.{kept};
 ghost use Rattle.desk_keeper.specs.parts.Reading.{NamesStamp};
-ghost use Rattle.desk_keeper.specs.Keeping.{IsKept, EndsKept, StandsAsAllowed, IfDamaged, count_after_mount};
+ghost use Rattle.desk_keeper.specs.Keeping.{IsKept, EndsKept, StandsAsAllowed, IfDamaged, LeavesDamaged, count_after_refusal, count_after_mount};
 ghost use Rattle.desk_keeper.specs.Keeping.{IsOlder, IsBeforeOrAfter};
 
 use crate::folders::{KeptDesk, desk_of, refusal_of};
@@ -19,6 +19,13 @@ use desk_state::{Command, Desk, Refusal};
 use guard_files::{StoreFault, Vault, fixed_name};
 use set_text::write;
 use std::alloc::Global;
+
+/// A mount that was refused: why, and the disk, as it was left.
+#[derive(Drop)]
+pub struct Unkept<'d, D: Disk> {
+    pub refusal: KeeperRefusal,
+    pub disk: &'d mut D,
+}
 
 /// The policy state of a device over a folder. It gives the last state that is known to be kept; each commit replaces
 /// the folder's files at once. Clauses see its vault, that state, and whether what the vault holds was read.
@@ -31,9 +38,8 @@ pub struct Keeper<'d, D: Disk> {
 }
 
 impl<'d, D: Disk> Keeper<'d, D> {
-    /// Mounts the folder, as `KeptDesk::find` does, and keeps its disk. Where more is to be known of the disk after a
-    /// refusal than clauses can say here, which hand it on in the answer, `KeptDesk::find` and then `of` do the same.
-    pub fn mount(alloc: Global, disk: &'d mut D) -> Result<Keeper<'d, D>, KeeperRefusal>
+    /// Mounts the folder, as `KeptDesk::find` does, and keeps its disk. A refusal, as of that call, hands the disk back.
+    pub fn mount(alloc: Global, disk: &'d mut D) -> Result<Keeper<'d, D>, Unkept<'d, D>>
         ensures decided { IfOk result (λ keeper. (keeper.read && keeper.vault.decided) ≡ true) }
         ensures desk { IfOk result (λ keeper. WhereTold (D.state disk.old)
             (λ before. kept before.current ≡ Ok keeper.desk)) }
@@ -41,13 +47,24 @@ impl<'d, D: Disk> Keeper<'d, D> {
             (λ before. EndsKept keeper.desk keeper.vault.held (D.state keeper.vault.disk.now))) }
         ensures moments { IfOk result (λ keeper. WhereTold (D.state disk.old)
             (λ before. LeavesOnly D.moment D.left_since disk.old keeper.vault.disk.now (StandsAsAllowed before))) }
-        ensures damaged { IfErr result (λ refusal. IfDamaged refusal (λ fault. WhereTold (D.state disk.old)
-            (λ before. kept before.current ≡ Err fault))) }
         ensures count { IfOk result (λ keeper. D.faults keeper.vault.disk.now ≡ D.faults disk.old) }
         ensures same_disk { IfOk result (λ keeper. keeper.vault.disk.ghost_name ≡ disk.entry.ghost_name) }
+
+        // The same of the disk that a refusal hands back.
+        ensures stopped { IfErr result (λ left. WhereTold (D.state disk.old)
+            (λ before. LeavesOnly D.moment D.left_since disk.old left.disk.now (StandsAsAllowed before))) }
+        ensures damaged { IfErr result (λ left. IfDamaged left.refusal (λ fault. WhereTold (D.state disk.old)
+            (λ before. kept before.current ≡ Err fault))) }
+        ensures unchanged { IfErr result (λ left. WhereTold (D.state disk.old)
+            (λ before. LeavesDamaged left.refusal before (D.state left.disk.now))) }
+        ensures cause { IfErr result
+            (λ left. D.faults left.disk.now ≡ count_after_refusal left.refusal (D.faults disk.old)) }
+        ensures handed_back { IfErr result (λ left. left.disk.ghost_name ≡ disk.entry.ghost_name) }
     {
-        let found = KeptDesk::find(alloc, disk)?;
-        Ok(Keeper::of(alloc, disk, found))
+        match KeptDesk::find(alloc, disk) {
+            Ok(found) => Ok(Keeper::of(alloc, disk, found)),
+            Err(refusal) => Err(Unkept { refusal, disk }),
+        }
     }
 
     /// The keeper over a disk on which this state was found last, and which no other call was made on since. Takes no
@@ -86,6 +103,8 @@ impl<'d, D: Disk> Keeper<'d, D> {
         ensures damaged { IfErr result (λ refusal. IfDamaged refusal (λ fault.
             WhereTold (D.state self.old.vault.disk.now) (λ before. (kept before.current ≡ Err fault)
             ⊎ IsOlder self.old.desk before.current fault))) }
+        ensures unchanged { IfErr result (λ refusal. WhereTold (D.state self.old.vault.disk.now)
+            (λ before. LeavesDamaged refusal before (D.state self.new.vault.disk.now))) }
         ensures count { D.faults self.new.vault.disk.now ≡ count_after_mount result (D.faults self.old.vault.disk.now) }
         ensures same_disk { self.new.vault.disk.ghost_name ≡ self.old.vault.disk.ghost_name }
     {

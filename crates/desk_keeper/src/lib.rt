@@ -10,6 +10,6 @@ mod prepared;
 mod refusals;
 
 pub use folders::KeptDesk;
-pub use keeper::Keeper;
+pub use keeper::{Keeper, Unkept};
 pub use prepared::PreparedCommit;
 pub use refusals::KeeperRefusal;

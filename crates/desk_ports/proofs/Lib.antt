@@ -1,7 +1,6 @@
 pub mod Appends
 pub mod Readings
 pub mod Moments
-pub mod Maps
 pub mod SameNames
 pub mod Recording
 pub mod Contents

@@ -1,6 +1,6 @@
 -- One reading after another.
 use Rattle.std.proofs.Common.{◌++◌, [], ℕ, List, Option, Some, None, refl, sym, ap, ◌∙◌, subst, append_assoc}
-use Rattle.desk_ports.specs.Content.{Took, AtEnd, ReadToEnd, Stays}
+use Rattle.desk_ports.specs.Content.{Took, ReadToEnd}
 
 -- what two readings took
 pub Took-then : (first second third : Option (List ℕ)) (xs ys : List ℕ) → Took first xs second → Took second ys third
@@ -10,19 +10,9 @@ Took-then (Some bytes) second third xs ys a b =
     let b' = subst (λ (left : Option (List ℕ)). Took left ys third) a.2 b in
     (b'.0, a.1 ∙ (ap (λ rest. xs ++ rest) b'.1 ∙ sym (append_assoc xs ys b'.0)), b'.2)
 
--- a source that stayed gave nothing
-pub Took-stays : (left after : Option (List ℕ)) → Stays left after → Took left [] after
-Took-stays None after same = tt
-Took-stays (Some bytes) after same = (bytes, refl, same)
-
 pub Took-nothing : (left : Option (List ℕ)) → Took left [] left
 Took-nothing None = tt
 Took-nothing (Some bytes) = (bytes, refl, refl)
-
--- a source that was at its end, and gave nothing, is at its end
-pub ReadToEnd-here : (left after : Option (List ℕ)) → AtEnd left → Took left [] after → ReadToEnd left after
-ReadToEnd-here None after end took = tt
-ReadToEnd-here (Some bytes) after end took = took.2 ∙ ap Some (sym took.1 ∙ end)
 
 -- a source that gave bytes, and was then read to its end
 pub ReadToEnd-then : (first second third : Option (List ℕ)) (xs : List ℕ) → Took first xs second → ReadToEnd second third

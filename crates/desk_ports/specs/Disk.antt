@@ -1,5 +1,5 @@
 -- What a disk tells: what is read from it now, what is durable, and which names were touched since.
-use Rattle.std.specs.Prelude.{◌≡◌, ℕ, false, List, Option, Some}
+use Rattle.std.specs.Prelude.{◌≡◌, ◌⊎◌, ℕ, true, false, List, Option, Some}
 use Rattle.std.specs.Str.{bytes_eq}
 use Rattle.desk_ports.specs.FileMap.{FileMap, NameSet, no_names, with_name, with_content, AgreeOutside, AreNamesOf}
 
@@ -31,11 +31,13 @@ with_touched state name content = record {
 abbrev pub with_all_durable : DiskState → DiskState
 with_all_durable state = record { current = state.current; durable = state.current; touched = no_names }
 
--- A call on this name failed. The name holds anything or nothing now, and may be touched. All else is as before.
+-- A call on this name failed. The name holds anything or nothing now, and is touched, or the call has changed nothing. All
+-- else is as before.
 pub record IsDisturbedAt (before : DiskState) (name : List ℕ) (after : DiskState) : Type 0 where
   pub durable : after.durable ≡ before.durable
   pub elsewhere : (other : List ℕ) → bytes_eq name other ≡ false → after.current other ≡ before.current other
   pub untouched : (other : List ℕ) → bytes_eq name other ≡ false → after.touched other ≡ before.touched other
+  pub touched : (after.touched name ≡ true) ⊎ (after ≡ before)
 
 -- Where the disk tells its state, the fact holds of it.
 abbrev pub WhereTold : Option DiskState → (DiskState → Type 0) → Type 0

@@ -14,10 +14,6 @@ NeverFalls before after = (before ≤ after) × (after ≤ last_count)
 abbrev pub next_count : ℕ → ℕ
 next_count count = min (count + 1) last_count
 
--- the count rose in the call, or stands at its last value
-abbrev pub Rose : ℕ → ℕ → Type 0
-Rose before after = next_count before ≤ after
-
 -- a call that did its work leaves the count, and one that failed raises it by one
 abbrev pub CountsFailure : {A E : Type 0} → Result A E → ℕ → ℕ → Type 0
 CountsFailure (Ok value) before after = after ≡ before

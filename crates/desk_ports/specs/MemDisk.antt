@@ -40,21 +40,23 @@ with_call disk call is_done = record disk {
 abbrev pub with_fault : RecordedDisk → RecordedDisk
 with_fault disk = record disk { faults = next_count disk.faults }
 
--- A call failed: its number is listed, and it stands in the record as a call that failed, or it found no memory to be
--- recorded.
+-- A call failed by the list: its number is there, and it stands in the record as a call that failed.
+abbrev pub IsListedFailure : RecordedDisk → DiskCall → RecordedDisk → Type 0
+IsListedFailure old call new = Contains old.fails (next_number old) × (new ≡ with_fault (with_call old call false))
+
+-- A call that may change the disk failed: by the list, or it found no memory to be recorded, and has changed nothing.
 abbrev pub IsFailedCall : RecordedDisk → DiskCall → RecordedDisk → Type 0
 IsFailedCall old call new =
-    (Contains old.fails (next_number old) × (new ≡ with_fault (with_call old call false)))
-    ⊎ (new ≡ with_fault (with_number old))
+    IsListedFailure old call new ⊎ (new ≡ with_fault (with_number old))
 
 -- A call wanted memory: it stands in the record as a call that was done, or it found no memory to be recorded.
 abbrev pub IsCallWithoutMemory : RecordedDisk → DiskCall → RecordedDisk → Type 0
 IsCallWithoutMemory old call new = (new ≡ with_call old call true) ⊎ (new ≡ with_number old)
 
--- what a refused call does to the disk
+-- what a refused call does to the disk: one that only reads fails by the list alone
 abbrev pub RefusesCall : PortFault → RecordedDisk → DiskCall → RecordedDisk → Type 0
 RefusesCall (Memory error) old call new = IsCallWithoutMemory old call new
-RefusesCall _ old call new = IsFailedCall old call new
+RefusesCall _ old call new = IsListedFailure old call new
 
 -- what a call with this answer does to the disk: with an Ok it stands in the record as a call that was done
 abbrev pub AnswersCall : {T : Type 0} → Result T PortFault → RecordedDisk → DiskCall → RecordedDisk → Type 0

@@ -40,8 +40,8 @@ pub trait Disk {
             (Elapses (moment self.old) (moment self.new) (left_since self.old) (left_since self.new)) }
         ensures count { faults self.new ≡ count_after result (faults self.old) };
 
-    /// Makes a file of these bytes, or replaces the whole file. Touches the name. After a failure the name may hold
-    /// anything or nothing.
+    /// Makes a file of these bytes, or replaces the whole file. Touches the name. After a failure the name is touched
+    /// and may hold anything or nothing, or nothing has changed.
     fn write(&mut self, name: &FileName, bytes: &[u8]) -> Result<(), Failed>
         ensures written { OnOk result (Gives (state self.old) name.now (Some bytes.now) (state self.new)) }
         ensures disturbed { OnErr result (Disturbs (state self.old) name.now (state self.new)) }
@@ -50,7 +50,7 @@ pub trait Disk {
         ensures count { faults self.new ≡ count_after_call result (faults self.old) };
 
     /// Removes a file. Without a file of this name there is nothing to do. Touches the name. After a failure the name
-    /// may hold anything or nothing.
+    /// is touched and may hold anything or nothing, or nothing has changed.
     fn remove(&mut self, name: &FileName) -> Result<(), Failed>
         ensures removed { OnOk result (Gives (state self.old) name.now None (state self.new)) }
         ensures disturbed { OnErr result (Disturbs (state self.old) name.now (state self.new)) }

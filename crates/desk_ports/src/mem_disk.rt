@@ -21,8 +21,9 @@ use std::alloc::{AllocError, Global};
 use std::collections::BTreeSet;
 use std::marker::Model;
 
-/// A disk in memory, for tests. It tells its state. It keeps a record of its calls, and fails at the listed calls and
-/// where it finds no memory. A write or a removal that fails leaves what is read as it was.
+/// A disk in memory, for tests. It tells its state. It keeps a record of its calls, and fails at the listed calls. A write,
+/// a removal or a sync fails also where it finds no memory to be recorded. A write or a removal that fails leaves what is
+/// read as it was, and touches its name where it is recorded.
 #[derive(Debug, Drop)]
 pub struct MemDisk {
     files: FileSet,

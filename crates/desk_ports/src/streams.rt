@@ -2,8 +2,11 @@ ghost use Rattle.std.specs.Prelude.{◌≡◌, ◌<◌, ◌≤◌, ℕ, List, le
 ghost use Rattle.desk_ports.specs.Faults.{NeverFalls, CountsFailure};
 ghost use Rattle.desk_ports.specs.Content.{Took, AtEnd, Appended, AppendedPart, Stays};
 
+use thiserror::Error;
+
 /// A call of an object of the outside failed. The object's count of faults rose in that call.
-#[derive(Clone, Copy, Debug, PartialEq, Eq)]
+#[derive(Clone, Copy, Debug, PartialEq, Eq, Error)]
+#[error("a call of the outside failed")]
 pub struct Failed;
 
 /// Where bytes come from. A source may tell the bytes that are left.

@@ -1,5 +1,5 @@
 -- Changes gathered install by install.
-use Rattle.std.proofs.Common.{◌≡◌, ℕ, ◌+◌, ◌<◌, Bool, true, false, cond, List, [], ◌∷◌, ◌++◌, append_assoc, get_or, length, map, take, sym, ap, ◌∙◌}
+use Rattle.std.proofs.Common.{◌≡◌, ℕ, ◌+◌, ◌<◌, Bool, List, [], ◌∷◌, ◌++◌, append_assoc, get_or, length, map, take, sym, ap, ◌∙◌}
 use Rattle.std.specs.List.{filter}
 use Rattle.std.proofs.lemmas.Grind.{flat_map-append}
 use Rattle.std.proofs.lemmas.List.{append-nil, take_more, map-append}
@@ -49,15 +49,3 @@ granted-more allowed installs old rows new i install within at before after =
     ∙ append_assoc old (map (grant_change allowed) (grants (take i installs)))
     (map (grant_change allowed) (install_grants install))
     ∙ ap (λ list. old ++ list) (sym one_more)
-
--- one install, by whether it passes
-pub changes-none : (allowed : Bool) (test : Install → Bool) (install : Install) → test install ≡ false
-    → grant_changes allowed test (install ∷ []) ≡ []
-changes-none allowed test install fails =
-    ap (λ b. map (grant_change allowed) (grants (cond b (install ∷ []) []))) fails
-
-pub changes-one : (allowed : Bool) (test : Install → Bool) (install : Install) → test install ≡ true
-    → grant_changes allowed test (install ∷ []) ≡ map (grant_change allowed) (install_grants install)
-changes-one allowed test install passes =
-    ap (λ b. map (grant_change allowed) (grants (cond b (install ∷ []) []))) passes
-    ∙ ap (map (grant_change allowed)) (append-nil (install_grants install))

@@ -14,9 +14,10 @@ use Rattle.bucket_store.specs.WellFormed.{IsWellFormed}
 use Rattle.bucket_store.specs.declared.policy_changes.Change.{Change}
 use Rattle.bucket_store.specs.declared.refusals.StoreRefusal.TheVariants.{NoBucket}
 use Rattle.bucket_store.proofs.Lists.{All-append}
+use Rattle.app_registry.specs.Ident.{ident_fault}
 use Rattle.app_registry.specs.Install.{is_of_package, is_of_app, is_install_of, is_for_user}
 use Rattle.app_registry.specs.Manifest.{grants, install_grants}
-use Rattle.app_registry.specs.Registry.{RegistryLists, with_user, without_user, with_install, without_install}
+use Rattle.app_registry.specs.Registry.{RegistryLists, with_user, without_user, with_install, without_install, with_kind}
 use Rattle.app_registry.specs.declared.installs.Install.{Install}
 use Rattle.app_registry.specs.declared.installs.Scope.{Scope}
 use Rattle.app_registry.specs.declared.users.User.{User}
@@ -35,7 +36,7 @@ use Rattle.desk_state.proofs.Keeping.{laid-owned, Denies}
 use Rattle.desk_state.proofs.Linking.{main-set, main-removed}
 use Rattle.desk_state.proofs.Owning.{own, in_bucket, IsOwned, IsOwned-settled, settled-IsOwned, own-apart}
 use Rattle.desk_state.proofs.Settling.{fold-rises, hits}
-use Rattle.desk_state.proofs.Touching.{package-apart, user-apart, scopes-fit, install-rest, uninstall-rest, app-found}
+use Rattle.desk_state.proofs.Touching.{package-apart, user-apart, scopes-fit, install-rest, uninstall-rest, app-found, convert-rest, found-of}
 
 -- a desk whose buckets are there has the layout
 pub laid : (desk : DeskState) → IsDesk desk → has_layout desk.database ≡ true → IsLaidOut desk
@@ -192,11 +193,13 @@ module _ (desk : DeskState) (is : IsDesk desk) (has : has_layout desk.database �
       (grants-named desk.database there.buckets.1.0 false (grants (filter (is_of_package name) desk.registry.installs)))
       (grants-named desk.database there.buckets.1.0 true (grants (filter (is_of_package name) after))))
 
-  package-follows : (name : List ℕ) (after : RegistryLists) → after.users ≡ desk.registry.users
+  package-follows : (name : List ℕ) → ident_fault name ≡ None
+      → AllByRecursion (λ (install : Install). ident_fault install.package ≡ None) desk.registry.installs
+      → (after : RegistryLists) → after.users ≡ desk.registry.users
       → filter (λ (install : Install). not (is_of_package name install)) after.installs
       ≡ filter (λ (install : Install). not (is_of_package name install)) desk.registry.installs
       → with_changes (package_changes name desk.registry.installs after.installs) desk.database ≡ settled after desk.database
-  package-follows name after same rest =
+  package-follows name sound idents after same rest =
       let before = desk.registry.installs in
       let taken = grant_changes false (is_of_package name) before in
       let given = grant_changes true (is_of_package name) after.installs in
@@ -212,19 +215,33 @@ module _ (desk : DeskState) (is : IsDesk desk) (has : has_layout desk.database �
             ∙ ap (λ users. map (in_bucket main) (main_policies (record { users = users; installs = after.installs }))) (sym same);
         manifests =
             manifests-follow desk.registry after (is_of_package name) desk.database.policies owned.manifests rest
-            (λ key. package-apart name before key) (fold-rises desk.database.policies (taken ++ given) is.database.keys_rise);
+            (λ key. package-apart name sound before idents key) (fold-rises desk.database.policies (taken ++ given) is.database.keys_rise);
       })
 
   pub named-install : (install : Install)
       → no_bucket (flat_map named_by (package_changes install.package desk.registry.installs (with_install desk.registry install).installs)) desk.database ≡ None
   named-install install = package-named install.package (with_install desk.registry install).installs
 
-  pub follows-install : (install : Install)
+  pub follows-install : (install : Install) → ident_fault install.package ≡ None
+      → AllByRecursion (λ (other : Install). ident_fault other.package ≡ None) desk.registry.installs
       → with_changes (package_changes install.package desk.registry.installs (with_install desk.registry install).installs) desk.database
       ≡ settled (with_install desk.registry install) desk.database
-  follows-install install =
-      package-follows install.package (with_install desk.registry install) refl
+  follows-install install sound idents =
+      package-follows install.package sound idents (with_install desk.registry install) refl
       (install-rest install desk.registry.installs is.registry.installs_rise)
+
+  -- a package of another kind
+
+  pub named-convert : (name : List ℕ) (hybrid : Bool)
+      → no_bucket (flat_map named_by (package_changes name desk.registry.installs (with_kind desk.registry name hybrid).installs)) desk.database ≡ None
+  named-convert name hybrid = package-named name (with_kind desk.registry name hybrid).installs
+
+  pub follows-convert : (name : List ℕ) (hybrid : Bool) → ident_fault name ≡ None
+      → AllByRecursion (λ (install : Install). ident_fault install.package ≡ None) desk.registry.installs
+      → with_changes (package_changes name desk.registry.installs (with_kind desk.registry name hybrid).installs) desk.database
+      ≡ settled (with_kind desk.registry name hybrid) desk.database
+  follows-convert name hybrid sound idents =
+      package-follows name sound idents (with_kind desk.registry name hybrid) refl (convert-rest name hybrid desk.registry.installs)
 
   -- an install that takes the place of no other
 
@@ -266,15 +283,18 @@ module _ (desk : DeskState) (is : IsDesk desk) (has : has_layout desk.database �
       → no_bucket (flat_map named_by (app_changes (find (is_of_app app) desk.registry.installs) desk.registry.installs (without_install desk.registry app scope).installs)) desk.database ≡ None
   named-uninstall app scope = named-app (find (is_of_app app) desk.registry.installs) (without_install desk.registry app scope).installs
 
-  pub follows-uninstall : (app : List ℕ) (scope : Scope) → list_any (is_install_of app scope) desk.registry.installs ≡ true
+  pub follows-uninstall : (app : List ℕ) (scope : Scope)
+      → AllByRecursion (λ (install : Install). ident_fault install.package ≡ None) desk.registry.installs → list_any (is_install_of app scope) desk.registry.installs ≡ true
       → with_changes (app_changes (find (is_of_app app) desk.registry.installs) desk.registry.installs (without_install desk.registry app scope).installs) desk.database
       ≡ settled (without_install desk.registry app scope) desk.database
-  follows-uninstall app scope installed = at (find (is_of_app app) desk.registry.installs) refl
+  follows-uninstall app scope idents installed = at (find (is_of_app app) desk.registry.installs) refl
     where
       at : (first : Option Install) → find (is_of_app app) desk.registry.installs ≡ first
           → with_changes (app_changes first desk.registry.installs (without_install desk.registry app scope).installs) desk.database
           ≡ settled (without_install desk.registry app scope) desk.database
       at (Some first) found =
-          package-follows first.package (without_install desk.registry app scope) refl
+          package-follows first.package
+          (found-of (λ (install : Install). ident_fault install.package ≡ None) (is_of_app app) desk.registry.installs first found idents) idents
+          (without_install desk.registry app scope) refl
           (uninstall-rest app scope first desk.registry.installs found is.registry.one_package)
       at None found = absurd (true≢false (sym installed ∙ app-found app scope desk.registry.installs found))

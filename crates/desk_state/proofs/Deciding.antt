@@ -19,16 +19,16 @@ use Rattle.bucket_store.specs.Change.{with_changes}
 use Rattle.bucket_store.specs.Refusal.{named_by}
 use Rattle.bucket_store.specs.declared.policy_changes.Change.{Change}
 use Rattle.app_registry.specs.Install.{is_install_of}
-use Rattle.app_registry.specs.Registry.{RegistryLists, has_user, packages, grant_count, with_user, with_install}
+use Rattle.app_registry.specs.Registry.{RegistryLists, has_user, has_package, packages, grant_count, with_user, with_install}
 use Rattle.app_registry.specs.declared.installs.Install.{Install}
 use Rattle.app_registry.specs.declared.installs.Scope.{Scope}
 use Rattle.app_registry.specs.declared.installs.Scope.TheVariants.{Everyone, One}
 use Rattle.app_registry.specs.Limits.{most_users, most_packages, most_installs, most_grants}
 use Rattle.app_registry.specs.declared.users.User.{User}
 use Rattle.app_registry.specs.declared.users.UserType.{UserType}
-use Rattle.desk_state.specs.declared.commands.Command.TheVariants.{Layout, UserSet, UserRemove, Install as InstallCommand, Uninstall}
+use Rattle.desk_state.specs.declared.commands.Command.TheVariants.{Layout, UserSet, UserRemove, Install as InstallCommand, Uninstall, Convert}
 use Rattle.desk_state.specs.Layout.{has_layout, settled, laid_out}
-use Rattle.desk_state.specs.parts.Linking.{link_changes, IsMemory}
+use Rattle.desk_state.specs.parts.Linking.{link_changes}
 use Rattle.bucket_store.specs.WellFormed.{IsSound}
 use Rattle.bucket_store.proofs.Sound.{limit-sound, cycle-sound}
 use Rattle.desk_state.specs.Next.{request, leads_to, next, next_registry, erased_by}
@@ -223,9 +223,6 @@ either None (Some broken) false limit cycle refusal answer is kept limited =
 either None None last limit cycle refusal answer is kept limited = cc
 
 module _ (desk : DeskState) (command : Command) where
-  abbrev settled_next : Database
-  settled_next = settled (next_registry desk.registry command) desk.database
-
   abbrev around : Option Refusal → Option Refusal → Option Refusal → Request → Option Refusal
   around reserved there known asked =
       first_of (reserved ∷ there ∷ known
@@ -430,10 +427,14 @@ scope-kept commit users (One uid) = unknown-kept commit users uid
 owner-kept : (commit : ℕ) (lists : RegistryLists) (install : Install) → KeepsRefusal commit (registry.owner_fault lists install)
 owner-kept commit lists install =
     keeps-or commit (registry.unknown_scope lists.users install.scope)
-    (option_or (registry.other_package lists.installs install) (registry.other_author lists.installs install))
+    (option_or (registry.other_package lists.installs install)
+    (option_or (registry.other_author lists.installs install) (registry.other_kind lists.installs install)))
     (scope-kept commit lists.users install.scope)
-    (keeps-or commit (registry.other_package lists.installs install) (registry.other_author lists.installs install)
-    (packaged (find (registry.is_elsewhere install) lists.installs)) (authored (find (registry.is_by_another install) lists.installs)))
+    (keeps-or commit (registry.other_package lists.installs install)
+    (option_or (registry.other_author lists.installs install) (registry.other_kind lists.installs install))
+    (packaged (find (registry.is_elsewhere install) lists.installs))
+    (keeps-or commit (registry.other_author lists.installs install) (registry.other_kind lists.installs install)
+    (authored (find (registry.is_by_another install) lists.installs)) (kinded (find (registry.is_of_other_kind install) lists.installs))))
   where
     packaged : (other : Option Install) → KeepsRefusal commit (option_map (λ (one : Install). registered.OtherPackage one.package) other)
     packaged None = nothing commit
@@ -442,6 +443,10 @@ owner-kept commit lists install =
     authored : (other : Option Install) → KeepsRefusal commit (option_map (λ (one : Install). registered.OtherAuthor one.author) other)
     authored None = nothing commit
     authored (Some other) = kept commit (registered.OtherAuthor other.author) refl
+
+    kinded : (other : Option Install) → KeepsRefusal commit (option_map (λ (one : Install). registered.OtherHybrid one.hybrid) other)
+    kinded None = nothing commit
+    kinded (Some other) = kept commit (registered.OtherHybrid other.hybrid) refl
 
 installs-limit : (commit : ℕ) (installs : List Install) → IsLimit commit (registry.installs_limit installs)
 installs-limit commit installs =
@@ -488,6 +493,18 @@ module _ (desk : DeskState) where
       at true = nothing desk.commit
       at false = kept desk.commit registered.NotInstalled refl
 
+  pub on_convert : (name : List ℕ) (hybrid : Bool) → IsAllowed desk (Convert name hybrid) → IsOnRegistry desk (Convert name hybrid)
+  on_convert name hybrid allowed = record {
+    allowed = allowed;
+    rule = at (has_package desk.registry name);
+    count = no-limit desk.commit;
+    request = refl;
+  }
+    where
+      at : (b : Bool) → KeepsRefusal desk.commit (cond b None (Some registered.NotInstalled))
+      at true = nothing desk.commit
+      at false = kept desk.commit registered.NotInstalled refl
+
 -- a command about the registry is allowed only with the layout
 pub laid_known : (has : Bool) → cond (not has) (Some NoLayout) None ≡ None → has ≡ true
 laid_known true known = refl
@@ -515,11 +532,6 @@ module _ (desk : DeskState) (allowed : IsAllowed desk Layout) where
   layout_fault =
       plain desk Layout (record { allowed = allowed; rule = refl; count = refl })
       ∙ behind-commit (desk.commit == last_commit) (option_map of_store (store.limit (laid_out desk.database))) (option_map of_store (store.cycle (laid_out desk.database)))
-
-  pub layout_last : (desk.commit == last_commit) ≡ true → fault desk Layout ≡ Some (Limit Commits last_commit)
-  layout_last last =
-      layout_fault
-      ∙ ap (λ b. first_of (cond b (Some (Limit Commits last_commit)) None ∷ option_map of_store (store.limit (laid_out desk.database)) ∷ option_map of_store (store.cycle (laid_out desk.database)) ∷ [])) last
 
   pub layout_full : (desk.commit == last_commit) ≡ false → nat_lt most_buckets (length (laid_out desk.database).buckets) ≡ true
       → fault desk Layout ≡ Some (Limit Buckets most_buckets)
@@ -571,13 +583,3 @@ module _ (desk : DeskState) (allowed : IsAllowed desk Layout) where
         record { next = step.next ∙ follows_to; erased = step.erased; accepted = layout_none is ∙ step.room }
     layout_stepped is after follows_to (Err (Memory error)) step = memory desk Layout allowed
     layout_stepped is after follows_to (Err refusal) step = layout_none is ∙ step
-
--- want of memory names no rule
-pub memory_refused : (desk : DeskState) (command : Command) → IsAllowed desk command → (refusal : StoreRefusal) → IsMemory refusal
-    → Refuses desk command (stored_refusal desk.commit refusal)
-memory_refused desk command allowed (stored.Memory error) is = memory desk command allowed
-memory_refused desk command allowed (stored.NoBucket name) is = absurd is
-memory_refused desk command allowed stored.RootBucket is = absurd is
-memory_refused desk command allowed (stored.BadKind kind) is = absurd is
-memory_refused desk command allowed (stored.Limit counted most) is = absurd is
-memory_refused desk command allowed (stored.Cycle name) is = absurd is

@@ -158,12 +158,8 @@ gt-Greater Less h = absurd (true≢false (sym h))
 gt-Greater Equal h = absurd (true≢false (sym h))
 gt-Greater Greater h = refl
 
--- the policies on one side of each of the two
 module _ (first second : Ordering → Bool) (o p : Ordering) (first-is : (order : Ordering) → first order ≡ true → order ≡ o)
     (second-is : (order : Ordering) → second order ≡ true → order ≡ p) (first-apart : is_eq o ≡ false) (second-apart : is_eq p ≡ false) where
-  abbrev zone : Placed → Bool
-  zone placed = first (text_cmp placed.bucket main) && second (text_cmp placed.bucket manifests)
-
   zone-once : (change : Change) → IsFollowing change → (policies : List Placed)
       → filter (λ (placed : Placed). first (text_cmp placed.bucket main) && second (text_cmp placed.bucket manifests)) (after_change policies change)
       ≡ filter (λ (placed : Placed). first (text_cmp placed.bucket main) && second (text_cmp placed.bucket manifests)) policies

@@ -10,6 +10,7 @@ pub mod Appending
 pub mod Linking
 pub mod Touching
 pub mod Commanding
+pub mod Labelling
 pub mod Laying
 pub mod Expanding
 mod Gaining

@@ -16,11 +16,12 @@ use Rattle.cynara_keys.specs.Key.{key_cmp, same_key}
 use Rattle.cynara_keys.specs.declared.fields.Field.TheVariants.{Exact}
 use Rattle.cynara_keys.specs.Key.{Key}
 use Rattle.cynara_keys.proofs.Order.{same_text-≡, ≡-same_text, text_cmp-equal, key_cmp-equal}
+use Rattle.app_registry.specs.Ident.{ident_fault}
 use Rattle.app_registry.specs.Install.{install_cmp, is_of_package, is_of_app, is_install_of, is_for_user}
-use Rattle.app_registry.specs.Label.{package_label, install_label}
+use Rattle.app_registry.specs.Label.{install_label}
 use Rattle.app_registry.specs.Manifest.{grant, install_grants, grants, scope_field}
 use Rattle.app_registry.specs.Refusal.{unknown_scope, other_package, is_elsewhere}
-use Rattle.app_registry.specs.Registry.{has_user}
+use Rattle.app_registry.specs.Registry.{has_user, of_kind}
 use Rattle.app_registry.specs.Rising.{placed}
 use Rattle.app_registry.specs.Scope.{same_scope}
 use Rattle.app_registry.specs.declared.installs.Install.{Install}
@@ -31,6 +32,7 @@ use Rattle.app_registry.proofs.Filters.{option_map-none}
 use Rattle.app_registry.proofs.Orders.{install_total}
 use Rattle.app_registry.proofs.Texts.{decimal-no_wildcard}
 use Rattle.desk_state.proofs.Filters.{filter-outside, three-parts, rises-up}
+use Rattle.desk_state.proofs.Labelling.{package_in, package_in-label}
 use Rattle.desk_state.proofs.Settling.{hits}
 use Rattle.desk_state.proofs.Linking.{same-user}
 
@@ -90,9 +92,6 @@ module _ (key : Key) (Mark : Type 0) (test : Install → Bool)
           (sym (list_any-append (hits key) (install_grants install) (grants (filter test installs))) ∙ found) rest
       at false passes found rest = rest found
 
-  abbrev Unmarked : Install → Type 0
-  Unmarked install = test install ≡ false → Mark → list_any (hits key) (install_grants install) ≡ false
-
   none-others : Mark → (installs : List Install)
       → AllByRecursion (λ (install : Install). test install ≡ false → Mark → list_any (hits key) (install_grants install) ≡ false) installs
       → list_any (hits key) (grants (filter (λ (install : Install). not (test install)) installs)) ≡ false
@@ -119,24 +118,36 @@ all-of P every (x ∷ xs) = (every x, all-of P every xs)
 
 -- ---- installs of a package
 
-same-label : (a b : List ℕ) → package_label a ≡ package_label b → a ≡ b
-same-label a b h = cc
-
-pub package-apart : (name : List ℕ) (installs : List Install) (key : Key)
+-- what the label of a package's install says is said by no install of another package
+pub package-apart : (name : List ℕ) → ident_fault name ≡ None → (installs : List Install)
+    → AllByRecursion (λ (install : Install). ident_fault install.package ≡ None) installs → (key : Key)
     → list_any (hits key) (grants (filter (is_of_package name) installs)) ≡ true
     → list_any (hits key) (grants (filter (λ (install : Install). not (is_of_package name install)) installs)) ≡ false
-package-apart name installs key =
-    apart-parts key (field_text key.client ≡ package_label name) (is_of_package name)
-    (λ install of any. (hit key install any).client ∙ ap package_label (same_text-≡ install.package name of)) installs
-    (all-of (λ (install : Install). is_of_package name install ≡ false → field_text key.client ≡ package_label name → list_any (hits key) (install_grants install) ≡ false)
-    (λ install differs mark. at install differs mark (list_any (hits key) (install_grants install)) refl) installs)
+package-apart name sound installs rights key =
+    apart-parts key (package_in (field_text key.client) ≡ name) (is_of_package name) (λ install of any. own install of any) installs
+    (each installs rights)
   where
-    at : (install : Install) → is_of_package name install ≡ false → field_text key.client ≡ package_label name
-        → (b : Bool) → list_any (hits key) (install_grants install) ≡ b → b ≡ false
-    at install differs mark true any =
-        let same : install.package ≡ name = same-label install.package name (sym (hit key install any).client ∙ mark) in
+    own : (install : Install) → is_of_package name install ≡ true → list_any (hits key) (install_grants install) ≡ true
+        → package_in (field_text key.client) ≡ name
+    own install of any =
+        let is : install.package ≡ name = same_text-≡ install.package name of in
+        ap package_in (hit key install any).client
+        ∙ package_in-label install (subst (λ text. ident_fault text ≡ None) (sym is) sound)
+        ∙ is
+
+    at : (install : Install) → ident_fault install.package ≡ None → is_of_package name install ≡ false
+        → package_in (field_text key.client) ≡ name → (b : Bool) → list_any (hits key) (install_grants install) ≡ b → b ≡ false
+    at install right differs mark true any =
+        let same : install.package ≡ name = sym (ap package_in (hit key install any).client ∙ package_in-label install right) ∙ mark in
         absurd (true≢false (sym (≡-same_text install.package name same) ∙ differs))
-    at install differs mark false any = refl
+    at install right differs mark false any = refl
+
+    each : (others : List Install) → AllByRecursion (λ (install : Install). ident_fault install.package ≡ None) others
+        → AllByRecursion (λ (install : Install). is_of_package name install ≡ false → package_in (field_text key.client) ≡ name
+        → list_any (hits key) (install_grants install) ≡ false) others
+    each [] rights = tt
+    each (install ∷ others) rights =
+        ((λ differs mark. at install rights.0 differs mark (list_any (hits key) (install_grants install)) refl), each others rights.1)
 
 -- ---- installs for a user
 
@@ -249,6 +260,40 @@ install-rest install installs rise =
     off : (other : Install) → not (is_of_package install.package other) ≡ true → (b : Bool) → is_eq (install_cmp other install) ≡ b → b ≡ false
     off other untouched true tied = absurd (true≢false (sym (ap not (sym (tied-package other install tied)) ∙ untouched)))
     off other untouched false tied = refl
+
+-- a package of another kind leaves the installs of the others
+pub convert-rest : (name : List ℕ) (hybrid : Bool) (installs : List Install)
+    → filter (λ (other : Install). not (is_of_package name other)) (map (of_kind name hybrid) installs)
+    ≡ filter (λ (other : Install). not (is_of_package name other)) installs
+convert-rest name hybrid [] = refl
+convert-rest name hybrid (install ∷ installs) = at (is_of_package name install) refl (convert-rest name hybrid installs)
+  where
+    at : (b : Bool) → is_of_package name install ≡ b
+        → filter (λ (other : Install). not (is_of_package name other)) (map (of_kind name hybrid) installs)
+        ≡ filter (λ (other : Install). not (is_of_package name other)) installs
+        → filter (λ (other : Install). not (is_of_package name other))
+        (cond b (record install { hybrid = hybrid }) install ∷ map (of_kind name hybrid) installs)
+        ≡ cond (not b) (install ∷ filter (λ (other : Install). not (is_of_package name other)) installs)
+        (filter (λ (other : Install). not (is_of_package name other)) installs)
+    at true is same =
+        ap (λ t. cond (not t)
+        (record install { hybrid = hybrid } ∷ filter (λ (other : Install). not (is_of_package name other)) (map (of_kind name hybrid) installs))
+        (filter (λ (other : Install). not (is_of_package name other)) (map (of_kind name hybrid) installs))) is
+        ∙ same
+    at false is same =
+        ap (λ t. cond (not t)
+        (install ∷ filter (λ (other : Install). not (is_of_package name other)) (map (of_kind name hybrid) installs))
+        (filter (λ (other : Install). not (is_of_package name other)) (map (of_kind name hybrid) installs))) is
+        ∙ ap (λ others. install ∷ others) same
+
+-- what holds of all is so of the one that is found
+pub found-of : {X : Type 0} (P : X → Type 0) (test : X → Bool) (xs : List X) (x : X) → find test xs ≡ Some x → AllByRecursion P xs → P x
+found-of P test [] x found all = cc
+found-of P test (y ∷ ys) x found all = at (test y) found (λ later. found-of P test ys x later all.1)
+  where
+    at : (b : Bool) → cond b (Some y) (find test ys) ≡ Some x → (find test ys ≡ Some x → P x) → P x
+    at true is later = let same : y ≡ x = cc in subst P same all.0
+    at false is later = later is
 
 -- ---- the package of an application
 

@@ -3,7 +3,7 @@ use Rattle.std.specs.Prelude.{ℕ, List}
 use Rattle.std.specs.List.{flat_map}
 use Rattle.bucket_store.specs.Database as database
 use Rattle.bucket_store.specs.Database.{Database}
-use Rattle.app_registry.specs.Registry.{RegistryLists, no_entries, packages, author_of}
+use Rattle.app_registry.specs.Registry.{RegistryLists, no_entries, packages}
 use Rattle.smack_rules.specs.declared.rule.Rule.{Rule}
 use Rattle.rule_templates.specs.Expansion.{expansion}
 use Rattle.rule_templates.specs.Usual.{usual_template}
@@ -22,7 +22,7 @@ fresh = record { commit = 0; database = database.fresh; registry = no_entries; t
 
 -- the Smack rules of a package
 abbrev pub package_rules : DeskState → List ℕ → List Rule
-package_rules desk name = expansion desk.template name (author_of desk.registry name)
+package_rules desk name = expansion desk.template desk.registry name
 
 -- the Smack rules of all packages, in the order of their names
 abbrev pub smack_rules : DeskState → List Rule

@@ -3,12 +3,12 @@ use Rattle.std.specs.Prelude.{ℕ, ◌+◌, List, [], length}
 use Rattle.bucket_store.specs.Database.{Database}
 use Rattle.bucket_store.specs.Change.{listed}
 use Rattle.bucket_store.specs.Refusal.{Request, set_bucket, remove_bucket, set_policies, erase}
-use Rattle.app_registry.specs.Registry.{RegistryLists, with_user, without_user, with_install, without_install}
+use Rattle.app_registry.specs.Registry.{RegistryLists, with_user, without_user, with_install, without_install, with_kind}
 use Rattle.rule_templates.specs.declared.lines.TemplateLine.{TemplateLine}
 use Rattle.desk_state.specs.DeskState.{DeskState}
 use Rattle.desk_state.specs.Layout.{laid_out, settled}
 use Rattle.desk_state.specs.declared.commands.Command.{Command}
-use Rattle.desk_state.specs.declared.commands.Command.TheVariants.{SetBucket, RemoveBucket, SetPolicies, Erase, Layout, SetTemplate, UserSet, UserRemove, Install, Uninstall}
+use Rattle.desk_state.specs.declared.commands.Command.TheVariants.{SetBucket, RemoveBucket, SetPolicies, Erase, Layout, SetTemplate, UserSet, UserRemove, Install, Uninstall, Convert}
 
 -- a request that names no bucket and leads to this database
 abbrev pub leads_to : Database → Request
@@ -19,6 +19,7 @@ next_registry registry (UserSet uid kind) = with_user registry uid kind
 next_registry registry (UserRemove uid) = without_user registry uid
 next_registry registry (Install install) = with_install registry install
 next_registry registry (Uninstall app scope) = without_install registry app scope
+next_registry registry (Convert name hybrid) = with_kind registry name hybrid
 next_registry registry command = registry
 
 -- what the command asks of the database: users and installs decide its two buckets anew, from the whole registry

@@ -15,10 +15,10 @@ use Rattle.desk_state.specs.DeskState.{DeskState}
 use Rattle.desk_state.specs.Layout.{is_built_in, is_managed, has_layout}
 use Rattle.desk_state.specs.Next.{request}
 use Rattle.desk_state.specs.declared.commands.Command.{Command}
-use Rattle.desk_state.specs.declared.commands.Command.TheVariants.{SetBucket, RemoveBucket, SetPolicies, Erase, Layout, UserSet, UserRemove, Install, Uninstall}
+use Rattle.desk_state.specs.declared.commands.Command.TheVariants.{SetBucket, RemoveBucket, SetPolicies, Erase, Layout, UserSet, UserRemove, Install, Uninstall, Convert}
 use Rattle.desk_state.specs.Limits.{last_commit}
 use Rattle.desk_state.specs.declared.refusals.Refusal.{Refusal}
-use Rattle.desk_state.specs.declared.refusals.Refusal.TheVariants.{Reserved, LayoutThere, NoLayout, NoBucket, RootBucket, BadKind, UnknownUser, OtherPackage, OtherAuthor, NotInstalled, Limit, Cycle, Memory}
+use Rattle.desk_state.specs.declared.refusals.Refusal.TheVariants.{Reserved, LayoutThere, NoLayout, NoBucket, RootBucket, BadKind, UnknownUser, OtherPackage, OtherAuthor, OtherHybrid, NotInstalled, Limit, Cycle, Memory}
 
 -- ---- rules of the layout
 
@@ -47,6 +47,7 @@ is_about_registry (UserSet uid kind) = true
 is_about_registry (UserRemove uid) = true
 is_about_registry (Install install) = true
 is_about_registry (Uninstall app scope) = true
+is_about_registry (Convert name hybrid) = true
 is_about_registry command = false
 
 abbrev pub no_layout : Bool → Command → Option Refusal
@@ -66,6 +67,7 @@ abbrev pub of_registry : RegistryRefusal → Refusal
 of_registry (registered.UnknownUser uid) = UnknownUser uid
 of_registry (registered.OtherPackage name) = OtherPackage name
 of_registry (registered.OtherAuthor author) = OtherAuthor author
+of_registry (registered.OtherHybrid hybrid) = OtherHybrid hybrid
 of_registry registered.NotInstalled = NotInstalled
 of_registry (registered.Limit counted most) = Limit counted most
 of_registry (registered.Memory error) = Memory error
@@ -75,6 +77,7 @@ abbrev pub registry_rule : RegistryLists → Command → Option RegistryRefusal
 registry_rule lists (UserRemove uid) = registry.user_remove_fault lists uid
 registry_rule lists (Install install) = registry.owner_fault lists install
 registry_rule lists (Uninstall app scope) = registry.uninstall_fault lists app scope
+registry_rule lists (Convert name hybrid) = registry.convert_fault lists name
 registry_rule lists command = None
 
 abbrev pub registry_limit : RegistryLists → Command → Option RegistryRefusal

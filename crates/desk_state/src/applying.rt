@@ -43,6 +43,7 @@ impl Desk {
             Command::UserRemove { uid } => self.user_remove(*uid),
             Command::Install { install } => self.install(install),
             Command::Uninstall { app, scope } => self.uninstall(app, *scope),
+            Command::Convert { package, hybrid } => self.convert(package, *hybrid),
         }
     }
 }

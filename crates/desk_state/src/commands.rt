@@ -49,6 +49,11 @@ pub enum Command {
         app: Ident,
         scope: Scope,
     },
+    /// The package is hybrid, each of its applications with a label of its own, or it is plain.
+    Convert {
+        package: Ident,
+        hybrid: bool,
+    },
 }
 
 ghost use Rattle.std.specs.Prelude.{◌≡◌, IfOk};
@@ -88,6 +93,10 @@ impl Command {
             Command::Uninstall { app, scope } => Ok(Command::Uninstall {
                 app: app.copy()?,
                 scope: *scope,
+            }),
+            Command::Convert { package, hybrid } => Ok(Command::Convert {
+                package: package.copy()?,
+                hybrid: *hybrid,
             }),
         }
     }

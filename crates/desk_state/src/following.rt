@@ -4,19 +4,18 @@
 ghost use Rattle.std.specs.Prelude.{◌≡◌, [], ◌∷◌, ◌++◌, None, map, decimal, true, false, IfOk, OnOk};
 ghost use Rattle.cynara_keys.specs.BucketName.{bucket_name_fault, is_bucket_name};
 ghost use Rattle.cynara_keys.specs.Metadata.{metadata_fault};
-ghost use Rattle.cynara_keys.specs.Name.{name_fault};
 ghost use Rattle.cynara_keys.specs.PolicyResult as ruling;
 ghost use Rattle.app_registry.specs.Install.{is_of_package, is_for_user};
-ghost use Rattle.app_registry.specs.Label.{install_label};
-ghost use Rattle.app_registry.specs.Manifest.{grant, install_grants, grants, scope_field};
+ghost use Rattle.app_registry.specs.Manifest.{grant, install_grants, grants};
 ghost use Rattle.desk_state.specs.parts.Following as following;
 
 use crate::names::{MAIN, MANIFESTS, type_bucket};
-use app_registry::{Ident, Install, Registry, Scope, UserType, package_label, user_name};
+use app_registry::{
+    Ident, Install, Registry, Scope, UserType, grant, install_client, scope_field, user_name,
+};
 use bucket_store::Change;
 use cynara_keys::{
-    BucketName, BucketNameRefusal, Field, Key, Kind, Metadata, MetadataRefusal, Name, NameRefusal,
-    PolicyResult,
+    BucketName, BucketNameRefusal, Field, Key, Kind, Metadata, MetadataRefusal, Name, PolicyResult,
 };
 use std::alloc::{AllocError, Global};
 
@@ -77,7 +76,7 @@ pub fn link_to(alloc: Global, target: &[u8]) -> Result<PolicyResult, AllocError>
     }
 }
 
-/// Appends changes that allow, or take away, what the installs of a package grant.
+/// Appends changes that allow, or take away, what the installs of a package grant, each to its label.
 pub fn change_package(
     alloc: Global,
     changes: &mut Vec<Change>,
@@ -197,8 +196,7 @@ fn grant_change(
     ensures { IfOk result (λ change. change ≡ following.grant_change allowed (grant client.now user.now privilege.now)) }
 {
     let bucket = bucket_name(alloc, MANIFESTS)?;
-    let privilege = Field::Exact(privilege.copy()?);
-    let key = Key::of_fields(alloc, client, user, &privilege)?;
+    let key = grant(alloc, client, user, privilege)?;
     if allowed {
         return Ok(Change::Set {
             bucket,
@@ -207,34 +205,4 @@ fn grant_change(
         });
     }
     Ok(Change::Delete { bucket, key })
-}
-
-// The label of an install, as the client of its keys.
-fn install_client(alloc: Global, install: &Install) -> Result<Name, AllocError>
-    ensures { IfOk result (λ name. name ≡ install_label install.now) }
-{
-    let _ = install.package.as_slice();
-    let label = package_label(alloc, &install.package)?;
-    known_name(alloc, label.as_slice())
-}
-
-// The name of these bytes, which is one.
-fn known_name(alloc: Global, bytes: &[u8]) -> Result<Name, AllocError>
-    requires { name_fault bytes.now ≡ None }
-    ensures { IfOk result (λ name. name ≡ bytes.now) }
-{
-    match Name::read(alloc, bytes) {
-        Ok(name) => Ok(name),
-        Err(NameRefusal::Memory(error)) => Err(error),
-        Err(_) => unreachable!(),
-    }
-}
-
-fn scope_field(alloc: Global, scope: Scope) -> Result<Field, AllocError>
-    ensures { IfOk result (λ field. field ≡ scope_field scope) }
-{
-    match scope {
-        Scope::Everyone => Ok(Field::Any),
-        Scope::One(uid) => Ok(Field::Exact(user_name(alloc, uid)?)),
-    }
 }

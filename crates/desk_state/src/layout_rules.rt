@@ -133,7 +133,8 @@ fn is_about_registry(command: &Command) -> bool
         Command::UserSet { .. }
         | Command::UserRemove { .. }
         | Command::Install { .. }
-        | Command::Uninstall { .. } => true,
+        | Command::Uninstall { .. }
+        | Command::Convert { .. } => true,
         _ => false,
     }
 }

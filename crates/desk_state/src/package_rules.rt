@@ -75,8 +75,7 @@ impl Desk {
     fn rules_of(&self, package: &Ident) -> Result<Vec<Rule>, AllocError>
         ensures { IfOk result (λ rules. rules.items ≡ package_rules self.now «package».now) }
     {
-        let author = self.registry().author_of(package);
-        let rules = self.template().rules_for(package, author)?;
+        let rules = self.template().rules_for(self.registry(), package)?;
         Ok(rules)
     }
 }

@@ -30,7 +30,10 @@ pub enum Refusal {
     /// The package is installed by this other author, or by none.
     #[error("the package is installed by another author")]
     OtherAuthor(Option<Ident>),
-    #[error("the application is not installed for the scope")]
+    /// The package is installed as one of this other kind: a hybrid one where this is true, else a plain one.
+    #[error("the package is installed as one of the other kind")]
+    OtherHybrid(bool),
+    #[error("the application is not installed for the scope, or the package has no install")]
     NotInstalled,
     /// What there would be too many of, and how many there may be. Of several, the first in the order of `Counted`.
     #[error("there is room for {1} of them")]

@@ -5,7 +5,9 @@ ghost use Rattle.std.specs.Option.{option_copied};
 ghost use Rattle.std.specs.List as list;
 ghost use Rattle.bucket_store.specs.Change.{with_changes};
 ghost use Rattle.bucket_store.specs.Refusal.{named_by, no_bucket};
+ghost use Rattle.app_registry.specs.Ident.{ident_fault};
 ghost use Rattle.app_registry.specs.Install.{is_of_app};
+ghost use Rattle.app_registry.specs.declared.installs.Install.{Install as Installed};
 ghost use Rattle.app_registry.specs.declared.users.User.{User as Account};
 ghost use Rattle.desk_state.specs.Layout as layout;
 ghost use Rattle.desk_state.specs.declared.commands.Command.TheVariants as command;
@@ -59,8 +61,10 @@ impl Desk {
             Ok(registry) => registry,
             Err(refusal) => return Err(self.refused_by_registry(refusal)),
         };
+        let _ = install.package.as_slice();
         let alloc = self.template().allocator();
         let before = self.registry();
+        idents_fit(before.installs());
         let changes = match package_changes(alloc, before, &registry, &install.package) {
             Ok(changes) => changes,
             Err(error) => return Err(Refusal::Memory(error)),
@@ -77,7 +81,27 @@ impl Desk {
             Err(refusal) => return Err(self.refused_by_registry(refusal)),
         };
         let alloc = self.template().allocator();
+        idents_fit(self.registry().installs());
         let changes = match app_changes(alloc, self.registry(), &registry, app) {
+            Ok(changes) => changes,
+            Err(error) => return Err(Refusal::Memory(error)),
+        };
+        self.settle(registry, &changes)
+    }
+
+    pub(crate) fn convert(&self, package: &Ident, hybrid: bool) -> Result<Applied, Refusal>
+        requires { IsAllowed self.now (command.Convert «package».now hybrid) }
+        ensures { Answers self.now (command.Convert «package».now hybrid) result }
+    {
+        let registry = match self.registry().convert(package, hybrid) {
+            Ok(registry) => registry,
+            Err(refusal) => return Err(self.refused_by_registry(refusal)),
+        };
+        let _ = package.as_slice();
+        let alloc = self.template().allocator();
+        let before = self.registry();
+        idents_fit(before.installs());
+        let changes = match package_changes(alloc, before, &registry, package) {
             Ok(changes) => changes,
             Err(error) => return Err(Refusal::Memory(error)),
         };
@@ -122,6 +146,22 @@ fn number_fits(uid: u32)
     ensures { uid < 2 ^ 32 }
 {
     let _ = uid;
+}
+
+// Names of packages have no colon, so that no label of an install is one of another package. The loop changes nothing: it
+// says of each name what is known of one that is passed.
+fn idents_fit(installs: &[Install])
+    ensures { list.AllByRecursion (λ (install : Installed). ident_fault install.package ≡ None) installs.now }
+{
+    for install in installs {
+        ident_fits(&install.package);
+    }
+}
+
+fn ident_fits(ident: &Ident)
+    ensures { ident_fault ident.now ≡ None }
+{
+    let _ = ident.as_slice();
 }
 
 fn user_set_changes(alloc: Global, uid: u32, kind: UserType) -> Result<Vec<Change>, AllocError>

@@ -56,6 +56,7 @@ impl Desk {
             RegistryRefusal::UnknownUser(uid) => Refusal::UnknownUser(uid),
             RegistryRefusal::OtherPackage(package) => Refusal::OtherPackage(package),
             RegistryRefusal::OtherAuthor(author) => Refusal::OtherAuthor(author),
+            RegistryRefusal::OtherHybrid(hybrid) => Refusal::OtherHybrid(hybrid),
             RegistryRefusal::NotInstalled => Refusal::NotInstalled,
             RegistryRefusal::Limit(counted, most) => self.or_last(Refusal::Limit(counted, most)),
             RegistryRefusal::Memory(error) => Refusal::Memory(error),

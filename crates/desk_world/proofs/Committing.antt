@@ -92,14 +92,12 @@ moved w later acknowledged candidate published note run links agents entries = r
   entries = entries;
 }
 
-module _ (w : World) (kept : IsKept w) (later : List DeskState) (acknowledged : ℕ) (candidate : Option DeskState)
+module _ (w : World) (later : List DeskState) (acknowledged : ℕ) (candidate : Option DeskState)
     (published note run : ℕ) (links : List Link) (agents : List ℕ) (entries : List AgentEntry) where
-  abbrev after : World
-  after = moved w later acknowledged candidate published note run links agents entries
-
-  pub moving : BeginsWith later w.later → w.acknowledged ≤ acknowledged → w.note ≤ note → w.published ≤ published
-      → last w ≤ last after → w.run ≤ run → LinksGrow w.links links → EntriesGrow w.entries entries → Grows w after
-  moving begins low_acknowledged low_note low_published low_last low_run links_grow entries_grow = record {
+  pub moved_grows : BeginsWith later w.later → w.acknowledged ≤ acknowledged → w.note ≤ note → w.published ≤ published
+      → last w ≤ (latest_of w.first later).commit → w.run ≤ run → LinksGrow w.links links → EntriesGrow w.entries entries
+      → Grows w (moved w later acknowledged candidate published note run links agents entries)
+  moved_grows begins low_acknowledged low_note low_published low_last low_run links_grow entries_grow = record {
     first = refl;
     later = begins;
     asks = begins_same w.asks;
@@ -113,6 +111,15 @@ module _ (w : World) (kept : IsKept w) (later : List DeskState) (acknowledged : 
     links = links_grow;
     entries = entries_grow;
   }
+
+module _ (w : World) (kept : IsKept w) (later : List DeskState) (acknowledged : ℕ) (candidate : Option DeskState)
+    (published note run : ℕ) (links : List Link) (agents : List ℕ) (entries : List AgentEntry) where
+  abbrev after : World
+  after = moved w later acknowledged candidate published note run links agents entries
+
+  pub moving : BeginsWith later w.later → w.acknowledged ≤ acknowledged → w.note ≤ note → w.published ≤ published
+      → last w ≤ last after → w.run ≤ run → LinksGrow w.links links → EntriesGrow w.entries entries → Grows w after
+  moving = moved_grows w later acknowledged candidate published note run links agents entries
 
   pub moves : Grows w after → IsOrdered after → IsChain w.first later
       → ((desk : DeskState) → candidate ≡ Some desk → Follows (latest_of w.first later) desk)

@@ -9,6 +9,9 @@ pub mod Numbering
 pub mod steps
 pub mod Runs
 pub mod Headlines
+pub mod Telling
+pub mod Recovering
+pub mod Enlarging
 pub mod Places
 pub mod Roots
 pub mod Becoming

@@ -39,6 +39,12 @@ abbrev pub IsChain : DeskState → List DeskState → Type 0
 IsChain desk [] = Unit {0}
 IsChain desk (after ∷ later) = Follows desk after × IsChain after later
 
+-- the numbers are in their order, each state comes from the one before it, and so would the candidate from the last
+pub record HasHistory (world : World) : Type 0 where
+  pub ordered : IsOrdered world
+  pub chain : IsChain world.first world.later
+  pub candidate : (desk : DeskState) → world.candidate ≡ Some desk → Follows (latest world) desk
+
 -- ---- 3: a link that is up entered at the note or later
 
 abbrev pub IsCurrent : ℕ → Link → Type 0

@@ -9,5 +9,8 @@ pub mod Events
 pub mod Sound
 pub mod Grows
 pub mod Kept
+pub mod Growth
 pub mod Headline
+pub mod Older
+pub mod Stops
 pub mod parts

@@ -2,9 +2,9 @@
 -- their caches, and the agents' log.
 use Rattle.std.specs.Prelude.{ℕ, true, ◌==◌, ◌&&◌, if◌then◌else◌, List, [], ◌∷◌, ◌++◌, Option, None, find, slice_set}
 use Rattle.cynara_keys.specs.Key.{Question}
-use Rattle.bucket_store.specs.Database.{root}
-use Rattle.bucket_eval.specs.Evaluation.{Outcome, answer}
+use Rattle.bucket_eval.specs.Evaluation.{Outcome}
 use Rattle.bucket_eval.specs.Found.{answer_of}
+use Rattle.bucket_eval.specs.Root.{root_outcome as outcome_of_root}
 use Rattle.bucket_eval.specs.declared.answers.Answer.{Answer}
 use Rattle.desk_state.specs.DeskState.{DeskState}
 use Rattle.desk_world.specs.Client.{Client, unnamed}
@@ -78,7 +78,7 @@ desk_at commit desks = find (λ (desk : DeskState). desk.commit == commit) desks
 
 -- what the policies of a state answer to a question: nested evaluation from the root bucket
 unfoldable pub root_outcome : DeskState → Question → Outcome
-root_outcome desk question = answer desk.database root question true
+root_outcome desk question = outcome_of_root desk.database question
 
 abbrev pub root_answer : DeskState → Question → Answer
 root_answer desk question = answer_of (root_outcome desk question)

@@ -2,6 +2,7 @@ ghost use Rattle.std.specs.Prelude.{◌≡◌, ◌↔◌, Ok, IfOk, IfErr, IsTru
 ghost use Rattle.desk_world.specs.World.{fresh};
 ghost use Rattle.desk_world.specs.Events.{run, HasRoom, Refuses};
 ghost use Rattle.desk_world.specs.Grows.{Grows};
+ghost use Rattle.desk_world.specs.Kept.{IsKept};
 ghost use Rattle.desk_world.specs.Sound.{AllSound};
 
 use crate::copies::world_copy;
@@ -37,7 +38,8 @@ impl Model for World {
 impl World {
     /// The world of a service that has just started from this policy state, whose commit counts as acknowledged.
     pub fn fresh(alloc: Global, desk: &Desk) -> Result<World, AllocError>
-        ensures { IfOk result (λ world. world ≡ fresh desk.now) }
+        ensures fresh { IfOk result (λ world. world ≡ fresh desk.now) }
+        ensures kept { IfOk result (λ world. IsKept world) }
     {
         let commit = desk.commit();
         let first = State::of(alloc, desk.copy()?)?;
@@ -83,6 +85,7 @@ pub fn run(world: &World, events: &[Event]) -> Result<World, WorldRefusal>
     requires { HasRoom (length events.now) world.now }
     ensures done { IfOk result (λ after. run world.now events.now ≡ Ok after) }
     ensures grows { IfOk result (λ after. Grows world.now after) }
+    ensures kept { IfOk result (λ after. IsKept after) }
     ensures sound { IfOk result (λ after. AllSound after) }
     ensures refused { IfErr result (λ refusal. Refuses refusal (run world.now events.now)) }
 {

@@ -22,6 +22,7 @@ fn install(alloc: Global, app: &str) -> Result<Install, Failure> {
         app: ident(alloc, app)?,
         scope: Scope::Everyone,
         privileges: NameSet::of(Vec::new(alloc))?,
+        hybrid: false,
     })
 }
 
@@ -111,7 +112,7 @@ pub fn found(alloc: Global, disk: &mut MemDisk) -> Result<String, Failure> {
         Ok(keeper) => {
             text.push_str(format!(in alloc; "commit {}", keeper.desk().commit())?.as_str())?;
         }
-        Err(refusal) => put_refusal(alloc, &mut text, refusal)?,
+        Err(left) => put_refusal(alloc, &mut text, left.refusal)?,
     }
     Ok(text)
 }

@@ -33,7 +33,7 @@ fn put_refusal(text: &mut String, refusal: VaultRefusal) -> Result<(), Failure> 
 fn put_mount(alloc: Global, text: &mut String, disk: &mut MemDisk) -> Result<(), Failure> {
     match Vault::mount(alloc, disk) {
         Ok(vault) => put_set(text, vault.held()),
-        Err(refusal) => put_refusal(text, refusal),
+        Err(left) => put_refusal(text, left.refusal),
     }
 }
 
@@ -97,7 +97,7 @@ fn replaced(alloc: Global, disk: &mut MemDisk, words: &str) -> Result<bool, Fail
     for _ in 0..3 {
         match Vault::mount(alloc, disk) {
             Ok(mut vault) => return replace_and_settle(&mut vault, files(alloc, words)?),
-            Err(VaultRefusal::StoreFault) => {}
+            Err(left) if matches!(left.refusal, VaultRefusal::StoreFault) => {}
             Err(_) => return Err(Failure::Refused),
         }
     }

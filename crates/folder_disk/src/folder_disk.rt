@@ -1,4 +1,5 @@
-ghost use Rattle.std.specs.Prelude.{◌≡◌, ◌≤◌, replicate, vec_len, true, false, Some, None, is_some, if◌then◌else◌, IfOk, OnOk, OnErr, string_bytes};
+ghost use Rattle.std.specs.Prelude.{◌≡◌, ◌≤◌, replicate, vec_len, true, false, Some, None, is_some, if◌then◌else◌, IsSome, IfOk, IsErr, OnOk, OnErr, string_bytes};
+ghost use Rattle.std.specs.IoError.{raw_os_error};
 ghost use Rattle.std.specs.Option.{option_copied};
 ghost use Rattle.desk_ports.specs.FileName.{IsFileName};
 ghost use Rattle.folder_disk.specs.Paths.{file_path};
@@ -89,6 +90,7 @@ impl<R: Files<File = File> + Clock + AllocGlobal + Clone + Drop> FolderDisk<R> {
         ensures count { self.new.faults ≡ self.old.faults }
         ensures settled { self.new.is_settled ≡ self.old.is_settled }
         ensures kept { OnErr result (self.new ≡ self.old) }
+        ensures unmade { self.old.held ≡ None → IsSome self.old.unmade → IsErr result }
     {
         if self.held.is_none() {
             self.held = Some(self.lock()?);
@@ -96,7 +98,9 @@ impl<R: Files<File = File> + Clock + AllocGlobal + Clone + Drop> FolderDisk<R> {
         Ok(())
     }
 
-    fn lock(&self) -> Result<File, Failure> {
+    fn lock(&self) -> Result<File, Failure>
+        ensures unmade { IsSome self.now.unmade → IsErr result }
+    {
         if let Some(failure) = Failure::unmade(
             self.rt.alloc(),
             self.folder.as_str(),
@@ -300,12 +304,15 @@ impl<R: Files<File = File> + Clock + AllocGlobal + Clone + Drop> FolderDisk<R> {
         }
     }
 
-    // The refusal of a call that reads the folder: want of memory is no error of the machine.
+    // The refusal of a call that reads the folder. The program's own want of memory is no error of the machine; one that
+    // the machine answers is.
     fn refused(&mut self, failure: Failure) -> PortFault
+        ensures machine { IsSome (raw_os_error failure.error) → result ≡ PortFault.Failed }
         ensures count { self.new.faults ≡ count_after_refusal result self.old.faults }
         ensures last { self.new.failure ≡ failure_after_refusal result failure self.old.failure }
     {
-        if failure.error.kind() == ErrorKind::OutOfMemory {
+        let is_own = failure.error.raw_os_error().is_none();
+        if is_own && failure.error.kind() == ErrorKind::OutOfMemory {
             return PortFault::Memory(AllocError);
         }
         let Failed = self.fail(failure);

@@ -1,6 +1,7 @@
 pub mod Alike
 pub mod Names
 pub mod Lists
+pub mod Versions
 pub mod Sets
 pub mod Rows
 pub mod Stages
@@ -13,5 +14,7 @@ pub mod SaveMoments
 pub mod FileNames
 pub mod ListReading
 pub mod Leaving
+pub mod Others
 pub mod Mounting
 pub mod MountMoments
+pub mod Renewing

@@ -11,21 +11,21 @@ use Rattle.std.specs.declared.cmp.Ordering.{Ordering}
 use Rattle.std.specs.declared.cmp.Ordering.TheVariants.{Less, Equal, Greater}
 use Rattle.std.proofs.lemmas.Cmp.{nat_list_cmp_total}
 use Rattle.guard_files.specs.OwnName.{is_listable}
-use Rattle.guard_files.specs.ListFile.{list_text, in_front, lines_of, rises, are_listable, listed}
+use Rattle.guard_files.specs.ListFile.{list_text, in_front, lines_of, rises, are_listable, names_in}
 use Rattle.guard_files.specs.parts.Last.{last_name}
-use Rattle.guard_files.proofs.Lists.{lines_of-text, lines_of-names, listed-text, text-listed, list_text-push}
+use Rattle.guard_files.proofs.Lists.{lines_of-text, lines_of-names, names_in-text, text-names_in, list_text-push}
 
 -- a text of names and more, read to its end
 pub listed-whole : (bytes : List ℕ) (names : List (List ℕ)) → are_listable names ≡ true
-    → list_text names ++ [] ≡ bytes → listed bytes ≡ Some names
-listed-whole bytes names may is = ap listed (sym is ∙ append-nil (list_text names)) ∙ listed-text names may
+    → list_text names ++ [] ≡ bytes → names_in bytes ≡ Some names
+listed-whole bytes names may is = ap names_in (sym is ∙ append-nil (list_text names)) ∙ names_in-text names may
 
 -- where the bytes are a list file, its names are those so far and the lines of the rest
 names_are : (bytes rest : List ℕ) (names found : List (List ℕ)) → are_listable names ≡ true
     → list_text names ++ rest ≡ bytes
-    → listed bytes ≡ Some found → found ≡ names ++ lines_of rest
+    → names_in bytes ≡ Some found → found ≡ names ++ lines_of rest
 names_are bytes rest names found may is some =
-    let spelled = text-listed bytes found some in
+    let spelled = text-names_in bytes found some in
     sym (lines_of-names found (and_parts _ _ spelled.1).0) ∙ ap lines_of (spelled.0 ∙ sym is) ∙ lines_of-text names rest (and_parts _ _ may).0
 
 none_where : (found : Option (List (List ℕ))) → ((names : List (List ℕ)) → found ≡ Some names → ⊥) → found ≡ None
@@ -40,11 +40,11 @@ list_all-append test (name ∷ first) second all = list_all-append test first se
 -- a line that may not stand in a list
 pub listed-bad_line : (bytes line after : List ℕ) (names : List (List ℕ)) (rest : List ℕ) → are_listable names ≡ true
     → list_text names ++ rest ≡ bytes
-    → lines_of rest ≡ line ∷ lines_of after → is_listable line ≡ false → listed bytes ≡ None
+    → lines_of rest ≡ line ∷ lines_of after → is_listable line ≡ false → names_in bytes ≡ None
 listed-bad_line bytes line after names rest may is lines bad =
-    none_where (listed bytes) (λ found some.
+    none_where (names_in bytes) (λ found some.
     let whole = names_are bytes rest names found may is some in
-    let listable = (and_parts _ _ (text-listed bytes found some).1).0 in
+    let listable = (and_parts _ _ (text-names_in bytes found some).1).0 in
     let tail = list_all-append is_listable names (lines_of rest) (ap (list_all is_listable) (sym whole) ∙ listable) in
     both_ways (is_listable line) bad (and_parts _ _ (ap (list_all is_listable) (sym lines) ∙ tail)).0)
 
@@ -106,11 +106,11 @@ rises-at (name ∷ next ∷ names) line more some rising = rises-at (next ∷ na
 pub listed-unsorted : (bytes line after : List ℕ) (names : List (List ℕ)) (rest : List ℕ) → are_listable names ≡ true
     → list_text names ++ rest ≡ bytes
     → lines_of rest ≡ line ∷ lines_of after → 0 < length line
-    → is_lt (slice_cmp nat_cmp (last_name names) line) ≡ false → listed bytes ≡ None
+    → is_lt (slice_cmp nat_cmp (last_name names) line) ≡ false → names_in bytes ≡ None
 listed-unsorted bytes line after names rest may is lines some unsorted =
-    none_where (listed bytes) (λ found listing.
+    none_where (names_in bytes) (λ found listing.
     let whole = names_are bytes rest names found may is listing ∙ ap (λ more. names ++ more) lines in
-    let rising = (and_parts _ _ (text-listed bytes found listing).1).1 in
+    let rising = (and_parts _ _ (text-names_in bytes found listing).1).1 in
     both_ways (is_lt (slice_cmp nat_cmp (last_name names) line)) unsorted
     (rises-at names line (lines_of after) some (ap rises (sym whole) ∙ rising)))
 
@@ -153,15 +153,15 @@ longer text is = omega (arith, length-append text (10 ∷ []), ap length is)
 
 pub listed-cut : (bytes : List ℕ) (names : List (List ℕ)) (rest : List ℕ) → are_listable names ≡ true
     → list_text names ++ rest ≡ bytes
-    → 0 < length rest → position (λ byte. byte == 10) rest ≡ None → listed bytes ≡ None
+    → 0 < length rest → position (λ byte. byte == 10) rest ≡ None → names_in bytes ≡ None
 listed-cut bytes names [] may is some none = absurd (omega arith)
 listed-cut bytes names (byte ∷ rest) may is some none =
-    none_where (listed bytes) (λ found listing.
+    none_where (names_in bytes) (λ found listing.
     let past = ltb-past (position_or_len (λ byte. byte == 10) (byte ∷ rest)) (length (byte ∷ rest)) (found_none _ _ none) in
     let whole = names_are bytes (byte ∷ rest) names found may is listing
     ∙ ap (λ more. names ++ more) (lines_of-cut byte rest (no_newline (byte ∷ rest) past)) in
     longer (list_text names ++ byte ∷ rest)
-    (sym (list_text-push names (byte ∷ rest)) ∙ ap list_text (sym whole) ∙ (text-listed bytes found listing).0 ∙ sym is))
+    (sym (list_text-push names (byte ∷ rest)) ∙ ap list_text (sym whole) ∙ (text-names_in bytes found listing).0 ∙ sym is))
   where
     ltb-past : (a b : ℕ) → nat_lt a b ≡ false → b ≤ a
     ltb-past a b = ltb-false a b

@@ -13,7 +13,7 @@ use Rattle.desk_ports.specs.declared.file_sets.SetFile.{SetFile}
 use Rattle.desk_ports.specs.FileName.{is_file_name_byte}
 use Rattle.desk_ports.specs.FileMap.{names_of, NamesRise}
 use Rattle.guard_files.specs.OwnName.{is_listable}
-use Rattle.guard_files.specs.ListFile.{list_text, in_front, lines_of, rises, are_listable, listed}
+use Rattle.guard_files.specs.ListFile.{list_text, in_front, lines_of, rises, are_listable, names_in}
 use Rattle.guard_files.proofs.Names.{same-true, same-same, listable}
 
 no_newline : (byte : ℕ) → is_file_name_byte byte ≡ true → (byte == 10) ≡ false
@@ -42,10 +42,10 @@ pub lines_of-names : (names : List (List ℕ)) → list_all is_listable names �
 lines_of-names names all =
     ap lines_of (sym (append-nil (list_text names))) ∙ lines_of-text names [] all ∙ append-nil names
 
--- the spelling of names that may stand in a list is a list file of these names
-pub listed-text : (names : List (List ℕ)) → are_listable names ≡ true → listed (list_text names) ≡ Some names
-unfolding listed
-listed-text names may =
+-- the lines of names that may stand in a list are read as these names
+pub names_in-text : (names : List (List ℕ)) → are_listable names ≡ true → names_in (list_text names) ≡ Some names
+unfolding names_in
+names_in-text names may =
     let lines = lines_of-names names (and_parts _ _ may).0 in
     let same = same-same (list_text (lines_of (list_text names))) (list_text names) (ap list_text lines) in
     ap (λ test. cond (test && are_listable (lines_of (list_text names))) (Some (lines_of (list_text names))) None) same
@@ -60,11 +60,11 @@ spelled bytes lines true names holds is =
     let fact = holds refl in (ap list_text (sym same) ∙ fact.0, ap are_listable (sym same) ∙ fact.1)
 spelled bytes lines false names holds is = absurd (cc)
 
--- and a list file is the spelling of its names
-pub text-listed : (bytes : List ℕ) (names : List (List ℕ)) → listed bytes ≡ Some names
+-- and lines that are read are those of their names
+pub text-names_in : (bytes : List ℕ) (names : List (List ℕ)) → names_in bytes ≡ Some names
     → (list_text names ≡ bytes) × (are_listable names ≡ true)
-unfolding listed
-text-listed bytes names is =
+unfolding names_in
+text-names_in bytes names is =
     spelled bytes (lines_of bytes) _ names
     (λ both. let parts = and_parts _ _ both in (same-true _ _ parts.0, parts.1)) is
 

@@ -7,12 +7,13 @@ use Rattle.desk_ports.specs.declared.file_sets.SetFile.{SetFile}
 use Rattle.desk_ports.specs.FileMap.{FileMap, names_of, AreNamesOf}
 use Rattle.desk_ports.specs.Disk.{DiskState, with_all_durable}
 use Rattle.guard_files.specs.OwnName.{guard_name, list_name, primary_name, is_backup, is_own}
-use Rattle.guard_files.specs.ListFile.{are_listable, listed}
+use Rattle.guard_files.specs.ListFile.{are_listable, listed, IsCurrent}
 use Rattle.guard_files.specs.Recovery.{backup_set, primary_set, names_at, named_by, names_or_none, files_at, with_file, set_of, set_named, set_listed}
 use Rattle.guard_files.specs.Holding.{is_among, own_names, OwnNamesAre}
 use Rattle.guard_files.specs.Mounted.{goes, is_left_over, set_names}
-use Rattle.guard_files.specs.parts.Changes.{changed, removals, set_writes, primary_changes}
+use Rattle.guard_files.specs.parts.Changes.{changed, removals, set_writes, primary_changes, Holds}
 use Rattle.guard_files.proofs.Names.{same-same, same-other, names_cases}
+use Rattle.guard_files.proofs.Versions.{current-saved, current-same}
 use Rattle.guard_files.proofs.Sets.{changed-append, changed-other, content-other, primaries_read}
 use Rattle.guard_files.proofs.Stages.{IsPlain, InBackups, InPrimaries, Apart, names_at-primary, backups_apart, PrimariesStand, apart_from_backups, apart_from_primaries, guard_plain, all_untouched}
 use Rattle.guard_files.proofs.Primaries.{primary_changes-plain, removals_backups, lowered, lowered_guard, lowered_holds, lowered_stands, holds_plain}
@@ -105,13 +106,18 @@ module _ (before : DiskState) (bytes : List ℕ) (set : List SetFile) (names : L
             ]
       ]
 
+  pub low_holds : Holds primary_name set (changed (removals leftover) low.current)
+  low_holds =
+      holds_plain set low.current (changed (removals leftover) low.current)
+      (λ name is. changed-other (removals leftover) low.current name (apart_from_backups (removals leftover) leftover_backups name is.plain))
+      set_may (lowered_holds before bytes set going guarded backups set_may going_plain)
+
+  pub low_current : IsCurrent (changed (removals leftover) low.current)
+  low_current = current-saved (changed (removals leftover) low.current) (names_of set) set_may low_holds.list
+
   pub low_own : OwnNamesAre (own_names (Some set)) (changed (removals leftover) low.current)
   low_own = record {
-    there =
-        holds_there set (changed (removals leftover) low.current)
-        (holds_plain set low.current (changed (removals leftover) low.current)
-        (λ name is. changed-other (removals leftover) low.current name (apart_from_backups (removals leftover) leftover_backups name is.plain))
-        set_may (lowered_holds before bytes set going guarded backups set_may going_plain));
+    there = holds_there set (changed (removals leftover) low.current) low_holds;
     no_other = λ name own absent. elim (cases_Bool (is_backup name)) [
       | inl backup ↦ backup_gone name own backup
       | inr plain ↦ plain_gone name own plain absent
@@ -212,6 +218,11 @@ module _ (before : DiskState) (held : Option (List SetFile)) (names : List (List
 
   list_apart : Apart (removals rest) list_name
   list_apart = filtered_apart (is_left_over false held) names list_name refl
+
+  pub rest_current : IsCurrent before.current → IsCurrent (changed (removals rest) before.current)
+  rest_current current =
+      current-same before.current (changed (removals rest) before.current)
+      (changed-other (removals rest) before.current list_name list_apart) current
 
   held_apart : (name : List ℕ) → is_among (set_names held) name ≡ true → Apart (removals rest) name
   held_apart name is =

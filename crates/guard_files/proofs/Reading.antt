@@ -8,7 +8,7 @@ use Rattle.guard_files.specs.Recovery.{Recovered, with_file, files_at, set_of, s
 use Rattle.guard_files.specs.Mounted.{IfDamaged, placed, set_read}
 use Rattle.guard_files.specs.declared.refusals.VaultRefusal.{VaultRefusal}
 use Rattle.guard_files.specs.declared.refusals.VaultRefusal.TheVariants.{StoreFault, Damaged, Memory}
-use Rattle.guard_files.proofs.Lists.{text-listed}
+use Rattle.guard_files.proofs.Versions.{listed-listable}
 
 -- the files read have the names asked for
 one_more : (name : List ℕ) (names : List (List ℕ)) (found : Option (List ℕ)) (others : Result (List SetFile) (List ℕ)) (set : List SetFile)
@@ -45,7 +45,7 @@ listed_may : (place : List ℕ → List ℕ) (absent : Recovered) (files : FileM
     → are_listable (names_of set) ≡ true
 listed_may place absent files None set none is = absurd (none is)
 listed_may place absent files (Some bytes) set none is =
-    named_may place files (listed bytes) set (λ names found. (text-listed bytes names found).1) is
+    named_may place files (listed bytes) set (λ names found. listed-listable bytes names found) is
 
 pub primaries_may : (files : FileMap) (set : List SetFile) → primary_set files ≡ Ok (Some set)
     → are_listable (names_of set) ≡ true

@@ -8,11 +8,12 @@ use Rattle.desk_ports.proofs.Moments.{AddsOnly-then, AddsOnly-more, LeavesOnly-f
 use Rattle.guard_files.specs.OwnName.{backup_name}
 use Rattle.guard_files.specs.ListFile.{are_listable}
 use Rattle.guard_files.specs.Recovery.{recover}
-use Rattle.guard_files.specs.Settled.{IsSettled, gone_names, IsBeforeOrAfter, EndsSettled}
+use Rattle.guard_files.specs.Settled.{IsSettled, gone_names, IsInSave, EndsSettled}
 use Rattle.guard_files.specs.parts.Changes.{after, set_writes, primary_changes, guard_up, guard_down, backups_away}
 use Rattle.guard_files.proofs.Stages.{left_in_backups, recover-unguarded}
-use Rattle.guard_files.proofs.Primaries.{renewed, left_while_renewed, left_while_lowered}
-use Rattle.guard_files.proofs.Saving.{settled_stands, settled_primaries, backed, raised, last, cleared, left_while_backed, left_while_raised, left_while_cleared, raised_guard, raised_backups, gone_is_plain, cleared_settled}
+use Rattle.guard_files.proofs.Primaries.{durable_only, renewed, left_while_renewed, left_while_lowered}
+use Rattle.guard_files.proofs.Others.{AllOwn, own_backed, own_renewed, own_up, own_down, own_away, own_gone, CarriesOthers, carries_start, carries_next, others_in}
+use Rattle.guard_files.proofs.Saving.{settled_stands, settled_primaries, backed, raised, last, cleared, left_while_backed, left_while_raised, left_while_cleared, raised_guard, raised_backups, gone_is_plain, cleared_current}
 
 -- a stop of a store at rest leaves its set
 pub settled_leaves : (held : Option (List SetFile)) (state : DiskState) → IsSettled held state → (left : FileMap)
@@ -26,34 +27,66 @@ module _ {D : Type 0} (state : D → Option DiskState) (moment : D → ℕ) (lef
     (set : List SetFile) (held : Option (List SetFile)) (before : DiskState) (settled : IsSettled held before) (only : IsTouchedOnly before)
     (may : are_listable (names_of set) ≡ true) where
   abbrev pub leaves : D → D → Type 0
-  leaves old new = AddsOnly moment left_since old new (IsBeforeOrAfter held (Some set))
+  leaves old new = AddsOnly moment left_since old new (IsInSave before held set)
 
   abbrev renewed_now : DiskState
   renewed_now =
       renewed (raised held set before settled only may) [] set (gone_names held set) (raised_guard held set before settled only may)
       (raised_backups held set before settled only may) may (gone_is_plain held set before settled only may)
 
+  -- the files of others at the ends of the steps
+  primaries_own : AllOwn (primary_changes (gone_names held set) set)
+  primaries_own =
+      own_renewed (gone_names held set) set (own_gone held set before.durable (settled_primaries held before settled)) may
+
+  carries_backed : CarriesOthers before (with_all_durable (backed held set before settled only may))
+  carries_backed = carries_next before before (set_writes backup_name set) (own_backed set may) only (carries_start before)
+
+  carries_raised : CarriesOthers before (with_all_durable (raised held set before settled only may))
+  carries_raised =
+      carries_next before (with_all_durable (backed held set before settled only may)) guard_up own_up
+      (durable_only (backed held set before settled only may)) carries_backed
+
+  carries_renewed : CarriesOthers before (with_all_durable renewed_now)
+  carries_renewed =
+      carries_next before (with_all_durable (raised held set before settled only may)) (primary_changes (gone_names held set) set)
+      primaries_own (durable_only (raised held set before settled only may)) carries_raised
+
+  carries_last : CarriesOthers before (with_all_durable (last held set before settled only may))
+  carries_last =
+      carries_next before (with_all_durable renewed_now) guard_down own_down (durable_only renewed_now) carries_renewed
+
   over_backups : (old new : D) → state old ≡ Some before
       → WhereTold (state old) (λ before. AddsOnly moment left_since old new (MayLeave (after (set_writes backup_name set) before))) → leaves old new
   over_backups old new told adds =
-      AddsOnly-more moment left_since old new (MayLeave (after (set_writes backup_name set) before)) (IsBeforeOrAfter held (Some set))
-      (λ left leaves. inl (left_while_backed held set before settled only may left leaves)) (adds before told)
+      AddsOnly-more moment left_since old new (MayLeave (after (set_writes backup_name set) before)) (IsInSave before held set)
+      (λ left leaves. record {
+        sets = inl (left_while_backed held set before settled only may left leaves);
+        others = others_in before before (set_writes backup_name set) (own_backed set may) (carries_start before) left leaves;
+      }) (adds before told)
 
   over_guard : (old new : D) → state old ≡ Some (with_all_durable (backed held set before settled only may))
       → WhereTold (state old) (λ before. AddsOnly moment left_since old new (MayLeave (after guard_up before)))
       → leaves old new
   over_guard old new told adds =
-      AddsOnly-more moment left_since old new (MayLeave (raised held set before settled only may)) (IsBeforeOrAfter held (Some set))
-      (left_while_raised held set before settled only may) (adds _ told)
+      AddsOnly-more moment left_since old new (MayLeave (raised held set before settled only may)) (IsInSave before held set)
+      (λ left leaves. record {
+        sets = left_while_raised held set before settled only may left leaves;
+        others = others_in before (with_all_durable (backed held set before settled only may)) guard_up own_up carries_backed left leaves;
+      }) (adds _ told)
 
   over_primaries : (old new : D) (gone : List (List ℕ)) → gone ≡ gone_names held set
       → state old ≡ Some (with_all_durable (raised held set before settled only may))
       → WhereTold (state old) (λ before. AddsOnly moment left_since old new (MayLeave (after (primary_changes gone set) before))) → leaves old new
   over_primaries old new gone is told adds =
-      AddsOnly-more moment left_since old new (MayLeave renewed_now) (IsBeforeOrAfter held (Some set))
-      (λ left leaves. inr (left_while_renewed (raised held set before settled only may) [] set (gone_names held set)
-      (raised_guard held set before settled only may) (raised_backups held set before settled only may) may
-      (gone_is_plain held set before settled only may) left leaves))
+      AddsOnly-more moment left_since old new (MayLeave renewed_now) (IsInSave before held set)
+      (λ left leaves. record {
+        sets = inr (left_while_renewed (raised held set before settled only may) [] set (gone_names held set)
+            (raised_guard held set before settled only may) (raised_backups held set before settled only may) may
+            (gone_is_plain held set before settled only may) left leaves);
+        others = others_in before (with_all_durable (raised held set before settled only may)) (primary_changes (gone_names held set) set)
+            primaries_own carries_raised left leaves;
+      })
       (subst (λ gone. AddsOnly moment left_since old new (MayLeave (after (primary_changes gone set) (with_all_durable (raised held set before settled only may)))))
       is (adds _ told))
 
@@ -61,18 +94,25 @@ module _ {D : Type 0} (state : D → Option DiskState) (moment : D → ℕ) (lef
       → WhereTold (state old) (λ before. AddsOnly moment left_since old new (MayLeave (after guard_down before)))
       → leaves old new
   over_lowering old new told adds =
-      AddsOnly-more moment left_since old new (MayLeave (last held set before settled only may)) (IsBeforeOrAfter held (Some set))
-      (λ left leaves. inr (left_while_lowered (raised held set before settled only may) [] set (gone_names held set)
-      (raised_guard held set before settled only may) (raised_backups held set before settled only may) may
-      (gone_is_plain held set before settled only may) left leaves))
+      AddsOnly-more moment left_since old new (MayLeave (last held set before settled only may)) (IsInSave before held set)
+      (λ left leaves. record {
+        sets = inr (left_while_lowered (raised held set before settled only may) [] set (gone_names held set)
+            (raised_guard held set before settled only may) (raised_backups held set before settled only may) may
+            (gone_is_plain held set before settled only may) left leaves);
+        others = others_in before (with_all_durable renewed_now) guard_down own_down carries_renewed left leaves;
+      })
       (adds _ told)
 
   over_cleaning : (old new : D) (backups : List (List ℕ)) → backups ≡ map backup_name (names_of set)
       → state old ≡ Some (with_all_durable (last held set before settled only may))
       → WhereTold (state old) (λ before. AddsOnly moment left_since old new (MayLeave (after (backups_away backups) before))) → leaves old new
   over_cleaning old new backups are told adds =
-      AddsOnly-more moment left_since old new (MayLeave (cleared held set before settled only may)) (IsBeforeOrAfter held (Some set))
-      (λ left leaves. inr (left_while_cleared held set before settled only may left leaves))
+      AddsOnly-more moment left_since old new (MayLeave (cleared held set before settled only may)) (IsInSave before held set)
+      (λ left leaves. record {
+        sets = inr (left_while_cleared held set before settled only may left leaves);
+        others = others_in before (with_all_durable (last held set before settled only may))
+            (backups_away (map backup_name (names_of set))) (own_away set may) carries_last left leaves;
+      })
       (subst (λ backups. AddsOnly moment left_since old new (MayLeave (after (backups_away backups) (with_all_durable (last held set before settled only may)))))
       are (adds _ told))
 
@@ -106,16 +146,19 @@ module _ {D : Type 0} (state : D → Option DiskState) (moment : D → ℕ) (lef
   told_cleared old new backups are told done = (
     cleared held set before settled only may,
     subst (λ backups. state new ≡ Some (after (backups_away backups) (with_all_durable (last held set before settled only may)))) are (done _ told),
-    cleared_settled held set before settled only may,
+    cleared_current held set before settled only may,
   )
 
   -- from a store at rest on
   from_rest : (old new : D) → ((left : FileMap) → left_since old (moment old) left → MayLeave before left)
       → leaves old new
-      → LeavesOnly moment left_since old new (IsBeforeOrAfter held (Some set))
+      → LeavesOnly moment left_since old new (IsInSave before held set)
   from_rest old new now adds =
-      LeavesOnly-from moment left_since old new (IsBeforeOrAfter held (Some set))
-      (λ left was. inl (settled_leaves held before settled left (now left was))) adds
+      LeavesOnly-from moment left_since old new (IsInSave before held set)
+      (λ left was. record {
+        sets = inl (settled_leaves held before settled left (now left was));
+        others = λ name foreign free. now left was name free;
+      }) adds
 
 -- What is known at the start of a save: the store is at rest, and the disk tells its state.
 pub record Start {D : Type 0} (state : D → Option DiskState) (moment : D → ℕ) (left_since : D → ℕ → FileMap → Type 0)
@@ -141,9 +184,9 @@ start_of state moment left_since set held before first settled only may told now
 
 -- So far in a save: what the disk tells now, and that a stop since the start left the set before or the set after.
 pub record SoFar {D : Type 0} (state : D → Option DiskState) (moment : D → ℕ) (left_since : D → ℕ → FileMap → Type 0)
-    (set : List SetFile) (held : Option (List SetFile)) (first now : D) (reached : DiskState) : Type 0 where
+    (set : List SetFile) (held : Option (List SetFile)) (before : DiskState) (first now : D) (reached : DiskState) : Type 0 where
   pub tells : state now ≡ Some reached
-  pub adds : AddsOnly moment left_since first now (IsBeforeOrAfter held (Some set))
+  pub adds : AddsOnly moment left_since first now (IsInSave before held set)
 
 module _ {D : Type 0} {state : D → Option DiskState} {moment : D → ℕ} {left_since : D → ℕ → FileMap → Type 0} {set : List SetFile}
     {held : Option (List SetFile)} {before : DiskState} {first : D} (start : Start state moment left_since set held before first) where
@@ -156,10 +199,10 @@ module _ {D : Type 0} {state : D → Option DiskState} {moment : D → ℕ} {lef
   Ends step old new = WhereTold (state old) (λ was. state new ≡ Some (with_all_durable (step was)))
 
   abbrev At : D → DiskState → Type 0
-  At now reached = SoFar state moment left_since set held first now reached
+  At now reached = SoFar state moment left_since set held before first now reached
 
   abbrev Stopped : D → Type 0
-  Stopped new = LeavesOnly moment left_since first new (IsBeforeOrAfter held (Some set))
+  Stopped new = LeavesOnly moment left_since first new (IsInSave before held set)
 
   abbrev at_backed : DiskState
   at_backed = with_all_durable (backed held set before start.settled start.only start.may)
@@ -173,13 +216,13 @@ module _ {D : Type 0} {state : D → Option DiskState} {moment : D → ℕ} {lef
   abbrev at_last : DiskState
   at_last = with_all_durable (last held set before start.settled start.only start.may)
 
-  stopped : (new : D) → AddsOnly moment left_since first new (IsBeforeOrAfter held (Some set)) → Stopped new
+  stopped : (new : D) → AddsOnly moment left_since first new (IsInSave before held set) → Stopped new
   stopped new adds = from_rest state moment left_since set held before start.settled start.only start.may first new start.now adds
 
   onward : {old : D} {reached : DiskState} (new : D) → At old reached
-      → AddsOnly moment left_since old new (IsBeforeOrAfter held (Some set))
-      → AddsOnly moment left_since first new (IsBeforeOrAfter held (Some set))
-  onward {old} new so_far adds = AddsOnly-then moment left_since first old new (IsBeforeOrAfter held (Some set)) so_far.adds adds
+      → AddsOnly moment left_since old new (IsInSave before held set)
+      → AddsOnly moment left_since first new (IsInSave before held set)
+  onward {old} new so_far adds = AddsOnly-then moment left_since first old new (IsInSave before held set) so_far.adds adds
 
   -- the backups
   pub in_backups : (new : D) → Adds (after (set_writes backup_name set)) first new → Stopped new
@@ -196,7 +239,7 @@ module _ {D : Type 0} {state : D → Option DiskState} {moment : D → ℕ} {lef
 
   -- the guard
   over_guard_on : {old : D} (new : D) → At old at_backed → Adds (after guard_up) old new
-      → AddsOnly moment left_since first new (IsBeforeOrAfter held (Some set))
+      → AddsOnly moment left_since first new (IsInSave before held set)
   over_guard_on {old} new so_far adds =
       onward new so_far
       (over_guard state moment left_since set held before start.settled start.only start.may old new so_far.tells adds)
@@ -214,7 +257,7 @@ module _ {D : Type 0} {state : D → Option DiskState} {moment : D → ℕ} {lef
   -- the primaries
   over_primaries_on : {old : D} (new : D) (gone : List (List ℕ)) → gone ≡ gone_names held set → At old at_raised
       → Adds (after (primary_changes gone set)) old new
-      → AddsOnly moment left_since first new (IsBeforeOrAfter held (Some set))
+      → AddsOnly moment left_since first new (IsInSave before held set)
   over_primaries_on {old} new gone is so_far adds =
       onward new so_far
       (over_primaries state moment left_since set held before start.settled start.only start.may old new gone is so_far.tells adds)
@@ -233,7 +276,7 @@ module _ {D : Type 0} {state : D → Option DiskState} {moment : D → ℕ} {lef
 
   -- the guard's removal
   over_lowering_on : {old : D} (new : D) → At old at_renewed → Adds (after guard_down) old new
-      → AddsOnly moment left_since first new (IsBeforeOrAfter held (Some set))
+      → AddsOnly moment left_since first new (IsInSave before held set)
   over_lowering_on {old} new so_far adds =
       onward new so_far
       (over_lowering state moment left_since set held before start.settled start.only start.may old new so_far.tells adds)

@@ -11,9 +11,10 @@ use Rattle.guard_files.specs.OwnName.{guard_name, list_name, primary_name, backu
 use Rattle.guard_files.specs.ListFile.{are_listable}
 use Rattle.guard_files.specs.Recovery.{backup_set, primary_set, recover, names_at, protected}
 use Rattle.guard_files.specs.Holding.{is_among, own_names, OwnNamesAre}
-use Rattle.guard_files.specs.Settled.{IsSettled, gone_names, IsBeforeOrAfter}
-use Rattle.guard_files.specs.parts.Changes.{changed, after, removals, set_writes, primary_changes, guard_up, backups_away}
+use Rattle.guard_files.specs.Settled.{IsSettled, IsLeftCurrent, gone_names, IsBeforeOrAfter}
+use Rattle.guard_files.specs.parts.Changes.{changed, after, removals, set_writes, primary_changes, guard_up, backups_away, Holds}
 use Rattle.guard_files.proofs.Names.{listable, is_backup-backup, names_cases, backup-same}
+use Rattle.guard_files.proofs.Versions.{current-saved}
 use Rattle.guard_files.proofs.Rows.{touched_only-after}
 use Rattle.guard_files.proofs.Sets.{changed-append, changed-other, touching-other, content-same, content-other, holds_written, backups_read, primaries_read}
 use Rattle.guard_files.proofs.Stages.{IsPlain, InBackups, InPrimaries, names_at-primary, left_in_backups, left_at_guard, PrimariesStand, recover-unguarded, recover-either, apart_from_backups, apart_from_primaries, guard_plain, list_plain, list_not_guard}
@@ -176,14 +177,20 @@ module _ (held : Option (List SetFile)) (set : List SetFile) (before : DiskState
         (untouched_after (names_at primary_name last.current) (names_at-primary last.current)),
   )
 
-  -- the own names that the store has at the end
-  cleared_there : AllByRecursion (λ name. IsSome (cleared.current name)) (own_names (Some set))
-  cleared_there =
-      holds_there set cleared.current
-      (holds_plain set last.current cleared.current
+  -- the set stands in the primaries at the end
+  last_holds : Holds primary_name set last.current
+  last_holds = lowered_holds raised [] set (gone_names held set) raised_guard raised_backups may gone_is_plain
+
+  cleared_holds : Holds primary_name set cleared.current
+  cleared_holds =
+      holds_plain set last.current cleared.current
       (λ name is. changed-other (backups_away (map backup_name (names_of set))) last.current name
       (apart_from_backups (backups_away (map backup_name (names_of set))) away_backups name is.plain))
-      may (lowered_holds raised [] set (gone_names held set) raised_guard raised_backups may gone_is_plain))
+      may last_holds
+
+  -- the own names that the store has at the end
+  cleared_there : AllByRecursion (λ name. IsSome (cleared.current name)) (own_names (Some set))
+  cleared_there = holds_there set cleared.current cleared_holds
 
   in_primaries : InPrimaries (primary_changes (gone_names held set) set)
   in_primaries = primary_changes-plain (gone_names held set) set gone_is_plain may
@@ -262,4 +269,11 @@ module _ (held : Option (List SetFile)) (set : List SetFile) (before : DiskState
     unguarded = last_stands.unguarded;
     untouched = cleared_untouched;
     own = cleared_own;
+  }
+
+  pub cleared_current : IsLeftCurrent (Some set) cleared
+  cleared_current = record {
+    settled = cleared_settled;
+    current = current-saved cleared.current (names_of set) may cleared_holds.list;
+    durable = current-saved last.current (names_of set) may last_holds.list;
   }

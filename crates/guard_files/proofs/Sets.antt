@@ -11,11 +11,11 @@ use Rattle.desk_ports.specs.declared.file_sets.SetFile.{SetFile}
 use Rattle.desk_ports.specs.FileMap.{FileMap, NameSet, with_name, with_content, names_of}
 use Rattle.desk_ports.specs.Disk.{DiskState}
 use Rattle.guard_files.specs.OwnName.{list_name, primary_name, backup_name, is_listable}
-use Rattle.guard_files.specs.ListFile.{list_text, rises, are_listable}
+use Rattle.guard_files.specs.ListFile.{saved_list, rises, are_listable}
 use Rattle.guard_files.specs.Recovery.{Recovered, with_file, files_at, set_of, set_named, set_listed, backup_set, primary_set}
 use Rattle.guard_files.specs.parts.Changes.{Change, changed, touching, after, writes, list_write, set_writes, Holds}
 use Rattle.guard_files.proofs.Names.{same-same, same-other, listable}
-use Rattle.guard_files.proofs.Lists.{listed-text}
+use Rattle.guard_files.proofs.Versions.{listed-text}
 
 files_read : (place : List ℕ → List ℕ) (set : List SetFile) (files : FileMap)
     → AllByRecursion (λ file. files (place file.name) ≡ Some file.bytes) set
@@ -149,7 +149,7 @@ pub holds_written : (place : List ℕ → List ℕ) (injective : (a b : List ℕ
 holds_written place injective set files may =
     let both = and_parts _ _ may in
     let split = changed-append (writes place set) (list_write place set ∷ []) files in
-    let last = Some (list_text (names_of set)) in
+    let last = Some (saved_list (names_of set)) in
     let P : FileMap → Type 0 = λ found. Holds place set found in
     subst P (sym split)
     (record {

@@ -11,7 +11,7 @@ use Rattle.guard_files.specs.Recovery.{backup_set, primary_set, recover, names_o
 use Rattle.guard_files.specs.parts.Changes.{Change, after}
 use Rattle.guard_files.proofs.Alike.{backups_alike, primaries_alike}
 use Rattle.guard_files.proofs.Names.{is_backup-backup, listable}
-use Rattle.guard_files.proofs.Lists.{text-listed}
+use Rattle.guard_files.proofs.Versions.{listed-listable}
 use Rattle.guard_files.proofs.Sets.{touching-other}
 
 -- the names that a list file names may stand in one
@@ -22,7 +22,7 @@ named_listable (Some bytes) = at_names (listed bytes) refl
     at_names : (found : Option (List (List ℕ))) → listed bytes ≡ found
         → list_all is_listable (names_or_none found) ≡ true
     at_names None is = refl
-    at_names (Some names) is = (and_parts _ _ (text-listed bytes names is).1).0
+    at_names (Some names) is = (and_parts _ _ (listed-listable bytes names is)).0
 
 -- a name of the primaries, and one of the backups
 pub record IsPlain (name : List ℕ) : Type 0 where

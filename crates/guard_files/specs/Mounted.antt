@@ -13,7 +13,8 @@ use Rattle.guard_files.specs.OwnName.{guard_name, list_name, primary_name, backu
 use Rattle.std.specs.Str.{bytes_eq}
 use Rattle.guard_files.specs.Holding.{is_among}
 use Rattle.guard_files.specs.Recovery.{Recovered, backup_set, primary_set, recover}
-use Rattle.guard_files.specs.Settled.{IsSettled}
+use Rattle.guard_files.specs.ListFile.{is_old_list}
+use Rattle.guard_files.specs.Settled.{KeepsOthers, IsSettled, IsLeftCurrent}
 
 -- the refusal that a fault of the disk leads to
 abbrev pub refused : PortFault → VaultRefusal
@@ -43,9 +44,19 @@ placed guarded name = if guarded then backup_name name else primary_name name
 abbrev pub set_read : Bool → FileMap → Recovered
 set_read guarded files = if guarded then backup_set files else primary_set files
 
--- the map recovers as one does that a stop at this state may leave
+-- the map recovers as one does that a stop at this state may leave, and the files of others are as they were
 abbrev pub RecoversAsAllowed : DiskState → FileMap → Type 0
-RecoversAsAllowed before left = (other : FileMap) × MayLeave before other × (recover left ≡ recover other)
+RecoversAsAllowed before left =
+    (other : FileMap) × MayLeave before other × (recover left ≡ recover other) × KeepsOthers before left
+
+-- each file that is not the store's own is in one map as in the other
+abbrev pub AreOthersOf : FileMap → FileMap → Type 0
+AreOthersOf files left = (name : List ℕ) → is_own name ≡ false → left name ≡ files name
+
+-- the map recovers to this set, or none, and the files of others are those of the folder
+pub record StandsFor (files : FileMap) (held : Option (List SetFile)) (left : FileMap) : Type 0 where
+  pub recovers : recover left ≡ Ok held
+  pub others : AreOthersOf files left
 
 -- How a refused mount leaves a disk. Its count rose where a call failed, and only there. A stop meanwhile left what
 -- recovers as something that a stop at entry may leave. A damaged folder holds what it held, and that is durable.
@@ -56,9 +67,19 @@ pub record IsLeftRefused {D : Type 0} (faults : D → ℕ) (state : D → Option
   pub damaged : IfDamaged refusal (λ file. WhereTold (state old) (λ before. (recover before.current ≡ Err file)
       × (state new ≡ Some (with_all_durable before))))
 
--- the disk tells a store at rest that holds this set, or none
+-- the disk tells a store at rest that holds this set, or none, and whose list is of version 2
 abbrev pub EndsAtRest : Option (List SetFile) → Option DiskState → Type 0
-EndsAtRest held told = (after : DiskState) × (told ≡ Some after) × IsSettled held after
+EndsAtRest held told = (after : DiskState) × (told ≡ Some after) × IsLeftCurrent held after
+
+-- The disk tells a store at rest that holds this set, or none, whatever the version of its list. The files of others are
+-- those of the folder, and durable.
+pub record IsAtRest (files : FileMap) (held : Option (List SetFile)) (after : DiskState) : Type 0 where
+  pub settled : IsSettled held after
+  pub untouched : (name : List ℕ) → is_own name ≡ false → after.touched name ≡ false
+  pub others : AreOthersOf files after.durable
+
+abbrev pub Rests : FileMap → Option (List SetFile) → Option DiskState → Type 0
+Rests files held told = (after : DiskState) × (told ≡ Some after) × IsAtRest files held after
 
 -- the names of the files of a set, none where there is none
 abbrev pub set_names : Option (List SetFile) → List (List ℕ)
@@ -80,9 +101,11 @@ is_left_over false held name =
     not (bytes_eq name guard_name)
     && ((not (bytes_eq name list_name) && not (is_among (set_names held) name)) && is_own name)
 
--- What was read of a folder: its names, whether the guard is there, and the set that it holds.
-pub record IsSurvey (files : FileMap) (held : Option (List SetFile)) (guarded : Bool) (names : List (List ℕ))
+-- What was read of a folder: its names, whether the guard is there, whether the list that was read is of version 1, and
+-- the set that the folder holds.
+pub record IsSurvey (files : FileMap) (held : Option (List SetFile)) (guarded is_old : Bool) (names : List (List ℕ))
     : Type 0 where
   pub listed : AreNamesOf files names
   pub guard : guarded ≡ is_some (files guard_name)
+  pub old : is_old ≡ is_old_list (files (placed guarded list_name))
   pub read : set_read guarded files ≡ Ok held

@@ -30,4 +30,4 @@ pub use steps::{
     write_backups, write_primaries,
 };
 pub use store_names::{StoreNames, fixed_name};
-pub use vault::{StoreFault, Vault};
+pub use vault::{StoreFault, Unmounted, Vault};

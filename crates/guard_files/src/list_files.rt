@@ -2,18 +2,23 @@
 ghost use Rattle.std.specs.Prelude.{◌≡◌, true, map, filter, not, IfOk};
 ghost use Rattle.desk_ports.specs.FileMap.{names_of, NamesRise};
 ghost use Rattle.guard_files.specs.OwnName.{backup_name, is_listable as may_stand};
-ghost use Rattle.guard_files.specs.ListFile.{list_text, listed, are_listable};
+ghost use Rattle.guard_files.specs.ListFile.{saved_list, are_listable};
 ghost use Rattle.guard_files.specs.Holding.{is_among};
 
 use crate::store_names::fixed_name;
 use desk_ports::{Bytes, FileName, FileSet, SetFile};
 use std::alloc::{AllocError, Global};
 
-/// The bytes of the list of these files: their names in order, each with a newline behind it.
+/// What a list of version 2 begins with.
+pub const VERSION_LINE: &[u8] = b"version 2\n";
+
+/// The bytes of the list of these files, which is of version 2: its first line, and then their names in order, each with a
+/// newline behind it.
 pub fn list_bytes(alloc: Global, files: &[SetFile]) -> Result<Bytes, AllocError>
-    ensures { IfOk result (λ bytes. bytes ≡ list_text (names_of files.now)) }
+    ensures { IfOk result (λ bytes. bytes ≡ saved_list (names_of files.now)) }
 {
     let mut bytes = Bytes::new(alloc);
+    bytes.append(VERSION_LINE)?;
     for file in files {
         bytes.append(file.name.as_slice())?;
         bytes.append(b"\n")?;

@@ -7,7 +7,7 @@ ghost use Rattle.std.specs.List.{AllPass};
 ghost use Rattle.desk_ports.specs.FileMap.{NamesRise, names_of};
 ghost use Rattle.guard_files.specs.OwnName.{is_listable};
 ghost use Rattle.guard_files.specs.ListFile.{are_listable};
-ghost use Rattle.guard_files.specs.Settled.{IsSettled, gone_names, IsBeforeOrAfter, EndsSettled};
+ghost use Rattle.guard_files.specs.Settled.{IsSettled, gone_names, IsInSave, EndsSettled};
 
 use crate::list_files::{backups_of, list_bytes, names_without};
 use crate::save::save_set;
@@ -65,7 +65,7 @@ impl Prepared {
             → EndsSettled self.set (D.state disk.new))) }
         ensures moments { WhereTold (D.state disk.old) (λ before. (held : Option (List SetFile))
             → IsSettled held before → self.gone ≡ gone_names held self.set
-            → LeavesOnly D.moment D.left_since disk.old disk.new (IsBeforeOrAfter held (Some self.set))) }
+            → LeavesOnly D.moment D.left_since disk.old disk.new (IsInSave before held self.set)) }
         ensures count { D.faults disk.new ≡ count_after_call result (D.faults disk.old) }
     {
         let Prepared {

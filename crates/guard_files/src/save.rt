@@ -6,8 +6,8 @@ ghost use Rattle.desk_ports.specs.FileMap.{names_of};
 ghost use Rattle.desk_ports.specs.Disk.{DiskState, WhereTold};
 ghost use Rattle.desk_ports.specs.Moments.{AddsOnly, LeavesOnly};
 ghost use Rattle.guard_files.specs.OwnName.{guard_name, list_name, backup_name};
-ghost use Rattle.guard_files.specs.ListFile.{list_text, are_listable};
-ghost use Rattle.guard_files.specs.Settled.{IsSettled, gone_names, IsBeforeOrAfter, EndsSettled};
+ghost use Rattle.guard_files.specs.ListFile.{saved_list, are_listable};
+ghost use Rattle.guard_files.specs.Settled.{IsSettled, gone_names, IsInSave, EndsSettled};
 
 use crate::steps::{drop_backups, lower_guard, raise_guard, save_backups, save_primaries};
 use crate::store_names::StoreNames;
@@ -25,7 +25,7 @@ pub fn save_set<D: Disk>(
     list: &[u8],
 ) -> Result<(), Failed>
     requires backups { backups.now ≡ map backup_name (names_of set.now) }
-    requires list { list.now ≡ list_text (names_of set.now) }
+    requires list { list.now ≡ saved_list (names_of set.now) }
     requires listable { are_listable (names_of set.now) ≡ true }
 
     // From a store at rest it ends with a store at rest that holds the next set.
@@ -36,7 +36,7 @@ pub fn save_set<D: Disk>(
     // A stop at any moment leaves the set before or the set after.
     ensures moments { WhereTold (D.state disk.old) (λ before. (held : Option (List SetFile)) → IsSettled held before
         → gone.now ≡ gone_names held set.now
-        → LeavesOnly D.moment D.left_since disk.old disk.new (IsBeforeOrAfter held (Some set.now))) }
+        → LeavesOnly D.moment D.left_since disk.old disk.new (IsInSave before held set.now)) }
     ensures count { D.faults disk.new ≡ count_after_call result (D.faults disk.old) }
 {
     save_backups(disk, backups, set, &names.list_backup, list)?;

@@ -1,15 +1,16 @@
 // The set that a folder holds, read from its backups or from its primaries.
-ghost use Rattle.std.specs.Prelude.{◌≡◌, true, [], ◌∷◌, ◌++◌, Ok, Err, IsSome, IfOk, IfErr, OnOk};
+ghost use Rattle.std.specs.Prelude.{◌≡◌, true, IfSome, [], ◌∷◌, ◌++◌, Ok, Err, IsSome, IfOk, IfErr, OnOk};
 ghost use Rattle.std.specs.List.{list_all};
 ghost use Rattle.desk_ports.specs.FileMap.{names_of};
 ghost use Rattle.desk_ports.specs.Disk.{WhereTold, KeepsState, MayLeave, Reads};
 ghost use Rattle.desk_ports.specs.Moments.{AddsOnly};
 ghost use Rattle.guard_files.specs.OwnName.{is_listable, list_name};
+ghost use Rattle.guard_files.specs.ListFile.{are_listable, is_old_list};
 ghost use Rattle.guard_files.specs.Recovery.{files_at};
 ghost use Rattle.guard_files.specs.Mounted.{IfDamaged, count_after_mount, placed, set_read};
 
 use crate::list_files::backup_of;
-use crate::list_reading::read_list;
+use crate::list_reading::{has_version, read_list};
 use crate::refusals::{VaultRefusal, refusal_of};
 use crate::store_names::StoreNames;
 use desk_ports::{Bytes, Disk, FileName, FileSet, SetFile};
@@ -129,6 +130,13 @@ fn list_file(names: &StoreNames, guarded: bool) -> Result<FileName, AllocError>
     }
 }
 
+/// The set that was read, or none, and whether the list that named it was of version 1.
+#[derive(Debug, Drop)]
+pub struct Found {
+    pub held: Option<FileSet>,
+    pub is_old: bool,
+}
+
 /// Reads the set of the backups where the guard stands, else that of the primaries. One disk call for the list file,
 /// and one for each file that it names, up to the first that is absent.
 pub fn read_set<D: Disk>(
@@ -136,10 +144,14 @@ pub fn read_set<D: Disk>(
     disk: &mut D,
     names: &StoreNames,
     guarded: bool,
-) -> Result<Option<FileSet>, VaultRefusal>
-    ensures some { IfOk result (λ held. guarded ≡ true → IsSome held) }
-    ensures read { IfOk result (λ held. WhereTold (D.state disk.old)
-        (λ before. set_read guarded before.current ≡ Ok held)) }
+) -> Result<Found, VaultRefusal>
+    ensures some { IfOk result (λ found. guarded ≡ true → IsSome found.held) }
+    ensures old { IfOk result (λ found. found.is_old ≡ true → IsSome found.held) }
+    ensures listable { IfOk result (λ found. IfSome found.held (λ set. are_listable (names_of set) ≡ true)) }
+    ensures read { IfOk result (λ found. WhereTold (D.state disk.old)
+        (λ before. set_read guarded before.current ≡ Ok found.held)) }
+    ensures version { IfOk result (λ found. WhereTold (D.state disk.old)
+        (λ before. found.is_old ≡ is_old_list (before.current (placed guarded list_name)))) }
     ensures damaged { IfErr result (λ refusal. IfDamaged refusal (λ file. WhereTold (D.state disk.old)
         (λ before. set_read guarded before.current ≡ Err file))) }
     ensures kept { KeepsState (D.state disk.old) (D.state disk.new) }
@@ -159,7 +171,10 @@ pub fn read_set<D: Disk>(
         if guarded {
             return Err(VaultRefusal::Damaged { file });
         }
-        return Ok(None);
+        return Ok(Found {
+            held: None,
+            is_old: false,
+        });
     };
     let read = match read_list(alloc, bytes.as_slice()) {
         Ok(read) => read,
@@ -169,7 +184,10 @@ pub fn read_set<D: Disk>(
         return Err(VaultRefusal::Damaged { file });
     };
     match read_files(alloc, disk, guarded, &list) {
-        Ok(files) => Ok(Some(FileSet::of(files))),
+        Ok(files) => Ok(Found {
+            held: Some(FileSet::of(files)),
+            is_old: !has_version(bytes.as_slice()),
+        }),
         Err(refusal) => Err(refusal),
     }
 }

@@ -1,25 +1,27 @@
 // A mount: what the folder holds is read, and made whole where a stop left a part.
-ghost use Rattle.std.specs.Prelude.{◌≡◌, List, ℕ, true, filter, Some, None, Ok, Err, IsSome, IfOk, IfErr, OnOk};
-ghost use Rattle.desk_ports.specs.FileMap.{AreNamesOf};
+ghost use Rattle.std.specs.Prelude.{◌≡◌, List, ℕ, true, IfSome, map, filter, Some, None, Ok, Err, IsSome, IfOk, IfErr, OnOk};
+ghost use Rattle.desk_ports.specs.FileMap.{FileMap, AreNamesOf, names_of};
 ghost use Rattle.std.specs.List.{list_any};
 ghost use Rattle.std.specs.Str.{bytes_eq};
 ghost use Rattle.desk_ports.specs.PortFault.{count_after_call};
 ghost use Rattle.desk_ports.specs.Disk.{DiskState, WhereTold, MayLeave, with_all_durable};
 ghost use Rattle.desk_ports.specs.Moments.{AddsOnly, LeavesOnly};
-ghost use Rattle.guard_files.specs.OwnName.{guard_name};
+ghost use Rattle.guard_files.specs.OwnName.{guard_name, backup_name};
+ghost use Rattle.guard_files.specs.ListFile.{IsCurrent, are_listable, saved_list};
 ghost use Rattle.guard_files.specs.Recovery.{backup_set, primary_set, recover};
 ghost use Rattle.guard_files.specs.Holding.{is_among};
-ghost use Rattle.guard_files.specs.Mounted.{IfDamaged, count_after_mount, RecoversAsAllowed, EndsAtRest, IsSurvey};
+ghost use Rattle.guard_files.specs.Mounted.{IfDamaged, count_after_mount, RecoversAsAllowed, StandsFor, Rests, EndsAtRest, IsSurvey};
 ghost use Rattle.guard_files.specs.Mounted.{goes as does_go, is_left_over as left_over, set_names};
 ghost use Rattle.guard_files.specs.parts.Changes.{after, removals, primary_changes, guard_down};
 
-use crate::list_files::{has_name, list_bytes};
+use crate::list_files::{backups_of, has_name, list_bytes};
 use crate::own_names::{is_backup, is_guard, is_list, is_own};
 use crate::refusals::{VaultRefusal, refusal_of};
-use crate::set_reading::read_set;
+use crate::save::save_set;
+use crate::set_reading::{Found, read_set};
 use crate::steps::{lower_guard, remove_files, save_primaries};
 use crate::store_names::StoreNames;
-use desk_ports::{Disk, Failed, FileName, FileSet};
+use desk_ports::{Disk, Failed, FileName, FileSet, SetFile};
 use std::alloc::{AllocError, Global};
 
 fn has_guard(names: &[FileName]) -> bool
@@ -126,7 +128,7 @@ fn restore<D: Disk>(
     ensures moments { (base : DiskState) (bytes : List ℕ) → D.state disk.old ≡ Some (with_all_durable base)
         → base.current guard_name ≡ Some bytes
         → backup_set base.current ≡ Ok (Some set.now) → AddsOnly D.moment D.left_since disk.old disk.new
-        (λ left. recover left ≡ Ok (Some set.now)) }
+        (StandsFor base.current (Some set.now)) }
     ensures count { D.faults disk.new ≡ count_after_mount result (D.faults disk.old) }
 {
     let gone = match going(alloc, held, listing) {
@@ -165,7 +167,7 @@ fn finish_guarded<D: Disk>(
     ensures moments { (base : DiskState) (bytes : List ℕ) → D.state disk.old ≡ Some (with_all_durable base)
         → base.current guard_name ≡ Some bytes
         → backup_set base.current ≡ Ok (Some set.now) → AreNamesOf base.current listing.now
-        → AddsOnly D.moment D.left_since disk.old disk.new (λ left. recover left ≡ Ok (Some set.now)) }
+        → AddsOnly D.moment D.left_since disk.old disk.new (StandsFor base.current (Some set.now)) }
     ensures count { D.faults disk.new ≡ count_after_mount result (D.faults disk.old) }
 {
     let rest = match leftover(alloc, true, held, listing) {
@@ -182,7 +184,7 @@ fn finish_guarded<D: Disk>(
     }
 }
 
-// Where no guard stood: what is left over is removed.
+// Where no guard stood: what is left over is removed. The list stays as it is.
 fn finish<D: Disk>(
     alloc: Global,
     disk: &mut D,
@@ -192,12 +194,16 @@ fn finish<D: Disk>(
     ensures done { OnOk result ((base : DiskState) → D.state disk.old ≡ Some (with_all_durable base)
         → base.current guard_name ≡ None
         → primary_set base.current ≡ Ok held.now → AreNamesOf base.current listing.now
+        → Rests base.current held.now (D.state disk.new)) }
+    ensures current { OnOk result ((base : DiskState) → D.state disk.old ≡ Some (with_all_durable base)
+        → base.current guard_name ≡ None
+        → primary_set base.current ≡ Ok held.now → AreNamesOf base.current listing.now → IsCurrent base.current
         → EndsAtRest held.now (D.state disk.new)) }
     ensures undamaged { IfErr result (λ refusal. IfDamaged refusal (λ file. ⊥)) }
     ensures moments { (base : DiskState) → D.state disk.old ≡ Some (with_all_durable base)
         → base.current guard_name ≡ None
         → primary_set base.current ≡ Ok held.now → AreNamesOf base.current listing.now
-        → AddsOnly D.moment D.left_since disk.old disk.new (λ left. recover left ≡ Ok held.now) }
+        → AddsOnly D.moment D.left_since disk.old disk.new (StandsFor base.current held.now) }
     ensures count { D.faults disk.new ≡ count_after_mount result (D.faults disk.old) }
 {
     let rest = match leftover(alloc, false, held, listing) {
@@ -210,11 +216,73 @@ fn finish<D: Disk>(
     }
 }
 
+// Saves the set that the store holds once more, so that its list is of version 2. A stop meanwhile leaves that set.
+fn renew<D: Disk>(
+    disk: &mut D,
+    names: &StoreNames,
+    set: &[SetFile],
+    backups: &[FileName],
+    list: &[u8],
+) -> Result<(), Failed>
+    requires backups { backups.now ≡ map backup_name (names_of set.now) }
+    requires list { list.now ≡ saved_list (names_of set.now) }
+    requires listable { are_listable (names_of set.now) ≡ true }
+    ensures done { OnOk result ((files : FileMap) → Rests files (Some set.now) (D.state disk.old)
+        → EndsAtRest (Some set.now) (D.state disk.new)) }
+    ensures moments { (files : FileMap) → Rests files (Some set.now) (D.state disk.old)
+        → AddsOnly D.moment D.left_since disk.old disk.new (StandsFor files (Some set.now)) }
+    ensures count { D.faults disk.new ≡ count_after_call result (D.faults disk.old) }
+{
+    save_set(disk, names, set, backups, &[], list)?;
+    Ok(())
+}
+
+// Where no guard stood and the list is of version 1: what is left over is removed, and then the set is saved once more.
+fn finish_old<D: Disk>(
+    alloc: Global,
+    disk: &mut D,
+    names: &StoreNames,
+    held: &Option<FileSet>,
+    set: &FileSet,
+    listing: &[FileName],
+) -> Result<(), VaultRefusal>
+    requires held { held.now ≡ Some set.now }
+    requires listable { are_listable (names_of set.now) ≡ true }
+    ensures done { OnOk result ((base : DiskState) → D.state disk.old ≡ Some (with_all_durable base)
+        → base.current guard_name ≡ None
+        → primary_set base.current ≡ Ok (Some set.now) → AreNamesOf base.current listing.now
+        → EndsAtRest (Some set.now) (D.state disk.new)) }
+    ensures undamaged { IfErr result (λ refusal. IfDamaged refusal (λ file. ⊥)) }
+    ensures moments { (base : DiskState) → D.state disk.old ≡ Some (with_all_durable base)
+        → base.current guard_name ≡ None
+        → primary_set base.current ≡ Ok (Some set.now) → AreNamesOf base.current listing.now
+        → AddsOnly D.moment D.left_since disk.old disk.new (StandsFor base.current (Some set.now)) }
+    ensures count { D.faults disk.new ≡ count_after_mount result (D.faults disk.old) }
+{
+    let backups = match backups_of(alloc, set.as_slice()) {
+        Ok(backups) => backups,
+        Err(error) => return Err(VaultRefusal::Memory(error)),
+    };
+    let list = match list_bytes(alloc, set.as_slice()) {
+        Ok(list) => list,
+        Err(error) => return Err(VaultRefusal::Memory(error)),
+    };
+    match finish(alloc, disk, held, listing) {
+        Ok(()) => {}
+        Err(refusal) => return Err(refusal),
+    }
+    match renew(disk, names, set.as_slice(), &backups, list.as_slice()) {
+        Ok(()) => Ok(()),
+        Err(_) => Err(VaultRefusal::StoreFault),
+    }
+}
+
 // What a folder was found to hold, once all is durable.
 #[derive(Debug, Drop)]
 struct Survey {
     held: Option<FileSet>,
     guarded: bool,
+    is_old: bool,
     listing: Vec<FileName>,
 }
 
@@ -225,9 +293,11 @@ fn survey_of<D: Disk>(
     names: &StoreNames,
 ) -> Result<Survey, VaultRefusal>
     ensures some { IfOk result (λ found. found.guarded ≡ true → IsSome found.held) }
+    ensures old { IfOk result (λ found. found.is_old ≡ true → IsSome found.held) }
+    ensures listable { IfOk result (λ found. IfSome found.held (λ set. are_listable (names_of set) ≡ true)) }
     ensures done { IfOk result (λ found. WhereTold (D.state disk.old) (λ before.
         (D.state disk.new ≡ Some (with_all_durable before))
-        × IsSurvey before.current found.held found.guarded found.listing.items)) }
+        × IsSurvey before.current found.held found.guarded found.is_old found.listing.items)) }
     ensures damaged { IfErr result (λ refusal. IfDamaged refusal (λ file. WhereTold (D.state disk.old) (λ before.
         (recover before.current ≡ Err file)
         × (D.state disk.new ≡ Some (with_all_durable before))))) }
@@ -245,9 +315,10 @@ fn survey_of<D: Disk>(
     };
     let guarded = has_guard(&listing);
     match read_set(alloc, disk, names, guarded) {
-        Ok(held) => Ok(Survey {
+        Ok(Found { held, is_old }) => Ok(Survey {
             held,
             guarded,
+            is_old,
             listing,
         }),
         Err(refusal) => Err(refusal),
@@ -257,7 +328,8 @@ fn survey_of<D: Disk>(
 /// Brings a folder to rest, whatever a stop made of it, and gives the set that it holds, or nothing where it holds
 /// none. It makes all durable and reads the names; it reads the set from the backups where the guard stands, else
 /// from the primaries. Where the guard stood it renews the primaries and takes the guard away. Then it removes what
-/// is left over of the own names. A damaged folder is left as it is. It may be stopped too, at any moment.
+/// is left over of the own names. Where no guard stood and the list was of version 1, it saves the set once more, by the
+/// calls of `save_set`. A damaged folder is left as it is. It may be stopped too, at any moment.
 pub fn settle<D: Disk>(
     alloc: Global,
     disk: &mut D,
@@ -282,6 +354,7 @@ pub fn settle<D: Disk>(
     let Survey {
         held,
         guarded,
+        is_old,
         listing,
     } = found;
     if guarded {
@@ -289,6 +362,15 @@ pub fn settle<D: Disk>(
             unreachable!();
         };
         match finish_guarded(alloc, disk, names, &held, set, &listing) {
+            Ok(()) => return Ok(held),
+            Err(refusal) => return Err(refusal),
+        }
+    }
+    if is_old {
+        let Some(set) = &held else {
+            unreachable!();
+        };
+        match finish_old(alloc, disk, names, &held, set, &listing) {
             Ok(()) => return Ok(held),
             Err(refusal) => return Err(refusal),
         }

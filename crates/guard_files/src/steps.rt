@@ -7,7 +7,7 @@ ghost use Rattle.desk_ports.specs.FileMap.{names_of};
 ghost use Rattle.desk_ports.specs.Disk.{WhereTold, MayLeave, with_all_durable};
 ghost use Rattle.desk_ports.specs.Moments.{AddsOnly};
 ghost use Rattle.guard_files.specs.OwnName.{guard_name, list_name, primary_name, backup_name};
-ghost use Rattle.guard_files.specs.ListFile.{list_text};
+ghost use Rattle.guard_files.specs.ListFile.{saved_list};
 ghost use Rattle.guard_files.specs.parts.Changes.{after, writes, removals, set_writes, primary_changes};
 ghost use Rattle.guard_files.specs.parts.Changes.{guard_up, guard_down, backups_away};
 
@@ -100,7 +100,7 @@ pub fn save_backups<D: Disk>(
 ) -> Result<(), Failed>
     requires names { backups.now ≡ map backup_name (names_of files.now) }
     requires list_name { list_backup.now ≡ backup_name list_name }
-    requires list { list.now ≡ list_text (names_of files.now) }
+    requires list { list.now ≡ saved_list (names_of files.now) }
     ensures done { OnOk result (WhereTold (D.state disk.old)
         (λ before. D.state disk.new ≡ Some (with_all_durable (after (set_writes backup_name files.now) before)))) }
     ensures moments { WhereTold (D.state disk.old)
@@ -124,7 +124,7 @@ pub fn save_primaries<D: Disk>(
     list: &[u8],
 ) -> Result<(), Failed>
     requires list_name { list_file.now ≡ list_name }
-    requires list { list.now ≡ list_text (names_of files.now) }
+    requires list { list.now ≡ saved_list (names_of files.now) }
     ensures done { OnOk result (WhereTold (D.state disk.old)
         (λ before. D.state disk.new ≡ Some (with_all_durable (after (primary_changes gone.now files.now) before)))) }
     ensures moments { WhereTold (D.state disk.old)

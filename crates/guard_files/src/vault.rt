@@ -7,8 +7,8 @@ ghost use Rattle.desk_ports.specs.Disk.{WhereTold, with_all_durable};
 ghost use Rattle.desk_ports.specs.Moments.{LeavesOnly};
 ghost use Rattle.guard_files.specs.OwnName.{is_listable};
 ghost use Rattle.guard_files.specs.Recovery.{recover};
-ghost use Rattle.guard_files.specs.Mounted.{IfDamaged, count_after_mount, RecoversAsAllowed, EndsAtRest};
-ghost use Rattle.guard_files.specs.Settled.{IsSettled, gone_names, IsBeforeOrAfter, EndsSettled};
+ghost use Rattle.guard_files.specs.Mounted.{IfDamaged, count_after_mount, RecoversAsAllowed, EndsAtRest, IsLeftRefused};
+ghost use Rattle.guard_files.specs.Settled.{IsSettled, gone_names, IsInSave, EndsSettled};
 
 use crate::mounted::Mounted;
 use crate::prepared::Prepared;
@@ -17,10 +17,19 @@ use crate::settling::settle;
 use crate::store_names::StoreNames;
 use desk_ports::{Disk, FileSet};
 use std::alloc::{AllocError, Global};
+use thiserror::Error;
 
 /// A save failed: a call of the disk did, and its count of faults rose. The vault is undecided until it is remounted.
-#[derive(Clone, Copy, Debug, PartialEq, Eq)]
+#[derive(Clone, Copy, Debug, PartialEq, Eq, Error)]
+#[error("the disk failed in a save")]
 pub struct StoreFault;
+
+/// A mount that was refused: why, and the disk, as it was left.
+#[derive(Drop)]
+pub struct Unmounted<'d, D: Disk> {
+    pub refusal: VaultRefusal,
+    pub disk: &'d mut D,
+}
 
 /// An atomic store for a set of files in a folder. It replaces the whole set at once: a stop at any moment leaves the
 /// set before or the set after. Clauses see its disk, the set that it holds, and whether it is decided which set that
@@ -36,10 +45,8 @@ pub struct Vault<'d, D: Disk> {
 
 impl<'d, D: Disk> Vault<'d, D> {
     /// Mounts the folder, by the calls of `settle`. Refuses `StoreFault`, where a call of the disk failed; `Damaged`,
-    /// with the file, and then nothing in the folder was changed; and `Memory`. Where more is to be known of the disk
-    /// after a refusal than clauses can say here, which hand it on in the answer, `Mounted::find` and then `of` do
-    /// the same.
-    pub fn mount(alloc: Global, disk: &'d mut D) -> Result<Vault<'d, D>, VaultRefusal>
+    /// with the file, and then nothing in the folder was changed; and `Memory`. A refusal hands the disk back.
+    pub fn mount(alloc: Global, disk: &'d mut D) -> Result<Vault<'d, D>, Unmounted<'d, D>>
         ensures decided { IfOk result (λ vault. vault.decided ≡ true) }
         ensures held { IfOk result (λ vault. WhereTold (D.state disk.old)
             (λ before. recover before.current ≡ Ok vault.held)) }
@@ -51,13 +58,16 @@ impl<'d, D: Disk> Vault<'d, D> {
         ensures moments { IfOk result (λ vault. WhereTold (D.state disk.old)
             (λ before. LeavesOnly D.moment D.left_since disk.old vault.disk.now
             (RecoversAsAllowed before))) }
-        ensures damaged { IfErr result (λ refusal. IfDamaged refusal (λ file. WhereTold (D.state disk.old)
-            (λ before. recover before.current ≡ Err file))) }
         ensures count { IfOk result (λ vault. D.faults vault.disk.now ≡ D.faults disk.old) }
         ensures same_disk { IfOk result (λ vault. vault.disk.ghost_name ≡ disk.entry.ghost_name) }
+        ensures refused { IfErr result (λ left. IsLeftRefused D.faults D.state D.moment D.left_since disk.old
+            left.disk.now left.refusal) }
+        ensures handed_back { IfErr result (λ left. left.disk.ghost_name ≡ disk.entry.ghost_name) }
     {
-        let found = Mounted::find(alloc, disk)?;
-        Ok(Vault::of(alloc, disk, found))
+        match Mounted::find(alloc, disk) {
+            Ok(found) => Ok(Vault::of(alloc, disk, found)),
+            Err(refusal) => Err(Unmounted { refusal, disk }),
+        }
     }
 
     /// The vault over a disk on which this set was found last, and which no other call was made on since. Takes no
@@ -154,8 +164,8 @@ impl<'d, D: Disk> Vault<'d, D> {
         ensures settled { OnOk result (WhereTold (D.state self.old.disk.now) (λ before. IsSettled self.old.held before
             → EndsSettled prepared.set (D.state self.new.disk.now))) }
         ensures moments { WhereTold (D.state self.old.disk.now) (λ before. IsSettled self.old.held before
-            → LeavesOnly D.moment D.left_since self.old.disk.now self.new.disk.now (IsBeforeOrAfter self.old.held
-            (Some prepared.set))) }
+            → LeavesOnly D.moment D.left_since self.old.disk.now self.new.disk.now (IsInSave before self.old.held
+            prepared.set)) }
 
         // It fails only where a call of the disk did, once.
         ensures count { OnOk result (D.faults self.new.disk.now ≡ D.faults self.old.disk.now) }

@@ -3,7 +3,7 @@
 use crate::steps::show;
 use desk_ports::Bytes;
 use line_reasons::{LineFault, rule_fault, script_fault};
-use line_script::{Reader, Spot, Step};
+use line_script::{Place, Reader, Spot, Step};
 use std::alloc::Global;
 
 fn show_fault(alloc: Global, fault: Option<LineFault>, out: &mut Bytes) -> Option<()> {
@@ -46,9 +46,9 @@ fn is_open(reader: &Reader, out: &mut Bytes) -> Option<()> {
     Some(())
 }
 
-// Reads lines, and puts what the last asks for.
-fn script(alloc: Global, text: &[u8], out: &mut Bytes) -> Option<()> {
-    let mut reader = Reader::new(alloc);
+// Reads lines of a script for a place, and puts what the last asks for.
+fn script(alloc: Global, place: Place, text: &[u8], out: &mut Bytes) -> Option<()> {
+    let mut reader = Reader::new(alloc, place);
     for each in text.split(|byte| *byte == b'\n') {
         out.clear();
         line(alloc, &mut reader, each, out)?;
@@ -63,9 +63,12 @@ fn at(alloc: Global, spot: Spot, line: &[u8], out: &mut Bytes) -> Option<()> {
 
 pub fn answer(alloc: Global, verb: &str, rest: &[u8], out: &mut Bytes) -> Option<()> {
     match verb {
-        "script" => script(alloc, rest, out),
-        "line" => line(alloc, &mut Reader::new(alloc), rest, out),
-        "why" => at(alloc, Spot::Outside, rest, out),
+        "script" => script(alloc, Place::Local, rest, out),
+        "service-script" => script(alloc, Place::Admin, rest, out),
+        "line" => line(alloc, &mut Reader::new(alloc, Place::Local), rest, out),
+        "service-line" => line(alloc, &mut Reader::new(alloc, Place::Admin), rest, out),
+        "why" => at(alloc, Spot::Outside(Place::Local), rest, out),
+        "service-why" => at(alloc, Spot::Outside(Place::Admin), rest, out),
         "batch" => at(alloc, Spot::Batch, rest, out),
         "template" => at(alloc, Spot::Template { is_full: false }, rest, out),
         "full" => at(alloc, Spot::Template { is_full: true }, rest, out),

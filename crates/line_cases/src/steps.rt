@@ -51,6 +51,7 @@ pub fn show(step: &Step<'_>, out: &mut Bytes) -> Result<(), AllocError> {
             })
         }
         Step::Status => out.append(b"status"),
+        Step::Stop => out.append(b"stop"),
     }
 }
 
@@ -92,6 +93,15 @@ fn show_command(command: &Command, out: &mut Bytes) -> Result<(), AllocError> {
             show_text(app.as_slice(), out)?;
             show_scope(*scope, out)
         }
+        Command::Convert { package, hybrid } => {
+            out.append(b"convert")?;
+            show_text(package.as_slice(), out)?;
+            out.append(if *hybrid {
+                b" hybrid".as_slice()
+            } else {
+                b" plain".as_slice()
+            })
+        }
     }
 }
 
@@ -124,7 +134,11 @@ fn show_change(change: &Change, out: &mut Bytes) -> Result<(), AllocError> {
 }
 
 fn show_install(install: &Install, out: &mut Bytes) -> Result<(), AllocError> {
-    out.append(b"install")?;
+    out.append(if install.hybrid {
+        b"hybrid".as_slice()
+    } else {
+        b"install".as_slice()
+    })?;
     show_text(install.package.as_slice(), out)?;
     match &install.author {
         Some(author) => show_text(author.as_slice(), out)?,

@@ -13,7 +13,8 @@ use Rattle.rule_templates.specs.declared.lines.TemplateLine.{TemplateLine}
 use Rattle.rule_templates.specs.Template.{is_full, with_one_more}
 use Rattle.line_script.specs.Block.{Block, outside, batch, template, failed}
 use Rattle.line_script.specs.Spots.{spot_of}
-use Rattle.line_script.specs.Grammar.{is_skipped, lone_change, lone_step, outside_at, batch_at, template_at, step_at}
+use Rattle.line_script.specs.Grammar.{is_skipped, lone_change, lone_step, outside_at, batch_at, template_at, any_length_step_at}
+use Rattle.line_script.specs.declared.places.Place.{Place}
 use Rattle.line_script.specs.declared.spots.Spot.{Spot}
 use Rattle.line_script.specs.declared.spots.Spot.TheVariants as spot
 use Rattle.line_reasons.specs.declared.forms.Form.{Form}
@@ -66,18 +67,18 @@ rule_fronts = record {
 }
 
 pub ground_fronts : (ground : Ground) → Fronts (is_line ground) (begins_line ground)
-ground_fronts Outside =
-    Fronts-or is_skipped (λ line. same_text line (codes "batch") || (same_text line (codes "template") || is_verb_line false line))
-    is_skipped (λ front. begins front (codes "batch") || (begins front (codes "template") || begins_verb_line false front)) skipped_fronts
-    (Fronts-or (λ line. same_text line (codes "batch")) (λ line. same_text line (codes "template") || is_verb_line false line)
-    (λ front. begins front (codes "batch")) (λ front. begins front (codes "template") || begins_verb_line false front) (Fronts-text (codes "batch"))
-    (Fronts-or (λ line. same_text line (codes "template")) (is_verb_line false) (λ front. begins front (codes "template")) (begins_verb_line false)
-    (Fronts-text (codes "template")) (verb_fronts false)))
+ground_fronts (Outside place) =
+    Fronts-or is_skipped (λ line. same_text line (codes "batch") || (same_text line (codes "template") || is_verb_line (Some place) line))
+    is_skipped (λ front. begins front (codes "batch") || (begins front (codes "template") || begins_verb_line (Some place) front)) skipped_fronts
+    (Fronts-or (λ line. same_text line (codes "batch")) (λ line. same_text line (codes "template") || is_verb_line (Some place) line)
+    (λ front. begins front (codes "batch")) (λ front. begins front (codes "template") || begins_verb_line (Some place) front) (Fronts-text (codes "batch"))
+    (Fronts-or (λ line. same_text line (codes "template")) (is_verb_line (Some place)) (λ front. begins front (codes "template")) (begins_verb_line (Some place))
+    (Fronts-text (codes "template")) (verb_fronts (Some place))))
 ground_fronts Batch =
-    Fronts-or is_skipped (λ line. same_text line (codes "end") || is_verb_line true line)
-    is_skipped (λ front. begins front (codes "end") || begins_verb_line true front) skipped_fronts
-    (Fronts-or (λ line. same_text line (codes "end")) (is_verb_line true) (λ front. begins front (codes "end")) (begins_verb_line true)
-    (Fronts-text (codes "end")) (verb_fronts true))
+    Fronts-or is_skipped (λ line. same_text line (codes "end") || is_verb_line None line)
+    is_skipped (λ front. begins front (codes "end") || begins_verb_line None front) skipped_fronts
+    (Fronts-or (λ line. same_text line (codes "end")) (is_verb_line None) (λ front. begins front (codes "end")) (begins_verb_line None)
+    (Fronts-text (codes "end")) (verb_fronts None))
 ground_fronts (Template is_full) =
     Fronts-or (λ line. same_text line (codes "end")) (λ line. not is_full && is_line_of true template_forms line)
     (λ front. begins front (codes "end")) (λ front. not is_full && begins_line_of true template_forms front) (Fronts-text (codes "end"))
@@ -101,43 +102,47 @@ right_some (Err e) = refl
 pub rules_are : (line : List ℕ) → is_some (result_ok (line_rule line)) ≡ is_line Rules line
 rules_are line = right_some (line_rule line) ∙ rule_is line
 
-outside_is : (line : List ℕ) → is_some (outside_at line) ≡ is_line Outside line
+outside_is : (place : Place) (line : List ℕ) → is_some (outside_at place line) ≡ is_line (Outside place) line
 unfolding outside_at
-outside_is line =
+outside_is place line =
     chosen (is_skipped line) _ _
     ∙ ap (λ b. is_skipped line || b)
     (chosen (same_text line (codes "batch")) _ _
     ∙ ap (λ b. same_text line (codes "batch") || b)
     (chosen (same_text line (codes "template")) _ _
-    ∙ ap (λ b. same_text line (codes "template") || b) (mapped _ (lone_step line) ∙ step_is line)))
+    ∙ ap (λ b. same_text line (codes "template") || b) (mapped _ (lone_step place line) ∙ step_is place line)))
 
-batch_is : (changes : List Change) (line : List ℕ) → is_some (batch_at changes line) ≡ is_line Batch line
+batch_is : (place : Place) (changes : List Change) (line : List ℕ) → is_some (batch_at place changes line) ≡ is_line Batch line
 unfolding batch_at
-batch_is changes line =
+batch_is place changes line =
     chosen (is_skipped line) _ _
     ∙ ap (λ b. is_skipped line || b)
     (chosen (same_text line (codes "end")) _ _
     ∙ ap (λ b. same_text line (codes "end") || b) (mapped _ (lone_change line) ∙ change_is line))
 
-template_lines_are : (lines : List TemplateLine) (line : List ℕ) → is_some (template_at lines line) ≡ is_line (Template (is_full lines)) line
+template_lines_are : (place : Place) (lines : List TemplateLine) (line : List ℕ)
+    → is_some (template_at place lines line) ≡ is_line (Template (is_full lines)) line
 unfolding template_at
-template_lines_are lines line =
+template_lines_are place lines line =
     chosen (same_text line (codes "end")) _ _
     ∙ ap (λ b. same_text line (codes "end") || b) (mapped _ (result_ok (with_one_more lines line)) ∙ template_is lines line)
 
-pub steps_are : (block : Block) (spot : Spot) → spot_of block ≡ Some spot → (line : List ℕ) → is_some (step_at block line) ≡ is_line (ground_of spot) line
-unfolding step_at
-steps_are outside spot.Outside at line = outside_is line
-steps_are outside spot.Batch at line = cc
-steps_are outside (spot.Template full) at line = cc
-steps_are (batch changes) spot.Outside at line = cc
-steps_are (batch changes) spot.Batch at line = batch_is changes line
-steps_are (batch changes) (spot.Template full) at line = cc
-steps_are (template lines) spot.Outside at line = cc
-steps_are (template lines) spot.Batch at line = cc
-steps_are (template lines) (spot.Template full) at line =
+pub steps_are : (block : Block) (spot : Spot) → spot_of block ≡ Some spot → (line : List ℕ)
+    → is_some (any_length_step_at block line) ≡ is_line (ground_of spot) line
+unfolding any_length_step_at
+steps_are (outside place) (spot.Outside at_place) at line =
+    let same : place ≡ at_place = cc in
+    outside_is place line ∙ ap (λ place. is_line (Outside place) line) same
+steps_are (outside place) spot.Batch at line = cc
+steps_are (outside place) (spot.Template full) at line = cc
+steps_are (batch place changes) (spot.Outside at_place) at line = cc
+steps_are (batch place changes) spot.Batch at line = batch_is place changes line
+steps_are (batch place changes) (spot.Template full) at line = cc
+steps_are (template place lines) (spot.Outside at_place) at line = cc
+steps_are (template place lines) spot.Batch at line = cc
+steps_are (template place lines) (spot.Template full) at line =
     let same : is_full lines ≡ full = cc in
-    template_lines_are lines line ∙ ap (λ full. is_line (Template full) line) same
+    template_lines_are place lines line ∙ ap (λ full. is_line (Template full) line) same
 steps_are failed spot at line = cc
 
 -- ---- the first fault

@@ -8,12 +8,12 @@ use Rattle.cynara_keys.specs.Key.{Question}
 use Rattle.cynara_keys.specs.declared.keys.Filter.{Filter}
 use Rattle.bucket_store.specs.declared.policy_changes.Change.{Change}
 use Rattle.line_script.specs.Words.{word, end_of, ◌>>=◌}
-use Rattle.line_script.specs.WordForms.{bucket_at, name_at, field_at, filter_field_at, depth_at, result_at, uid_at, user_type_at, scope_at, ident_at, author_at, label_at, request_at}
-use Rattle.line_script.specs.Grammar.{key_at, question_at, filter_at, names_at, set_at, unset_at, set_bucket_at, drop_at, erase_at, layout_at, user_at, nouser_at, install_at, remove_at, list_at, check_at, from_at, access_at, status_at, change_at, change_step, line_at}
+use Rattle.line_script.specs.WordForms.{bucket_at, name_at, field_at, filter_field_at, depth_at, result_at, uid_at, user_type_at, scope_at, package_kind_at, ident_at, author_at, label_at, request_at}
+use Rattle.line_script.specs.Grammar.{key_at, question_at, filter_at, names_at, set_at, unset_at, set_bucket_at, drop_at, erase_at, layout_at, user_at, nouser_at, install_at, convert_at, remove_at, list_at, check_at, from_at, access_at, status_at, stop_at, change_at, change_step, line_at}
 use Rattle.line_script.specs.declared.verbs.Verb.{Verb}
 use Rattle.line_script.specs.declared.verbs.Verb.TheVariants as verb
 use Rattle.line_reasons.specs.declared.forms.Form.{Form}
-use Rattle.line_reasons.specs.declared.forms.Form.TheVariants.{Bucket, Field, Name, Names, FilterField, Depth, Result, Uid, UserType, Scope, Ident, Author, Label, Request}
+use Rattle.line_reasons.specs.declared.forms.Form.TheVariants.{Bucket, Field, Name, Names, FilterField, Depth, Result, Uid, UserType, Scope, PackageKind, Ident, Author, Label, Request}
 use Rattle.line_reasons.specs.parts.Forms.{is_word, may_lack}
 use Rattle.line_reasons.specs.parts.Runs.{behind_form}
 use Rattle.line_reasons.specs.parts.Grounds.{verb_forms, changes_policies, forms_if}
@@ -138,14 +138,20 @@ nouser_fits : (words : List (List ℕ)) → is_some (nouser_at words) ≡ fits (
 unfolding nouser_at
 nouser_fits words = then_word Uid [] uid_at (λ text. refl) refl _ (λ uid left. ended _ left) words
 
-install_fits : (words : List (List ℕ)) → is_some (install_at words) ≡ fits (verb_forms verb.Install) words
+install_fits : (hybrid : Bool) (words : List (List ℕ)) → is_some (install_at hybrid words) ≡ fits (verb_forms verb.Install) words
 unfolding install_at
-install_fits words =
+install_fits hybrid words =
     then_word Ident (Author ∷ Ident ∷ Scope ∷ Names ∷ []) ident_at (λ text. refl) refl _
     (λ name left. then_word Author (Ident ∷ Scope ∷ Names ∷ []) author_at (λ text. refl) refl _
     (λ author left. then_word Ident (Scope ∷ Names ∷ []) ident_at (λ text. refl) refl _
     (λ app left. then_word Scope (Names ∷ []) scope_at (λ text. refl) refl _
     (λ scope left. names_then _ left) left) left) left) words
+
+convert_fits : (words : List (List ℕ)) → is_some (convert_at words) ≡ fits (verb_forms verb.Convert) words
+unfolding convert_at
+convert_fits words =
+    then_word Ident (PackageKind ∷ []) ident_at (λ text. refl) refl _
+    (λ name left. then_word PackageKind [] package_kind_at (λ text. refl) refl _ (λ hybrid left. ended _ left) left) words
 
 remove_fits : (words : List (List ℕ)) → is_some (remove_at words) ≡ fits (verb_forms verb.Remove) words
 unfolding remove_at
@@ -185,6 +191,10 @@ status_fits : (words : List (List ℕ)) → is_some (status_at words) ≡ fits [
 unfolding status_at
 status_fits words = ended _ words
 
+stop_fits : (words : List (List ℕ)) → is_some (stop_at words) ≡ fits [] words
+unfolding stop_at
+stop_fits words = ended _ words
+
 stepped : (change : Option Change) → is_some (option_map change_step change) ≡ is_some change
 stepped None = refl
 stepped (Some change) = refl
@@ -200,13 +210,16 @@ line_fits verb.Erase words = erase_fits words
 line_fits verb.Layout words = layout_fits words
 line_fits verb.User words = user_fits words
 line_fits verb.NoUser words = nouser_fits words
-line_fits verb.Install words = install_fits words
+line_fits verb.Install words = install_fits false words
+line_fits verb.Hybrid words = install_fits true words
+line_fits verb.Convert words = convert_fits words
 line_fits verb.Remove words = remove_fits words
 line_fits verb.List words = list_fits words
 line_fits verb.Check words = check_fits words
 line_fits verb.From words = from_fits words
 line_fits verb.Access words = access_fits words
 line_fits verb.Status words = status_fits words
+line_fits verb.Stop words = stop_fits words
 
 pub change_fits : (verb : Verb) (words : List (List ℕ)) → is_some (change_at verb words)
     ≡ holds_left (λ forms. fits forms words) (forms_if (changes_policies verb) (verb_forms verb))
@@ -220,9 +233,12 @@ change_fits verb.Layout words = refl
 change_fits verb.User words = refl
 change_fits verb.NoUser words = refl
 change_fits verb.Install words = refl
+change_fits verb.Hybrid words = refl
+change_fits verb.Convert words = refl
 change_fits verb.Remove words = refl
 change_fits verb.List words = refl
 change_fits verb.Check words = refl
 change_fits verb.From words = refl
 change_fits verb.Access words = refl
 change_fits verb.Status words = refl
+change_fits verb.Stop words = refl

@@ -71,12 +71,6 @@ three_fit allow deny more words =
     ∙ ap (λ b. is_some (modes_of allow) && b) (mode_then deny [] (more ∷ words) (is_some (modes_of deny)) ∙ and_false (is_some (modes_of deny)))
     ∙ and_false (is_some (modes_of allow))
 
--- two labels and modes, as a row of tests
-pair_fits : (form : Form) (subject object : List ℕ) (modes : List (List ℕ)) (first second : Bool) (labels : List Form)
-    → holds_left (λ left. fits left (object ∷ modes)) (cond first (Some labels) None) ≡ first && fits labels (object ∷ modes)
-pair_fits form subject object modes true second labels = refl
-pair_fits form subject object modes false second labels = refl
-
 -- ---- rules
 
 set_right : (subject object : List ℕ) (modes : Option ModeSet) → is_right (set_rule subject object modes) ≡ is_some modes

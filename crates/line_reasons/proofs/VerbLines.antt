@@ -7,7 +7,9 @@ use Rattle.cynara_keys.specs.Text.{same_text}
 use Rattle.cynara_keys.proofs.Order.{same_text-≡}
 use Rattle.line_script.specs.Words.{words_of, word, ◌>>=◌}
 use Rattle.line_script.specs.Grammar.{change_at, line_at, lone_change, lone_step}
-use Rattle.line_script.specs.Verbs.{verb_text, verbs, verb_at}
+use Rattle.line_script.specs.Verbs.{verb_text, verbs, verb_at, is_known_in}
+use Rattle.line_script.specs.declared.places.Place.{Place}
+use Rattle.line_script.specs.declared.steps.Step.{Step}
 use Rattle.line_script.specs.declared.verbs.Verb.{Verb}
 use Rattle.line_script.specs.declared.verbs.Verb.TheVariants as verb
 use Rattle.line_reasons.specs.declared.forms.Form.{Form}
@@ -56,9 +58,12 @@ own_text verb.Layout = refl
 own_text verb.User = refl
 own_text verb.NoUser = refl
 own_text verb.Install = refl
+own_text verb.Hybrid = refl
+own_text verb.Convert = refl
 own_text verb.Remove = refl
 own_text verb.Access = refl
 own_text verb.Status = refl
+own_text verb.Stop = refl
 
 no_space : (verb : Verb) → list_all (λ byte. not (byte == 32)) (verb_text verb) ≡ true
 no_space verb.Set = refl
@@ -73,9 +78,12 @@ no_space verb.Layout = refl
 no_space verb.User = refl
 no_space verb.NoUser = refl
 no_space verb.Install = refl
+no_space verb.Hybrid = refl
+no_space verb.Convert = refl
 no_space verb.Remove = refl
 no_space verb.Access = refl
 no_space verb.Status = refl
+no_space verb.Stop = refl
 
 -- a first word stands alone, or has words behind it
 goes_on : (verb : Verb) → (may_end (verb_forms verb) ≡ true) ⊎ (begins_line_of false (verb_forms verb) [] ≡ true)
@@ -91,24 +99,27 @@ goes_on verb.Layout = inl refl
 goes_on verb.User = inr refl
 goes_on verb.NoUser = inr refl
 goes_on verb.Install = inr refl
+goes_on verb.Hybrid = inr refl
+goes_on verb.Convert = inr refl
 goes_on verb.Remove = inr refl
 goes_on verb.Access = inr refl
 goes_on verb.Status = inl refl
+goes_on verb.Stop = inl refl
 
-module _ (in_batch : Bool) where
-  known_in : (verb : Verb) (known : Bool) → is_verb_in in_batch verb ≡ known → (test : List Form → Bool)
-      → holds_left test (forms_if known (verb_forms verb)) ≡ true → is_verb_in in_batch verb ≡ true
+module _ (outside : Option Place) where
+  known_in : (verb : Verb) (known : Bool) → is_verb_in outside verb ≡ known → (test : List Form → Bool)
+      → holds_left test (forms_if known (verb_forms verb)) ≡ true → is_verb_in outside verb ≡ true
   known_in verb true is test passes = is
   known_in verb false is test passes = cc
 
   begun_by : (front more : List ℕ) (found : Option Verb) → verb_at (front ++ more) ≡ found → (test : List Form → Bool)
-      → holds_left test (forms_of in_batch found) ≡ true → begins_verb in_batch front ≡ true
+      → holds_left test (forms_of outside found) ≡ true → begins_verb outside front ≡ true
   unfolding verb_at
   begun_by front more None is test passes = cc
   begun_by front more (Some verb) is test passes =
-      find_any (λ verb. same_text (front ++ more) (verb_text verb)) (λ verb. is_verb_in in_batch verb && begins front (verb_text verb)) verbs verb is
-      (λ same. and_from (is_verb_in in_batch verb) (begins front (verb_text verb))
-      (known_in verb (is_verb_in in_batch verb) refl test passes)
+      find_any (λ verb. same_text (front ++ more) (verb_text verb)) (λ verb. is_verb_in outside verb && begins front (verb_text verb)) verbs verb is
+      (λ same. and_from (is_verb_in outside verb) (begins front (verb_text verb))
+      (known_in verb (is_verb_in outside verb) refl test passes)
       (begins-from front (verb_text verb) more (sym (same_text-≡ (front ++ more) (verb_text verb) same))))
 
   as_left : (forms : Option (List Form)) → may_end_with forms ≡ holds_left may_end forms
@@ -123,14 +134,14 @@ module _ (in_batch : Bool) where
   with_fronts None = record { rest_of = λ front is. cc; is_front = λ front rest is. cc }
   with_fronts (Some forms) = line_fronts false forms
 
-  whole_verb : (verb : Verb) → is_verb_in in_batch verb ≡ true → forms_of in_batch (verb_at (verb_text verb)) ≡ Some (verb_forms verb)
+  whole_verb : (verb : Verb) → is_verb_in outside verb ≡ true → forms_of outside (verb_at (verb_text verb)) ≡ Some (verb_forms verb)
   whole_verb verb is =
-      ap (forms_of in_batch) (own_text verb) ∙ ap (λ known. forms_if known (verb_forms verb)) is
+      ap (forms_of outside) (own_text verb) ∙ ap (λ known. forms_if known (verb_forms verb)) is
 
   Goes : List ℕ → Type 0
-  Goes front = (rest : List ℕ) × (by_cut (is_verb_alone in_batch) (is_verb_with in_batch) (front ++ rest) (cut_at 32 (front ++ rest)) ≡ true)
+  Goes front = (rest : List ℕ) × (by_cut (is_verb_alone outside) (is_verb_with outside) (front ++ rest) (cut_at 32 (front ++ rest)) ≡ true)
 
-  on_verb : (front : List ℕ) (verb : Verb) → is_verb_in in_batch verb ≡ true → begins front (verb_text verb) ≡ true → Goes front
+  on_verb : (front : List ℕ) (verb : Verb) → is_verb_in outside verb ≡ true → begins front (verb_text verb) ≡ true → Goes front
   unfolding Goes
   on_verb front verb known begun =
       let left = drop (length front) (verb_text verb) in
@@ -138,31 +149,31 @@ module _ (in_batch : Bool) where
       elim (goes_on verb) as (λ _. Goes front) [
         | inl ends ↦ (
           left,
-          ap (λ line. by_cut (is_verb_alone in_batch) (is_verb_with in_batch) line (cut_at 32 line)) whole
-              ∙ ap (by_cut (is_verb_alone in_batch) (is_verb_with in_batch) (verb_text verb)) (cut_at-none 32 (verb_text verb) (no_space verb))
+          ap (λ line. by_cut (is_verb_alone outside) (is_verb_with outside) line (cut_at 32 line)) whole
+              ∙ ap (by_cut (is_verb_alone outside) (is_verb_with outside) (verb_text verb)) (cut_at-none 32 (verb_text verb) (no_space verb))
               ∙ ap may_end_with (whole_verb verb known) ∙ ends,
         )
         | inr more ↦ (let found = (line_fronts false (verb_forms verb)).rest_of [] more in (
           left ++ 32 ∷ found.0,
-          ap (λ line. by_cut (is_verb_alone in_batch) (is_verb_with in_batch) line (cut_at 32 line))
+          ap (λ line. by_cut (is_verb_alone outside) (is_verb_with outside) line (cut_at 32 line))
               (sym (append_assoc front left (32 ∷ found.0)) ∙ ap (λ text. text ++ 32 ∷ found.0) whole)
-              ∙ ap (by_cut (is_verb_alone in_batch) (is_verb_with in_batch) (verb_text verb ++ 32 ∷ found.0))
+              ∙ ap (by_cut (is_verb_alone outside) (is_verb_with outside) (verb_text verb ++ 32 ∷ found.0))
               (cut_at-first 32 (verb_text verb) found.0 (no_space verb) 32 refl)
               ∙ ap (λ forms. is_line_with forms found.0) (whole_verb verb known) ∙ found.1,
         ))
       ]
 
-  pub verb_fronts : Fronts (is_verb_line in_batch) (begins_verb_line in_batch)
+  pub verb_fronts : Fronts (is_verb_line outside) (begins_verb_line outside)
   unfolding Goes
   verb_fronts =
-      Fronts-cut 32 (is_verb_alone in_batch) (begins_verb in_batch) (is_verb_with in_batch) (begins_verb_with in_batch)
-      (λ first. with_fronts (forms_of in_batch (verb_at first)))
-      (λ front rest is. begun_by front rest (verb_at (front ++ rest)) refl may_end (sym (as_left (forms_of in_batch (verb_at (front ++ rest)))) ∙ is))
+      Fronts-cut 32 (is_verb_alone outside) (begins_verb outside) (is_verb_with outside) (begins_verb_with outside)
+      (λ first. with_fronts (forms_of outside (verb_at first)))
+      (λ front rest is. begun_by front rest (verb_at (front ++ rest)) refl may_end (sym (as_left (forms_of outside (verb_at (front ++ rest)))) ∙ is))
       (λ front more rest is. begun_by front more (verb_at (front ++ more)) refl (λ forms. is_line_of false forms rest)
-      (sym (as_line (forms_of in_batch (verb_at (front ++ more))) rest) ∙ is))
+      (sym (as_line (forms_of outside (verb_at (front ++ more))) rest) ∙ is))
       (λ front none is.
-      let found = any_found (λ verb. true) (λ verb. is_verb_in in_batch verb && begins front (verb_text verb)) verbs is in
-      let both = and_parts (is_verb_in in_batch found.0) (begins front (verb_text found.0)) found.1 in
+      let found = any_found (λ verb. true) (λ verb. is_verb_in outside verb && begins front (verb_text verb)) verbs is in
+      let both = and_parts (is_verb_in outside found.0) (begins front (verb_text found.0)) found.1 in
       on_verb front found.0 both.0 both.1)
 
 -- ---- as line_script reads them
@@ -171,41 +182,54 @@ module _ (in_batch : Bool) where
 abbrev with_words : Option Verb → List (List ℕ) → Option (Verb × List (List ℕ))
 with_words found rest = option_map (λ verb. (verb, rest)) found
 
-step_cut : (line : List ℕ) (cut : Cut)
-    → is_some (word verb_at (parts_of_cut (slice_split (λ byte. byte == 32)) line cut) >>= (λ first. line_at first.0 first.1))
-    ≡ by_cut (is_verb_alone false) (is_verb_with false) line cut
-step_cut line None = by_verb (verb_at line) where
-  by_verb : (found : Option Verb) → is_some (with_words found [] >>= (λ first. line_at first.0 first.1)) ≡ may_end_with (forms_of false found)
-  by_verb None = refl
-  by_verb (Some verb) = line_fits verb []
-step_cut line (Some cut) = by_verb (verb_at cut.0) where
-  by_verb : (found : Option Verb) → is_some (with_words found (words_of cut.1) >>= (λ first. line_at first.0 first.1)) ≡ is_line_with (forms_of false found) cut.1
-  by_verb None = refl
-  by_verb (Some verb) = line_fits verb (words_of cut.1) ∙ sym (script_words (verb_forms verb) cut.1)
+-- the line with its words, if its first word is known
+with_known : (known : Bool) (verb : Verb) (words : List (List ℕ))
+    → is_some (cond known (line_at verb words) None) ≡ holds_left (λ forms. fits forms words) (forms_if known (verb_forms verb))
+with_known true verb words = line_fits verb words
+with_known false verb words = refl
 
-pub step_is : (line : List ℕ) → is_some (lone_step line) ≡ is_verb_line false line
-unfolding lone_step
-step_is line =
-    ap (λ words. is_some (word verb_at words >>= (λ first. line_at first.0 first.1))) (slice_split-cut 32 line)
-    ∙ step_cut line (cut_at 32 line)
+by_forms : (rest : List ℕ) (forms : Option (List Form)) → holds_left (λ forms. fits forms (words_of rest)) forms ≡ is_line_with forms rest
+by_forms rest None = refl
+by_forms rest (Some forms) = sym (script_words forms rest)
+
+module _ (place : Place) where
+  -- the step behind a first word
+  abbrev step_behind : Verb × List (List ℕ) → Option Step
+  step_behind first = cond (is_known_in place first.0) (line_at first.0 first.1) None
+
+  step_cut : (line : List ℕ) (cut : Cut)
+      → is_some (word verb_at (parts_of_cut (slice_split (λ byte. byte == 32)) line cut) >>= step_behind)
+      ≡ by_cut (is_verb_alone (Some place)) (is_verb_with (Some place)) line cut
+  step_cut line None = by_verb (verb_at line) where
+    by_verb : (found : Option Verb) → is_some (with_words found [] >>= step_behind) ≡ may_end_with (forms_of (Some place) found)
+    by_verb None = refl
+    by_verb (Some verb) =
+        with_known (is_known_in place verb) verb [] ∙ sym (as_left (Some place) (forms_if (is_known_in place verb) (verb_forms verb)))
+  step_cut line (Some cut) = by_verb (verb_at cut.0) where
+    by_verb : (found : Option Verb) → is_some (with_words found (words_of cut.1) >>= step_behind) ≡ is_line_with (forms_of (Some place) found) cut.1
+    by_verb None = refl
+    by_verb (Some verb) =
+        with_known (is_known_in place verb) verb (words_of cut.1) ∙ by_forms cut.1 (forms_if (is_known_in place verb) (verb_forms verb))
+
+  pub step_is : (line : List ℕ) → is_some (lone_step place line) ≡ is_verb_line (Some place) line
+  unfolding lone_step
+  step_is line =
+      ap (λ words. is_some (word verb_at words >>= step_behind)) (slice_split-cut 32 line)
+      ∙ step_cut line (cut_at 32 line)
 
 change_cut : (line : List ℕ) (cut : Cut)
     → is_some (word verb_at (parts_of_cut (slice_split (λ byte. byte == 32)) line cut) >>= (λ first. change_at first.0 first.1))
-    ≡ by_cut (is_verb_alone true) (is_verb_with true) line cut
+    ≡ by_cut (is_verb_alone None) (is_verb_with None) line cut
 change_cut line None = by_verb (verb_at line) where
-  by_verb : (found : Option Verb) → is_some (with_words found [] >>= (λ first. change_at first.0 first.1)) ≡ may_end_with (forms_of true found)
+  by_verb : (found : Option Verb) → is_some (with_words found [] >>= (λ first. change_at first.0 first.1)) ≡ may_end_with (forms_of None found)
   by_verb None = refl
-  by_verb (Some verb) = change_fits verb [] ∙ sym (as_left true (forms_if (changes_policies verb) (verb_forms verb)))
+  by_verb (Some verb) = change_fits verb [] ∙ sym (as_left None (forms_if (changes_policies verb) (verb_forms verb)))
 change_cut line (Some cut) = by_verb (verb_at cut.0) where
-  by_forms : (forms : Option (List Form)) → holds_left (λ forms. fits forms (words_of cut.1)) forms ≡ is_line_with forms cut.1
-  by_forms None = refl
-  by_forms (Some forms) = sym (script_words forms cut.1)
-
-  by_verb : (found : Option Verb) → is_some (with_words found (words_of cut.1) >>= (λ first. change_at first.0 first.1)) ≡ is_line_with (forms_of true found) cut.1
+  by_verb : (found : Option Verb) → is_some (with_words found (words_of cut.1) >>= (λ first. change_at first.0 first.1)) ≡ is_line_with (forms_of None found) cut.1
   by_verb None = refl
-  by_verb (Some verb) = change_fits verb (words_of cut.1) ∙ by_forms (forms_if (changes_policies verb) (verb_forms verb))
+  by_verb (Some verb) = change_fits verb (words_of cut.1) ∙ by_forms cut.1 (forms_if (changes_policies verb) (verb_forms verb))
 
-pub change_is : (line : List ℕ) → is_some (lone_change line) ≡ is_verb_line true line
+pub change_is : (line : List ℕ) → is_some (lone_change line) ≡ is_verb_line None line
 unfolding lone_change
 change_is line =
     ap (λ words. is_some (word verb_at words >>= (λ first. change_at first.0 first.1))) (slice_split-cut 32 line)

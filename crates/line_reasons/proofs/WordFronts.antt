@@ -20,9 +20,9 @@ use Rattle.rule_templates.specs.declared.placeholders.Placeholder.TheVariants as
 use Rattle.rule_templates.specs.declared.lines.Word.TheVariants.{Fixed, OfPackage}
 use Rattle.rule_templates.specs.Placeholder.{placeholder_of, begins_with_tilde}
 use Rattle.rule_templates.specs.TemplateLine.{word_of}
-use Rattle.line_script.specs.WordForms.{name_at, field_at, filter_field_at, depth_at, result_at, uid_at, user_type_at, scope_at, ident_at, author_at, label_at}
+use Rattle.line_script.specs.WordForms.{name_at, field_at, filter_field_at, depth_at, result_at, uid_at, user_type_at, scope_at, package_kind_at, ident_at, author_at, label_at}
 use Rattle.line_reasons.specs.declared.forms.Form.{Form}
-use Rattle.line_reasons.specs.declared.forms.Form.TheVariants.{Bucket, Field, Name, Names, FilterField, Depth, Result, Uid, UserType, Scope, Ident, Author, Label, Request, TemplateLabel, Modes, MoreModes}
+use Rattle.line_reasons.specs.declared.forms.Form.TheVariants.{Bucket, Field, Name, Names, FilterField, Depth, Result, Uid, UserType, Scope, PackageKind, Ident, Author, Label, Request, TemplateLabel, Modes, MoreModes}
 use Rattle.line_reasons.specs.parts.Texts.{begins, begins_one}
 use Rattle.line_reasons.specs.parts.Forms.{is_word, begins_word, begins_name, begins_uid, begins_ident, begins_label, begins_modes, placeholder_texts, begins_template_label}
 use Rattle.line_reasons.proofs.Fronts.{Fronts, WordFronts, Fronts-or, Fronts-same, Fronts-front, is_dark}
@@ -84,8 +84,12 @@ depth_known text = by_case (same_text text (codes "deep")) (same_text text (code
   by_case false true = refl
   by_case false false = refl
 
-type_texts : List (List ℕ)
-type_texts = codes "system" ∷ codes "admin" ∷ codes "normal" ∷ codes "guest" ∷ []
+pub kind_known : (text : List ℕ) → is_some (package_kind_at text) ≡ list_any (same_text text) (codes "hybrid" ∷ codes "plain" ∷ [])
+kind_known text = by_case (same_text text (codes "hybrid")) (same_text text (codes "plain")) where
+  by_case : (hybrid plain : Bool) → is_some (cond hybrid (Some true) (cond plain (Some false) None)) ≡ hybrid || (plain || false)
+  by_case true plain = refl
+  by_case false true = refl
+  by_case false false = refl
 
 pub type_known : (text : List ℕ) → is_some (user_type_at text) ≡ list_any (same_text text) (codes "system" ∷ codes "admin" ∷ codes "normal" ∷ codes "guest" ∷ [])
 type_known text = by_case (same_text text (codes "system")) (same_text text (codes "admin")) (same_text text (codes "normal")) (same_text text (codes "guest")) where
@@ -223,6 +227,13 @@ form_fronts UserType = record {
       (begins_one (codes "system" ∷ codes "admin" ∷ codes "normal" ∷ codes "guest" ∷ [])) type_known
       (Fronts-texts (codes "system" ∷ codes "admin" ∷ codes "normal" ∷ codes "guest" ∷ []));
   dark = λ front is. dark-one (codes "system" ∷ codes "admin" ∷ codes "normal" ∷ codes "guest" ∷ []) front refl is;
+  some = refl;
+  starts = refl;
+}
+form_fronts PackageKind = record {
+  parts = Fronts-same (λ text. is_some (package_kind_at text)) (λ text. list_any (same_text text) (codes "hybrid" ∷ codes "plain" ∷ [])) (begins_one (codes "hybrid" ∷ codes "plain" ∷ [])) kind_known
+      (Fronts-texts (codes "hybrid" ∷ codes "plain" ∷ []));
+  dark = λ front is. dark-one (codes "hybrid" ∷ codes "plain" ∷ []) front refl is;
   some = refl;
   starts = refl;
 }

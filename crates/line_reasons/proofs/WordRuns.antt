@@ -5,7 +5,7 @@ use Rattle.std.specs.List.{list_all}
 use Rattle.std.proofs.lemmas.Bool.{or_cases, or_right, and_parts, true_from_ne_false, ltb-true, ne_eqb}
 use Rattle.std.proofs.lemmas.List.Folds.{list_all-append}
 use Rattle.line_reasons.specs.declared.forms.Form.{Form}
-use Rattle.line_reasons.specs.declared.forms.Form.TheVariants.{Bucket, Field, Name, Names, FilterField, Depth, Result, Uid, UserType, Scope, Ident, Author, Label, Request, TemplateLabel, Modes, MoreModes}
+use Rattle.line_reasons.specs.declared.forms.Form.TheVariants.{Bucket, Field, Name, Names, FilterField, Depth, Result, Uid, UserType, Scope, PackageKind, Ident, Author, Label, Request, TemplateLabel, Modes, MoreModes}
 use Rattle.line_reasons.specs.parts.Forms.{is_word, may_lack, repeats}
 use Rattle.line_reasons.specs.parts.Runs.{parts_words, is_gap, behind_form, behind_word, behind_part, Stand, stand, with_byte, run, may_end_with, ends_at, begins_at, goes_on_at, holds_at, is_line_of, begins_line_of}
 use Rattle.line_reasons.proofs.Fronts.{Fronts, is_dark}
@@ -24,6 +24,7 @@ once Result is = refl
 once Uid is = refl
 once UserType is = refl
 once Scope is = refl
+once PackageKind is = refl
 once Ident is = refl
 once Author is = refl
 once Label is = refl

@@ -5,7 +5,7 @@ ghost use Rattle.std.specs.Result.{result_ok};
 ghost use Rattle.smack_rules.specs.Rule.{line_rule};
 ghost use Rattle.line_script.specs.Block.{Block};
 ghost use Rattle.line_script.specs.Spots.{spot_of};
-ghost use Rattle.line_script.specs.Grammar.{step_at};
+ghost use Rattle.line_script.specs.Grammar.{any_length_step_at};
 ghost use Rattle.line_reasons.specs.FirstFault.{Explains};
 ghost use Rattle.line_reasons.specs.parts.Places.{Finds};
 
@@ -33,10 +33,11 @@ impl fmt::Display for LineFault {
     }
 }
 
-/// Why a line of a script is outside the grammar, where it stands: the first fault. `None` exactly where it is within.
+/// Why a line of a script is outside the grammar, where it stands: the first fault. `None` exactly where it is within. The
+/// limit on a line's length is left to who cuts the lines: a place is told as if a line may be longer.
 /// Fails only for lack of memory, for the bytes that a reason shows.
 pub fn script_fault(alloc: Global, spot: Spot, line: &[u8]) -> Result<Option<LineFault>, AllocError>
-    ensures { (block : Block) → spot_of block ≡ Some spot → Explains (step_at block) line.now result }
+    ensures { (block : Block) → spot_of block ≡ Some spot → Explains (any_length_step_at block) line.now result }
 {
     fault_at(alloc, Ground::of(spot), line)
 }

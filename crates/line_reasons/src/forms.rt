@@ -22,6 +22,8 @@ pub(crate) enum Form {
     UserType,
     /// `*` or the number of a user.
     Scope,
+    /// `hybrid` or `plain`.
+    PackageKind,
     Ident,
     /// `-` or the name of an author.
     Author,

@@ -10,12 +10,13 @@ ghost use Rattle.line_reasons.specs.parts.Grounds as grounds;
 use crate::forms::Form;
 use crate::stands::{begins_line_of, is_line_of, may_end};
 use crate::word_tests::{begins, cut_at};
-use line_script::{Spot, VERBS, Verb};
+use line_script::{Place, Spot, VERBS, Verb};
 
 /// What decides which lines are known.
 #[derive(Clone, Copy, Debug, PartialEq, Eq)]
 pub(crate) enum Ground {
-    Outside,
+    /// Outside a block, in a script for this place.
+    Outside(Place),
     Batch,
     Template { is_full: bool },
     /// In a text of rules.
@@ -37,7 +38,7 @@ impl Ground {
         ensures { result ≡ grounds.ground_of spot }
     {
         match spot {
-            Spot::Outside => Ground::Outside,
+            Spot::Outside(place) => Ground::Outside(place),
             Spot::Batch => Ground::Batch,
             Spot::Template { is_full } => Ground::Template { is_full },
         }
@@ -48,7 +49,7 @@ impl Ground {
         ensures { result ≡ grounds.is_line self line.now }
     {
         match self {
-            Ground::Outside => is_line_outside(line),
+            Ground::Outside(place) => is_line_outside(place, line),
             Ground::Batch => is_line_of_batch(line),
             Ground::Template { is_full } => is_line_of_template(is_full, line),
             Ground::Rules => is_blank_line(line) || is_line_of(true, &RULE_FORMS, line),
@@ -60,7 +61,7 @@ impl Ground {
         ensures { result ≡ grounds.begins_line self front.now }
     {
         match self {
-            Ground::Outside => begins_line_outside(front),
+            Ground::Outside(place) => begins_line_outside(place, front),
             Ground::Batch => begins_line_of_batch(front),
             Ground::Template { is_full } => begins_line_of_template(is_full, front),
             Ground::Rules => begins_line_of(true, &RULE_FORMS, front),
@@ -68,22 +69,22 @@ impl Ground {
     }
 }
 
-fn is_line_outside(line: &[u8]) -> bool
-    ensures { result ≡ grounds.is_line Ground.Outside line.now }
+fn is_line_outside(place: Place, line: &[u8]) -> bool
+    ensures { result ≡ grounds.is_line (Ground.Outside place) line.now }
 {
     if is_skipped(line) || line == b"batch".as_slice() || line == b"template".as_slice() {
         return true;
     }
-    is_verb_line(false, line)
+    is_verb_line(Some(place), line)
 }
 
-fn begins_line_outside(front: &[u8]) -> bool
-    ensures { result ≡ grounds.begins_line Ground.Outside front.now }
+fn begins_line_outside(place: Place, front: &[u8]) -> bool
+    ensures { result ≡ grounds.begins_line (Ground.Outside place) front.now }
 {
     if is_skipped(front) || begins(front, b"batch") || begins(front, b"template") {
         return true;
     }
-    begins_verb_line(false, front)
+    begins_verb_line(Some(place), front)
 }
 
 fn is_line_of_batch(line: &[u8]) -> bool
@@ -92,7 +93,7 @@ fn is_line_of_batch(line: &[u8]) -> bool
     if is_skipped(line) || line == b"end".as_slice() {
         return true;
     }
-    is_verb_line(true, line)
+    is_verb_line(None, line)
 }
 
 fn begins_line_of_batch(front: &[u8]) -> bool
@@ -101,7 +102,7 @@ fn begins_line_of_batch(front: &[u8]) -> bool
     if is_skipped(front) || begins(front, b"end") {
         return true;
     }
-    begins_verb_line(true, front)
+    begins_verb_line(None, front)
 }
 
 fn is_line_of_template(is_full: bool, line: &[u8]) -> bool
@@ -142,68 +143,68 @@ fn is_blank(byte: u8) -> bool
 
 // ---- lines with a first word of their own
 
-fn is_verb_line(in_batch: bool, line: &[u8]) -> bool
-    ensures { result ≡ grounds.is_verb_line in_batch line.now }
+fn is_verb_line(outside: Option<Place>, line: &[u8]) -> bool
+    ensures { result ≡ grounds.is_verb_line outside line.now }
 {
     match cut_at(line, b' ') {
-        Some((first, rest)) => match forms_of(in_batch, first) {
+        Some((first, rest)) => match forms_of(outside, first) {
             Some(forms) => is_line_of(false, forms, rest),
             None => false,
         },
-        None => match forms_of(in_batch, line) {
+        None => match forms_of(outside, line) {
             Some(forms) => may_end(forms),
             None => false,
         },
     }
 }
 
-fn begins_verb_line(in_batch: bool, front: &[u8]) -> bool
-    ensures { result ≡ grounds.begins_verb_line in_batch front.now }
+fn begins_verb_line(outside: Option<Place>, front: &[u8]) -> bool
+    ensures { result ≡ grounds.begins_verb_line outside front.now }
 {
     match cut_at(front, b' ') {
-        Some((first, rest)) => match forms_of(in_batch, first) {
+        Some((first, rest)) => match forms_of(outside, first) {
             Some(forms) => begins_line_of(false, forms, rest),
             None => false,
         },
-        None => begins_verb(in_batch, front),
+        None => begins_verb(outside, front),
     }
 }
 
-fn begins_verb(in_batch: bool, front: &[u8]) -> bool
-    ensures { result ≡ grounds.begins_verb in_batch front.now }
+fn begins_verb(outside: Option<Place>, front: &[u8]) -> bool
+    ensures { result ≡ grounds.begins_verb outside front.now }
 {
-    VERBS.iter().any(|verb| can_be(in_batch, *verb, front))
+    VERBS.iter().any(|verb| can_be(outside, *verb, front))
 }
 
 /// Whether a first word that is known here can begin so.
-fn can_be(in_batch: bool, verb: Verb, front: &[u8]) -> bool
-    ensures { result ≡ grounds.can_be in_batch front.now verb }
+fn can_be(outside: Option<Place>, verb: Verb, front: &[u8]) -> bool
+    ensures { result ≡ grounds.can_be outside front.now verb }
 {
-    is_verb_in(in_batch, verb) && begins(front, verb.text())
+    is_verb_in(outside, verb) && begins(front, verb.text())
 }
 
 /// The forms behind a first word, where it is known here.
-pub(crate) fn forms_of(in_batch: bool, first: &[u8]) -> Option<&'static [Form]>
-    ensures { MatchOption result (grounds.forms_of in_batch (verb_at first.now) ≡ None)
-        (λ forms. grounds.forms_of in_batch (verb_at first.now) ≡ Some forms.now) }
+pub(crate) fn forms_of(outside: Option<Place>, first: &[u8]) -> Option<&'static [Form]>
+    ensures { MatchOption result (grounds.forms_of outside (verb_at first.now) ≡ None)
+        (λ forms. grounds.forms_of outside (verb_at first.now) ≡ Some forms.now) }
 {
     let Some(verb) = Verb::of_word(first) else {
         return None;
     };
-    if is_verb_in(in_batch, verb) {
+    if is_verb_in(outside, verb) {
         Some(verb_forms(verb))
     } else {
         None
     }
 }
 
-fn is_verb_in(in_batch: bool, verb: Verb) -> bool
-    ensures { result ≡ grounds.is_verb_in in_batch verb }
+/// Whether a first word is known outside a block in a script for a place, or within a batch, where no place is given.
+fn is_verb_in(outside: Option<Place>, verb: Verb) -> bool
+    ensures { result ≡ grounds.is_verb_in outside verb }
 {
-    if in_batch {
-        changes_policies(verb)
-    } else {
-        true
+    match outside {
+        Some(place) => place.knows(verb),
+        None => changes_policies(verb),
     }
 }
 
@@ -237,16 +238,17 @@ fn verb_forms(verb: Verb) -> &'static [Form]
             Form::FilterField,
             Form::FilterField,
         ],
-        Verb::Layout | Verb::Status => &[],
+        Verb::Layout | Verb::Status | Verb::Stop => &[],
         Verb::User => &[Form::Uid, Form::UserType],
         Verb::NoUser => &[Form::Uid],
-        Verb::Install => &[
+        Verb::Install | Verb::Hybrid => &[
             Form::Ident,
             Form::Author,
             Form::Ident,
             Form::Scope,
             Form::Names,
         ],
+        Verb::Convert => &[Form::Ident, Form::PackageKind],
         Verb::Remove => &[Form::Ident, Form::Scope],
         Verb::Check => &[Form::Name, Form::Name, Form::Name],
         Verb::From => &[

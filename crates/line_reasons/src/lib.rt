@@ -6,6 +6,7 @@
 
 mod byte_runs;
 mod faults;
+mod fixed_words;
 mod forms;
 mod grounds;
 mod places;

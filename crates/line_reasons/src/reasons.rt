@@ -22,6 +22,10 @@ pub enum Reason {
     LongFirstWord(String),
     NotInBatch,
     NoBlock,
+    /// The line is known in a script for a service alone.
+    OfAdmin,
+    /// The line is known in no script for a service.
+    OfLocal,
     TemplateFull,
     EndNotAlone,
     /// The form of the line.
@@ -41,6 +45,7 @@ pub enum Reason {
     BadUserType,
     BadUser,
     BadScope,
+    BadPackageKind,
     BadModes,
     BadRequest,
     BadPlaceholder,
@@ -84,6 +89,8 @@ impl Reason {
             Reason::Comment => "neither a rule nor a comment: here `#` begins a label",
             Reason::NotInBatch => "within a batch stand `set` and `unset` lines, and `end`",
             Reason::NoBlock => "`end` where no block is open",
+            Reason::OfAdmin => "a line of scripts for a service, which `admin` sends",
+            Reason::OfLocal => "a line of scripts for the program's own folder, which `local` runs",
             Reason::TemplateFull => "a template has at most 64 lines: `end` must stand",
             Reason::EndNotAlone => "`end` stands alone on its line, without a space or a tab",
             Reason::HashAlone => "`#` alone is no name: `*` or a name must stand",
@@ -97,6 +104,7 @@ impl Reason {
                 "no user: a number from 0 to 4294967295 without a sign or leading zeros",
             Reason::BadScope =>
                 "no scope: `*`, or the number of a user from 0 to 4294967295 without a sign or leading zeros",
+            Reason::BadPackageKind => "no kind of a package: hybrid or plain",
             Reason::BadModes => "no modes: at most 64 of the letters rwxatlb and of -",
             Reason::BadRequest =>
                 "no modes to ask for: at most 64 of the letters rwxatl and of -, a letter among them",

@@ -49,6 +49,12 @@ fn usage_of_packages(first: &[u8]) -> Option<&'static str> {
     if first == b"install".as_slice() {
         return Some("install PACKAGE AUTHOR APP SCOPE [PRIVILEGE ..]");
     }
+    if first == b"hybrid".as_slice() {
+        return Some("hybrid PACKAGE AUTHOR APP SCOPE [PRIVILEGE ..]");
+    }
+    if first == b"convert".as_slice() {
+        return Some("convert PACKAGE hybrid|plain");
+    }
     if first == b"remove".as_slice() {
         return Some("remove APP SCOPE");
     }
@@ -64,6 +70,9 @@ fn usage_alone(first: &[u8]) -> &'static str {
     }
     if first == b"status".as_slice() {
         return "status";
+    }
+    if first == b"stop".as_slice() {
+        return "stop";
     }
     if first == b"batch".as_slice() {
         return "batch";

@@ -7,12 +7,15 @@ ghost use Rattle.cynara_keys.specs.PolicyResult.{is_agent};
 ghost use Rattle.smack_rules.specs.Modes.{stands_in, is_empty, letters_that, modes_of};
 ghost use Rattle.rule_templates.specs.TemplateLine.{word_of};
 ghost use Rattle.line_script.specs.Numbers.{number_that};
-ghost use Rattle.line_script.specs.WordForms.{bucket_at, name_at, field_at, filter_field_at, depth_at, result_at, uid_at};
-ghost use Rattle.line_script.specs.WordForms.{user_type_at, scope_at, ident_at, author_at, label_at, request_at};
+ghost use Rattle.line_script.specs.WordForms.{bucket_at, name_at, field_at, filter_field_at, result_at, uid_at};
+ghost use Rattle.line_script.specs.WordForms.{scope_at, ident_at, author_at, label_at, request_at};
 ghost use Rattle.line_reasons.specs.parts.Texts.{begins, cut_at, by_cut};
 ghost use Rattle.line_reasons.specs.parts.Forms as forms;
 
 use crate::byte_runs::{is_bucket_run, is_ident_run, is_label_run, is_mode_run, is_visible_run};
+use crate::fixed_words::{
+    begins_depth, begins_package_kind, begins_user_type, is_depth, is_package_kind, is_user_type,
+};
 use crate::forms::Form;
 use line_script::read_number;
 use rule_templates::Placeholder;
@@ -33,6 +36,7 @@ impl Form {
             Form::Uid => is_uid(text),
             Form::UserType => is_user_type(text),
             Form::Scope => is_scope(text),
+            Form::PackageKind => is_package_kind(text),
             Form::Ident => is_ident(text),
             Form::Author => is_author(text),
             Form::Label => is_label(text),
@@ -54,6 +58,7 @@ impl Form {
             Form::Uid => begins_uid(front),
             Form::UserType => begins_user_type(front),
             Form::Scope => begins(front, b"*") || begins_uid(front),
+            Form::PackageKind => begins_package_kind(front),
             Form::Ident => is_ident_run(front),
             Form::Author => begins(front, b"-") || is_ident_run(front),
             Form::Label => is_label_run(front),
@@ -143,42 +148,6 @@ fn begins_bucket(front: &[u8]) -> bool
     ensures { result ≡ forms.begins_bucket front.now }
 {
     front == b".".as_slice() || is_bucket_run(front)
-}
-
-// ---- fixed words
-
-fn is_depth(text: &[u8]) -> bool
-    ensures { result ≡ is_some (depth_at text.now) }
-{
-    if text == b"deep".as_slice() {
-        return true;
-    }
-    text == b"flat".as_slice()
-}
-
-fn begins_depth(front: &[u8]) -> bool
-    ensures { result ≡ forms.begins_word Form.Depth front.now }
-{
-    begins(front, b"deep") || begins(front, b"flat")
-}
-
-#[tactic(auto, using(crate::proofs::WordFronts::type_known))]
-fn is_user_type(text: &[u8]) -> bool
-    ensures { result ≡ is_some (user_type_at text.now) }
-{
-    if text == b"system".as_slice() || text == b"admin".as_slice() {
-        return true;
-    }
-    text == b"normal".as_slice() || text == b"guest".as_slice()
-}
-
-fn begins_user_type(front: &[u8]) -> bool
-    ensures { result ≡ forms.begins_word Form.UserType front.now }
-{
-    begins(front, b"system")
-        || begins(front, b"admin")
-        || begins(front, b"normal")
-        || begins(front, b"guest")
 }
 
 // ---- numbers

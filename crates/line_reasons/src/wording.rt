@@ -10,7 +10,7 @@ use crate::usages::usage_of;
 use crate::word_tests::cut_at;
 use crate::words_wrong::word_reason;
 use desk_ports::shown_bytes;
-use line_script::Verb;
+use line_script::{Place, Verb};
 use std::alloc::{AllocError, Global};
 
 /// The most bytes of a line that a reason shows.
@@ -43,8 +43,8 @@ pub(crate) fn reason_at(
         return Ok(Reason::ByteOrderMark);
     }
     match ground {
-        Ground::Outside => script_reason(alloc, false, line, fault),
-        Ground::Batch => script_reason(alloc, true, line, fault),
+        Ground::Outside(place) => script_reason(alloc, Some(place), line, fault),
+        Ground::Batch => script_reason(alloc, None, line, fault),
         Ground::Template { is_full } => template_reason(alloc, is_full, line, fault),
         Ground::Rules => rule_reason(alloc, line, fault),
     }
@@ -54,7 +54,7 @@ pub(crate) fn reason_at(
 
 fn script_reason(
     alloc: Global,
-    in_batch: bool,
+    outside: Option<Place>,
     line: &[u8],
     fault: Fault,
 ) -> Result<Reason, AllocError> {
@@ -62,8 +62,8 @@ fn script_reason(
         return Ok(reason);
     }
     match cut_at(fault.front, b' ') {
-        None => first_word_reason(alloc, in_batch, line, fault),
-        Some((first, behind)) => match forms_of(in_batch, first) {
+        None => first_word_reason(alloc, outside, line, fault),
+        Some((first, behind)) => match forms_of(outside, first) {
             Some(forms) => {
                 let fault = Fault {
                     front: behind,
@@ -98,27 +98,31 @@ fn blank_reason(fault: Fault) -> Option<Reason> {
 
 fn first_word_reason(
     alloc: Global,
-    in_batch: bool,
+    outside: Option<Place>,
     line: &[u8],
     fault: Fault,
 ) -> Result<Reason, AllocError> {
     let word = first_word_of(line);
-    if is_alone(in_batch, word) {
+    if is_alone(outside, word) {
         return Ok(surplus(usage_of(word), fault.rest));
     }
-    if forms_of(in_batch, word).is_some() {
+    if forms_of(outside, word).is_some() {
         if fault.rest.is_empty() {
             return Ok(Reason::TooFewWords(usage_of(word)));
         }
         return Ok(surplus(usage_of(word), fault.rest));
     }
-    if in_batch && is_known_outside(word) {
+    if outside.is_none() && is_known_outside(word) {
         return Ok(Reason::NotInBatch);
     }
     if word == b"end".as_slice() {
         return Ok(Reason::NoBlock);
     }
-    first_word(alloc, word)
+    match outside {
+        Some(Place::Local) if is_known_outside(word) => Ok(Reason::OfAdmin),
+        Some(Place::Admin) if is_known_outside(word) => Ok(Reason::OfLocal),
+        _ => first_word(alloc, word),
+    }
 }
 
 /// The bytes in front of the first blank or carriage return.
@@ -133,16 +137,19 @@ fn first_word_of(line: &[u8]) -> &[u8] {
 }
 
 /// A word that opens or ends a block here, and is a line by itself.
-fn is_alone(in_batch: bool, word: &[u8]) -> bool {
-    if in_batch {
-        word == b"end".as_slice()
-    } else {
-        word == b"batch".as_slice() || word == b"template".as_slice()
+fn is_alone(outside: Option<Place>, word: &[u8]) -> bool {
+    match outside {
+        Some(_) => opens_block(word),
+        None => word == b"end".as_slice(),
     }
 }
 
+fn opens_block(word: &[u8]) -> bool {
+    word == b"batch".as_slice() || word == b"template".as_slice()
+}
+
 fn is_known_outside(word: &[u8]) -> bool {
-    Verb::of_word(word).is_some() || is_alone(false, word)
+    Verb::of_word(word).is_some() || opens_block(word)
 }
 
 fn first_word(alloc: Global, word: &[u8]) -> Result<Reason, AllocError> {

@@ -36,6 +36,7 @@ pub(crate) fn word_reason(
         Form::Uid => Ok(Reason::BadUser),
         Form::UserType => Ok(Reason::BadUserType),
         Form::Scope => Ok(Reason::BadScope),
+        Form::PackageKind => Ok(Reason::BadPackageKind),
         Form::Ident | Form::Author => {
             text_reason(
                 alloc,

@@ -1,4 +1,3 @@
-pub mod Appends
 pub mod Checks
 pub mod NameWords
 pub mod Numerals

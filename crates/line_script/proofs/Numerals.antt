@@ -1,13 +1,12 @@
 -- Decimal numbers and their spelling.
-use Rattle.std.proofs.Common.{◌≡◌, ℕ, ◌<◌, ◌^◌, zero, suc, Bool, true, false, not, cond, ◌&&◌, nat_le, ◌≢◌, List, [], ◌∷◌, length, get_or, Some, None, decimal, refl, sym, ap, ◌∙◌, arith, rules}
+use Rattle.std.proofs.Common.{◌≡◌, ℕ, ◌<◌, ◌^◌, zero, suc, Bool, true, false, not, cond, ◌&&◌, nat_le, ◌≢◌, List, [], ◌∷◌, length, get_or, Some, None, decimal, refl, sym, ap, arith, rules}
 use Rattle.std.specs.Char.{is_ascii_digit}
 use Rattle.std.specs.List.{list_all}
 use Rattle.std.specs.Str.Parse.{digits_value}
 use Rattle.std.proofs.lemmas.Bool.{ne_eqb, lt-leb}
 use Rattle.std.proofs.lemmas.Str.Parse.{IsNumeralModel, numerals_by_value}
-use Rattle.std.proofs.lemmas.Fmt.{digits_decimal, digits_value-decimal, decimal_nonempty, decimal_digit, first_decimal}
-use Rattle.line_script.specs.Words.{◌>>=◌}
-use Rattle.line_script.specs.Numbers.{is_number, number_of, number_that}
+use Rattle.std.proofs.lemmas.Fmt.{digits_decimal, decimal_nonempty, decimal_digit, first_decimal}
+use Rattle.line_script.specs.Numbers.{is_number}
 
 pub own : IsNumeralModel (λ ds. list_all is_ascii_digit ds ≡ true) (digits_value 10)
 own = numerals_by_value _ (search rules)
@@ -43,16 +42,6 @@ long_decimal (suc n) h long = first_decimal (suc n) (omega arith) h
 pub is_number-decimal : (n : ℕ) → n < 2 ^ 64 → is_number (decimal n) ≡ true
 is_number-decimal n h =
     is_number-from (decimal n) (digits_decimal own n h) (decimal_nonempty n h) (long_decimal n h)
-
--- what a number is written as reads as that number
-pub number_of-decimal : (n : ℕ) → n < 2 ^ 64 → number_of (decimal n) ≡ Some n
-number_of-decimal n h =
-    ap (λ b. cond b (Some (digits_value 10 (decimal n))) None) (is_number-decimal n h) ∙ ap Some (digits_value-decimal own n h)
-
-pub number_that-decimal : (fits : ℕ → Bool) (n : ℕ) → n < 2 ^ 64 → fits n ≡ true → number_that fits (decimal n) ≡ Some n
-number_that-decimal fits n h fit =
-    ap (λ number. number >>= (λ number. cond (fits number) (Some number) None)) (number_of-decimal n h)
-    ∙ ap (λ b. cond b (Some n) None) fit
 
 -- a number of more than 32 bits is none that is read
 pub too_great : (n : ℕ) → (n < 2 ^ 32 → ⊥) → None ≡ cond (nat_le n 4294967295) (Some n) None

@@ -6,7 +6,7 @@ use Rattle.cynara_keys.specs.declared.limits.Counted.TheVariants.{Commits, Users
 use Rattle.desk_state.specs.declared.refusals.Refusal.{Refusal}
 use Rattle.desk_state.specs.declared.refusals.Refusal.TheVariants as refusal
 use Rattle.line_script.specs.declared.answers.LineAnswer.{LineAnswer}
-use Rattle.line_script.specs.declared.answers.LineAnswer.TheVariants.{Accepted, Erased, ByPolicy, ByFallback, Row, Rows, Access, Status, Refused, CommandLineFault, LineFault, Damaged}
+use Rattle.line_script.specs.declared.answers.LineAnswer.TheVariants.{Accepted, Erased, ByPolicy, ByFallback, FromAgent, NotResolved, NoAgent, AgentGone, AgentFull, Row, Rows, Access, Status, Refused, StoreFault, StoreDamaged, AgentQuestion, KindTaken, CommandLineFault, LineFault, Damaged, ReplyFault, FrameTooLong}
 
 -- ---- parts of lines
 
@@ -48,6 +48,10 @@ abbrev pub author_text : Option (List ℕ) → List ℕ
 author_text None = codes "-"
 author_text (Some author) = author
 
+-- whether a package is hybrid
+abbrev pub hybrid_text : Bool → List ℕ
+hybrid_text hybrid = if hybrid then codes "yes" else codes "no"
+
 -- ---- answers to commands
 
 -- a command was accepted
@@ -69,6 +73,7 @@ rule_text (refusal.BadKind kind) = codes "6 bad-kind"
 rule_text (refusal.UnknownUser uid) = codes "7 unknown-user"
 rule_text (refusal.OtherPackage name) = codes "8 other-package"
 rule_text (refusal.OtherAuthor author) = codes "9 other-author"
+rule_text (refusal.OtherHybrid hybrid) = codes "14 other-hybrid"
 rule_text refusal.NotInstalled = codes "10 not-installed"
 rule_text (refusal.Limit counted most) = codes "11 limit"
 rule_text (refusal.Cycle name) = codes "12 cycle"
@@ -82,6 +87,7 @@ subject_text (refusal.BadKind kind) = codes " " ++ decimal kind.0
 subject_text (refusal.UnknownUser uid) = codes " " ++ decimal uid
 subject_text (refusal.OtherPackage name) = codes " " ++ name
 subject_text (refusal.OtherAuthor author) = codes " " ++ author_text author
+subject_text (refusal.OtherHybrid hybrid) = codes " " ++ hybrid_text hybrid
 subject_text (refusal.Limit counted most) = codes " " ++ (counted_text counted ++ (codes " " ++ decimal most))
 subject_text (refusal.Cycle name) = codes " " ++ bucket_text name
 subject_text other = []
@@ -101,6 +107,28 @@ by_policy_text commit name result client user privilege =
 unfoldable pub by_fallback_text : ℕ → List ℕ → Ruling → List ℕ
 by_fallback_text commit name fallback = verdict_text commit name fallback ++ codes " default\n"
 
+-- an agent's answer to the question with this number
+unfoldable pub from_agent_text : ℕ → Bool → ℕ → ℕ → List ℕ
+from_agent_text commit allowed kind number =
+    decision_text allowed ++ (codes " " ++ (decimal commit ++ (codes " agent " ++ (decimal kind ++ (codes " " ++ (decimal number ++ codes "\n"))))))
+
+-- a verdict that names an agent's kind, where none was asked
+unfoldable pub not_resolved_text : ℕ → ℕ → List ℕ
+not_resolved_text commit kind = codes "not-resolved " ++ (decimal commit ++ (codes " " ++ (decimal kind ++ codes "\n")))
+
+-- no agent of this kind is there
+unfoldable pub no_agent_text : ℕ → ℕ → List ℕ
+no_agent_text commit kind = codes "no-agent " ++ (decimal commit ++ (codes " " ++ (decimal kind ++ codes "\n")))
+
+-- the agent left that was asked the question with this number
+unfoldable pub agent_gone_text : ℕ → ℕ → List ℕ
+agent_gone_text commit number = codes "agent-gone " ++ (decimal commit ++ (codes " " ++ (decimal number ++ codes "\n")))
+
+-- an agent of this kind is asked no more, since there are so many questions
+unfoldable pub agent_full_text : ℕ → ℕ → ℕ → List ℕ
+agent_full_text commit kind most =
+    codes "agent-full " ++ (decimal commit ++ (codes " " ++ (decimal kind ++ (codes " " ++ (decimal most ++ codes "\n")))))
+
 -- one policy of a list
 unfoldable pub row_text : List ℕ → List ℕ → List ℕ → Ruling → List ℕ
 row_text client user privilege result =
@@ -118,6 +146,25 @@ access_text allowed rule = codes "access " ++ (decision_text allowed ++ (codes "
 unfoldable pub status_text : ℕ → List ℕ
 status_text commit = codes "commit " ++ (decimal commit ++ codes "\n")
 
+-- ---- of a service
+
+-- the store failed while the service kept a command
+unfoldable pub store_fault_text : List ℕ
+store_fault_text = codes "store-fault\n"
+
+-- a file of the store of the service is no text of a policy state
+unfoldable pub store_damaged_text : List ℕ → ℕ → List ℕ
+store_damaged_text file line = codes "store-damaged " ++ (file ++ (codes " " ++ (decimal line ++ codes "\n")))
+
+-- what an agent is asked, and the result that asks it
+unfoldable pub question_text : ℕ → List ℕ → List ℕ → List ℕ → Ruling → List ℕ
+question_text number client user privilege result =
+    codes "question " ++ (decimal number ++ (codes " " ++ (key_text client user privilege ++ (codes " " ++ (result_text result ++ codes "\n")))))
+
+-- another agent of this kind is there
+unfoldable pub taken_text : ℕ → List ℕ
+taken_text kind = codes "taken " ++ (decimal kind ++ codes "\n")
+
 -- ---- last lines
 
 unfoldable pub command_line_text : List ℕ
@@ -131,6 +178,14 @@ line_fault_text line = codes "syntax " ++ (decimal line ++ codes "\n")
 unfoldable pub damaged_text : List ℕ → ℕ → List ℕ
 damaged_text file line = codes "damaged " ++ (file ++ (codes " " ++ (decimal line ++ codes "\n")))
 
+-- the bytes of a peer are no reply
+unfoldable pub reply_fault_text : List ℕ
+reply_fault_text = codes "fault reply\n"
+
+-- a command would be a frame of this length
+unfoldable pub too_long_text : ℕ → List ℕ
+too_long_text length = codes "fault too-long " ++ (decimal length ++ codes "\n")
+
 -- ---- the text of each answer
 
 abbrev pub ruling : ℕ → List ℕ → Ruling
@@ -142,12 +197,24 @@ answer_text (Erased commit count) = erased_text commit count
 answer_text (ByPolicy commit name kind metadata client user privilege) =
     by_policy_text commit name.now (ruling kind.0 metadata.now) client.now user.now privilege.now
 answer_text (ByFallback commit name kind metadata) = by_fallback_text commit name.now (ruling kind.0 metadata.now)
+answer_text (FromAgent commit allowed kind number) = from_agent_text commit allowed kind.0 number
+answer_text (NotResolved commit kind) = not_resolved_text commit kind.0
+answer_text (NoAgent commit kind) = no_agent_text commit kind.0
+answer_text (AgentGone commit number) = agent_gone_text commit number
+answer_text (AgentFull commit kind most) = agent_full_text commit kind.0 most
 answer_text (Row client user privilege kind metadata) =
     row_text client.now user.now privilege.now (ruling kind.0 metadata.now)
 answer_text (Rows count) = rows_text count
 answer_text (Access allowed rule) = access_text allowed rule
 answer_text (Status commit) = status_text commit
 answer_text (Refused broken) = refusal_text broken.refusal.now
+answer_text StoreFault = store_fault_text
+answer_text (StoreDamaged file line) = store_damaged_text file.now line
+answer_text (AgentQuestion number client user privilege kind metadata) =
+    question_text number client.now user.now privilege.now (ruling kind.0 metadata.now)
+answer_text (KindTaken kind) = taken_text kind.0
 answer_text CommandLineFault = command_line_text
 answer_text (LineFault line) = line_fault_text line
 answer_text (Damaged file line) = damaged_text file.now line
+answer_text ReplyFault = reply_fault_text
+answer_text (FrameTooLong length) = too_long_text length

@@ -1,5 +1,5 @@
 -- The lines of a script, as one function from the place in the script and the bytes of a line to its step.
-use Rattle.std.specs.Prelude.{ℕ, Bool, true, ◌==◌, if◌then◌else◌, List, [], ◌∷◌, ◌++◌, Option, Some, None, option_map, codes}
+use Rattle.std.specs.Prelude.{ℕ, Bool, true, false, nat_le, ◌==◌, if◌then◌else◌, List, [], ◌∷◌, ◌++◌, length, Option, Some, None, option_map, codes}
 use Rattle.std.specs.List.{list_all}
 use Rattle.std.specs.Result.{result_ok}
 use Rattle.cynara_keys.specs.Text.{same_text, text_cmp}
@@ -14,9 +14,10 @@ use Rattle.rule_templates.specs.Template.{with_one_more}
 use Rattle.rule_templates.specs.declared.lines.TemplateLine.{TemplateLine}
 use Rattle.desk_state.specs.declared.commands.Command.TheVariants as command
 use Rattle.line_script.specs.Words.{words_of, word, end_of, ◌>>=◌}
-use Rattle.line_script.specs.WordForms.{bucket_at, name_at, field_at, filter_field_at, depth_at, result_at, uid_at, user_type_at, scope_at, ident_at, author_at, label_at, request_at}
-use Rattle.line_script.specs.Verbs.{verb_at}
+use Rattle.line_script.specs.WordForms.{bucket_at, name_at, field_at, filter_field_at, depth_at, result_at, uid_at, user_type_at, scope_at, package_kind_at, ident_at, author_at, label_at, request_at}
+use Rattle.line_script.specs.Verbs.{verb_at, is_known_in}
 use Rattle.line_script.specs.Block.{Block, outside, batch, template, failed}
+use Rattle.line_script.specs.declared.places.Place.{Place}
 use Rattle.line_script.specs.declared.verbs.Verb.{Verb}
 use Rattle.line_script.specs.declared.verbs.Verb.TheVariants as verb
 use Rattle.line_script.specs.declared.steps.Step.{Step}
@@ -115,9 +116,10 @@ nouser_at words = do
   ended ← end_of uid.1
   Some (step.Command (command.UserRemove uid.0))
 
--- `install PACKAGE AUTHOR APP SCOPE` and any number of privileges, whose order and repeats say nothing
-unfoldable pub install_at : List (List ℕ) → Option Step
-install_at words = do
+-- `install PACKAGE AUTHOR APP SCOPE` and any number of privileges, whose order and repeats say nothing. Behind `hybrid` the
+-- same words install into a hybrid package.
+unfoldable pub install_at : Bool → List (List ℕ) → Option Step
+install_at hybrid words = do
   name ← word ident_at words
   author ← word author_at name.1
   app ← word ident_at author.1
@@ -129,7 +131,16 @@ install_at words = do
     app = app.0;
     scope = scope.0;
     privileges = rising text_cmp privileges;
+    hybrid = hybrid;
   })))
+
+-- `convert PACKAGE KIND`
+unfoldable pub convert_at : List (List ℕ) → Option Step
+convert_at words = do
+  name ← word ident_at words
+  hybrid ← word package_kind_at name.1
+  ended ← end_of hybrid.1
+  Some (step.Command (command.Convert name.0 hybrid.0))
 
 -- `remove APP SCOPE`
 unfoldable pub remove_at : List (List ℕ) → Option Step
@@ -178,6 +189,12 @@ status_at words = do
   ended ← end_of words
   Some step.Status
 
+-- `stop`
+unfoldable pub stop_at : List (List ℕ) → Option Step
+stop_at words = do
+  ended ← end_of words
+  Some step.Stop
+
 -- ---- the lines that a first word opens
 
 -- lines that are one command outside a block, and one of several changes within a batch
@@ -199,13 +216,16 @@ line_at verb.Erase words = erase_at words
 line_at verb.Layout words = layout_at words
 line_at verb.User words = user_at words
 line_at verb.NoUser words = nouser_at words
-line_at verb.Install words = install_at words
+line_at verb.Install words = install_at false words
+line_at verb.Hybrid words = install_at true words
+line_at verb.Convert words = convert_at words
 line_at verb.Remove words = remove_at words
 line_at verb.List words = list_at words
 line_at verb.Check words = check_at words
 line_at verb.From words = from_at words
 line_at verb.Access words = access_at words
 line_at verb.Status words = status_at words
+line_at verb.Stop words = stop_at words
 
 -- the change that a line is
 unfoldable pub lone_change : List ℕ → Option Change
@@ -213,11 +233,11 @@ lone_change line = do
   first ← word verb_at (words_of line)
   change_at first.0 first.1
 
--- the step of a line that stands alone
-unfoldable pub lone_step : List ℕ → Option Step
-lone_step line = do
+-- the step of a line that stands alone, if its first word is known in a script for this place
+unfoldable pub lone_step : Place → List ℕ → Option Step
+lone_step place line = do
   first ← word verb_at (words_of line)
-  line_at first.0 first.1
+  if is_known_in place first.0 then line_at first.0 first.1 else None
 
 -- ---- a script, line by line
 
@@ -227,29 +247,34 @@ is_skipped [] = true
 is_skipped (byte ∷ bytes) = byte == 35
 
 -- a line outside a block
-unfoldable pub outside_at : List ℕ → Option (Block × Step)
-outside_at line =
-    if is_skipped line then Some (outside, step.Nothing)
-    else (if same_text line (codes "batch") then Some (batch [], step.Nothing)
-    else (if same_text line (codes "template") then Some (template [], step.Nothing)
-    else option_map (λ read. (outside, read)) (lone_step line)))
+unfoldable pub outside_at : Place → List ℕ → Option (Block × Step)
+outside_at place line =
+    if is_skipped line then Some (outside place, step.Nothing)
+    else (if same_text line (codes "batch") then Some (batch place [], step.Nothing)
+    else (if same_text line (codes "template") then Some (template place [], step.Nothing)
+    else option_map (λ read. (outside place, read)) (lone_step place line)))
 
 -- a line of a batch behind these changes
-unfoldable pub batch_at : List Change → List ℕ → Option (Block × Step)
-batch_at changes line =
-    if is_skipped line then Some (batch changes, step.Nothing)
-    else (if same_text line (codes "end") then Some (outside, step.Command (command.SetPolicies changes))
-    else option_map (λ change. (batch (changes ++ change ∷ []), step.Nothing)) (lone_change line))
+unfoldable pub batch_at : Place → List Change → List ℕ → Option (Block × Step)
+batch_at place changes line =
+    if is_skipped line then Some (batch place changes, step.Nothing)
+    else (if same_text line (codes "end") then Some (outside place, step.Command (command.SetPolicies changes))
+    else option_map (λ change. (batch place (changes ++ change ∷ []), step.Nothing)) (lone_change line))
 
 -- a line of a template behind these lines
-unfoldable pub template_at : List TemplateLine → List ℕ → Option (Block × Step)
-template_at lines line =
-    if same_text line (codes "end") then Some (outside, step.Command (command.SetTemplate lines))
-    else option_map (λ more. (template more, step.Nothing)) (result_ok (with_one_more lines line))
+unfoldable pub template_at : Place → List TemplateLine → List ℕ → Option (Block × Step)
+template_at place lines line =
+    if same_text line (codes "end") then Some (outside place, step.Command (command.SetTemplate lines))
+    else option_map (λ more. (template place more, step.Nothing)) (result_ok (with_one_more lines line))
 
--- The step of a line and where the script is behind it, or nothing where the line is outside the grammar.
+-- the step of a line of any length, and where the script is behind it
+unfoldable pub any_length_step_at : Block → List ℕ → Option (Block × Step)
+any_length_step_at (outside place) line = outside_at place line
+any_length_step_at (batch place changes) line = batch_at place changes line
+any_length_step_at (template place lines) line = template_at place lines line
+any_length_step_at failed line = None
+
+-- The step of a line and where the script is behind it, or nothing where the line is outside the grammar. A line has at most
+-- 65535 bytes.
 unfoldable pub step_at : Block → List ℕ → Option (Block × Step)
-step_at outside line = outside_at line
-step_at (batch changes) line = batch_at changes line
-step_at (template lines) line = template_at lines line
-step_at failed line = None
+step_at block line = if nat_le (length line) 65535 then any_length_step_at block line else None

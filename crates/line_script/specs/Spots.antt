@@ -7,7 +7,7 @@ use Rattle.line_script.specs.declared.spots.Spot.TheVariants.{Outside, Batch, Te
 
 -- None behind a line that was not read.
 abbrev pub spot_of : Block → Option Spot
-spot_of outside = Some Outside
-spot_of (batch changes) = Some Batch
-spot_of (template lines) = Some (Template (is_full lines))
+spot_of (outside place) = Some (Outside place)
+spot_of (batch place changes) = Some Batch
+spot_of (template place lines) = Some (Template (is_full lines))
 spot_of failed = None

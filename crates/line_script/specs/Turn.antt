@@ -16,9 +16,9 @@ Turns reading (Err (Memory error)) new = new ≡ failed
 
 -- within a block
 abbrev pub is_in_block : Block → Bool
-is_in_block outside = false
-is_in_block (batch changes) = true
-is_in_block (template lines) = true
+is_in_block (outside place) = false
+is_in_block (batch place changes) = true
+is_in_block (template place lines) = true
 is_in_block failed = false
 
 -- a decision is asked for only where the modes are a request

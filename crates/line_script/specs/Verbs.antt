@@ -1,8 +1,10 @@
 -- The first words of lines.
-use Rattle.std.specs.Prelude.{ℕ, List, [], ◌∷◌, Option, find, codes}
+use Rattle.std.specs.Prelude.{ℕ, Bool, true, false, List, [], ◌∷◌, Option, find, codes}
 use Rattle.cynara_keys.specs.Text.{same_text}
 use Rattle.line_script.specs.declared.verbs.Verb.{Verb}
-use Rattle.line_script.specs.declared.verbs.Verb.TheVariants.{Set, Check, Unset, Bucket, Drop, Erase, List as ListRows, From, Layout, User, NoUser, Install, Remove, Access, Status}
+use Rattle.line_script.specs.declared.verbs.Verb.TheVariants.{Set, Check, Unset, Bucket, Drop, Erase, List as ListRows, From, Layout, User, NoUser, Install, Hybrid, Convert, Remove, Access, Status, Stop}
+use Rattle.line_script.specs.declared.places.Place.{Place}
+use Rattle.line_script.specs.declared.places.Place.TheVariants.{Local, Admin}
 
 -- the word of each
 abbrev pub verb_text : Verb → List ℕ
@@ -18,14 +20,25 @@ verb_text Layout = codes "layout"
 verb_text User = codes "user"
 verb_text NoUser = codes "nouser"
 verb_text Install = codes "install"
+verb_text Hybrid = codes "hybrid"
+verb_text Convert = codes "convert"
 verb_text Remove = codes "remove"
 verb_text Access = codes "access"
 verb_text Status = codes "status"
+verb_text Stop = codes "stop"
 
 abbrev pub verbs : List Verb
 verbs =
-    Set ∷ Check ∷ Unset ∷ Bucket ∷ Drop ∷ Erase ∷ ListRows ∷ From ∷ Layout ∷ User ∷ NoUser ∷ Install ∷ Remove ∷ Access ∷ Status ∷ []
+    Set ∷ Check ∷ Unset ∷ Bucket ∷ Drop ∷ Erase ∷ ListRows ∷ From ∷ Layout ∷ User ∷ NoUser ∷ Install ∷ Hybrid ∷ Convert ∷ Remove ∷ Access ∷ Status ∷ Stop ∷ []
 
 -- what the first word of a line says
 unfoldable pub verb_at : List ℕ → Option Verb
 verb_at text = find (λ verb. same_text text (verb_text verb)) verbs
+
+-- Whether a line with this first word is known in a script for this place.
+abbrev pub is_known_in : Place → Verb → Bool
+is_known_in Local Stop = false
+is_known_in Local verb = true
+is_known_in Admin Access = false
+is_known_in Admin Status = false
+is_known_in Admin verb = true

@@ -100,6 +100,11 @@ user_type_at text = find (λ kind. same_text text (user_type_text kind)) (System
 abbrev pub scope_at : List ℕ → Option Scope
 scope_at text = if same_text text (codes "*") then Some Everyone else option_map One (uid_at text)
 
+-- `hybrid` or `plain`: whether each application of a package has a label of its own
+abbrev pub package_kind_at : List ℕ → Option Bool
+package_kind_at text =
+    if same_text text (codes "hybrid") then Some true else (if same_text text (codes "plain") then Some false else None)
+
 -- the name of a package, an author or an application
 abbrev pub ident_at : List ℕ → Option (List ℕ)
 ident_at text = if is_none (ident_fault text) then Some text else None

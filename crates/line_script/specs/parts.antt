@@ -1,5 +1,5 @@
 pub mod Reading
 pub mod WordsLeft
-pub mod Places
+pub mod Progress
 pub mod Appending
 pub mod Beginnings

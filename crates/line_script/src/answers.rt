@@ -1,5 +1,5 @@
 ghost use Rattle.std.specs.Prelude.{◌≡◌, ◌++◌, OnOk, OnErr};
-ghost use Rattle.line_script.specs.Answers.{answer_text, command_line_text};
+ghost use Rattle.line_script.specs.Answers.{answer_text, command_line_text, reply_fault_text};
 
 use crate::print_answers::append_answer;
 use crate::rules_broken::RuleBroken;
@@ -38,6 +38,35 @@ pub enum LineAnswer<'a> {
         kind: Kind,
         metadata: &'a [u8],
     },
+    /// `allow COMMIT agent KIND NUMBER` or `deny COMMIT agent KIND NUMBER`: what the agent of a kind answered to the question
+    /// with this number.
+    FromAgent {
+        commit: u64,
+        allowed: bool,
+        kind: Kind,
+        number: u32,
+    },
+    /// `not-resolved COMMIT KIND`: the verdict names an agent's kind, and the check asks no agent.
+    NotResolved {
+        commit: u64,
+        kind: Kind,
+    },
+    /// `no-agent COMMIT KIND`: the verdict names an agent's kind, and no agent of it is there.
+    NoAgent {
+        commit: u64,
+        kind: Kind,
+    },
+    /// `agent-gone COMMIT NUMBER`: the agent left that was asked the question with this number.
+    AgentGone {
+        commit: u64,
+        number: u32,
+    },
+    /// `agent-full COMMIT KIND MOST`: there is no room for a question more, or no number for one.
+    AgentFull {
+        commit: u64,
+        kind: Kind,
+        most: u32,
+    },
     /// `row CLIENT USER PRIVILEGE RESULT`: a policy of a list.
     Row {
         client: &'a [u8],
@@ -61,6 +90,27 @@ pub enum LineAnswer<'a> {
     },
     /// `refused NUMBER NAME` with what the rule is about: a command was refused.
     Refused(RuleBroken<'a>),
+    /// `store-fault`: the store of a service failed while a command was kept.
+    StoreFault,
+    /// `store-damaged FILE LINE`: the file's line with this number, or with 0 the whole file, in the store of a service is no
+    /// text of a policy state.
+    StoreDamaged {
+        file: &'a [u8],
+        line: u32,
+    },
+    /// `question NUMBER CLIENT USER PRIVILEGE RESULT`: what an agent is asked, and the result that asks it.
+    AgentQuestion {
+        number: u32,
+        client: &'a [u8],
+        user: &'a [u8],
+        privilege: &'a [u8],
+        kind: Kind,
+        metadata: &'a [u8],
+    },
+    /// `taken KIND`: another agent of this kind is there.
+    KindTaken {
+        kind: Kind,
+    },
     /// `fault command line`: the words of the command line are no command.
     CommandLineFault,
     /// `syntax LINE`: the line with this number, from 1, is outside its grammar.
@@ -72,6 +122,12 @@ pub enum LineAnswer<'a> {
         file: &'a [u8],
         line: u32,
     },
+    /// `fault reply`: the bytes of a peer are no reply.
+    ReplyFault,
+    /// `fault too-long LENGTH`: a command would be a frame of this length, in bytes, which is more than a frame may have.
+    FrameTooLong {
+        length: u64,
+    },
 }
 
 /// The line of words that are no command, for a place where there may be no memory to print it.
@@ -80,6 +136,14 @@ pub fn command_line_fault() -> &'static [u8]
     ensures { result.now ≡ command_line_text }
 {
     b"fault command line\n"
+}
+
+/// The line of bytes that are no reply, for the same.
+#[tactic(auto, unfolding(crate::specs::Answers::reply_fault_text))]
+pub fn reply_fault() -> &'static [u8]
+    ensures { result.now ≡ reply_fault_text }
+{
+    b"fault reply\n"
 }
 
 /// Appends the text of the answer, a line with its newline. Where memory runs out, the bytes stay as they were. Inlined, so

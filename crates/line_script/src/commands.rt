@@ -1,7 +1,7 @@
 //! Lines that are one command, behind their first word.
 
 ghost use Rattle.std.specs.Prelude.{IfOk};
-ghost use Rattle.line_script.specs.Grammar.{set_bucket_at, drop_at, erase_at, layout_at, user_at, nouser_at, remove_at};
+ghost use Rattle.line_script.specs.Grammar.{set_bucket_at, drop_at, erase_at, layout_at, user_at, nouser_at, convert_at, remove_at};
 ghost use Rattle.line_script.specs.Turn.{AsksRequest};
 ghost use Rattle.line_script.specs.parts.Reading.{Gives};
 
@@ -9,7 +9,9 @@ use crate::line_words::Words;
 use crate::phrases::filter_words;
 use crate::results::result_word;
 use crate::steps::{LineRefusal, Step};
-use crate::word_forms::{bucket_word, end_word, ident_word, scope_word, uid_word, user_type_word};
+use crate::word_forms::{
+    bucket_word, end_word, ident_word, package_kind_word, scope_word, uid_word, user_type_word,
+};
 use desk_state::Command;
 use std::alloc::Global;
 
@@ -97,6 +99,24 @@ pub(crate) fn nouser_line<'a>(alloc: Global, words: &mut Words<'a>) -> Result<St
         return Err(LineRefusal::Syntax);
     };
     Step::of_command(alloc, Command::UserRemove { uid })
+}
+
+/// `convert PACKAGE KIND`.
+#[tactic(auto, unfolding(crate::specs::Grammar::convert_at))]
+#[inline(never)]
+pub(crate) fn convert_line<'a>(
+    alloc: Global,
+    words: &mut Words<'a>,
+) -> Result<Step<'a>, LineRefusal>
+    ensures step { Gives result (convert_at words.old) }
+    ensures asked { IfOk result AsksRequest }
+{
+    let package = ident_word(alloc, words)?;
+    let hybrid = package_kind_word(words)?;
+    let Some(()) = end_word(words) else {
+        return Err(LineRefusal::Syntax);
+    };
+    Step::of_command(alloc, Command::Convert { package, hybrid })
 }
 
 /// `remove APP SCOPE`.

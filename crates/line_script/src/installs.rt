@@ -1,4 +1,4 @@
-//! The line that installs, behind its first word.
+//! The lines that install, behind their first word.
 
 ghost use Rattle.std.specs.Prelude.{◌≡◌, Some, MatchResult, IfOk};
 ghost use Rattle.line_script.specs.Grammar.{install_at, names_at};
@@ -14,14 +14,15 @@ use cynara_keys::{Name, NameRefusal};
 use desk_state::Command;
 use std::alloc::{AllocError, Global};
 
-/// `install PACKAGE AUTHOR APP SCOPE` and any number of privileges.
+/// `install PACKAGE AUTHOR APP SCOPE` and any number of privileges, or the same behind `hybrid`, into a hybrid package.
 #[tactic(auto, unfolding(crate::specs::Grammar::install_at))]
 #[inline(never)]
 pub(crate) fn install_line<'a>(
     alloc: Global,
     words: &mut Words<'a>,
+    hybrid: bool,
 ) -> Result<Step<'a>, LineRefusal>
-    ensures step { Gives result (install_at words.old) }
+    ensures step { Gives result (install_at hybrid words.old) }
     ensures asked { IfOk result AsksRequest }
 {
     let package = ident_word(alloc, words)?;
@@ -36,6 +37,7 @@ pub(crate) fn install_line<'a>(
         app,
         scope,
         privileges,
+        hybrid,
     };
     Step::of_command(alloc, Command::Install { install })
 }

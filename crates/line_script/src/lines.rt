@@ -6,16 +6,19 @@ ghost use Rattle.line_script.specs.Verbs.{verb_at};
 ghost use Rattle.line_script.specs.Turn.{AsksRequest};
 ghost use Rattle.line_script.specs.parts.Beginnings.{begins_as_check};
 ghost use Rattle.line_script.specs.parts.Reading.{Gives, GivesWord};
+ghost use Rattle.line_script.specs.declared.places.Place.{Place};
 ghost use Rattle.line_script.specs.declared.steps.Step.TheVariants as step;
 
 use crate::changes::{set_line, set_step, unset_line, unset_step};
 use crate::commands::{
-    bucket_line, drop_line, erase_line, layout_line, nouser_line, remove_line, user_line,
+    bucket_line, convert_line, drop_line, erase_line, layout_line, nouser_line, remove_line,
+    user_line,
 };
 use crate::installs::install_line;
 use crate::line_words::Words;
+use crate::places::Place;
 use crate::questions::{
-    access_line, check_line, from_line, list_line, status_line, whole_question,
+    access_line, check_line, from_line, list_line, status_line, stop_line, whole_question,
 };
 use crate::steps::{LineRefusal, Step};
 use crate::verbs::Verb;
@@ -23,14 +26,21 @@ use bucket_store::Change;
 use cynara_keys::BorrowedQuestion;
 use std::alloc::Global;
 
-/// The step of a line that stands outside a block and is neither blank nor a comment.
+/// The step of a line that stands outside a block, in a script for this place, and is neither blank nor a comment.
 #[tactic(auto, unfolding(crate::specs::Grammar::lone_step))]
-pub(crate) fn lone_step<'a>(alloc: Global, line: &'a [u8]) -> Result<Step<'a>, LineRefusal>
-    ensures step { Gives result (lone_step line.now) }
+pub(crate) fn lone_step<'a>(
+    alloc: Global,
+    place: Place,
+    line: &'a [u8],
+) -> Result<Step<'a>, LineRefusal>
+    ensures step { Gives result (lone_step place line.now) }
     ensures asked { IfOk result AsksRequest }
 {
     let mut words = Words::of(line);
     let verb = verb_word(&mut words)?;
+    if !place.knows(verb) {
+        return Err(LineRefusal::Syntax);
+    }
     line_behind(alloc, verb, &mut words)
 }
 
@@ -48,7 +58,7 @@ pub(crate) fn lone_change(alloc: Global, line: &[u8]) -> Result<Change, LineRefu
 /// wrong.
 #[inline(always)]
 pub(crate) fn lone_check<'a>(line: &'a [u8]) -> Option<BorrowedQuestion<'a>>
-    ensures { IfSome result (λ question. outside_at line.now ≡ Some (outside, step.Check question)) }
+    ensures { IfSome result (λ question. (place : Place) → outside_at place line.now ≡ Some (outside place, step.Check question)) }
 {
     if !begins_as_check(line) {
         return None;
@@ -108,12 +118,15 @@ fn line_behind<'a>(
         Verb::Layout => layout_line(alloc, words),
         Verb::User => user_line(alloc, words),
         Verb::NoUser => nouser_line(alloc, words),
-        Verb::Install => install_line(alloc, words),
+        Verb::Install => install_line(alloc, words, false),
+        Verb::Hybrid => install_line(alloc, words, true),
+        Verb::Convert => convert_line(alloc, words),
         Verb::Remove => remove_line(alloc, words),
         Verb::List => list_line(alloc, words),
         Verb::Check => check_line(words),
         Verb::From => from_line(alloc, words),
         Verb::Access => access_line(alloc, words),
         Verb::Status => status_line(words),
+        Verb::Stop => stop_line(words),
     }
 }

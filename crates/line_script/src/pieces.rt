@@ -1,7 +1,7 @@
 //! The pieces of an answer's text. Where memory runs out in one, those before it stand.
 
 ghost use Rattle.std.specs.Prelude.{◌≡◌, ◌++◌, decimal, OnOk, OnErr};
-ghost use Rattle.line_script.specs.Answers.{bucket_text, result_text, verdict_text, key_text, counted_text, author_text, ruling};
+ghost use Rattle.line_script.specs.Answers.{bucket_text, result_text, verdict_text, key_text, counted_text, decision_text, ruling};
 ghost use Rattle.line_script.specs.parts.Appending.{Lengthens};
 
 use cynara_keys::{Counted, Kind};
@@ -81,6 +81,17 @@ pub(crate) fn append_result(out: &mut Bytes, kind: Kind, metadata: &[u8]) -> Res
             out.append(metadata)
         }
     }
+}
+
+pub(crate) fn append_decision(out: &mut Bytes, allowed: bool) -> Result<(), AllocError>
+    ensures ok { OnOk result (out.new ≡ out.old ++ decision_text allowed) }
+    ensures err { OnErr result (Lengthens out.old out.new) }
+{
+    out.append(if allowed {
+        b"allow".as_slice()
+    } else {
+        b"deny".as_slice()
+    })
 }
 
 pub(crate) fn append_counted(out: &mut Bytes, counted: Counted) -> Result<(), AllocError>

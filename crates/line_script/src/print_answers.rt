@@ -5,8 +5,12 @@ ghost use Rattle.line_script.specs.Answers.{answer_text, accepted_text, erased_t
 ghost use Rattle.line_script.specs.Answers.{row_text, rows_text, access_text, status_text, line_fault_text, damaged_text, ruling};
 ghost use Rattle.line_script.specs.parts.Appending.{Lengthens};
 
-use crate::answers::{LineAnswer, command_line_fault};
-use crate::pieces::{append_key, append_number, append_result, append_verdict};
+use crate::answers::{LineAnswer, command_line_fault, reply_fault};
+use crate::pieces::{append_decision, append_key, append_number, append_result, append_verdict};
+use crate::print_agents::{
+    append_agent_full, append_agent_gone, append_from_agent, append_no_agent, append_not_resolved,
+    append_question, append_store_damaged, append_store_fault, append_taken, append_too_long,
+};
 use crate::print_refusals::append_refusal;
 use cynara_keys::Kind;
 use desk_ports::Bytes;
@@ -40,6 +44,18 @@ pub(crate) fn append_answer(answer: &LineAnswer, out: &mut Bytes) -> Result<(), 
             kind,
             metadata,
         } => append_by_fallback(out, *commit, bucket, *kind, metadata),
+        LineAnswer::FromAgent {
+            commit,
+            allowed,
+            kind,
+            number,
+        } => append_from_agent(out, *commit, *allowed, *kind, *number),
+        LineAnswer::NotResolved { commit, kind } => append_not_resolved(out, *commit, *kind),
+        LineAnswer::NoAgent { commit, kind } => append_no_agent(out, *commit, *kind),
+        LineAnswer::AgentGone { commit, number } => append_agent_gone(out, *commit, *number),
+        LineAnswer::AgentFull { commit, kind, most } => append_agent_full(
+            out, *commit, *kind, *most,
+        ),
         LineAnswer::Row {
             client,
             user,
@@ -51,9 +67,22 @@ pub(crate) fn append_answer(answer: &LineAnswer, out: &mut Bytes) -> Result<(), 
         LineAnswer::Access { allowed, rule } => append_access(out, *allowed, *rule),
         LineAnswer::Status { commit } => append_status(out, *commit),
         LineAnswer::Refused(broken) => append_refusal(out, broken.refusal),
+        LineAnswer::StoreFault => append_store_fault(out),
+        LineAnswer::StoreDamaged { file, line } => append_store_damaged(out, file, *line),
+        LineAnswer::AgentQuestion {
+            number,
+            client,
+            user,
+            privilege,
+            kind,
+            metadata,
+        } => append_question(out, *number, client, user, privilege, *kind, metadata),
+        LineAnswer::KindTaken { kind } => append_taken(out, *kind),
         LineAnswer::CommandLineFault => out.append(command_line_fault()),
         LineAnswer::LineFault { line } => append_line_fault(out, *line),
         LineAnswer::Damaged { file, line } => append_damaged(out, file, *line),
+        LineAnswer::ReplyFault => out.append(reply_fault()),
+        LineAnswer::FrameTooLong { length } => append_too_long(out, *length),
     }
 }
 
@@ -151,11 +180,7 @@ fn append_access(out: &mut Bytes, allowed: bool, rule: u8) -> Result<(), AllocEr
     ensures err { OnErr result (Lengthens out.old out.new) }
 {
     out.append(b"access ")?;
-    out.append(if allowed {
-        b"allow".as_slice()
-    } else {
-        b"deny".as_slice()
-    })?;
+    append_decision(out, allowed)?;
     out.append(b" ")?;
     append_number(out, u64::from(rule))?;
     out.append(b"\n")

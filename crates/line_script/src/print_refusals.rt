@@ -1,7 +1,7 @@
 //! The texts of refusals.
 
 ghost use Rattle.std.specs.Prelude.{◌≡◌, ◌++◌, codes, decimal, OnOk, OnErr};
-ghost use Rattle.line_script.specs.Answers.{bucket_text, counted_text, author_text, rule_text, subject_text, refusal_text};
+ghost use Rattle.line_script.specs.Answers.{bucket_text, counted_text, author_text, hybrid_text, rule_text, subject_text, refusal_text};
 ghost use Rattle.line_script.specs.parts.Appending.{Lengthens};
 
 use crate::pieces::{append_bucket, append_counted, append_number};
@@ -37,6 +37,7 @@ fn rule_text(refusal: &Refusal) -> &'static [u8]
         Refusal::UnknownUser(_) => b"7 unknown-user",
         Refusal::OtherPackage(_) => b"8 other-package",
         Refusal::OtherAuthor(_) => b"9 other-author",
+        Refusal::OtherHybrid(_) => b"14 other-hybrid",
         Refusal::NotInstalled => b"10 not-installed",
         Refusal::Limit(_, _) => b"11 limit",
         Refusal::Cycle(_) => b"12 cycle",
@@ -57,6 +58,7 @@ fn append_subject(out: &mut Bytes, refusal: &Refusal) -> Result<(), AllocError>
         Refusal::UnknownUser(uid) => append_next_number(out, u64::from(*uid)),
         Refusal::OtherPackage(name) => append_next(out, name.as_slice()),
         Refusal::OtherAuthor(author) => append_next(out, author_bytes(author)),
+        Refusal::OtherHybrid(hybrid) => append_next(out, hybrid_text(*hybrid)),
         Refusal::Limit(counted, most) => append_limit(out, *counted, *most),
         Refusal::LayoutThere
         | Refusal::NoLayout
@@ -97,6 +99,13 @@ fn append_limit(out: &mut Bytes, counted: Counted, most: u64) -> Result<(), Allo
     out.append(b" ")?;
     append_counted(out, counted)?;
     append_next_number(out, most)
+}
+
+/// Whether a package is hybrid.
+fn hybrid_text(hybrid: bool) -> &'static [u8]
+    ensures { result.now ≡ hybrid_text hybrid }
+{
+    if hybrid { b"yes" } else { b"no" }
 }
 
 /// The author's name, or `-` for none.

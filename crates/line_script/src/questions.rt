@@ -1,7 +1,7 @@
-//! Lines that ask and change nothing, behind their first word.
+//! Lines that ask and change nothing, and the line that ends a service, behind their first word.
 
 ghost use Rattle.std.specs.Prelude.{◌≡◌, Some, IfOk, MatchResult};
-ghost use Rattle.line_script.specs.Grammar.{list_at, check_at, from_at, access_at, status_at};
+ghost use Rattle.line_script.specs.Grammar.{list_at, check_at, from_at, access_at, status_at, stop_at};
 ghost use Rattle.line_script.specs.Turn.{AsksRequest};
 ghost use Rattle.line_script.specs.parts.Reading.{Gives, Refuses};
 ghost use Rattle.line_script.specs.declared.steps.Step.TheVariants as step;
@@ -105,4 +105,17 @@ pub(crate) fn status_line<'a>(words: &mut Words<'a>) -> Result<Step<'a>, LineRef
         return Err(LineRefusal::Syntax);
     };
     Ok(Step::Status)
+}
+
+/// `stop`.
+#[tactic(auto, unfolding(crate::specs::Grammar::stop_at))]
+#[inline(never)]
+pub(crate) fn stop_line<'a>(words: &mut Words<'a>) -> Result<Step<'a>, LineRefusal>
+    ensures step { Gives result (stop_at words.old) }
+    ensures asked { IfOk result AsksRequest }
+{
+    let Some(()) = end_word(words) else {
+        return Err(LineRefusal::Syntax);
+    };
+    Ok(Step::Stop)
 }

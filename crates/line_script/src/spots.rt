@@ -1,8 +1,10 @@
+use crate::places::Place;
+
 /// Where the next line of a script stands, for what depends on that alone.
 #[derive(Clone, Copy, Debug, PartialEq, Eq)]
 pub enum Spot {
-    /// Outside a block.
-    Outside,
+    /// Outside a block, in a script for this place.
+    Outside(Place),
     /// Within a batch.
     Batch,
     /// Within a template. Where it is full, no further line has room in it.

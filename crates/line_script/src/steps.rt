@@ -37,6 +37,8 @@ pub enum Step<'a> {
     },
     /// The number of the last accepted command.
     Status,
+    /// The end of the service.
+    Stop,
 }
 
 impl<'a> Step<'a> {

@@ -16,13 +16,16 @@ pub enum Verb {
     User,
     NoUser,
     Install,
+    Hybrid,
+    Convert,
     Remove,
     Access,
     Status,
+    Stop,
 }
 
 /// All of them, in that order.
-pub const VERBS: [Verb; 15] = [
+pub const VERBS: [Verb; 18] = [
     Verb::Set,
     Verb::Check,
     Verb::Unset,
@@ -35,9 +38,12 @@ pub const VERBS: [Verb; 15] = [
     Verb::User,
     Verb::NoUser,
     Verb::Install,
+    Verb::Hybrid,
+    Verb::Convert,
     Verb::Remove,
     Verb::Access,
     Verb::Status,
+    Verb::Stop,
 ];
 
 impl Verb {
@@ -58,9 +64,12 @@ impl Verb {
             Verb::User => b"user",
             Verb::NoUser => b"nouser",
             Verb::Install => b"install",
+            Verb::Hybrid => b"hybrid",
+            Verb::Convert => b"convert",
             Verb::Remove => b"remove",
             Verb::Access => b"access",
             Verb::Status => b"status",
+            Verb::Stop => b"stop",
         }
     }
 

@@ -6,7 +6,7 @@ ghost use Rattle.cynara_keys.specs.Field.{field_of, field_fault};
 ghost use Rattle.smack_rules.specs.Modes.{is_request};
 ghost use Rattle.line_script.specs.Words.{word, end_of};
 ghost use Rattle.line_script.specs.WordForms.{bucket_at, name_at, field_at, filter_field_at, depth_at};
-ghost use Rattle.line_script.specs.WordForms.{uid_at, user_type_at, scope_at, ident_at, author_at, label_at, request_at};
+ghost use Rattle.line_script.specs.WordForms.{uid_at, user_type_at, scope_at, package_kind_at, ident_at, author_at, label_at, request_at};
 ghost use Rattle.line_script.specs.parts.Reading.{GivesWord, GivesText};
 
 use crate::line_words::Words;
@@ -151,6 +151,22 @@ pub(crate) fn scope_word(words: &mut Words) -> Result<Scope, LineRefusal>
         Some(uid) => Ok(Scope::One(uid)),
         None => Err(LineRefusal::Syntax),
     }
+}
+
+/// `hybrid` for true or `plain` for false.
+pub(crate) fn package_kind_word(words: &mut Words) -> Result<bool, LineRefusal>
+    ensures { GivesWord result words.new (word package_kind_at words.old) }
+{
+    let Some(text) = words.next() else {
+        return Err(LineRefusal::Syntax);
+    };
+    if text == b"hybrid".as_slice() {
+        return Ok(true);
+    }
+    if text == b"plain".as_slice() {
+        return Ok(false);
+    }
+    Err(LineRefusal::Syntax)
 }
 
 /// The name of a package or an application.

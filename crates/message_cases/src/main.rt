@@ -5,10 +5,14 @@
 //!     show SIDE FRAME             what the message says
 //!     verdict FRAME               what a verdict says
 //!     pieces SIDE BYTES | BYTES   what a feeder answers to each piece
+//!     wants SIDE BYTES            what a feeder answers to pieces of what it wants
+//!     tells SIDE FRAME            the number of the operation, the commit, and whether it is spelled alike from lent parts
+//!     judged COMMIT FRAME         what the reply says that the policy of an administrator's frame decides
 //!     long COUNT FRAME            the frame with the first of its two deletions so many times
 #![tactic(auto)]
 
 mod hearing;
+mod lent;
 mod long_frames;
 mod meanings;
 mod pieces;
@@ -29,6 +33,21 @@ fn in_pieces(alloc: Global, rest: &str) -> Result<String, Failure> {
     pieces::pieces(alloc, heard, rest)
 }
 
+fn wants(alloc: Global, rest: &str) -> Result<String, Failure> {
+    let (heard, rest) = first_side(rest)?;
+    pieces::wanted(alloc, heard, &frame_bytes(alloc, rest)?)
+}
+
+fn tells(alloc: Global, rest: &str) -> Result<String, Failure> {
+    let (heard, rest) = first_side(rest)?;
+    lent::told(alloc, heard, &frame_bytes(alloc, rest)?)
+}
+
+fn judged(alloc: Global, rest: &str) -> Result<String, Failure> {
+    let (commit, rest) = first_number(rest)?;
+    lent::judged(alloc, commit, &frame_bytes(alloc, rest)?)
+}
+
 fn long(alloc: Global, rest: &str) -> Result<String, Failure> {
     let (count, rest) = first_number(rest)?;
     long_frames::long(alloc, count, &frame_bytes(alloc, rest)?)
@@ -44,6 +63,15 @@ fn answer(alloc: Global, line: &str) -> Result<String, Failure> {
     }
     if word == "pieces" {
         return in_pieces(alloc, rest);
+    }
+    if word == "wants" {
+        return wants(alloc, rest);
+    }
+    if word == "tells" {
+        return tells(alloc, rest);
+    }
+    if word == "judged" {
+        return judged(alloc, rest);
     }
     if word == "long" {
         return long(alloc, rest);

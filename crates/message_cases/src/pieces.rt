@@ -49,3 +49,37 @@ pub fn pieces(alloc: Global, heard: Heard, words: &str) -> Result<String, Failur
     text.push_str(waiting_text(alloc, &mut feeder)?.as_str())?;
     Ok(text)
 }
+
+// Feeds no more than is wanted, and gives what is left.
+fn feed_wanted<'a>(
+    alloc: Global,
+    feeder: &mut Feeder,
+    bytes: &'a [u8],
+    text: &mut String,
+) -> Result<&'a [u8], Failure> {
+    let count = feeder.wanted().min(bytes.len());
+    let (piece, left) = bytes.split_at(count);
+    let answer = short_text(alloc, feeder.feed(piece).err())?;
+    text.push_str(format!(in alloc; "{count} {answer}")?.as_str())?;
+    if let Some(framed) = feeder.take() {
+        text.push_str(format!(in alloc; ", message {}", framed.sequence)?.as_str())?;
+    }
+    text.push_str("; ")?;
+    Ok(left)
+}
+
+/// The bytes in pieces of what is wanted, at most 16 of them: how many bytes each has, what it is answered, and the
+/// message that is heard with it. At last how many more are wanted.
+pub fn wanted(alloc: Global, heard: Heard, bytes: &[u8]) -> Result<String, Failure> {
+    let mut feeder = Feeder::new(alloc, heard);
+    let mut text = String::new(alloc);
+    let mut rest = bytes;
+    for _ in 0..16 {
+        if rest.is_empty() {
+            break;
+        }
+        rest = feed_wanted(alloc, &mut feeder, rest, &mut text)?;
+    }
+    text.push_str(format!(in alloc; "{} wanted", feeder.wanted())?.as_str())?;
+    Ok(text)
+}

@@ -1,5 +1,6 @@
 //! Rules: `rules TEXT` reads a text of rules, as a table and rule by rule. `decide SUBJECT OBJECT MODES` decides a request
-//! by the table of the text, by one of the rules, by one pass over the text and by the plain function, which must agree.
+//! by the table of the text, by one of the rules, by one of their first half with the others behind it, by one pass over the
+//! text and by the plain function, which must agree.
 //! `modes WORD` reads a mode word, and `rule LINE` a rule, and print them.
 
 use crate::texts::says;
@@ -11,13 +12,14 @@ use std::alloc::Global;
 /// The most bytes of a text of rules.
 const MOST_BYTES: usize = 16_777_216;
 
-/// The text of rules that was read last, with the rules and both tables. They are of no text where it was refused.
+/// The text of rules that was read last, with the rules and its tables. They are of no text where it was refused.
 #[derive(Drop)]
 pub struct Rules {
     text: Vec<u8>,
     rules: Vec<Rule>,
     loaded: Option<RuleTable>,
     folded: Option<RuleTable>,
+    halves: Option<RuleTable>,
 }
 
 // The rules of a text, copied. They end in front of the first line that is none.
@@ -31,6 +33,13 @@ fn rules_of(alloc: Global, text: &[u8]) -> Option<Vec<Rule>> {
         }
     }
     Some(rules)
+}
+
+// The table of the first half of rules, with the others behind it.
+fn in_halves(alloc: Global, rules: &[Rule]) -> Option<RuleTable> {
+    let half = rules.len() / 2;
+    let first = RuleTable::fold(alloc, &rules[..half]).ok()?;
+    first.with(&rules[half..]).ok()
 }
 
 fn show_decision(alloc: Global, decision: Decision, out: &mut Bytes) -> Option<()> {
@@ -82,6 +91,7 @@ impl Rules {
             rules: Vec::new(alloc),
             loaded: None,
             folded: None,
+            halves: None,
         }
     }
 
@@ -92,6 +102,7 @@ impl Rules {
         self.text = text.to_vec(alloc).ok()?;
         self.rules = rules_of(alloc, text)?;
         self.folded = RuleTable::fold(alloc, &self.rules).ok();
+        self.halves = in_halves(alloc, &self.rules);
         match RuleTable::load(alloc, text) {
             Ok(table) => {
                 self.loaded = Some(table);
@@ -117,9 +128,14 @@ impl Rules {
         let effective = effective_of(&self.rules, &subject, &object);
         let by_table = self.loaded.as_ref()?.decide(&subject, &object, asked);
         let by_fold = self.folded.as_ref()?.decide(&subject, &object, asked);
+        let by_halves = self.halves.as_ref()?.decide(&subject, &object, asked);
         let by_pass = decide(&subject, &object, asked, given);
         let by_rules = decide(&subject, &object, asked, effective);
-        if by_table != by_fold || by_table != by_pass || by_table != by_rules {
+        if by_table != by_fold
+            || by_table != by_halves
+            || by_table != by_pass
+            || by_table != by_rules
+        {
             out.append(b"not each in the same way, ").ok()?;
         }
         show_decision(alloc, by_table, out)

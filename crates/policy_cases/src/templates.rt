@@ -1,8 +1,8 @@
 //! Templates: `template TEXT` reads one and writes it, and `spelled TEXT` says whether a copy of one is written as it was given.
-//! `rules-for PACKAGE [AUTHOR]` expands the last one.
+//! `rules-for PACKAGE [AUTHOR]` expands the last one for a plain package.
 
 use crate::texts::{is_read, says};
-use app_registry::Ident;
+use app_registry::{Ident, Install, NameSet, Registry, Scope};
 use case_texts::cut;
 use desk_ports::Bytes;
 use rule_templates::Template;
@@ -24,6 +24,24 @@ fn show_rules(alloc: Global, rules: &[Rule], out: &mut Bytes) -> Option<()> {
         out.append(b"\n").ok()?;
     }
     Some(())
+}
+
+// The registry with one install, of a plain package by this author, or by none.
+fn registry_of(alloc: Global, package: &Ident, author: &[u8]) -> Option<Registry> {
+    let author = if author.is_empty() {
+        None
+    } else {
+        Some(Ident::read(alloc, author).ok()?)
+    };
+    let install = Install {
+        package: package.copy().ok()?,
+        author,
+        app: Ident::read(alloc, b"app").ok()?,
+        scope: Scope::Everyone,
+        privileges: NameSet::of(Vec::new(alloc)).ok()?,
+        hybrid: false,
+    };
+    Registry::fresh(alloc).install(&install).ok()
 }
 
 // Whether a copy of a template is written as that was given.
@@ -49,11 +67,8 @@ impl Templates {
         let template = self.template.as_ref()?;
         let (package, author) = cut(rest, b' ');
         let package = Ident::read(alloc, package).ok()?;
-        if author.is_empty() {
-            return show_rules(alloc, &template.rules_for(&package, None).ok()?, out);
-        }
-        let author = Ident::read(alloc, author).ok()?;
-        let rules = template.rules_for(&package, Some(&author)).ok()?;
+        let registry = registry_of(alloc, &package, author)?;
+        let rules = template.rules_for(&registry, &package).ok()?;
         show_rules(alloc, &rules, out)
     }
 

@@ -1,13 +1,1 @@
-pub mod Limits
 pub mod Program
-pub mod Ending
-pub mod Outside
-pub mod Commands
-pub mod Script
-pub mod Reply
-pub mod Folder
-pub mod LocalRun
-pub mod LoadRun
-pub mod AccessRun
-pub mod HostFolder
-pub mod parts

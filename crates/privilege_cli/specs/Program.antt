@@ -1,55 +1,59 @@
--- What a run of the program has read and written by the time that it ends.
-use Rattle.std.specs.Prelude.{◌≡◌, ◌⊎◌, ℕ, String, List, [], Option, Some, None}
-use Rattle.std.specs.declared.alloc.Global.{Global}
-use Rattle.desk_ports.specs.FileMap.{FileMap}
-use Rattle.privilege_cli.specs.declared.command_words.Command.{Command}
-use Rattle.privilege_cli.specs.declared.command_words.Command.TheVariants.{Local, SmackAccess, SmackLoad}
-use Rattle.privilege_cli.specs.declared.ending.Ending.{Ending}
-use Rattle.privilege_cli.specs.declared.ending.Ending.TheVariants.{Words}
-use Rattle.privilege_cli.specs.Commands.{command_of}
-use Rattle.privilege_cli.specs.Outside.{Outside, Had}
-use Rattle.privilege_cli.specs.Ending.{status_of, CountsFaults, Writes}
-use Rattle.privilege_cli.specs.LocalRun.{RunsLocal}
-use Rattle.privilege_cli.specs.LoadRun.{RunsLoad}
-use Rattle.privilege_cli.specs.AccessRun.{AccessAnswers}
+-- What a run of the program reads, says and keeps: one line for each command.
+use Rattle.std.specs.Prelude.{◌≡◌, ◌⊎◌, ℕ, List, Option, Some, None, Ok}
+use Rattle.desk_ports.specs.Content.{Appended}
+use Rattle.smack_rules.specs.declared.rule.Rule.{Rule}
+use Rattle.smack_rules.specs.Effective.{effective}
+use Rattle.smack_rules.specs.Decision.{decision}
+use Rattle.desk_state.specs.DeskState.{DeskState}
+use Rattle.run_endings.specs.Ending.{status_of, CountsFaults}
+use Rattle.run_endings.specs.Outside.{Outside, SourceSeen, DiskSeen}
+use Rattle.run_endings.specs.Saying.{Said, silence, Writes}
+use Rattle.run_endings.specs.declared.endings.Ending.{Ending}
+use Rattle.run_endings.specs.declared.endings.Ending.TheVariants.{Words}
+use Rattle.command_words.specs.declared.commands.Command.{Command}
+use Rattle.command_words.specs.declared.commands.Command.TheVariants.{Local, SmackAccess, SmackLoad, Sample}
+use Rattle.script_replies.specs.Script.{wrong_line, replies}
+use Rattle.script_replies.specs.Reply.{decided_text}
+use Rattle.folder_runs.specs.Folder.{StandsFor}
+use Rattle.folder_runs.specs.LoadRun.{loads_text, RunsLoad}
+use Rattle.local_runs.specs.LocalRun.{read_local, RunsLocal}
+use Rattle.access_runs.specs.AccessRun.{rules_read, RunsAccess}
+use Rattle.sample_runs.specs.SampleRun.{RunsSample}
 
--- What a command has read and written. `Written` says what the sink took: by the end of the run, or before the last line.
-module _ (Written : Ending → List ℕ → List ℕ → Outside → Outside → Type 0) where
-  -- The answers to the input, of which these bytes are left, were written as the ending says. `Answers` says for each way
-  -- to end which answers they are.
-  pub record Reads (Answers : Ending → List ℕ → List ℕ → List ℕ → Type 0) (ending : Ending) (before after : Outside) : Type 0 where
-    pub input : List ℕ
-    pub left : List ℕ
-    pub answers : List ℕ
-    pub written : List ℕ
-    pub had : Had before.left after.left input left
-    pub answered : Answers ending input left answers
-    pub writes : Written ending answers written before after
-
-  -- words that are no command: the source stays, and the last line alone is written
-  pub record RefusesWords (end : Ending) (before after : Outside) : Type 0 where
-    pub ending : end ≡ Words
-    pub left : after.left ≡ before.left
-    pub writes : Written Words [] [] before after
-
-  -- what the command that words name has read and written, over a disk of which a stop may have left these maps
-  abbrev pub Does : (ℕ → FileMap → Type 0) → Option Command → Ending → Outside → Outside → Type 0
-  Does left_since None ending before after = RefusesWords ending before after
-  Does left_since (Some Local) ending before after = RunsLocal Written left_since ending before after
-  Does left_since (Some SmackLoad) ending before after = RunsLoad Written left_since ending before after
-  Does left_since (Some (SmackAccess subject object asked)) ending before after =
-      Reads (AccessAnswers subject object asked) ending before after
+-- What the command that words name says, and how it ends, over a source and a disk before and after. Words name no other
+-- command yet.
+abbrev pub RunsCommand : Option Command → Said → Ending → SourceSeen → SourceSeen → DiskSeen → DiskSeen → Type 0
+RunsCommand None said ending source source_after disk disk_after = (ending ≡ Words) × (said ≡ silence)
+RunsCommand (Some Local) said ending source source_after disk disk_after = RunsLocal said ending source source_after disk disk_after
+RunsCommand (Some SmackLoad) said ending source source_after disk disk_after = RunsLoad said ending disk disk_after
+RunsCommand (Some (SmackAccess subject object asked)) said ending source source_after disk disk_after =
+    RunsAccess subject object asked said ending source source_after
+RunsCommand (Some (Sample count)) said ending source source_after disk disk_after = RunsSample count said ending
+RunsCommand (Some command) said ending source source_after disk disk_after = ⊥
 
 -- How a run ends, with the words' command and a status.
-pub record Ends (left_since : ℕ → FileMap → Type 0) (command : Option Command) (number : ℕ) (before after : Outside) : Type 0 where
+pub record Ends (command : Option Command) (status : ℕ) (before after : Outside) : Type 0 where
   pub ending : Ending
-  pub status : number ≡ status_of ending
+  pub said : Said
+  pub status_is : status ≡ status_of ending
+  pub runs : RunsCommand command said ending before.source after.source before.disk after.disk
+  pub writes : Writes ending said before.sink after.sink
   pub counts : CountsFaults ending before after
-  pub does : Does Writes left_since command ending before after
 
--- A run with the words of a host: some words were read and run; or there was no memory for them, and nothing was read or
--- written.
-abbrev pub RunsOn : (ℕ → FileMap → Type 0) → ℕ → Outside → Outside → Type 0
-RunsOn left_since number before after =
-    ((words : List (String Global)) × Ends left_since (command_of words) number before after)
-    ⊎ ((number ≡ 1) × (after ≡ before))
+-- ---- a run that no failing call stops
+
+-- it gives its whole answer, unless memory runs out
+abbrev pub Gives : ℕ → Outside → Outside → List ℕ → Type 0
+Gives status before after answer = ((status ≡ 0) × Appended before.sink.taken answer after.sink.taken) ⊎ (status ≡ 1)
+
+-- where what it reads is right, and told
+abbrev pub Completes : Option Command → ℕ → Outside → Outside → Type 0
+Completes (Some Local) status before after =
+    (input : List ℕ) (start : DeskState) → before.source.left ≡ Some input → wrong_line (read_local input) ≡ None
+    → StandsFor before.disk start → Gives status before after (replies start (read_local input).steps)
+Completes (Some SmackLoad) status before after =
+    (start : DeskState) → StandsFor before.disk start → Gives status before after (loads_text start)
+Completes (Some (SmackAccess subject object asked)) status before after =
+    (input : List ℕ) (rules : List Rule) → before.source.left ≡ Some input → rules_read input ≡ Ok rules
+    → Gives status before after (decided_text (decision subject object asked (effective rules subject object)))
+Completes command status before after = Unit {0}

@@ -1,35 +1,15 @@
 //! The program: the words of the command line, standard input and output, and the folder.
 #![tactic(auto)]
 
-mod access_run;
-mod command_words;
-mod ending;
-mod folded_rules;
-mod host_folder;
-mod host_words;
-mod limits;
-mod line_notes;
-mod load_run;
-mod local_run;
-mod local_script;
-mod notes;
 mod program;
-mod questions;
-mod rule_notes;
-mod standard_descriptors;
-mod standard_streams;
-#[cfg(test)]
-mod tests;
-mod word_faults;
-mod zeros;
 
 use command_words::Command;
 use desk_ports::shown_bytes;
 use folder_disk::FolderDisk;
-use host_folder::{DIRECTORY, MOST_BYTES, folder_path};
-use host_words::host_words;
-use standard_descriptors::take_descriptors;
-use standard_streams::{InputSource, OutputSink, run_on};
+use host_ports::{
+    DIRECTORY, InputSource, MOST_PATH_BYTES, OutputSink, folder_path, host_words, take_descriptors,
+};
+use program::run_on;
 use std::alloc::AllocError;
 use std::io::IsTerminal;
 use std::process::ExitCode;
@@ -99,7 +79,7 @@ fn explain(rt: &HostRuntime, status: u8, folder: &str, disk: &FolderDisk<HostRun
         explain_failure(rt, folder, disk);
     }
     if status == FOLDER_DAMAGED {
-        if let Ok(shown) = shown_bytes(rt.alloc(), folder.as_bytes(), MOST_BYTES) {
+        if let Ok(shown) = shown_bytes(rt.alloc(), folder.as_bytes(), MOST_PATH_BYTES) {
             let _ = eprintln!(rt;
                 "privilege: a file of the folder {shown} is not as a commit leaves it"
             );

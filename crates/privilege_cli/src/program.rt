@@ -1,16 +1,21 @@
-ghost use Rattle.std.specs.Prelude.{◌≡◌, false};
-ghost use Rattle.privilege_cli.specs.Commands.{command_of, reads_source, mounts_folder};
-ghost use Rattle.privilege_cli.specs.Program.{Does, Ends};
-ghost use Rattle.privilege_cli.specs.parts.Runs.{WritesBefore};
+ghost use Rattle.std.specs.Prelude.{◌≡◌, ◌⊎◌, String, List, false};
+ghost use Rattle.std.specs.declared.alloc.Global.{Global};
+ghost use Rattle.run_endings.specs.Ending.{source_faults_after, disk_faults_after, NoCallFails};
+ghost use Rattle.run_endings.specs.Outside.{source_seen, sink_seen, disk_seen, no_net, seen};
+ghost use Rattle.run_endings.specs.Saying.{Said, WritesAnswers};
+ghost use Rattle.command_words.specs.Commands.{command_of, reads_source, mounts_folder};
+ghost use Rattle.privilege_cli.specs.Program.{RunsCommand, Ends, Completes};
 
-use crate::access_run::run_access;
-use crate::command_words::{Command, CommandRefusal};
-use crate::ending::Ending;
-use crate::load_run::run_load;
-use crate::local_run::run_local;
-use crate::notes::note_words;
+use access_runs::run_access;
+use command_words::{Command, CommandRefusal, note_words};
 use desk_ports::{Disk, Sink, Source};
+use folder_runs::run_load;
+use host_ports::host_words;
+use local_runs::run_local;
+use run_endings::Ending;
+use sample_runs::run_sample;
 use std::alloc::Global;
+use std::env::Env;
 
 /// Runs the command that the words name, writes the last line that belongs to the way in which the run ends, and answers
 /// the status.
@@ -26,25 +31,16 @@ pub fn run<R, S: Source, K: Sink, D: Disk>(
     sink: &mut K,
     disk: &mut D,
 ) -> u8
-    ensures run { Ends (D.left_since disk.new) (command_of words.now) result
-        (record {
-          left = S.left source.old;
-          source_faults = S.faults source.old;
-          taken = K.taken sink.old;
-          sink_faults = K.faults sink.old;
-          disk = D.state disk.old;
-          moment = D.moment disk.old;
-          disk_faults = D.faults disk.old;
-        })
-        (record {
-          left = S.left source.new;
-          source_faults = S.faults source.new;
-          taken = K.taken sink.new;
-          sink_faults = K.faults sink.new;
-          disk = D.state disk.new;
-          moment = D.moment disk.new;
-          disk_faults = D.faults disk.new;
-        }) }
+    ensures run { Ends (command_of words.now) result
+        (seen (source_seen S.left S.faults source.old) (sink_seen K.taken K.faults sink.old)
+        (disk_seen D.state D.moment D.left_since D.faults disk.old) no_net)
+        (seen (source_seen S.left S.faults source.new) (sink_seen K.taken K.faults sink.new)
+        (disk_seen D.state D.moment D.left_since D.faults disk.new) no_net) }
+    ensures complete { let before = seen (source_seen S.left S.faults source.old) (sink_seen K.taken K.faults sink.old)
+        (disk_seen D.state D.moment D.left_since D.faults disk.old) no_net in
+        let after = seen (source_seen S.left S.faults source.new) (sink_seen K.taken K.faults sink.new)
+        (disk_seen D.state D.moment D.left_since D.faults disk.new) no_net in
+        NoCallFails before after → Completes (command_of words.now) result before after }
     ensures source { reads_source (command_of words.now) ≡ false → source.new ≡ source.old }
     ensures disk { mounts_folder (command_of words.now) ≡ false → disk.new ≡ disk.old }
 {
@@ -61,25 +57,13 @@ fn run_words<S: Source, K: Sink, D: Disk>(
     sink: &mut K,
     disk: &mut D,
 ) -> Ending
-    ensures run { Does WritesBefore (D.left_since disk.new) (command_of words.now) result
-        (record {
-          left = S.left source.old;
-          source_faults = S.faults source.old;
-          taken = K.taken sink.old;
-          sink_faults = K.faults sink.old;
-          disk = D.state disk.old;
-          moment = D.moment disk.old;
-          disk_faults = D.faults disk.old;
-        })
-        (record {
-          left = S.left source.new;
-          source_faults = S.faults source.new;
-          taken = K.taken sink.new;
-          sink_faults = K.faults sink.new;
-          disk = D.state disk.new;
-          moment = D.moment disk.new;
-          disk_faults = D.faults disk.new;
-        }) }
+    ensures run { (said : Said)
+        × RunsCommand (command_of words.now) said result (source_seen S.left S.faults source.old)
+        (source_seen S.left S.faults source.new) (disk_seen D.state D.moment D.left_since D.faults disk.old)
+        (disk_seen D.state D.moment D.left_since D.faults disk.new)
+        × WritesAnswers result said (sink_seen K.taken K.faults sink.old) (sink_seen K.taken K.faults sink.new) }
+    ensures source_count { S.faults source.new ≡ source_faults_after result (S.faults source.old) }
+    ensures disk_count { D.faults disk.new ≡ disk_faults_after result (D.faults disk.old) }
     ensures source { reads_source (command_of words.now) ≡ false → source.new ≡ source.old }
     ensures disk { mounts_folder (command_of words.now) ≡ false → disk.new ≡ disk.old }
 {
@@ -93,10 +77,34 @@ fn run_words<S: Source, K: Sink, D: Disk>(
                 asked,
             },
         ) => run_access(alloc, &subject, &object, asked, source, sink),
+        Ok(Command::Sample { count }) => run_sample(alloc, count, sink),
+        Ok(_) => unreachable!(),
         Err(CommandRefusal::Unknown(fault)) => {
             note_words(alloc, words, fault, sink);
             Ending::Words
         }
         Err(CommandRefusal::Memory(_)) => Ending::Memory,
+    }
+}
+
+/// Runs the program with the words of a host, and answers the status. Where there is no memory for the words it is 1, and
+/// nothing is read, written or mounted.
+pub fn run_on<E: Env, S: Source, K: Sink, D: Disk>(
+    host: &E,
+    alloc: Global,
+    source: &mut S,
+    sink: &mut K,
+    disk: &mut D,
+) -> u8
+    ensures { ((words : List (String Global)) × Ends (command_of words) result
+        (seen (source_seen S.left S.faults source.old) (sink_seen K.taken K.faults sink.old)
+        (disk_seen D.state D.moment D.left_since D.faults disk.old) no_net)
+        (seen (source_seen S.left S.faults source.new) (sink_seen K.taken K.faults sink.new)
+        (disk_seen D.state D.moment D.left_since D.faults disk.new) no_net))
+        ⊎ ((result ≡ 1) × (source.new ≡ source.old) × (sink.new ≡ sink.old) × (disk.new ≡ disk.old)) }
+{
+    match host_words(host, alloc) {
+        Ok(words) => run(host, alloc, &words, source, sink, disk),
+        Err(_) => 1,
     }
 }

@@ -1,6 +1,6 @@
 -- A template without placeholders gives each package the rules that its text has as a rule text.
-use Rattle.std.proofs.Common.{◌≡◌, ℕ, ◌+◌, nat_lt, cond, ◌&&◌, Bool, true, false, List, [], ◌∷◌, ◌++◌, Option, Some, None, Result, Ok, Err, refl, sym, ap, ◌∙◌}
-use Rattle.std.specs.List.{list_all}
+use Rattle.std.proofs.Common.{◌≡◌, ℕ, ◌+◌, nat_lt, cond, ◌&&◌, ◌||◌, Bool, true, false, List, [], ◌∷◌, ◌++◌, Option, Some, None, Result, Ok, Err, refl, sym, ap, ◌∙◌}
+use Rattle.std.specs.List.{list_all, flat_map}
 use Rattle.std.specs.Option.{option_map}
 use Rattle.smack_rules.specs.declared.modes.Modes.{Modes}
 use Rattle.smack_rules.specs.declared.rule.Rule.{Rule}
@@ -23,7 +23,10 @@ use Rattle.rule_templates.specs.declared.templates.TemplateRefusal.TheVariants.{
 use Rattle.rule_templates.specs.Placeholder.{placeholder_of, begins_with_tilde}
 use Rattle.rule_templates.specs.TemplateLine.{word_text, word_of, is_label_word, adjustment, change_of, line_with, line_of, line_of_words, is_fixed_word, is_fixed_line}
 use Rattle.rule_templates.specs.Template.{with_line, template_from}
-use Rattle.rule_templates.specs.Expansion.{word_label, rule_of, rules_with, line_rules, expansion}
+use Rattle.app_registry.specs.Label.{package_label}
+use Rattle.app_registry.specs.Registry.{RegistryLists, author_of}
+use Rattle.rule_templates.specs.Expansion.{Expanded, word_label, rule_of, rules_with, line_rules, is_process_word, has_process, package_line_rules, expansion}
+use Rattle.rule_templates.specs.Processes.{process_labels}
 use Rattle.rule_templates.proofs.LineSpelled.{both}
 use Rattle.rule_templates.proofs.Reading.{Meaning}
 
@@ -109,18 +112,33 @@ words_rule (subject ∷ object ∷ modes) line h fixed =
     ∙ ap (λ word. Ok (Some (rule_of line.change (word_text word) object))) (sym first.0)
     ∙ ap (λ word. Ok (Some (rule_of line.change (word_text line.subject) (word_text word)))) (sym second.0)
 
-word_label-fixed : (name : List ℕ) (author : Option (List ℕ)) (word : Word) → is_fixed_word word ≡ true
-    → word_label name author word ≡ Some (word_text word)
-word_label-fixed name author (Fixed label) fixed = refl
-word_label-fixed name author (OfPackage placeholder) fixed = cc
+word_label-fixed : (for : Expanded) (word : Word) → is_fixed_word word ≡ true → word_label for word ≡ Some (word_text word)
+word_label-fixed for (Fixed label) fixed = refl
+word_label-fixed for (OfPackage placeholder) fixed = cc
 
-line_rules-fixed : (name : List ℕ) (author : Option (List ℕ)) (line : TemplateLine) → is_fixed_line line ≡ true
-    → line_rules name author line ≡ rule_of line.change (word_text line.subject) (word_text line.object) ∷ []
-line_rules-fixed name author line fixed =
+not_process : (word : Word) → is_fixed_word word ≡ true → is_process_word word ≡ false
+not_process (Fixed label) fixed = refl
+not_process (OfPackage placeholder) fixed = cc
+
+line_rules-fixed : (for : Expanded) (line : TemplateLine) → is_fixed_line line ≡ true
+    → line_rules for line ≡ rule_of line.change (word_text line.subject) (word_text line.object) ∷ []
+line_rules-fixed for line fixed =
     let parts = both (is_fixed_word line.subject) (is_fixed_word line.object) fixed in
-    ap (λ subject. rules_with line.change subject (word_label name author line.object))
-    (word_label-fixed name author line.subject parts.0)
-    ∙ ap (rules_with line.change (Some (word_text line.subject))) (word_label-fixed name author line.object parts.1)
+    ap (λ subject. rules_with line.change subject (word_label for line.object)) (word_label-fixed for line.subject parts.0)
+    ∙ ap (rules_with line.change (Some (word_text line.subject))) (word_label-fixed for line.object parts.1)
+
+-- a line without placeholders gives its one rule, whatever processes the package has
+package_line_rules-fixed : (name : List ℕ) (author : Option (List ℕ)) (processes : List (List ℕ)) (line : TemplateLine)
+    → is_fixed_line line ≡ true
+    → package_line_rules name author processes line ≡ rule_of line.change (word_text line.subject) (word_text line.object) ∷ []
+package_line_rules-fixed name author processes line fixed =
+    let parts = both (is_fixed_word line.subject) (is_fixed_word line.object) fixed in
+    let alone : has_process line ≡ false =
+    ap (λ b. b || is_process_word line.object) (not_process line.subject parts.0) ∙ not_process line.object parts.1 in
+    ap (λ b. flat_map (λ process. line_rules (record { name = name; author = author; process = process }) line)
+    (cond b processes (package_label name ∷ []))) alone
+    ∙ ap (λ rules. rules ++ [])
+    (line_rules-fixed (record { name = name; author = author; process = package_label name }) line fixed)
 
 -- a right text has a right first line, and right lines behind it
 record FirstLine (line : Result TemplateLine LineFault) (later : Meaning) (lines : List TemplateLine) : Type 0 where
@@ -154,18 +172,19 @@ with_line-ok number (Ok kept) (Ok others) lines h =
       lines_are = within (nat_lt 64 number) number (kept ∷ []) others lines h;
     }
 
-pub rules_from-fixed : (number : ℕ) (texts : List (List ℕ)) (lines : List TemplateLine) (name : List ℕ)
-    (author : Option (List ℕ)) → template_from number texts ≡ Ok lines → list_all is_fixed_line lines ≡ true
-    → rules_from number texts ≡ Ok (expansion lines name author)
-rules_from-fixed number [] lines name author h fixed =
-    let is : [] ≡ lines = cc in ap (λ lines. Ok (expansion lines name author)) is
-rules_from-fixed number (text ∷ texts) lines name author h fixed =
+pub rules_from-fixed : (number : ℕ) (texts : List (List ℕ)) (lines : List TemplateLine) (registry : RegistryLists)
+    (name : List ℕ) → template_from number texts ≡ Ok lines → list_all is_fixed_line lines ≡ true
+    → rules_from number texts ≡ Ok (expansion lines registry name)
+rules_from-fixed number [] lines registry name h fixed =
+    let is : [] ≡ lines = cc in ap (λ lines. Ok (expansion lines registry name)) is
+rules_from-fixed number (text ∷ texts) lines registry name h fixed =
     let first = with_line-ok number (line_of text) (template_from (number + 1) texts) lines h in
     let all_fixed = both (is_fixed_line first.kept) (list_all is_fixed_line first.others)
     (sym (ap (list_all is_fixed_line) first.lines_are) ∙ fixed) in
-    let later = rules_from-fixed (number + 1) texts first.others name author first.later_is all_fixed.1 in
+    let later = rules_from-fixed (number + 1) texts first.others registry name first.later_is all_fixed.1 in
     ap (λ line. with_rule number line (rules_from (number + 1) texts))
     (words_rule (words_of text) first.kept first.line_is all_fixed.0)
     ∙ ap (with_rule number (Ok (Some (rule_of first.kept.change (word_text first.kept.subject) (word_text first.kept.object))))) later
-    ∙ ap (λ rules. Ok (rules ++ expansion first.others name author)) (sym (line_rules-fixed name author first.kept all_fixed.0))
-    ∙ ap (λ lines. Ok (expansion lines name author)) (sym first.lines_are)
+    ∙ ap (λ rules. Ok (rules ++ expansion first.others registry name))
+    (sym (package_line_rules-fixed name (author_of registry name) (process_labels registry name) first.kept all_fixed.0))
+    ∙ ap (λ lines. Ok (expansion lines registry name)) (sym first.lines_are)

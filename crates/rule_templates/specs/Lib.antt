@@ -1,7 +1,9 @@
+pub mod Kinds
 pub mod Limits
 pub mod Expansion
 pub mod PackageLabels
 pub mod Placeholder
+pub mod Processes
 pub mod Template
 pub mod TemplateLine
 pub mod TemplateRead

@@ -1,2 +1,3 @@
 pub mod Labels
+pub mod Last
 pub mod Refusal

@@ -71,21 +71,33 @@ impl PackageLabels {
         })
     }
 
-    /// The label that a word stands for. `None` where it is the author's, and there is none.
-    pub(crate) fn of_word<'l>(&'l self, word: &'l Word) -> Option<&'l Label>
-        ensures { option_copied result ≡ word_label_in self.now word.now }
+    /// The label of the package itself.
+    pub(crate) fn own(&self) -> &Label
+        ensures { result.now ≡ self.now.own }
+    {
+        &self.own
+    }
+
+    /// The label that a word stands for, and `~PROCESS~` for this one. `None` where it is the author's, and there is none.
+    pub(crate) fn of_word<'l>(&'l self, word: &'l Word, process: &'l Label) -> Option<&'l Label>
+        ensures { option_copied result ≡ word_label_in self.now process.now word.now }
     {
         match word {
             Word::Fixed(label) => Some(label),
-            Word::OfPackage(placeholder) => self.of_placeholder(*placeholder),
+            Word::OfPackage(placeholder) => self.of_placeholder(*placeholder, process),
         }
     }
 
-    fn of_placeholder(&self, placeholder: Placeholder) -> Option<&Label>
-        ensures { option_copied result ≡ placeholder_label_in self.now placeholder }
+    fn of_placeholder<'l>(
+        &'l self,
+        placeholder: Placeholder,
+        process: &'l Label,
+    ) -> Option<&'l Label>
+        ensures { option_copied result ≡ placeholder_label_in self.now process.now placeholder }
     {
         match placeholder {
-            Placeholder::Process | Placeholder::PathRw => Some(&self.own),
+            Placeholder::Process => Some(process),
+            Placeholder::PathRw => Some(&self.own),
             Placeholder::PathRo => Some(&self.read_only),
             Placeholder::Author => self.author.as_ref(),
         }

@@ -9,6 +9,7 @@ mod labels;
 mod lines;
 mod parts;
 mod placeholders;
+mod processes;
 mod templates;
 mod usual;
 

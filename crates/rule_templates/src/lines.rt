@@ -1,6 +1,7 @@
 //! Lines of a template: rules whose labels may be placeholders.
 
 ghost use Rattle.std.specs.Prelude.{◌≡◌, ◌∷◌, [], ◌++◌, Some, IsTrue, IfOk, OnOk, is_some};
+ghost use Rattle.rule_templates.specs.Expansion.{has_process, is_process_word};
 ghost use Rattle.rule_templates.specs.TemplateLine.{word_text, line_text, word_of, is_kept_word};
 
 use crate::placeholders::Placeholder;
@@ -65,6 +66,16 @@ impl Word {
         }
     }
 
+    /// Whether the word is `~PROCESS~`.
+    fn is_process(&self) -> bool
+        ensures { result ≡ is_process_word self.now }
+    {
+        match self {
+            Word::Fixed(_) => false,
+            Word::OfPackage(placeholder) => placeholder.is_process(),
+        }
+    }
+
     /// An equal word.
     fn copy(&self) -> Result<Word, AllocError>
         ensures { IfOk result (λ word. word ≡ self.now) }
@@ -88,6 +99,13 @@ impl TemplateLine {
         self.change.append_to(text)?;
         text.push(b'\n')?;
         Ok(())
+    }
+
+    /// Whether the line has `~PROCESS~`.
+    pub(crate) fn has_process(&self) -> bool
+        ensures { result ≡ has_process self.now }
+    {
+        self.subject.is_process() || self.object.is_process()
     }
 
     /// An equal line.

@@ -1,12 +1,13 @@
 //! Placeholders.
 
 ghost use Rattle.std.specs.Prelude.{◌≡◌};
+ghost use Rattle.rule_templates.specs.Expansion.{is_process};
 ghost use Rattle.rule_templates.specs.Placeholder.{placeholder_text, placeholder_of, begins_with_tilde};
 
 /// A word of a template that stands for a label of the package that the template is expanded for.
 #[derive(Clone, Copy, Debug, PartialEq, Eq)]
 pub enum Placeholder {
-    /// `~PROCESS~`: the label of the package's processes.
+    /// `~PROCESS~`: the label of the package's processes, and in a hybrid package that of each application in turn.
     Process,
     /// `~PATH_RW~`: the label of the files that the package may write.
     PathRw,
@@ -26,6 +27,16 @@ impl Placeholder {
             Placeholder::PathRw => b"~PATH_RW~",
             Placeholder::PathRo => b"~PATH_RO~",
             Placeholder::Author => b"~AUTHOR~",
+        }
+    }
+
+    /// Whether it is `~PROCESS~`.
+    pub(crate) fn is_process(self) -> bool
+        ensures { result ≡ is_process self }
+    {
+        match self {
+            Placeholder::Process => true,
+            Placeholder::PathRw | Placeholder::PathRo | Placeholder::Author => false,
         }
     }
 

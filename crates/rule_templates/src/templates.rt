@@ -2,7 +2,6 @@
 
 ghost use Rattle.rule_templates.specs.Limits.{most_template_lines};
 ghost use Rattle.std.specs.Prelude.{◌≡◌, ◌≤◌, Some, List, Result, Ok, Err, IsOk, IsTrue, IfOk, IfErr, OnOk, MatchOption, MatchResult};
-ghost use Rattle.std.specs.Option.{option_copied};
 ghost use Rattle.rule_templates.specs.declared.lines.TemplateLine.{TemplateLine};
 ghost use Rattle.rule_templates.specs.declared.templates.TemplateRefusal.{TemplateRefusal};
 ghost use Rattle.rule_templates.specs.TemplateLine.{word_of, line_with, line_of, is_kept_line};
@@ -14,7 +13,8 @@ use crate::expansion::append_rules;
 use crate::labels::PackageLabels;
 use crate::lines::{LineFault, TemplateLine};
 use crate::parts::{Parts, parts_of};
-use app_registry::Ident;
+use crate::processes::process_labels;
+use app_registry::{Ident, Registry};
 use smack_rules::Rule;
 use std::alloc::{AllocError, Global};
 use std::marker::Model;
@@ -66,9 +66,10 @@ impl Model for Template {
 }
 
 impl Template {
-    ghost use Rattle.std.specs.Prelude.{ℕ, Option, []};
+    ghost use Rattle.std.specs.Prelude.{ℕ, []};
     ghost use Rattle.std.specs.List.{list_all};
     ghost use Rattle.smack_rules.specs.RuleText.{rules_of};
+    ghost use Rattle.app_registry.specs.Registry.{RegistryLists};
     ghost use Rattle.rule_templates.specs.TemplateLine.{is_fixed_line};
     ghost use Rattle.rule_templates.specs.Template.{is_template, is_full, template_text, with_one_more};
     ghost use Rattle.rule_templates.specs.TemplateRead.{ReadsAs, Pushes};
@@ -107,7 +108,7 @@ impl Template {
             → text.now ≡ template_text lines → ReadsAs result (Ok lines) }
         // Without placeholders, a package gets the rules that the text has as a rule text.
         ensures rules { IfOk result (λ template. IsTrue (list_all is_fixed_line template)
-            → (name : List ℕ) (author : Option (List ℕ)) → rules_of text.now ≡ Ok (expansion template name author)) }
+            → (registry : RegistryLists) (name : List ℕ) → rules_of text.now ≡ Ok (expansion template registry name)) }
     {
         match Template::read_lines(alloc, text) {
             Ok(template) => Ok(template),
@@ -168,20 +169,18 @@ impl Template {
         *self.lines.allocator()
     }
 
-    /// The rules that the template gives for a package with an author, or with none: its lines in order, each
-    /// placeholder replaced by the package's label. A line with `~AUTHOR~` is left out without an author.
-    pub fn rules_for(
-        &self,
-        package: &Ident,
-        author: Option<&Ident>,
-    ) -> Result<Vec<Rule>, AllocError>
-        ensures { IfOk result (λ rules. rules.items ≡ expansion self.now «package».now (option_copied author.entry)) }
+    /// The rules that the template gives for a package of the registry: its lines in order, each placeholder replaced by
+    /// the package's label. In a hybrid package a line with `~PROCESS~` gives a rule for each application. A line with
+    /// `~AUTHOR~` is left out without an author.
+    pub fn rules_for(&self, registry: &Registry, package: &Ident) -> Result<Vec<Rule>, AllocError>
+        ensures { IfOk result (λ rules. rules.items ≡ expansion self.now registry.now «package».now) }
     {
         let alloc = *self.lines.allocator();
-        let labels = PackageLabels::of(alloc, package, author)?;
+        let labels = PackageLabels::of(alloc, package, registry.author_of(package))?;
+        let processes = process_labels(alloc, registry.installs_of(package))?;
         let mut rules = Vec::with_capacity(alloc, self.lines.len())?;
         for line in &self.lines {
-            append_rules(&mut rules, &labels, line)?;
+            append_rules(&mut rules, &labels, &processes, line)?;
         }
         Ok(rules)
     }

@@ -3,7 +3,7 @@
 use crate::sets::compare_written;
 use desk_ports::{Bytes, SetFile, set_in_order};
 use desk_state::{Command, Desk};
-use line_script::{Reader, Step};
+use line_script::{Place, Reader, Step};
 use std::alloc::Global;
 
 fn after(desk: &mut Desk, command: &Command) -> Option<()> {
@@ -22,7 +22,7 @@ fn follow(desk: &mut Desk, reader: &mut Reader, line: &[u8]) -> Option<()> {
 /// Compares the set with what is written of the state behind the lines.
 pub fn answer(alloc: Global, files: &[SetFile], lines: &[u8], out: &mut Bytes) -> Option<()> {
     let mut desk = Desk::fresh(alloc).ok()?;
-    let mut reader = Reader::new(alloc);
+    let mut reader = Reader::new(alloc, Place::Local);
     for line in lines.split(|byte| *byte == b'\n') {
         follow(&mut desk, &mut reader, line)?;
     }

@@ -8,8 +8,10 @@ pub mod ReadingBuckets
 pub mod ReadingCounts
 pub mod ReadingFaults
 pub mod ReadingInstalls
+pub mod ReadingKinds
 pub mod ReadingKept
 pub mod ReadingLine
+pub mod ReadingOwners
 pub mod ReadingPrivileges
 pub mod ReadingRising
 pub mod ReadingStages

@@ -4,7 +4,6 @@ use Rattle.std.proofs.Common.{is_none, find, refl, sym, ap, ◌∙◌, subst}
 use mathlib.Core.Bool.{true≢false}
 use Rattle.std.specs.declared.cmp.Ordering.{Ordering}
 use Rattle.std.specs.declared.cmp.Ordering.TheVariants.{Less, Equal, Greater}
-use Rattle.std.specs.BTreeMap.{BTreeMap, get}
 use Rattle.std.specs.List.{AllByRecursion, list_any}
 use Rattle.std.specs.List.Sorted.{IsStrictlySortedBy}
 use Rattle.std.specs.Ordering.{is_eq, is_gt, ordering_reverse, ordering_then}
@@ -16,16 +15,15 @@ use Rattle.cynara_keys.specs.Text.{text_cmp}
 use Rattle.cynara_keys.proofs.Order.{same_text-≡, ≡-same_text, text_cmp-equal, text_total}
 use Rattle.bucket_store.proofs.Lists.{All-front, All-back}
 use Rattle.app_registry.specs.Install.{install_cmp, is_of_package, same_author}
-use Rattle.app_registry.specs.Refusal.{unknown_scope, other_package, is_by_another, other_author, owner_fault}
+use Rattle.app_registry.specs.Refusal.{is_by_another, other_author}
 use Rattle.app_registry.specs.Rules.{IsRegistry}
-use Rattle.app_registry.specs.declared.idents.Ident.{Ident}
 use Rattle.app_registry.specs.declared.installs.Install.{Install}
 use Rattle.app_registry.specs.declared.users.User.{User}
 use Rattle.app_registry.proofs.Filters.{none_does, option_map-none}
 use Rattle.app_registry.proofs.Orders.{install_total}
 use Rattle.set_text.specs.Lines.{last_of, rises_above}
-use Rattle.set_text.specs.parts.Standing.{HasPackages, is_other_than, author_fits}
-use Rattle.set_text.proofs.ReadingInstalls.{is_none-or, is_none-map, is_none-find, other_package-first}
+use Rattle.set_text.specs.parts.Standing.{author_fits}
+use Rattle.set_text.proofs.ReadingInstalls.{is_none-map, is_none-find}
 use Rattle.set_text.proofs.ReadingRising.{ends, all-below}
 
 first-le : (first second : Ordering) → ordering_then first second ≡ Less → is_gt first ≡ false
@@ -33,11 +31,11 @@ first-le Less second h = refl
 first-le Equal second h = refl
 first-le Greater second h = cc
 
-package-le : (a b : Install) → install_cmp a b ≡ Less → is_gt (text_cmp a.«package» b.«package») ≡ false
+pub package-le : (a b : Install) → install_cmp a b ≡ Less → is_gt (text_cmp a.«package» b.«package») ≡ false
 package-le a b less = first-le (text_cmp a.«package» b.«package») _ less
 
 -- a text that is neither above nor below another is that text
-le-both : (a b : List ℕ) → is_gt (text_cmp a b) ≡ false → is_gt (text_cmp b a) ≡ false → a ≡ b
+pub le-both : (a b : List ℕ) → is_gt (text_cmp a b) ≡ false → is_gt (text_cmp b a) ≡ false → a ≡ b
 le-both a b first second =
     same_text-≡ a b (sym (text_cmp-equal a b) ∙ by (text_cmp a b) (text_cmp b a) (text_total.antisymm b a) first second)
   where
@@ -45,6 +43,11 @@ le-both a b first second =
     by Less p is first second = absurd (true≢false (sym (ap is_gt is) ∙ second))
     by Equal p is first second = refl
     by Greater p is first second = cc
+
+pub is-same : (a b : Bool) → a ≡ true → (a && not b) ≡ false → b ≡ true
+is-same true true a h = refl
+is-same true false a h = cc
+is-same false b a h = cc
 
 -- an author that is another's is so by the last install of the package too
 module _ (install last : Install) (last_before : install_cmp last install ≡ Less) where
@@ -54,11 +57,6 @@ module _ (install last : Install) (last_before : install_cmp last install ≡ Le
   same-authors (Some a) None c h = cc
   same-authors None (Some b) c h = cc
   same-authors None None c h = refl
-
-  is-same : (a b : Bool) → a ≡ true → (a && not b) ≡ false → b ≡ true
-  is-same true true a h = refl
-  is-same true false a h = cc
-  is-same false b a h = cc
 
   another-last : (other : Install) → install_cmp other last ≡ Less → is_by_another other last ≡ false
       → is_by_another install other ≡ true → is_by_another install last ≡ true
@@ -101,7 +99,7 @@ module _ (install last : Install) (last_before : install_cmp last install ≡ Le
   last-decides front before one_author false is =
       ap (λ b. b || false) (any-another front before one_author is)
 
-sorted-below : (front : List Install) (last : Install) → IsStrictlySortedBy install_cmp (front ++ last ∷ [])
+pub sorted-below : (front : List Install) (last : Install) → IsStrictlySortedBy install_cmp (front ++ last ∷ [])
     → AllByRecursion (λ other. install_cmp other last ≡ Less) front
 sorted-below [] last sorted = tt
 sorted-below (first ∷ front) last sorted = (
@@ -119,7 +117,7 @@ owned all [] last at none = tt
 owned all (install ∷ installs) last at none =
     (at install (none_does (is_by_another install) all (option_map-none _ _ none.0)), owned all installs last at none.1)
 
-not-and-not : (a b : Bool) → not (a && not b) ≡ (not a || b)
+pub not-and-not : (a b : Bool) → not (a && not b) ≡ (not a || b)
 not-and-not true true = refl
 not-and-not true false = refl
 not-and-not false b = refl
@@ -149,19 +147,3 @@ other_author-last users (first ∷ rest) install registry above =
     ∙ last-decides install end.last below.0 end.front sorted authors (is_by_another install end.last) refl)
     ∙ not-and-not (is_of_package install.«package» end.last) (same_author end.last.author install.author)
     ∙ sym (ap (λ last. author_fits last install) end.is_last)
-
--- what stands against an install, by the users, the map of packages and the last install before
-pub owner-parts : (users : List User) (map : BTreeMap Ident Ident) (before : List Install) (install : Install)
-    → IsRegistry users before → HasPackages map before → rises_above install_cmp before install ≡ true
-    → is_none (owner_fault (record { users = users; installs = before }) install)
-    ≡ (is_none (unknown_scope users install.scope)
-    && (not (is_other_than install.«package» (get text_cmp map install.app)) && author_fits (last_of before) install))
-owner-parts users map before install registry noted above =
-    is_none-or (unknown_scope users install.scope) _
-    ∙ ap (λ b. is_none (unknown_scope users install.scope) && b)
-    (is_none-or (other_package before install) (other_author before install)
-    ∙ ap (λ b. b && is_none (other_author before install))
-    (other_package-first users install before registry
-    ∙ sym (ap (λ found. not (is_other_than install.«package» found)) (noted install.app)))
-    ∙ ap (λ b. not (is_other_than install.«package» (get text_cmp map install.app)) && b)
-    (other_author-last users before install registry above))

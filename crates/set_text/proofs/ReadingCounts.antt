@@ -1,25 +1,17 @@
 -- How many packages and privileges there are with one install more.
-use Rattle.std.proofs.Common.{◌≡◌, ℕ, ◌+◌, ◌-◌, ◌≤◌, Bool, true, false, cond, ltb, List, [], ◌∷◌, ◌++◌, length, map}
+use Rattle.std.proofs.Common.{◌≡◌, ℕ, ◌+◌, ◌-◌, Bool, true, false, cond, List, [], ◌∷◌, ◌++◌, length, map}
 use Rattle.std.proofs.Common.{slice_get, Option, Some, None, option_map, refl, sym, ap, ◌∙◌, arith, length-append}
 use Rattle.std.specs.List.{dedup, dedup_from}
-use Rattle.std.proofs.lemmas.Bool.{ltb-false}
 use Rattle.std.proofs.lemmas.Cmp.{nat_list_eq_equiv}
 use Rattle.std.proofs.lemmas.List.{map-append, length-map}
 use Rattle.std.proofs.lemmas.List.Sums.{sum_by-append}
 use Rattle.std.proofs.lemmas.Option.{slice_get-map}
 use Rattle.cynara_keys.specs.Text.{same_text}
 use Rattle.cynara_keys.proofs.Order.{same_text-≡}
-use Rattle.cynara_keys.specs.declared.limits.Counted.{Counted}
-use Rattle.cynara_keys.specs.declared.limits.Counted.TheVariants.{Packages, Installs, Grants}
-use Rattle.app_registry.specs.Refusal.{over}
 use Rattle.app_registry.specs.Registry.{packages, grant_count}
 use Rattle.app_registry.specs.declared.installs.Install.{Install}
-use Rattle.app_registry.specs.declared.refusals.RegistryRefusal.TheVariants.{Limit}
-use Rattle.app_registry.specs.Limits.{most_packages, most_installs, most_grants}
-use Rattle.app_registry.proofs.Counts.{or-none}
 use Rattle.set_text.specs.Lines.{last_of}
-use Rattle.set_text.specs.declared.registries.Counts.{Counts}
-use Rattle.set_text.specs.parts.Standing.{new_package, counts_limit, ends_with, tail_of}
+use Rattle.set_text.specs.parts.Standing.{new_package, ends_with, tail_of}
 use Rattle.set_text.proofs.ReadingRising.{last_of-more}
 
 -- ---- names, each once where the same stand together
@@ -135,27 +127,3 @@ pub grants-count : (installs : List Install) (install : Install)
 grants-count installs install =
     let more = sum_by-append (λ (install : Install). length install.privileges) installs (install ∷ []) in
     omega (arith, more)
-
--- ---- limits
-
-within : (counted : Counted) (most count : ℕ) → over counted most count ≡ None → count ≤ most
-within counted most count fits = ltb-false _ _ (by (ltb most count) fits)
-  where
-    by : (b : Bool) → cond b (Some (Limit counted most)) None ≡ None → b ≡ false
-    by true h = cc
-    by false h = refl
-
-pub record AreFew (counts : Counts) (count : ℕ) : Type 0 where
-  pub few_packages : counts.packages ≤ most_packages
-  pub few_installs : count ≤ most_installs
-  pub few_grants : counts.grants ≤ most_grants
-
-pub counts-few : (counts : Counts) (installs : ℕ) → counts_limit counts installs ≡ None → AreFew counts installs
-counts-few counts installs fits =
-    let first = or-none (over Packages most_packages counts.packages) _ fits in
-    let second = or-none (over Installs most_installs installs) _ first.1 in
-    record {
-      few_packages = within Packages most_packages counts.packages first.0;
-      few_installs = within Installs most_installs installs second.0;
-      few_grants = within Grants most_grants counts.grants second.1;
-    }

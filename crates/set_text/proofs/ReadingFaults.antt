@@ -49,11 +49,6 @@ pub stop-first : (refusal : TextRefusal) (first second : Option Fault) → Refus
 stop-first (Damaged file line) first second is = ap (λ first. option_or first second) is
 stop-first (Memory error) first second is = tt
 
-pub skip-first : (refusal : TextRefusal) (first second : Option Fault) → first ≡ None → RefusesTest refusal second
-    → RefusesTest refusal (option_or first second)
-skip-first refusal first second none is = subst (RefusesTest refusal)
-    (sym (ap (λ first. option_or first second) none)) is
-
 -- ---- the front of a list that is left
 
 pub drop-item : {X : Type 0} (xs : List X) (i : ℕ) (x : X) → i < length xs → x ≡ get_or xs i x

@@ -1,6 +1,6 @@
 -- Installs, read one behind the other.
 use Rattle.std.proofs.Common.{◌≡◌, ℕ, Bool, true, false, not, cond, ◌&&◌, ◌||◌, List, [], ◌∷◌, ◌++◌, Option, Some, None}
-use Rattle.std.proofs.Common.{Ok, is_none, is_some, find, option_map, refl, sym, ap, ◌∙◌, subst}
+use Rattle.std.proofs.Common.{is_none, is_some, find, option_map, refl, sym, ap, ◌∙◌, subst}
 use Rattle.std.specs.List.{AllByRecursion, list_any}
 use Rattle.std.specs.Option.{option_or}
 use Rattle.std.proofs.lemmas.Bool.{and_parts}
@@ -16,10 +16,9 @@ use Rattle.app_registry.proofs.Changes.{IsRegistry-with_install}
 use Rattle.app_registry.proofs.Filters.{none_does, option_map-none}
 use Rattle.app_registry.proofs.Orders.{install_total}
 use Rattle.set_text.specs.Lines.{rises_above}
-use Rattle.set_text.specs.Registry.{install_fits, read_install, install_of, installs_of}
+use Rattle.set_text.specs.Registry.{install_fits}
 use Rattle.set_text.specs.parts.Standing.{package_with, is_other_than, noted}
 use Rattle.set_text.proofs.ReadingRising.{all-below, placed-last}
-use Rattle.set_text.proofs.ReadingValues.{kept-some, values_of-keep}
 
 -- ---- a registry with one install more
 
@@ -38,16 +37,6 @@ registry-more users before install registry fits =
     subst (IsRegistry users) placed
     (IsRegistry-with_install registry install (none-is _ others.0)
     (subst (λ installs. installs_limit installs ≡ None) (sym placed) (none-is _ others.1)))
-
--- what a text says keeps the rules of a registry
-pub installs-registry : (users : List User) (text : List ℕ) (installs : List Install) → IsRegistry users []
-    → installs_of users text ≡ Ok installs → IsRegistry users installs
-installs-registry users text installs registry is =
-    values_of-keep (read_install users) (IsRegistry users)
-    (λ before line install registry reads.
-    registry-more users before install registry
-    (kept-some (install_fits users before) (install_of line) install reads).1)
-    text installs registry is
 
 -- ---- one test after the other
 
@@ -169,21 +158,6 @@ package_with-more (first ∷ installs) install app = by (package_with-more insta
         (cond b (Some first) (find (is_of_app app) installs)))
     by later true = refl
     by later false = later
-
--- an application that is there keeps its package
-pub noted-there : (install : Install) (held : List ℕ → Option (List ℕ)) → is_some (held install.app) ≡ true
-    → (app : List ℕ)
-    → held app ≡ noted install app (held app)
-noted-there install held there app = by (is_of_app app install) refl
-  where
-    some-or : (o p : Option (List ℕ)) → is_some o ≡ true → o ≡ option_or o p
-    some-or None p h = cc
-    some-or (Some x) p h = refl
-
-    by : (b : Bool) → is_of_app app install ≡ b → held app ≡ option_or (held app) (cond b (Some install.«package») None)
-    by true is = some-or (held app) (Some install.«package»)
-        (ap (λ app. is_some (held app)) (sym (same_text-≡ install.app app is)) ∙ there)
-    by false is = sym (option_or-none (held app))
 
 -- a new one gets the package of the install
 pub noted-new : (install : Install) (held : List ℕ → Option (List ℕ)) → is_some (held install.app) ≡ false

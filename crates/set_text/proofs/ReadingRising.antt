@@ -24,9 +24,6 @@ is_lt-Less Greater h = cc
 
 -- ---- the last value
 
-pub last_of-one : {X : Type 0} (x : X) → last_of (x ∷ []) ≡ Some x
-last_of-one x = refl
-
 pub last_of-more : {X : Type 0} (x y : X) (xs : List X) → last_of (x ∷ y ∷ xs) ≡ last_of (y ∷ xs)
 last_of-more x y xs =
     let long : length (x ∷ y ∷ xs) - 1 ≡ length (y ∷ xs) = omega arith in

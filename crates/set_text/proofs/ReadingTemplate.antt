@@ -1,32 +1,21 @@
 -- A template, read one line behind the other.
-use Rattle.std.proofs.Common.{◌≡◌, ℕ, ◌+◌, ◌<◌, ◌≤◌, Bool, true, false, not, cond, ◌&&◌, nat_lt, List, [], ◌∷◌, ◌++◌}
-use Rattle.std.proofs.Common.{length, Option, Some, None, is_some, Result, Ok, Err, option_map, refl, sym, ap, ◌∙◌}
-use Rattle.std.proofs.Common.{arith, append-nil, length-append}
-use Rattle.std.specs.List.{list_all}
-use Rattle.std.proofs.lemmas.Bool.{ltb-false, ltb-true, lt-ltb, le-ltb, le-leb}
-use Rattle.std.proofs.lemmas.List.Folds.{list_all-append}
+use Rattle.std.proofs.Common.{◌≡◌, ℕ, ◌+◌, ◌<◌, ◌≤◌, Bool, true, false, cond, ◌&&◌, nat_lt, List, [], ◌∷◌, ◌++◌}
+use Rattle.std.proofs.Common.{length, Some, None, is_some, Result, Ok, Err, refl, sym, ap, ◌∙◌}
+use Rattle.std.proofs.Common.{arith, append-nil}
+use Rattle.std.proofs.lemmas.Bool.{ltb-false, ltb-true, lt-ltb, le-ltb}
 use Rattle.cynara_keys.specs.Text.{same_text}
-use Rattle.smack_rules.specs.Rule.{is_label}
-use Rattle.rule_templates.specs.declared.lines.Word.{Word}
-use Rattle.rule_templates.specs.declared.lines.Word.TheVariants.{Fixed, OfPackage}
-use Rattle.rule_templates.specs.declared.lines.Change.{Change}
 use Rattle.rule_templates.specs.declared.lines.TemplateLine.{TemplateLine}
-use Rattle.rule_templates.specs.declared.placeholders.Placeholder.{Placeholder}
 use Rattle.rule_templates.specs.declared.templates.TemplateRefusal.{TemplateRefusal}
 use Rattle.rule_templates.specs.declared.templates.TemplateRefusal.TheVariants.{BadLine, BadPlaceholder, TooMany}
 use Rattle.rule_templates.specs.declared.templates.TemplateRefusal.TheVariants.{Memory}
-use Rattle.rule_templates.specs.Placeholder.{placeholder_of, begins_with_tilde}
-use Rattle.rule_templates.specs.TemplateLine.{line_text, line_of, line_of_words, line_with, word_of, change_of}
-use Rattle.rule_templates.specs.TemplateLine.{is_label_word, is_kept_word, is_kept_line}
-use Rattle.rule_templates.specs.Template.{with_front, with_line, with_one_more, template_text, is_template}
-use Rattle.smack_rules.specs.Words.{words_of}
+use Rattle.rule_templates.specs.TemplateLine.{line_text, line_of}
+use Rattle.rule_templates.specs.Template.{with_front, with_line, with_one_more, template_text}
 use Rattle.set_text.specs.Lines.{kept}
 use Rattle.set_text.specs.Template.{spelt_line, template_line_of, template_line_fits, read_template_line}
-use Rattle.set_text.specs.Template.{template_lines_of}
 use Rattle.rule_templates.specs.TemplateRead.{RefusesAs}
 use Rattle.set_text.specs.parts.Puts.{IsWrongLine, PutsLine}
 use Rattle.set_text.proofs.Numbering.{same_text-last}
-use Rattle.set_text.proofs.ReadingValues.{kept-some, values_of-keep}
+use Rattle.set_text.proofs.ReadingValues.{kept-some}
 
 -- ---- one line more
 
@@ -93,10 +82,6 @@ is_some-cond : {X : Type 0} (b : Bool) (x : X) → is_some (cond b (Some x) None
 is_some-cond true x = refl
 is_some-cond false x = refl
 
-some-none : {X : Type 0} (o : Option X) → is_some o ≡ false → o ≡ None
-some-none None h = refl
-some-none (Some x) h = cc
-
 and-true : (b : Bool) → (b && true) ≡ b
 and-true true = refl
 and-true false = refl
@@ -122,11 +107,6 @@ spelt-not-by line refusal (Ok found) h = cc
 pub spelt-not : (line : List ℕ) (refusal : TemplateRefusal) → with_one_more [] line ≡ Err refusal
     → is_some (template_line_of line) ≡ false
 spelt-not line refusal h = spelt-not-by line refusal (line_of line) h
-
--- a line that is not in its one spelling is wrong
-pub line-wrong : (before : List TemplateLine) (line : List ℕ) → is_some (template_line_of line) ≡ false
-    → read_template_line before line ≡ None
-line-wrong before line wrong = ap (kept (template_line_fits before)) (some-none (template_line_of line) wrong)
 
 pub line-refused : (before : List TemplateLine) (line : List ℕ) (refusal : TemplateRefusal)
     → with_one_more before line ≡ Err refusal → read_template_line before line ≡ None
@@ -163,79 +143,3 @@ wrong-line (BadLine number) lines wrong is = is
 wrong-line (BadPlaceholder number) lines wrong is = is
 wrong-line (TooMany number) lines wrong is = is
 wrong-line (Memory error) lines wrong is = absurd wrong
-
--- ---- what is read is a template
-
-word-kept : (word : List ℕ) (kept : Word) → word_of word ≡ Some kept → is_kept_word kept ≡ true
-word-kept word kept h = by (begins_with_tilde word) refl (is_label word) refl (placeholder_of word) h
-  where
-    by : (tilde : Bool) → begins_with_tilde word ≡ tilde → (label : Bool) → is_label word ≡ label
-        → (placeholder : Option Placeholder)
-        → cond tilde (option_map OfPackage placeholder) (cond label (Some (Fixed word)) None) ≡ Some kept
-        → is_kept_word kept ≡ true
-    by true t label l None h = cc
-    by true t label l (Some placeholder) h = let is : OfPackage placeholder ≡ kept = cc in ap is_kept_word (sym is)
-    by false t true l placeholder h =
-        let is : Fixed word ≡ kept = cc in
-        ap is_kept_word (sym is) ∙ ap (λ b. b && not (begins_with_tilde word)) l ∙ ap not t
-    by false t false l placeholder h = cc
-
-parts-kept : (subject object : Option Word) (change : Option Change) (line : TemplateLine)
-    → ((kept : Word) → subject ≡ Some kept → is_kept_word kept ≡ true)
-    → ((kept : Word) → object ≡ Some kept → is_kept_word kept ≡ true)
-    → line_with subject object change ≡ Ok line → is_kept_line line ≡ true
-parts-kept subject object None line first second h = cc
-parts-kept (Some subject) (Some object) (Some change) line first second h =
-    let parts : TemplateLine = record { subject = subject; object = object; change = change } in
-    let is : parts ≡ line = cc in
-    ap is_kept_line (sym is) ∙ ap (λ b. b && is_kept_word object) (first subject refl) ∙ second object refl
-parts-kept (Some subject) None (Some change) line first second h = cc
-parts-kept None object (Some change) line first second h = cc
-
-words-at : (subject object : List ℕ) (modes : List (List ℕ)) (line : TemplateLine) (b : Bool) (fault : _)
-    → cond b (line_with (word_of subject) (word_of object) (change_of modes)) (Err fault) ≡ Ok line
-    → is_kept_line line ≡ true
-words-at subject object modes line true fault h =
-    parts-kept (word_of subject) (word_of object) (change_of modes) line (word-kept subject) (word-kept object) h
-words-at subject object modes line false fault h = cc
-
-words-kept : (words : List (List ℕ)) (line : TemplateLine) → line_of_words words ≡ Ok line → is_kept_line line ≡ true
-words-kept [] line h = cc
-words-kept (word ∷ []) line h = cc
-words-kept (subject ∷ object ∷ modes) line h =
-    words-at subject object modes line (is_label_word subject && is_label_word object) _ h
-
-spelt-some : (b : Bool) (found line : TemplateLine) → cond b (Some found) None ≡ Some line → found ≡ line
-spelt-some true found line h = cc
-spelt-some false found line h = cc
-
-spelt-line : {E : Type 0} (text : List ℕ) (read : Result TemplateLine E) (line : TemplateLine) → spelt_line text read
-    ≡ Some line
-    → read ≡ Ok line
-spelt-line text (Err fault) line h = cc
-spelt-line text (Ok found) line h =
-    ap (λ (line : TemplateLine). Ok line) (spelt-some (same_text (line_text found) text) found line h)
-
-record AreLines (lines : List TemplateLine) : Type 0 where
-  few : length lines ≤ 64
-  kept : list_all is_kept_line lines ≡ true
-
-lines-more : (before : List TemplateLine) (text : List ℕ) (line : TemplateLine) → AreLines before
-    → read_template_line before text ≡ Some line
-    → AreLines (before ++ line ∷ [])
-lines-more before text line are reads =
-    let found = spelt-line text (line_of text) line
-    (kept-some (template_line_fits before) (template_line_of text) line reads).0 in
-    let here = words-kept (words_of text) line found in
-    record {
-      few = omega (arith, length-append before (line ∷ []), line-room before text line reads);
-      kept = list_all-append is_kept_line before (line ∷ []) ∙ ap (λ b. b && list_all is_kept_line (line ∷ [])) are.kept
-          ∙ ap (λ b. b && true) here;
-    }
-
-pub template-is : (text : List ℕ) (lines : List TemplateLine) → template_lines_of text ≡ Ok lines → is_template lines
-    ≡ true
-template-is text lines is =
-    let are = values_of-keep read_template_line AreLines lines-more text lines
-    (record { few = omega arith; kept = refl }) is in
-    ap (λ b. b && list_all is_kept_line lines) (le-leb (length lines) 64 are.few) ∙ are.kept

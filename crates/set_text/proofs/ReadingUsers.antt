@@ -27,6 +27,7 @@ users-more before user registry fits =
       users_known = tt;
       one_package = tt;
       one_author = tt;
+      one_kind = tt;
       users_fit = ap (λ b. cond b (Some (Limit Users most_users)) None)
           (le-ltb most_users (length (before ++ user ∷ [])) few);
       installs_fit = registry.installs_fit;

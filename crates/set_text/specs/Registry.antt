@@ -1,5 +1,5 @@
 -- The file `users`, which has a line for each user, and the file `apps`, which has a line for each install.
-use Rattle.std.specs.Prelude.{ℕ, Bool, true, ◌&&◌, nat_lt, if◌then◌else◌, List, [], ◌∷◌, ◌++◌, length, codes, decimal, find, Option, Some, None, is_none, Result}
+use Rattle.std.specs.Prelude.{ℕ, Bool, true, false, ◌==◌, ◌&&◌, nat_lt, if◌then◌else◌, List, [], ◌∷◌, ◌++◌, length, codes, decimal, find, Option, Some, None, is_none, Result}
 use Rattle.std.specs.Option.{option_map}
 use Rattle.std.specs.List.{list_all}
 use Rattle.std.specs.Ordering.{is_lt}
@@ -43,13 +43,18 @@ abbrev pub author_text : Option (List ℕ) → List ℕ
 author_text None = []
 author_text (Some author) = author
 
+-- the name of a package, with `+` before it where the package is hybrid
+abbrev pub package_text : Bool → List ℕ → List ℕ
+package_text true name = 43 ∷ name
+package_text false name = name
+
 abbrev pub scope_text : Scope → List ℕ
 scope_text Everyone = wildcard
 scope_text (One uid) = decimal uid
 
 abbrev pub install_line : Install → List ℕ
 install_line install =
-    joined (install.package ∷ author_text install.author ∷ install.app ∷ scope_text install.scope ∷ install.privileges)
+    joined (package_text install.hybrid install.package ∷ author_text install.author ∷ install.app ∷ scope_text install.scope ∷ install.privileges)
 
 abbrev pub apps_text : List Install → List ℕ
 apps_text installs = text_of install_line installs
@@ -85,6 +90,16 @@ abbrev pub author_of : List ℕ → Option (List ℕ)
 author_of [] = None
 author_of (byte ∷ bytes) = Some (byte ∷ bytes)
 
+-- `+` stands in front: the package is hybrid
+abbrev pub is_marked : List ℕ → Bool
+is_marked [] = false
+is_marked (byte ∷ bytes) = byte == 43
+
+-- the name of a package, in its text
+abbrev pub name_in : List ℕ → List ℕ
+name_in [] = []
+name_in (byte ∷ bytes) = if byte == 43 then bytes else byte ∷ bytes
+
 -- `*`, or the number of a user
 abbrev pub scope_of : List ℕ → Option Scope
 scope_of text = if same_text text wildcard then Some Everyone else option_map (λ uid. One uid) (decimal_of last_uid text)
@@ -100,13 +115,14 @@ are_privileges names = list_all is_name names && are_rising names
 
 abbrev pub install_of_fields : List (List ℕ) → Option Install
 install_of_fields («package» ∷ author ∷ app ∷ scope ∷ privileges) =
-    if is_ident «package» && (is_author author && (is_ident app && are_privileges privileges))
+    if is_ident (name_in «package») && (is_author author && (is_ident app && are_privileges privileges))
     then option_map (λ scope. record {
-      «package» = «package»;
+      «package» = name_in «package»;
       author = author_of author;
       app = app;
       scope = scope;
       privileges = privileges;
+      hybrid = is_marked «package»;
     }) (scope_of scope)
     else None
 install_of_fields _ = None
@@ -127,7 +143,7 @@ abbrev pub users_of : List ℕ → Result (List User) ℕ
 users_of text = values_of read_user text
 
 -- The installs rise. The user of the scope is there; with the installs before, no application is in two packages, no
--- package has two authors, and nothing is more than it may be.
+-- package has two authors or is both hybrid and plain, and nothing is more than it may be.
 abbrev pub install_fits : List User → List Install → Install → Bool
 install_fits users before install =
     rises_above install_cmp before install

@@ -48,21 +48,32 @@ fn append_install(install: &Install, text: &mut Vec<u8>) -> Result<(), AllocErro
     Ok(())
 }
 
-// Appends the package, the author and the application, with a semicolon behind each.
+// Appends the package with its kind, the author and the application, with a semicolon behind each.
 fn append_names(install: &Install, text: &mut Vec<u8>) -> Result<(), AllocError>
-    ensures text { OnOk result (text.new.items ≡ text.old.items ++ (install.now.package
+    ensures text { OnOk result (text.new.items ≡ text.old.items ++ (word.package_text install.now.hybrid install.now.package
         ++ (59 ∷ (word.author_text install.now.author ++ (59 ∷ (install.now.app ++ 59 ∷ [])))))) }
     ensures package_spelt { OnOk result (IsTrue (word.is_ident install.now.package)) }
     ensures author_spelt { OnOk result (IsAuthor install.now.author) }
     ensures app_spelt { OnOk result (IsTrue (word.is_ident install.now.app)) }
 {
-    text.extend_from_slice(install.package.as_slice())?;
+    append_package(install.hybrid, &install.package, text)?;
     text.push(b';')?;
     append_author(&install.author, text)?;
     text.push(b';')?;
     text.extend_from_slice(install.app.as_slice())?;
     text.push(b';')?;
     Ok(())
+}
+
+// Appends the package, with `+` before it where it is hybrid.
+fn append_package(hybrid: bool, package: &Ident, text: &mut Vec<u8>) -> Result<(), AllocError>
+    ensures text { OnOk result (text.new.items ≡ text.old.items ++ word.package_text hybrid «package».now) }
+    ensures spelt { OnOk result (IsTrue (word.is_ident «package».now)) }
+{
+    if hybrid {
+        text.push(b'+')?;
+    }
+    text.extend_from_slice(package.as_slice())
 }
 
 fn append_author(author: &Option<Ident>, text: &mut Vec<u8>) -> Result<(), AllocError>
@@ -120,7 +131,8 @@ pub fn install_of(alloc: Global, line: &[u8]) -> Result<Install, LineFault>
     let Some((app, rest)) = cut_field(rest) else {
         return Err(LineFault::Wrong);
     };
-    let package = match ident_of(alloc, package) {
+    let hybrid = is_marked(package);
+    let package = match ident_of(alloc, name_in(package)) {
         Ok(package) => package,
         Err(fault) => return Err(fault),
     };
@@ -142,7 +154,25 @@ pub fn install_of(alloc: Global, line: &[u8]) -> Result<Install, LineFault>
         app,
         scope: rights.scope,
         privileges: rights.privileges,
+        hybrid,
     })
+}
+
+// Whether the text of a package says that it is hybrid.
+fn is_marked(text: &[u8]) -> bool
+    ensures { result ≡ word.is_marked text.now }
+{
+    matches!(text, [b'+', ..])
+}
+
+// The name in the text of a package.
+fn name_in(text: &[u8]) -> &[u8]
+    ensures { result.now ≡ word.name_in text.now }
+{
+    match text {
+        [b'+', name @ ..] => name,
+        _ => text,
+    }
 }
 
 fn ident_of(alloc: Global, text: &[u8]) -> Result<Ident, LineFault>

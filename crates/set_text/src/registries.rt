@@ -2,14 +2,14 @@
 
 ghost use Rattle.std.specs.Prelude.{◌≡◌, ◌≤◌, ◌+◌, ◌++◌, ◌∷◌, ◌&&◌, [], is_none, None, length, Ok, IfOk, IsTrue};
 ghost use Rattle.std.specs.Prelude.{MatchResult};
-ghost use Rattle.app_registry.specs.Install.{install_cmp, same_author};
+ghost use Rattle.app_registry.specs.Install.{install_cmp, same_author, same_kind};
 ghost use Rattle.app_registry.specs.Refusal.{unknown_scope, owner_fault};
 ghost use Rattle.app_registry.specs.Registry.{has_user};
 ghost use Rattle.app_registry.specs.Rules.{IsRegistry};
 ghost use Rattle.set_text.specs.Lines.{rises_above, last_of};
 ghost use Rattle.set_text.specs.Registry as word;
 ghost use Rattle.set_text.specs.parts.Reads.{RefusesFile};
-ghost use Rattle.set_text.specs.parts.Standing.{HasPackages, author_fits, counts_of, new_package, counts_limit};
+ghost use Rattle.set_text.specs.parts.Standing.{HasPackages, author_fits, kind_fits, counts_of, new_package, counts_limit};
 
 use crate::app_packages::{is_elsewhere, note};
 use crate::installs::install_of;
@@ -116,7 +116,7 @@ fn fits(
         && counts.fit(before.len() + 1)
 }
 
-// Whether the user is there, and the application and the package are with no one else.
+// Whether the user is there, the application and the package are with no one else, and the package is of this kind.
 fn belongs(
     users: &[User],
     packages: &BTreeMap<Ident, Ident>,
@@ -134,7 +134,10 @@ fn belongs(
     if is_elsewhere(packages, install) {
         return false;
     }
-    has_author(before, install)
+    if !has_author(before, install) {
+        return false;
+    }
+    has_kind(before, install)
 }
 
 fn rises(before: &[Install], install: &Install) -> bool
@@ -170,6 +173,22 @@ fn has_author(before: &[Install], install: &Install) -> bool
         Some(last) => last.package != install.package || same_author(&last.author, &install.author),
         None => true,
     }
+}
+
+// Whether the install is of the kind of the package.
+fn has_kind(before: &[Install], install: &Install) -> bool
+    ensures { result ≡ kind_fits (last_of before.now) install.now }
+{
+    match before.last() {
+        Some(last) => last.package != install.package || same_kind(last.hybrid, install.hybrid),
+        None => true,
+    }
+}
+
+fn same_kind(hybrid: bool, other: bool) -> bool
+    ensures { result ≡ same_kind hybrid other }
+{
+    hybrid == other
 }
 
 fn same_author(author: &Option<Ident>, other: &Option<Ident>) -> bool

@@ -1,8 +1,8 @@
 -- A `b` that rules grant never changes a decision.
 use Rattle.std.proofs.Common.{◌≡◌, ℕ, Bool, true, false, ◌&&◌, not, List, refl}
 use Rattle.smack_rules.specs.declared.modes.Modes.{Modes}
-use Rattle.smack_rules.specs.Modes.{is_request, is_within}
-use Rattle.smack_rules.specs.Decision.{with_lock, decision}
+use Rattle.smack_rules.specs.Modes.{is_request}
+use Rattle.smack_rules.specs.Decision.{decision}
 
 second_not : (a b : Bool) → (a && not b) ≡ true → b ≡ false
 second_not true true h = cc
@@ -11,10 +11,6 @@ second_not false b h = cc
 
 pub is_request-bring_up : (asked : Modes) → is_request asked ≡ true → asked.bring_up ≡ false
 is_request-bring_up asked h = second_not _ asked.bring_up h
-
-is_within-tried : (asked granted : Modes) (tried : Bool) → asked.bring_up ≡ false
-    → is_within asked (with_lock (record granted { bring_up = tried })) ≡ is_within asked (with_lock granted)
-is_within-tried asked granted tried h = rw h refl
 
 pub decision-tried : (subject object : List ℕ) (asked granted : Modes) (tried : Bool) → is_request asked ≡ true
     → decision subject object asked granted ≡ decision subject object asked (record granted { bring_up = tried })

@@ -1,5 +1,5 @@
 -- Lists of changes: what they make of a pair's modes, put in order and joined.
-use Rattle.std.proofs.Common.{◌≡◌, ℕ, ◌+◌, Bool, true, false, cond, ◌&&◌, ◌||◌, not, ◌⊎◌, inl, inr, List, [], ◌∷◌, ◌++◌, map, get_or, refl, sym, ap, ◌∙◌, arith}
+use Rattle.std.proofs.Common.{◌≡◌, ℕ, ◌+◌, Bool, true, false, cond, ◌&&◌, ◌||◌, not, ◌⊎◌, inl, inr, List, [], ◌∷◌, ◌++◌, map, get_or, refl, sym, ap, ◌∙◌, append_assoc, arith}
 use Rattle.std.specs.List.{filter, dedup_from, dedup}
 use Rattle.std.specs.List.Sorted.{IsSorted, IsSortedBy, IsStableBy, IsStrictlySortedBy, ties}
 use Rattle.std.specs.declared.cmp.Ordering.{Ordering}
@@ -106,6 +106,22 @@ pub ChangeAs-more : (old new : List PairChange) (rules more : List Rule) → Cha
     → ChangeAs new (rules ++ more)
 ChangeAs-more old new rules more as_rules follows s o =
     follows s o ∙ ap (λ m. effective_from m more s o) (as_rules s o) ∙ sym (effective_from-append no_access rules more s o)
+
+-- changes that follow some rules and then more of them
+pub FollowsRules-more : (old new newest : List PairChange) (rules more : List Rule) → FollowsRules old new rules
+    → FollowsRules new newest more → FollowsRules old newest (rules ++ more)
+FollowsRules-more old new newest rules more first later s o =
+    later s o ∙ ap (λ m. effective_from m more s o) (first s o)
+    ∙ sym (effective_from-append (modes_after old s o no_access) rules more s o)
+
+-- changes that are the old ones with others behind them, and one more
+pub ChangeAlike-more : (old new newest others : List PairChange) (change : PairChange) → ChangeAlike new (old ++ others)
+    → ChangeAlike newest (new ++ change ∷ []) → ChangeAlike newest (old ++ (others ++ change ∷ []))
+ChangeAlike-more old new newest others change first later s o modes =
+    later s o modes ∙ modes_after-append new (change ∷ []) s o modes
+    ∙ ap (modes_after (change ∷ []) s o) (first s o modes)
+    ∙ sym (modes_after-append (old ++ others) (change ∷ []) s o modes)
+    ∙ ap (λ changes. modes_after changes s o modes) (append_assoc old others (change ∷ []))
 
 -- ---- changes of one pair alone
 

@@ -1,6 +1,7 @@
 pub mod BringUp
 pub mod ChangeLists
 pub mod FirstPassing
+pub mod Further
 pub mod PairOrder
 pub mod RuleLines
 pub mod RuleLists

@@ -17,7 +17,7 @@ use Rattle.smack_rules.specs.Rule.{is_pair}
 use Rattle.smack_rules.specs.Table.{granted}
 use Rattle.smack_rules.specs.parts.Order.{LabelPair, pair_cmp, same_pair}
 use Rattle.smack_rules.specs.parts.Pairs.{pair_of}
-use Rattle.smack_rules.specs.parts.Changes.{changed, modes_after, pair_modes}
+use Rattle.smack_rules.specs.parts.Changes.{changed, modes_after, pair_modes, pair_change}
 use Rattle.smack_rules.proofs.PairOrder.{pair_total, is_pair-≡, is_pair-symm, same_pair-is_pair}
 
 -- ---- a search
@@ -130,3 +130,20 @@ granted-pair_modes (change ∷ changes) sorted s o =
 pub pair_of-pair_modes : (changes : List PairChange) → map pair_of (map pair_modes changes) ≡ map (λ change. change.key) changes
 pair_of-pair_modes [] = refl
 pair_of-pair_modes (change ∷ changes) = ap (λ keys. change.key ∷ keys) (pair_of-pair_modes changes)
+
+-- ---- pairs as changes
+
+pair_modes-pair_change : (pairs : List PairModes) → map pair_modes (map pair_change pairs) ≡ pairs
+pair_modes-pair_change [] = refl
+pair_modes-pair_change (pair ∷ pairs) = ap (λ pairs. pair ∷ pairs) (pair_modes-pair_change pairs)
+
+keys-pair_change : (pairs : List PairModes) → map (λ change. change.key) (map pair_change pairs) ≡ map pair_of pairs
+keys-pair_change [] = refl
+keys-pair_change (pair ∷ pairs) = ap (λ keys. pair_of pair ∷ keys) (keys-pair_change pairs)
+
+-- the changes that give each pair its modes make what the table grants
+pub pair_changes-granted : (pairs : List PairModes) → IsStrictlySortedBy pair_cmp (map pair_of pairs)
+    → (s o : List ℕ) → modes_after (map pair_change pairs) s o no_access ≡ granted pairs s o
+pair_changes-granted pairs sorted s o =
+    sym (granted-pair_modes (map pair_change pairs) (rw keys-pair_change sorted) s o)
+    ∙ ap (λ pairs. granted pairs s o) (pair_modes-pair_change pairs)

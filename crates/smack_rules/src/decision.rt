@@ -1,6 +1,6 @@
 //! The access decision.
 
-ghost use Rattle.std.specs.Prelude.{◌≡◌, [], ◌∷◌, IsTrue};
+ghost use Rattle.std.specs.Prelude.{◌≡◌, Bool, [], ◌∷◌, IsTrue};
 ghost use Rattle.std.specs.Str.{bytes_eq};
 ghost use Rattle.smack_rules.specs.Modes.{is_request};
 ghost use Rattle.smack_rules.specs.Decision.{is_reading, with_lock, decision};
@@ -28,9 +28,18 @@ pub struct Decision {
 
 /// Decides a request of a subject on an object: takes what is asked, which has a mode and no `b`, and what the rules grant
 /// the pair. Gives whether it is allowed, and the case that decided, numbered in the order of the kernel's Smack document.
-#[tactic(auto, unfolding(crate::specs::Decision::decision))]
 pub fn decide(subject: &Label, object: &Label, asked: Modes, granted: Modes) -> Decision
     requires { IsTrue (is_request asked) }
+    ensures decided { result ≡ decision subject.now object.now asked granted }
+    // A `b` in what is granted never changes a decision.
+    ensures bring_up { (tried : Bool) → result ≡ decision subject.now object.now asked (record granted { bring_up = tried }) }
+{
+    first_case(subject, object, asked, granted)
+}
+
+/// The first of the seven cases that holds.
+#[tactic(auto, unfolding(crate::specs::Decision::decision))]
+fn first_case(subject: &Label, object: &Label, asked: Modes, granted: Modes) -> Decision
     ensures { result ≡ decision subject.now object.now asked granted }
 {
     let subject = subject.as_slice();

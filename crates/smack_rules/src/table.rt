@@ -1,6 +1,6 @@
 //! Tables of rules.
 
-ghost use Rattle.std.specs.Prelude.{◌≡◌, ◌+◌, ◌^◌, ◌<◌, Option, List, ℕ, length, map, IfOk, IfErr, OnOk, IsOkAnd, Result};
+ghost use Rattle.std.specs.Prelude.{◌≡◌, ◌+◌, ◌++◌, ◌^◌, ◌<◌, Option, List, ℕ, length, map, IfOk, IfErr, OnOk, IsOkAnd, Result};
 ghost use Rattle.std.specs.Option.{option_to_list};
 ghost use Rattle.std.specs.List.Sorted.{IsStrictlySortedBy};
 ghost use Rattle.text_lines.specs.Lines.{lines_of};
@@ -9,11 +9,11 @@ ghost use Rattle.smack_rules.specs.Rule.{line_rule};
 ghost use Rattle.smack_rules.specs.RuleText.{with_line, rules_from, RefusesText};
 ghost use Rattle.smack_rules.specs.Table.{granted};
 ghost use Rattle.smack_rules.specs.parts.Order.{pair_cmp};
-ghost use Rattle.smack_rules.specs.parts.Changes.{modes_after, pair_modes, FollowsRules};
+ghost use Rattle.smack_rules.specs.parts.Changes.{modes_after, pair_modes, pair_change, FollowsRules, ChangeAlike};
 ghost use Rattle.smack_rules.specs.Modes.{no_access};
 ghost use Rattle.smack_rules.specs.parts.Pairs.{pair_of};
 
-use crate::changes::{Changes, PairChange};
+use crate::changes::{Change, Changes, PairChange};
 use crate::decision::{Decision, decide};
 use crate::label::Label;
 use crate::line_rule::LineRule;
@@ -72,7 +72,7 @@ impl RuleTable {
     ghost use Rattle.smack_rules.specs.Modes.{is_request};
     ghost use Rattle.smack_rules.specs.Table.{granted};
     ghost use Rattle.smack_rules.specs.Decision.{decision};
-    ghost use Rattle.smack_rules.specs.Grants.{GrantsAs};
+    ghost use Rattle.smack_rules.specs.Grants.{GrantsAs, GrantsFrom, GrantsBehind};
     ghost use Rattle.smack_rules.specs.RuleText.{rules_of, LoadsAs, NamesFirstWrongLine};
 
     /// The table of a list of rules, the oldest first, made by sorting: with n rules it takes some n log n comparisons.
@@ -81,10 +81,22 @@ impl RuleTable {
         ensures { IfOk result (λ table. GrantsAs table rules.now) }
     {
         let mut changes = Changes::new(alloc);
-        for rule in rules {
-            changes.follow(PairChange::of(rule))?;
-        }
+        follow_rules(&mut changes, rules)?;
         table_of(alloc, changes)
+    }
+
+    /// The table of this table's rules and further rules behind them, the oldest first; this one stays. With n pairs and m
+    /// rules it takes some n + m times log (n + m) comparisons. Fails only for lack of memory.
+    pub fn with(&self, rules: &[Rule]) -> Result<RuleTable, AllocError>
+        ensures from { IfOk result (λ table. GrantsFrom self.now table rules.now) }
+        ensures behind { IfOk result (λ table. GrantsBehind self.now table rules.now) }
+    {
+        let alloc = *self.pairs.allocator();
+        let mut changes = Changes::new(alloc);
+        follow_pairs(&mut changes, self.pairs.as_slice())?;
+        follow_rules(&mut changes, rules)?;
+        let table = table_of(alloc, changes)?;
+        Ok(table)
     }
 
     /// The table of the rules of a text: a rule a line, as [`Rule::read_line`] takes it. Refuses first a text with a
@@ -121,6 +133,29 @@ impl RuleTable {
         let granted = modes_at(self.pairs.as_slice(), subject, object);
         decide(subject, object, asked, granted)
     }
+}
+
+/// Gives each pair the modes that a table has for it.
+fn follow_pairs<'a>(changes: &mut Changes<'a>, pairs: &'a [PairModes]) -> Result<(), AllocError>
+    ensures { OnOk result (ChangeAlike changes.new.changes.items (changes.old.changes.items ++ map pair_change pairs.now)) }
+{
+    for pair in pairs {
+        changes.follow(PairChange {
+            key: pair.key(),
+            change: Change::setting(pair.modes),
+        })?;
+    }
+    Ok(())
+}
+
+/// Follows rules, the oldest first.
+fn follow_rules<'a>(changes: &mut Changes<'a>, rules: &'a [Rule]) -> Result<(), AllocError>
+    ensures { OnOk result (FollowsRules changes.old.changes.items changes.new.changes.items rules.now) }
+{
+    for rule in rules {
+        changes.follow(PairChange::of(rule))?;
+    }
+    Ok(())
 }
 
 /// The table of changes.

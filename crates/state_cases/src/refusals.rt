@@ -30,6 +30,7 @@ pub fn of_registry(refusal: RegistryRefusal) -> Refusal {
         RegistryRefusal::UnknownUser(uid) => Refusal::UnknownUser(uid),
         RegistryRefusal::OtherPackage(package) => Refusal::OtherPackage(package),
         RegistryRefusal::OtherAuthor(author) => Refusal::OtherAuthor(author),
+        RegistryRefusal::OtherHybrid(hybrid) => Refusal::OtherHybrid(hybrid),
         RegistryRefusal::NotInstalled => Refusal::NotInstalled,
         RegistryRefusal::Limit(counted, most) => Refusal::Limit(counted, most),
         RegistryRefusal::Memory(error) => Refusal::Memory(error),

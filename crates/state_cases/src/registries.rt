@@ -10,6 +10,9 @@ use rule_templates::expand;
 use std::alloc::Global;
 
 fn show_install(alloc: Global, install: &Install, out: &mut Bytes) -> Option<()> {
+    if install.hybrid {
+        out.append(b"+").ok()?;
+    }
     out.append(install.package.as_slice()).ok()?;
     out.append(b" ").ok()?;
     out.append(install.app.as_slice()).ok()?;
@@ -49,6 +52,7 @@ fn changed(registry: &Registry, command: &Command) -> Option<Result<Registry, Re
         Command::UserRemove { uid } => Some(registry.user_remove(*uid)),
         Command::Install { install } => Some(registry.install(install)),
         Command::Uninstall { app, scope } => Some(registry.uninstall(app, *scope)),
+        Command::Convert { package, hybrid } => Some(registry.convert(package, *hybrid)),
         _ => None,
     }
 }

@@ -14,7 +14,7 @@ use app_registry::{Ident, Registry};
 use bucket_store::Database;
 use desk_ports::Bytes;
 use desk_state::{Command, Desk};
-use line_script::{Reader, Step};
+use line_script::{Place, Reader, Step};
 use std::alloc::{AllocError, Global};
 
 #[derive(Drop)]
@@ -85,7 +85,7 @@ impl States {
 
     fn lines(&mut self, alloc: Global, verb: &str, text: &[u8], out: &mut Bytes) -> Option<()> {
         let last = verb.strip_prefix("last-");
-        let mut reader = Reader::new(alloc);
+        let mut reader = Reader::new(alloc, Place::Local);
         for line in text.split(|byte| *byte == b'\n') {
             if last.is_some() && !line.is_empty() {
                 out.clear();
@@ -96,7 +96,7 @@ impl States {
     }
 
     fn ask_kept(&self, alloc: Global, line: &[u8], out: &mut Bytes) -> Option<()> {
-        let mut reader = Reader::new(alloc);
+        let mut reader = Reader::new(alloc, Place::Local);
         match reader.line(line) {
             Ok(step) => desks::ask(alloc, self.kept.as_ref()?, &step, out),
             Err(_) => out.append(b"syntax\n").ok(),

@@ -58,7 +58,7 @@ none_is : {X : Type 0} (o : Option X) → is_none o ≡ true → o ≡ None
 none_is None is = refl
 none_is (Some x) is = absurd cc
 
-and_both : (a b : Bool) → (a && b) ≡ true → (a ≡ true) × (b ≡ true)
+pub and_both : (a b : Bool) → (a && b) ≡ true → (a ≡ true) × (b ≡ true)
 and_both true b both = (refl, both)
 and_both false b both = absurd cc
 
@@ -318,14 +318,14 @@ optional_row_exact = exact_as (field.optional field.row) (optional_exact field.r
     back None good = tt
     back (Some row) good = good
 
-pub verdict_exact : IsExact field.verdict right.IsVerdict
+pub verdict_exact : IsExact field.verdict right.IsRightVerdict
 verdict_exact =
     seen_exact _ _ (number w64 ⊗ (field.ruling ⊗ (field.bucket ⊗ field.optional field.row)))
     (pair_exact (number w64) (field.ruling ⊗ (field.bucket ⊗ field.optional field.row))
     (number_exact w64 (2 ^ 64) wide64)
     (pair_exact field.ruling (field.bucket ⊗ field.optional field.row) ruling_exact
     (pair_exact field.bucket (field.optional field.row) bucket_exact optional_row_exact)))
-    {Good = right.IsVerdict} (λ x good. (refl, good)) (λ y good. (good, refl))
+    {Good = right.IsRightVerdict} (λ x good. (refl, good)) (λ y good. (good, refl))
 
 most_small : (a b : Bool) (n : ℕ) → eqb n 1024 ≡ a → eqb n 4294967295 ≡ b → (a || b) ≡ true → n < 2 ^ 32
 most_small true b n one other passes = rw (eqb-true n 1024 one) (omega arith)
@@ -475,14 +475,15 @@ privileges_exact = record { takes = taken; again = again }
         ∙ rw ((number_exact w32 (2 ^ 32) wide32).again end (length names) (flat_map field.name.spelled names ++ rest)
         good.0) (rising_again end None names rest good.1.0 good.1.1)
 
-pub install_exact : IsExact field.install right.IsInstall
-install_exact =
+pub install_exact : (hybrid : Bool) → IsExact (field.install hybrid) (right.IsInstall hybrid)
+install_exact hybrid =
     seen_exact _ _ (field.ident ⊗ (field.author ⊗ (field.ident ⊗ (field.scope ⊗ field.privileges))))
     (pair_exact field.ident (field.author ⊗ (field.ident ⊗ (field.scope ⊗ field.privileges))) ident_exact
     (pair_exact field.author (field.ident ⊗ (field.scope ⊗ field.privileges)) author_exact
     (pair_exact field.ident (field.scope ⊗ field.privileges) ident_exact
     (pair_exact field.scope field.privileges scope_exact privileges_exact))))
-    {Good = right.IsInstall} (λ x good. (refl, good)) (λ y good. (good, refl))
+    {Good = right.IsInstall hybrid} (λ x good. (refl, (refl, good)))
+    (λ y good. (good.1, λ i. record y { hybrid = sym good.0 i }))
 
 -- ---- templates
 

@@ -4,6 +4,7 @@ use Rattle.std.proofs.Common.{length, take, drop, Option, Some, None, Result, Ok
 use Rattle.std.proofs.Common.{append_assoc, arith}
 use Rattle.std.specs.Int.{w8, w16, w32, to_be_bytes, from_be_bytes}
 use Rattle.std.specs.Prelude.{IfOk}
+use Rattle.std.specs.List.{find}
 use Rattle.std.proofs.Math.Nat.{mod-eq_of_lt}
 use Rattle.std.proofs.lemmas.Bool.{ltb-false, le-ltb, eqb-true}
 use Rattle.std.proofs.lemmas.List.{take_at, drop_at, take-append-drop, length-append, length-take, length-drop}
@@ -11,6 +12,7 @@ use Rattle.std.proofs.lemmas.List.{append-nil, nil_from_length}
 use Rattle.wire_messages.specs.declared.messages.Framed.{Framed}
 use Rattle.wire_messages.specs.declared.messages.Message.{Message}
 use Rattle.wire_messages.specs.declared.operations.Heard.{Heard}
+use Rattle.wire_messages.specs.declared.operations.Heard.TheVariants.{AtClient, AtAdmin, AtAgent, Replies, AgentReplies}
 use Rattle.wire_messages.specs.declared.operations.Operation.{Operation}
 use Rattle.wire_messages.specs.declared.operations.Operation.TheVariants as op
 use Rattle.wire_messages.specs.declared.refusals.EncodeRefusal.{EncodeRefusal}
@@ -20,7 +22,7 @@ use Rattle.wire_messages.specs.Left.{IsBytes, Left, place, ◌>>=◌}
 use Rattle.wire_messages.specs.Format.{number}
 use Rattle.wire_messages.specs.Operation.{number_of, operation_of, known_at}
 use Rattle.wire_messages.specs.Message.{operation, fields, read}
-use Rattle.wire_messages.specs.Frame.{body, spelling, length_of, length_fault, message_of, whole, body_of, unless_fault}
+use Rattle.wire_messages.specs.Frame.{body, spelling, length_of, length_fault, message_at, whole, body_of, unless_fault}
 use Rattle.wire_messages.specs.Frame.{frame_of, Answers}
 use Rattle.wire_messages.specs.Hearing.{IsHeard}
 use Rattle.wire_messages.specs.Right.{IsRight}
@@ -40,7 +42,7 @@ record Told (heard : Heard) (n : ℕ) (left : Left) (y : Message × Left) : Type
 
 message_told : (heard : Heard) (n : ℕ) (found : Option Operation) → operation_of heard n ≡ found
     → (left : Left) (y : Message × Left)
-    → IsBytes left.rest → message_of found n left ≡ Ok y → Told heard n left y
+    → IsBytes left.rest → message_at found n left ≡ Ok y → Told heard n left y
 message_told heard n (Some o) is left y fits e =
     let s = message_takes o left y fits e in
     let same : number_of (operation y.0) ≡ n = ap number_of s.operation_is ∙ number_known heard n o is in
@@ -63,11 +65,11 @@ body_takes : (heard : Heard) (left : Left) (framed : Framed) → IsBytes left.re
 unfolding body_of
 body_takes heard left framed fits e =
     let a = bind_ok ((number w16).read left)
-    (λ s. (number w8).read s.1 >>= λ o. message_of (operation_of heard o.0) o.0 o.1 >>= λ m. whole s.0 m) framed e in
+    (λ s. (number w8).read s.1 >>= λ o. message_at (operation_of heard o.0) o.0 o.1 >>= λ m. whole s.0 m) framed e in
     let b =
-    bind_ok ((number w8).read a.0.1) (λ o. message_of (operation_of heard o.0) o.0 o.1 >>= λ m. whole a.0.0 m) framed
+    bind_ok ((number w8).read a.0.1) (λ o. message_at (operation_of heard o.0) o.0 o.1 >>= λ m. whole a.0.0 m) framed
     a.2 in
-    let m = bind_ok (message_of (operation_of heard b.0.0) b.0.0 b.0.1) (λ m. whole a.0.0 m) framed b.2 in
+    let m = bind_ok (message_at (operation_of heard b.0.0) b.0.0 b.0.1) (λ m. whole a.0.0 m) framed b.2 in
     let s = (number_exact w16 (2 ^ 16) wide16).takes left a.0 fits a.1 in
     let o = (number_exact w8 256 wide8).takes a.0.1 b.0 s.0.bytes b.1 in
     let t = message_told heard b.0.0 (operation_of heard b.0.0) refl b.0.1 m.0 o.0.bytes m.1 in
@@ -131,6 +133,8 @@ number_small op.Uninstall = omega arith
 number_small op.Listing = omega arith
 number_small op.AdminCheck = omega arith
 number_small op.Stop = omega arith
+number_small op.InstallHybrid = omega arith
+number_small op.Convert = omega arith
 number_small op.Register = omega arith
 number_small op.AgentAnswer = omega arith
 number_small op.Judged = omega arith
@@ -219,17 +223,87 @@ same_size a b x y small_a small_b e =
     sym (front a x) ∙ ap (take 4) e ∙ front b y in
     sym (wide32.again (length (body a)) small_a) ∙ ap (from_be_bytes w32) same ∙ wide32.again (length (body b)) small_b
 
-pub one_spelling : (heard : Heard) (a b : Framed) (x y : List ℕ) → IsHeard heard a → IsHeard heard b
+-- every operation, whoever hears it
+everyone : List Operation
+everyone = known_at AtClient ++ (known_at AtAdmin ++ (known_at AtAgent ++ (known_at Replies ++ known_at AgentReplies)))
+
+-- an operation is known by its number
+known_by_number : (o : Operation) → find (λ other. eqb (number_of other) (number_of o)) everyone ≡ Some o
+unfolding everyone
+known_by_number op.Check = refl
+known_by_number op.SimpleCheck = refl
+known_by_number op.SetBucket = refl
+known_by_number op.RemoveBucket = refl
+known_by_number op.SetPolicies = refl
+known_by_number op.Erase = refl
+known_by_number op.Layout = refl
+known_by_number op.SetTemplate = refl
+known_by_number op.UserSet = refl
+known_by_number op.UserRemove = refl
+known_by_number op.Install = refl
+known_by_number op.Uninstall = refl
+known_by_number op.Listing = refl
+known_by_number op.AdminCheck = refl
+known_by_number op.Stop = refl
+known_by_number op.InstallHybrid = refl
+known_by_number op.Convert = refl
+known_by_number op.Register = refl
+known_by_number op.AgentAnswer = refl
+known_by_number op.Judged = refl
+known_by_number op.FromAgent = refl
+known_by_number op.NotResolved = refl
+known_by_number op.NoAgent = refl
+known_by_number op.AgentGone = refl
+known_by_number op.AgentFull = refl
+known_by_number op.Done = refl
+known_by_number op.Refused = refl
+known_by_number op.ListRow = refl
+known_by_number op.ListEnd = refl
+known_by_number op.StoreFault = refl
+known_by_number op.StoreDamaged = refl
+known_by_number op.Registered = refl
+known_by_number op.KindTaken = refl
+known_by_number op.AgentQuestion = refl
+known_by_number op.UnknownNumber = refl
+
+same_operation : (a b : Operation) → number_of a ≡ number_of b → a ≡ b
+same_operation a b same = is (sym (known_by_number a)
+    ∙ ap (λ (n : ℕ). find (λ other. eqb (number_of other) n) everyone) same ∙ known_by_number b)
+  where
+    is : Some a ≡ Some b → a ≡ b
+    is e = cc
+
+-- the same body has the same operation
+body_operation : (a b : Framed) → body a ≡ body b → operation a.message ≡ operation b.message
+body_operation a b same =
+    let tail : (f : Framed) → drop 2 (body f) ≡ number_of (operation f.message) ∷ fields f.message = λ f.
+    drop_at (to_be_bytes w16 f.sequence) (number_of (operation f.message) ∷ fields f.message) 2 refl in
+    let both : number_of (operation a.message) ∷ fields a.message ≡ number_of (operation b.message) ∷ fields b.message =
+    sym (tail a) ∙ ap (drop 2) same ∙ tail b in
+    same_operation (operation a.message) (operation b.message) cc
+
+pub one_spelling : (one other : Heard) (a b : Framed) (x y : List ℕ) → IsHeard one a → IsHeard other b
     → spelling a ++ x ≡ spelling b ++ y
     → (a ≡ b) × (x ≡ y)
-one_spelling heard a b x y is_a is_b e =
+one_spelling one other a b x y is_a is_b e =
     let size = same_size a b x y (omega (arith, is_a.short)) (omega (arith, is_b.short)) e in
     let n = length (spelling a) in
     let len : length (spelling b) ≡ n = spelling_size b ∙ ap (λ (k : ℕ). 4 + k) (sym size) ∙ sym (spelling_size a) in
     let same : spelling a ≡ spelling b =
     sym (take_at (spelling a) x n refl) ∙ ap (take n) e ∙ take_at (spelling b) y n len in
     let rest : x ≡ y = sym (drop_at (spelling a) x n refl) ∙ ap (drop n) e ∙ drop_at (spelling b) y n len in
-    (ok_is a b (sym (frame_again heard a is_a) ∙ ap (frame_of heard) same ∙ frame_again heard b is_b), rest)
+    let behind : (f : Framed) → drop 4 (spelling f) ≡ body f = λ f.
+    drop_at (to_be_bytes w32 (length (body f))) (body f) 4 refl in
+    let operation_is : operation a.message ≡ operation b.message =
+    body_operation a b (sym (behind a) ∙ ap (drop 4) same ∙ behind b) in
+    let Known : Operation → Type 0 = λ o. operation_of one (number_of o) ≡ Some o in
+    let is : IsHeard one b = record {
+      sequence = is_b.sequence;
+      right = is_b.right;
+      known = subst Known operation_is is_a.known;
+      short = is_b.short;
+    } in
+    (ok_is a b (sym (frame_again one a is_a) ∙ ap (frame_of one) same ∙ frame_again one b is), rest)
 
 -- ---- what a call answers that gives what is read
 

@@ -3,6 +3,8 @@ use Rattle.std.proofs.Common.{◌≡◌, ℕ, ◌+◌, ◌≤◌, Bool, true, fa
 use Rattle.std.proofs.Common.{Option, Some, None, Result, Ok, Err, refl, sym, ap, subst, ◌∙◌, append_assoc, arith}
 use Rattle.std.specs.Int.{w32, from_be_bytes}
 use Rattle.std.specs.List.{flat_map, AllByRecursion}
+use Rattle.std.specs.Option.{option_to_list}
+use Rattle.std.specs.Prelude.{IfSome}
 use Rattle.std.proofs.lemmas.Bool.{ltb-false}
 use Rattle.std.proofs.lemmas.List.{take-append-drop, length-take, take-append-le}
 use Rattle.std.proofs.lemmas.List.Concat.{flat_map-cons}
@@ -24,7 +26,7 @@ record Spelt (heard : Heard) (bytes : List ℕ) (framed : Framed) (rest : List �
   right : IsHeard heard framed
   fits : IsBytes rest
 
-framed_spelt : (heard : Heard) (bytes : List ℕ) (read : Result Framed WireRefusal) (behind : List ℕ) (framed : Framed)
+pub framed_spelt : (heard : Heard) (bytes : List ℕ) (read : Result Framed WireRefusal) (behind : List ℕ) (framed : Framed)
     (rest : List ℕ)
     → front_of read behind ≡ Whole framed rest → (read ≡ Ok framed) × (behind ≡ rest)
 framed_spelt heard bytes (Ok read) behind framed rest e = (cc, cc)
@@ -115,7 +117,7 @@ spelled_heard heard (framed ∷ messages) behind all =
       spelled_heard heard messages behind all.1,
     )
 
-same_whole : (front : Front) (a b : Framed) (x y : List ℕ) → front ≡ Whole a x → front ≡ Whole b y → (a ≡ b) × (x ≡ y)
+pub same_whole : (front : Front) (a b : Framed) (x y : List ℕ) → front ≡ Whole a x → front ≡ Whole b y → (a ≡ b) × (x ≡ y)
 same_whole front a b x y first second = (cc, cc)
 
 -- no other messages are heard in the same bytes
@@ -136,3 +138,15 @@ heard_once heard bytes (m ∷ ms) (n ∷ ns) x y first last second end =
     let behind = subst (λ (rest : List ℕ). Hears heard rest ns y) (sym same.1) second.2 in
     let more = heard_once heard first.0 ms ns x y first.2 last behind end in
     ((λ i. same.0 i ∷ more.0 i), more.1)
+
+-- one more that is as all of them are
+pub all_and_one : (P : Framed → Type 0) (messages : List Framed) (framed : Framed) → AllByRecursion P messages → P framed
+    → AllByRecursion P (messages ++ framed ∷ [])
+all_and_one P [] framed all is = (is, tt)
+all_and_one P (first ∷ messages) framed all is = (all.0, all_and_one P messages framed all.1 is)
+
+-- the first that is taken, if one is, and the others
+pub front_heard : (P : Framed → Type 0) (old new : List Framed) (first : Option Framed)
+    → old ≡ option_to_list first ++ new → AllByRecursion P old → IfSome first P × AllByRecursion P new
+front_heard P old new None same all = (tt, subst (AllByRecursion P) same all)
+front_heard P old new (Some framed) same all = subst (AllByRecursion P) same all

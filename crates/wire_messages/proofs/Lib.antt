@@ -10,3 +10,7 @@ pub mod Streams
 pub mod Settling
 pub mod Appending
 pub mod Hearings
+pub mod Refusing
+pub mod Wanting
+pub mod Lending
+pub mod Templates

@@ -1,11 +1,12 @@
 -- Each message is read exactly as it is spelled.
-use Rattle.std.proofs.Common.{◌≡◌, ℕ, ◌^◌, ◌<◌, List, ◌++◌, Ok, refl, sym, ap, subst}
+use Rattle.std.proofs.Common.{◌≡◌, ℕ, ◌^◌, ◌<◌, true, false, List, ◌++◌, Ok, refl, sym, ap, subst}
 use Rattle.std.specs.Int.{w32, w64}
 use Rattle.wire_messages.specs.declared.messages.Message.{Message}
 use Rattle.wire_messages.specs.declared.messages.Message.TheVariants.{Check, SimpleCheck, SetBucket, RemoveBucket}
 use Rattle.wire_messages.specs.declared.messages.Message.TheVariants.{SetPolicies, Erase, Layout, SetTemplate, UserSet}
 use Rattle.wire_messages.specs.declared.messages.Message.TheVariants.{UserRemove, Install, Uninstall, Listing}
-use Rattle.wire_messages.specs.declared.messages.Message.TheVariants.{AdminCheck, Stop, Register, AgentAnswer, Judged}
+use Rattle.wire_messages.specs.declared.messages.Message.TheVariants.{AdminCheck, Stop, InstallHybrid, Convert}
+use Rattle.wire_messages.specs.declared.messages.Message.TheVariants.{Register, AgentAnswer, Judged}
 use Rattle.wire_messages.specs.declared.messages.Message.TheVariants.{FromAgent, NotResolved, NoAgent, AgentGone}
 use Rattle.wire_messages.specs.declared.messages.Message.TheVariants.{AgentFull, Done, Refused, ListRow, ListEnd}
 use Rattle.wire_messages.specs.declared.messages.Message.TheVariants.{StoreFault, StoreDamaged, Registered, KindTaken}
@@ -75,7 +76,8 @@ message_takes op.UserSet =
     says op.UserSet (λ x. UserSet x.0 x.1) ((number w32) ⊗ field.user_type)
     (pair_exact (number w32) field.user_type exact32 user_type_exact) (λ x good. (refl, refl, good))
 message_takes op.UserRemove = says op.UserRemove UserRemove (number w32) exact32 (λ x good. (refl, refl, good))
-message_takes op.Install = says op.Install Install field.install install_exact (λ x good. (refl, refl, good))
+message_takes op.Install =
+    says op.Install Install (field.install false) (install_exact false) (λ x good. (refl, refl, good))
 message_takes op.Uninstall =
     says op.Uninstall (λ x. Uninstall x.0 x.1) (field.ident ⊗ field.scope)
     (pair_exact field.ident field.scope ident_exact scope_exact) (λ x good. (refl, refl, good))
@@ -87,6 +89,11 @@ message_takes op.AdminCheck =
     (pair_exact field.bucket (flag ⊗ field.question) bucket_exact
     (pair_exact flag field.question flag_exact question_exact)) (λ x good. (refl, refl, good))
 message_takes op.Stop = says op.Stop (λ none. Stop) nothing nothing_exact (λ x good. (refl, refl, good))
+message_takes op.InstallHybrid =
+    says op.InstallHybrid InstallHybrid (field.install true) (install_exact true) (λ x good. (refl, refl, good))
+message_takes op.Convert =
+    says op.Convert (λ x. Convert x.0 x.1) (field.ident ⊗ flag)
+    (pair_exact field.ident flag ident_exact flag_exact) (λ x good. (refl, refl, good))
 message_takes op.Register = says op.Register Register field.agent_kind agent_kind_exact (λ x good. (refl, refl, good))
 message_takes op.AgentAnswer =
     says op.AgentAnswer (λ x. AgentAnswer x.0 x.1) ((number w32) ⊗ flag)
@@ -157,7 +164,8 @@ message_again (UserSet uid kind) end rest good =
     again (λ x. UserSet x.0 x.1) ((number w32) ⊗ field.user_type)
     (pair_exact (number w32) field.user_type exact32 user_type_exact) end rest (uid, kind) good
 message_again (UserRemove uid) end rest good = again UserRemove (number w32) exact32 end rest uid good
-message_again (Install install) end rest good = again Install field.install install_exact end rest install good
+message_again (Install install) end rest good =
+    again Install (field.install false) (install_exact false) end rest install good
 message_again (Uninstall app scope) end rest good =
     again (λ x. Uninstall x.0 x.1) (field.ident ⊗ field.scope)
     (pair_exact field.ident field.scope ident_exact scope_exact) end rest (app, scope) good
@@ -169,6 +177,11 @@ message_again (AdminCheck bucket recursive question) end rest good =
     (pair_exact field.bucket (flag ⊗ field.question) bucket_exact
     (pair_exact flag field.question flag_exact question_exact)) end rest (bucket, (recursive, question)) good
 message_again Stop end rest good = again (λ none. Stop) nothing nothing_exact end rest tt good
+message_again (InstallHybrid install) end rest good =
+    again InstallHybrid (field.install true) (install_exact true) end rest install good
+message_again (Convert name hybrid) end rest good =
+    again (λ x. Convert x.0 x.1) (field.ident ⊗ flag) (pair_exact field.ident flag ident_exact flag_exact) end rest
+    (name, hybrid) good
 message_again (Register kind) end rest good = again Register field.agent_kind agent_kind_exact end rest kind good
 message_again (AgentAnswer asked allowed) end rest good =
     again (λ x. AgentAnswer x.0 x.1) ((number w32) ⊗ flag) (pair_exact (number w32) flag exact32 flag_exact) end rest

@@ -1,5 +1,5 @@
 -- A refusal in a frame is read exactly as it is spelled.
-use Rattle.std.proofs.Common.{◌≡◌, ℕ, ◌^◌, ◌<◌, ◌≤◌, Bool, true, false, cond, ltb, eqb, List, [], ◌∷◌, ◌++◌, length}
+use Rattle.std.proofs.Common.{◌≡◌, ℕ, zero, suc, ◌^◌, ◌<◌, ◌≤◌, Bool, true, false, cond, ltb, eqb, List, [], ◌∷◌, ◌++◌, length}
 use Rattle.std.proofs.Common.{Option, Some, None, Ok, refl, sym, ap, subst, ◌∙◌, arith}
 use Rattle.std.specs.Prelude.{is_some, unwrap_or}
 use Rattle.std.specs.List.{find}
@@ -15,12 +15,12 @@ use Rattle.desk_state.specs.declared.refusals.Refusal.{Refusal}
 use Rattle.desk_state.specs.declared.refusals.Refusal.TheVariants as refusal
 use Rattle.wire_messages.specs.declared.rules.Rule.{Rule}
 use Rattle.wire_messages.specs.declared.rules.Rule.TheVariants.{Reserved, LayoutThere, NoLayout, NoBucket, RootBucket}
-use Rattle.wire_messages.specs.declared.rules.Rule.TheVariants.{BadKind, UnknownUser, OtherPackage, OtherAuthor}
+use Rattle.wire_messages.specs.declared.rules.Rule.TheVariants.{BadKind, UnknownUser, OtherPackage, OtherAuthor, OtherHybrid}
 use Rattle.wire_messages.specs.declared.rules.Rule.TheVariants.{NotInstalled, Limit, Cycle}
 use Rattle.wire_messages.specs.Left.{IsBytes, Left, Reading, ◌>>=◌}
 use Rattle.wire_messages.specs.Format.{Format, number, text, tested, made, ◌⊗◌}
 use Rattle.wire_messages.specs.Field as field
-use Rattle.wire_messages.specs.Refused.{no_text, zero_value, value_below, counted_text, counted_of, all_counted, which}
+use Rattle.wire_messages.specs.Refused.{no_text, zero_value, value_below, yes_value, counted_text, counted_of, all_counted, which}
 use Rattle.wire_messages.specs.Refused.{rule_number, all_rules, rule_of, plain, read_rule, rule_at, refusal_spelled}
 use Rattle.wire_messages.specs.Refused.{refused}
 use Rattle.wire_messages.specs.Right as right
@@ -56,6 +56,19 @@ below_exact : (limit : ℕ) → limit ≤ 2 ^ 64 → IsExact (value_below limit)
 below_exact limit small =
     exact_as (value_below limit) (tested_exact (λ n. ltb n limit) (number w64) (number_exact w64 (2 ^ 64) wide64))
     (λ n good. ltb-true n limit good.1) (λ n less. (omega arith, lt-ltb n limit less))
+
+yes_there : (n : ℕ) → (n < 2 ^ 64) × (ltb n 2 ≡ true) → ((cond (eqb n 1) 1 0) ≡ n) × Unit {0}
+yes_there zero right = (refl, tt)
+yes_there (suc zero) right = (refl, tt)
+yes_there (suc (suc n)) right = absurd (omega (arith, ltb-true _ _ right.1))
+
+yes_back : (b : Bool) → Unit {0} → ((cond b 1 0 < 2 ^ 64) × (ltb (cond b 1 0) 2 ≡ true)) × (eqb (cond b 1 0) 1 ≡ b)
+yes_back true right = ((omega arith, refl), refl)
+yes_back false right = ((omega arith, refl), refl)
+
+yes_exact : IsExact yes_value (λ b. Unit {0})
+yes_exact = seen_exact (λ n. eqb n 1) (λ b. cond b 1 0) (tested (λ n. ltb n 2) (number w64))
+    (tested_exact (λ n. ltb n 2) (number w64) (number_exact w64 (2 ^ 64) wide64)) {Good = λ b. Unit {0}} yes_there yes_back
 
 plain_exact : IsExact plain (λ x. (x.0 ≡ []) × (x.1 ≡ 0))
 plain_exact = pair_exact no_text zero_value no_text_exact zero_exact
@@ -158,6 +171,10 @@ rule_takes OtherAuthor =
     rule_taken OtherAuthor (λ x. refusal.OtherAuthor x.0) (field.author ⊗ zero_value)
     (pair_exact field.author zero_value author_exact zero_exact)
     (λ x good. (ap (λ (v : ℕ). 9 ∷ (field.author ⊗ zero_value).spelled (x.0, v)) (sym good.1), good.0))
+rule_takes OtherHybrid =
+    rule_taken OtherHybrid (λ x. refusal.OtherHybrid x.1) (no_text ⊗ yes_value)
+    (pair_exact no_text yes_value no_text_exact yes_exact)
+    (λ x good. (ap (λ (t : List ℕ). 14 ∷ (no_text ⊗ yes_value).spelled (t, x.1)) (sym good.0), tt))
 rule_takes NotInstalled = rule_taken NotInstalled (λ x. refusal.NotInstalled) plain plain_exact
     (λ x good. (ap (λ (v : List ℕ × ℕ). 10 ∷ plain.spelled v) (λ i. (sym good.0 i, sym good.1 i)), tt))
 rule_takes Limit =
@@ -224,6 +241,9 @@ refusal_again end (refusal.OtherPackage name) rest good =
 refusal_again end (refusal.OtherAuthor name) rest good =
     told 9 (omega arith) OtherAuthor refl (λ x. refusal.OtherAuthor x.0) (field.author ⊗ zero_value)
     (pair_exact field.author zero_value author_exact zero_exact) (λ left. refl) end (name, 0) (good, refl) rest
+refusal_again end (refusal.OtherHybrid hybrid) rest good =
+    told 14 (omega arith) OtherHybrid refl (λ x. refusal.OtherHybrid x.1) (no_text ⊗ yes_value)
+    (pair_exact no_text yes_value no_text_exact yes_exact) (λ left. refl) end ([], hybrid) (refl, tt) rest
 refusal_again end refusal.NotInstalled rest good =
     told 10 (omega arith) NotInstalled refl (λ x. refusal.NotInstalled) plain plain_exact (λ left. refl) end ([], 0)
     (refl, refl) rest

@@ -68,7 +68,7 @@ pub whole_more : (heard : Heard) (bytes more : List ℕ) (framed : Framed) (behi
 whole_more heard bytes more framed behind is =
     first_more heard bytes more (λ partial. absurd cc) ∙ ap (and_more more) is
 
-wrong_front : (heard : Heard) (bytes more : List ℕ) (refusal : WireRefusal) → first_of heard bytes ≡ Wrong refusal
+pub wrong_front : (heard : Heard) (bytes more : List ℕ) (refusal : WireRefusal) → first_of heard bytes ≡ Wrong refusal
     → first_of heard (bytes ++ more) ≡ Wrong refusal
 wrong_front heard bytes more refusal is = first_more heard bytes more (λ partial. absurd cc) ∙ ap (and_more more) is
 

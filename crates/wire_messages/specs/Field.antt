@@ -227,14 +227,16 @@ privileges = record {
   read = λ left. (number w32).read left >>= λ count. rising_names None count.0 count.1;
 }
 
-abbrev pub install : Format Install
-install = seen
+-- an install into a package of a kind, which the operation tells
+abbrev pub install : Bool → Format Install
+install hybrid = seen
     (λ x. record {
       «package» = x.0;
       author = x.1.0;
       app = x.1.1.0;
       scope = x.1.1.1.0;
       privileges = x.1.1.1.1;
+      hybrid = hybrid;
     })
     (λ install. (install.package, (install.author, (install.app, (install.scope, install.privileges)))))
     (ident ⊗ (author ⊗ (ident ⊗ (scope ⊗ privileges))))

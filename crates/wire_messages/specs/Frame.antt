@@ -16,6 +16,9 @@ use Rattle.wire_messages.specs.Format.{number}
 use Rattle.wire_messages.specs.Operation.{number_of, operation_of}
 use Rattle.wire_messages.specs.Message.{operation, fields, read}
 
+abbrev pub with_sequence : ℕ → Message → Framed
+with_sequence sequence message = record { sequence = sequence; message = message }
+
 -- what follows the length
 abbrev pub body : Framed → List ℕ
 body framed = to_be_bytes w16 framed.sequence ++ (number_of (operation framed.message) ∷ fields framed.message)
@@ -34,9 +37,9 @@ length_fault n =
     if nat_lt n least_length then Some (TooShort n) else (if nat_lt most_length n then Some (TooLong n) else None)
 
 -- the message of an operation, if the side knows it
-abbrev pub message_of : Option Operation → ℕ → Left → Reading Message
-message_of (Some operation) n left = read operation left
-message_of None n left = Err (BadOperation n)
+abbrev pub message_at : Option Operation → ℕ → Left → Reading Message
+message_at (Some operation) n left = read operation left
+message_at None n left = Err (BadOperation n)
 
 -- no byte is left
 abbrev pub whole : ℕ → Message × Left → Result Framed WireRefusal
@@ -49,7 +52,7 @@ unfoldable pub body_of : Heard → Left → Result Framed WireRefusal
 body_of heard left = do
   sequence ← (number w16).read left
   operation ← (number w8).read sequence.1
-  message ← message_of (operation_of heard operation.0) operation.0 operation.1
+  message ← message_at (operation_of heard operation.0) operation.0 operation.1
   whole sequence.0 message
 
 abbrev pub unless_fault : Option WireRefusal → Result Framed WireRefusal → Result Framed WireRefusal

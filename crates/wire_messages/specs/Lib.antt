@@ -8,6 +8,7 @@ pub mod Message
 pub mod Right
 pub mod Frame
 pub mod Hearing
+pub mod Lent
 pub mod Stream
 pub mod Commands
 pub mod Appended

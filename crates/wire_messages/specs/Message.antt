@@ -1,11 +1,12 @@
 -- Messages: the operation of each, how its fields are spelled, and what is read as it.
-use Rattle.std.specs.Prelude.{ℕ, List}
+use Rattle.std.specs.Prelude.{ℕ, true, false, List, Option, Some, None}
 use Rattle.std.specs.Int.{w32, w64}
 use Rattle.wire_messages.specs.declared.messages.Message.{Message}
 use Rattle.wire_messages.specs.declared.messages.Message.TheVariants.{Check, SimpleCheck, SetBucket, RemoveBucket}
 use Rattle.wire_messages.specs.declared.messages.Message.TheVariants.{SetPolicies, Erase, Layout, SetTemplate, UserSet}
 use Rattle.wire_messages.specs.declared.messages.Message.TheVariants.{UserRemove, Install, Uninstall, Listing}
-use Rattle.wire_messages.specs.declared.messages.Message.TheVariants.{AdminCheck, Stop, Register, AgentAnswer, Judged}
+use Rattle.wire_messages.specs.declared.messages.Message.TheVariants.{AdminCheck, Stop, InstallHybrid, Convert}
+use Rattle.wire_messages.specs.declared.messages.Message.TheVariants.{Register, AgentAnswer, Judged}
 use Rattle.wire_messages.specs.declared.messages.Message.TheVariants.{FromAgent, NotResolved, NoAgent, AgentGone}
 use Rattle.wire_messages.specs.declared.messages.Message.TheVariants.{AgentFull, Done, Refused, ListRow, ListEnd}
 use Rattle.wire_messages.specs.declared.messages.Message.TheVariants.{StoreFault, StoreDamaged, Registered, KindTaken}
@@ -33,6 +34,8 @@ operation (Uninstall app scope) = op.Uninstall
 operation (Listing bucket filter) = op.Listing
 operation (AdminCheck bucket recursive question) = op.AdminCheck
 operation Stop = op.Stop
+operation (InstallHybrid install) = op.InstallHybrid
+operation (Convert name hybrid) = op.Convert
 operation (Register kind) = op.Register
 operation (AgentAnswer asked allowed) = op.AgentAnswer
 operation (Judged verdict) = op.Judged
@@ -64,12 +67,14 @@ fields Layout = nothing.spelled tt
 fields (SetTemplate template) = field.template.spelled template
 fields (UserSet uid kind) = (number w32 ⊗ field.user_type).spelled (uid, kind)
 fields (UserRemove uid) = (number w32).spelled uid
-fields (Install install) = field.install.spelled install
+fields (Install install) = (field.install false).spelled install
 fields (Uninstall app scope) = (field.ident ⊗ field.scope).spelled (app, scope)
 fields (Listing bucket filter) = (field.bucket ⊗ field.filter).spelled (bucket, filter)
 fields (AdminCheck bucket recursive question) =
     (field.bucket ⊗ (flag ⊗ field.question)).spelled (bucket, (recursive, question))
 fields Stop = nothing.spelled tt
+fields (InstallHybrid install) = (field.install true).spelled install
+fields (Convert name hybrid) = (field.ident ⊗ flag).spelled (name, hybrid)
 fields (Register kind) = field.agent_kind.spelled kind
 fields (AgentAnswer asked allowed) = (number w32 ⊗ flag).spelled (asked, allowed)
 fields (Judged verdict) = field.verdict.spelled verdict
@@ -103,11 +108,13 @@ read op.Layout = made (λ none. Layout) nothing
 read op.SetTemplate = made SetTemplate field.template
 read op.UserSet = made (λ x. UserSet x.0 x.1) (number w32 ⊗ field.user_type)
 read op.UserRemove = made UserRemove (number w32)
-read op.Install = made Install field.install
+read op.Install = made Install (field.install false)
 read op.Uninstall = made (λ x. Uninstall x.0 x.1) (field.ident ⊗ field.scope)
 read op.Listing = made (λ x. Listing x.0 x.1) (field.bucket ⊗ field.filter)
 read op.AdminCheck = made (λ x. AdminCheck x.0 x.1.0 x.1.1) (field.bucket ⊗ (flag ⊗ field.question))
 read op.Stop = made (λ none. Stop) nothing
+read op.InstallHybrid = made InstallHybrid (field.install true)
+read op.Convert = made (λ x. Convert x.0 x.1) (field.ident ⊗ flag)
 read op.Register = made Register field.agent_kind
 read op.AgentAnswer = made (λ x. AgentAnswer x.0 x.1) (number w32 ⊗ flag)
 read op.Judged = made Judged field.verdict
@@ -126,3 +133,14 @@ read op.Registered = made Registered field.kind
 read op.KindTaken = made KindTaken field.kind
 read op.AgentQuestion = made (λ x. AgentQuestion x.0 x.1.0 x.1.1) (number w32 ⊗ (field.question ⊗ field.ruling))
 read op.UnknownNumber = made UnknownNumber (number w32)
+
+-- the commit that a reply tells, if it tells one
+abbrev pub commit_of : Message → Option ℕ
+commit_of (Judged verdict) = Some verdict.commit
+commit_of (FromAgent commit kind asked allowed) = Some commit
+commit_of (NotResolved commit kind) = Some commit
+commit_of (NoAgent commit kind) = Some commit
+commit_of (AgentGone commit asked) = Some commit
+commit_of (AgentFull commit kind most) = Some commit
+commit_of (Done commit erased) = Some commit
+commit_of other = None

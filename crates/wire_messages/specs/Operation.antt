@@ -6,7 +6,7 @@ use Rattle.wire_messages.specs.declared.operations.Operation.{Operation}
 use Rattle.wire_messages.specs.declared.operations.Operation.TheVariants.{Check, SimpleCheck, SetBucket, RemoveBucket}
 use Rattle.wire_messages.specs.declared.operations.Operation.TheVariants.{SetPolicies, Erase, Layout, SetTemplate}
 use Rattle.wire_messages.specs.declared.operations.Operation.TheVariants.{UserSet, UserRemove, Install, Uninstall}
-use Rattle.wire_messages.specs.declared.operations.Operation.TheVariants.{Listing, AdminCheck, Stop, Register}
+use Rattle.wire_messages.specs.declared.operations.Operation.TheVariants.{Listing, AdminCheck, Stop, InstallHybrid, Convert, Register}
 use Rattle.wire_messages.specs.declared.operations.Operation.TheVariants.{AgentAnswer, Judged, FromAgent, NotResolved}
 use Rattle.wire_messages.specs.declared.operations.Operation.TheVariants.{NoAgent, AgentGone, AgentFull, Done, Refused}
 use Rattle.wire_messages.specs.declared.operations.Operation.TheVariants.{ListRow, ListEnd, StoreFault, StoreDamaged}
@@ -29,6 +29,8 @@ number_of Uninstall = 0x19
 number_of Listing = 0x1A
 number_of AdminCheck = 0x1B
 number_of Stop = 0x1C
+number_of InstallHybrid = 0x1D
+number_of Convert = 0x1E
 number_of Register = 0x20
 number_of AgentAnswer = 0x21
 number_of Judged = 0x81
@@ -53,7 +55,7 @@ abbrev pub known_at : Heard → List Operation
 known_at AtClient = Check ∷ SimpleCheck ∷ []
 known_at AtAdmin =
     SetBucket ∷ RemoveBucket ∷ SetPolicies ∷ Erase ∷ Layout ∷ SetTemplate ∷ UserSet ∷ UserRemove ∷ Install ∷ Uninstall
-    ∷ Listing ∷ AdminCheck ∷ Stop ∷ []
+    ∷ Listing ∷ AdminCheck ∷ Stop ∷ InstallHybrid ∷ Convert ∷ []
 known_at AtAgent = Register ∷ AgentAnswer ∷ []
 known_at Replies =
     Judged ∷ FromAgent ∷ NotResolved ∷ NoAgent ∷ AgentGone ∷ AgentFull ∷ Done ∷ Refused ∷ ListRow ∷ ListEnd ∷ StoreFault

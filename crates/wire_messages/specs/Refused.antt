@@ -1,5 +1,5 @@
 -- The refusal of a command in a frame: the number of the rule, a text and a value, each of which some rules have.
-use Rattle.std.specs.Prelude.{ℕ, nat_lt, ◌==◌, List, [], ◌∷◌, length, Option, Some, None, is_some, codes, find}
+use Rattle.std.specs.Prelude.{ℕ, Bool, nat_lt, ◌==◌, if◌then◌else◌, List, [], ◌∷◌, length, Option, Some, None, is_some, codes, find}
 use Rattle.std.specs.Prelude.{unwrap_or}
 use Rattle.std.specs.Int.{w8, w64}
 use Rattle.cynara_keys.specs.Text.{same_text}
@@ -10,7 +10,7 @@ use Rattle.desk_state.specs.declared.refusals.Refusal.{Refusal}
 use Rattle.desk_state.specs.declared.refusals.Refusal.TheVariants as refusal
 use Rattle.wire_messages.specs.declared.rules.Rule.{Rule}
 use Rattle.wire_messages.specs.declared.rules.Rule.TheVariants.{Reserved, LayoutThere, NoLayout, NoBucket, RootBucket}
-use Rattle.wire_messages.specs.declared.rules.Rule.TheVariants.{BadKind, UnknownUser, OtherPackage, OtherAuthor}
+use Rattle.wire_messages.specs.declared.rules.Rule.TheVariants.{BadKind, UnknownUser, OtherPackage, OtherAuthor, OtherHybrid}
 use Rattle.wire_messages.specs.declared.rules.Rule.TheVariants.{NotInstalled, Limit, Cycle}
 use Rattle.wire_messages.specs.Left.{Left, Reading, wrong, ◌>>=◌}
 use Rattle.wire_messages.specs.Format.{Format, number, text, tested, seen, made, ◌⊗◌}
@@ -26,6 +26,10 @@ zero_value = tested (λ n. n == 0) (number w64)
 
 abbrev pub value_below : ℕ → Format ℕ
 value_below limit = tested (λ n. nat_lt n limit) (number w64)
+
+-- 1 for yes and 0 for no, in eight bytes
+abbrev pub yes_value : Format Bool
+yes_value = seen (λ n. n == 1) (λ b. if b then 1 else 0) (tested (λ n. nat_lt n 2) (number w64))
 
 -- what a limit counts, as a word
 abbrev pub counted_text : Counted → List ℕ
@@ -60,6 +64,7 @@ rule_number BadKind = 6
 rule_number UnknownUser = 7
 rule_number OtherPackage = 8
 rule_number OtherAuthor = 9
+rule_number OtherHybrid = 14
 rule_number NotInstalled = 10
 rule_number Limit = 11
 rule_number Cycle = 12
@@ -67,7 +72,7 @@ rule_number Cycle = 12
 abbrev pub all_rules : List Rule
 all_rules =
     Reserved ∷ LayoutThere ∷ NoLayout ∷ NoBucket ∷ RootBucket ∷ BadKind
-    ∷ UnknownUser ∷ OtherPackage ∷ OtherAuthor ∷ NotInstalled ∷ Limit ∷ Cycle ∷ []
+    ∷ UnknownUser ∷ OtherPackage ∷ OtherAuthor ∷ NotInstalled ∷ Limit ∷ Cycle ∷ OtherHybrid ∷ []
 
 abbrev pub rule_of : ℕ → Option Rule
 rule_of n = find (λ rule. rule_number rule == n) all_rules
@@ -87,6 +92,7 @@ read_rule BadKind = made (λ x. refusal.BadKind (record { 0 = x.1 })) (no_text �
 read_rule UnknownUser = made (λ x. refusal.UnknownUser x.1) (no_text ⊗ value_below 4294967296)
 read_rule OtherPackage = made (λ x. refusal.OtherPackage x.0) (ident ⊗ zero_value)
 read_rule OtherAuthor = made (λ x. refusal.OtherAuthor x.0) (author ⊗ zero_value)
+read_rule OtherHybrid = made (λ x. refusal.OtherHybrid x.1) (no_text ⊗ yes_value)
 read_rule NotInstalled = made (λ x. refusal.NotInstalled) plain
 read_rule Limit = made (λ x. refusal.Limit x.0 x.1) (which ⊗ number w64)
 read_rule Cycle = made (λ x. refusal.Cycle x.0) (bucket ⊗ zero_value)
@@ -106,6 +112,7 @@ refusal_spelled (refusal.BadKind kind) = 6 ∷ (no_text ⊗ value_below 65536).s
 refusal_spelled (refusal.UnknownUser uid) = 7 ∷ (no_text ⊗ value_below 4294967296).spelled ([], uid)
 refusal_spelled (refusal.OtherPackage name) = 8 ∷ (ident ⊗ zero_value).spelled (name, 0)
 refusal_spelled (refusal.OtherAuthor name) = 9 ∷ (author ⊗ zero_value).spelled (name, 0)
+refusal_spelled (refusal.OtherHybrid hybrid) = 14 ∷ (no_text ⊗ yes_value).spelled ([], hybrid)
 refusal_spelled refusal.NotInstalled = 10 ∷ plain.spelled ([], 0)
 refusal_spelled (refusal.Limit counted limit) = 11 ∷ (which ⊗ number w64).spelled (counted, limit)
 refusal_spelled (refusal.Cycle name) = 12 ∷ (bucket ⊗ zero_value).spelled (name, 0)

@@ -1,5 +1,5 @@
 -- What the values of a message are that has a spelling. Most of it the types of the fields keep.
-use Rattle.std.specs.Prelude.{◌≡◌, ◌<◌, ◌^◌, ℕ, true, ◌&&◌, List, [], ◌∷◌, length, Option, Some, None, Ok}
+use Rattle.std.specs.Prelude.{◌≡◌, ◌<◌, ◌^◌, ℕ, Bool, true, false, ◌&&◌, List, [], ◌∷◌, length, Option, Some, None, Ok}
 use Rattle.std.specs.List.{AllByRecursion}
 use Rattle.cynara_keys.specs.Name.{is_name}
 use Rattle.cynara_keys.specs.BucketName.{is_bucket_name}
@@ -29,7 +29,8 @@ use Rattle.wire_messages.specs.declared.messages.Message.{Message}
 use Rattle.wire_messages.specs.declared.messages.Message.TheVariants.{Check, SimpleCheck, SetBucket, RemoveBucket}
 use Rattle.wire_messages.specs.declared.messages.Message.TheVariants.{SetPolicies, Erase, Layout, SetTemplate, UserSet}
 use Rattle.wire_messages.specs.declared.messages.Message.TheVariants.{UserRemove, Install, Uninstall, Listing}
-use Rattle.wire_messages.specs.declared.messages.Message.TheVariants.{AdminCheck, Stop, Register, AgentAnswer, Judged}
+use Rattle.wire_messages.specs.declared.messages.Message.TheVariants.{AdminCheck, Stop, InstallHybrid, Convert}
+use Rattle.wire_messages.specs.declared.messages.Message.TheVariants.{Register, AgentAnswer, Judged}
 use Rattle.wire_messages.specs.declared.messages.Message.TheVariants.{FromAgent, NotResolved, NoAgent, AgentGone}
 use Rattle.wire_messages.specs.declared.messages.Message.TheVariants.{AgentFull, Done, Refused, ListRow, ListEnd}
 use Rattle.wire_messages.specs.declared.messages.Message.TheVariants.{StoreFault, StoreDamaged, Registered, KindTaken}
@@ -112,8 +113,8 @@ abbrev pub IsOptionalRow : Option Row → Type 0
 IsOptionalRow None = Unit {0}
 IsOptionalRow (Some row) = IsRow row
 
-abbrev pub IsVerdict : Verdict → Type 0
-IsVerdict verdict =
+abbrev pub IsRightVerdict : Verdict → Type 0
+IsRightVerdict verdict =
     IsNumber8 verdict.commit
     × (
     IsRuling (record { kind = verdict.answer.kind.0; metadata = verdict.answer.metadata })
@@ -134,10 +135,11 @@ AreRising last (next ∷ names) = (comes_after last next ≡ true) × AreRising 
 abbrev pub ArePrivileges : List (List ℕ) → Type 0
 ArePrivileges names = (length names < 2 ^ 32) × (AllByRecursion IsName names × AreRising None names)
 
-abbrev pub IsInstall : Installed → Type 0
-IsInstall install =
-    IsIdent install.package
-    × (IsAuthor install.author × (IsIdent install.app × (IsScope install.scope × ArePrivileges install.privileges)))
+-- an install into a package of the kind
+abbrev pub IsInstall : Bool → Installed → Type 0
+IsInstall hybrid install =
+    (install.hybrid ≡ hybrid) × (IsIdent install.package
+    × (IsAuthor install.author × (IsIdent install.app × (IsScope install.scope × ArePrivileges install.privileges))))
 
 -- ---- refusals
 
@@ -152,6 +154,7 @@ IsTold (refusal.BadKind kind) = IsKind kind
 IsTold (refusal.UnknownUser uid) = IsNumber4 uid
 IsTold (refusal.OtherPackage name) = IsIdent name
 IsTold (refusal.OtherAuthor name) = IsAuthor name
+IsTold (refusal.OtherHybrid hybrid) = Unit {0}
 IsTold refusal.NotInstalled = Unit {0}
 IsTold (refusal.Limit counted limit) = IsNumber8 limit
 IsTold (refusal.Cycle name) = IsBucket name
@@ -171,14 +174,16 @@ IsRight Layout = Unit {0}
 IsRight (SetTemplate template) = IsTemplate template
 IsRight (UserSet uid kind) = IsNumber4 uid × Unit {0}
 IsRight (UserRemove uid) = IsNumber4 uid
-IsRight (Install install) = IsInstall install
+IsRight (Install install) = IsInstall false install
 IsRight (Uninstall app scope) = IsIdent app × IsScope scope
 IsRight (Listing bucket filter) = IsBucket bucket × IsFilter filter
 IsRight (AdminCheck bucket recursive question) = IsBucket bucket × (Unit {0} × IsQuestion question)
 IsRight Stop = Unit {0}
+IsRight (InstallHybrid install) = IsInstall true install
+IsRight (Convert name hybrid) = IsIdent name × Unit {0}
 IsRight (Register kind) = IsKind kind × (is_agent kind.0 ≡ true)
 IsRight (AgentAnswer asked allowed) = IsNumber4 asked × Unit {0}
-IsRight (Judged verdict) = IsVerdict verdict
+IsRight (Judged verdict) = IsRightVerdict verdict
 IsRight (FromAgent commit kind asked allowed) = IsNumber8 commit × (IsKind kind × (IsNumber4 asked × Unit {0}))
 IsRight (NotResolved commit kind) = IsNumber8 commit × IsKind kind
 IsRight (NoAgent commit kind) = IsNumber8 commit × IsKind kind
@@ -195,9 +200,9 @@ IsRight (KindTaken kind) = IsKind kind
 IsRight (AgentQuestion asked question result) = IsNumber4 asked × (IsQuestion question × IsRuling result)
 IsRight (UnknownNumber asked) = IsNumber4 asked
 
--- the numbers in front of a list and of a template's text have room for them, which no type keeps
+-- the number in front of a list has room for it, which no type keeps
 abbrev pub HasRoom : Message → Type 0
 HasRoom (SetPolicies changes) = length changes < 2 ^ 32
-HasRoom (SetTemplate template) = IsTemplate template
 HasRoom (Install install) = length install.privileges < 2 ^ 32
+HasRoom (InstallHybrid install) = length install.privileges < 2 ^ 32
 HasRoom message = Unit {0}

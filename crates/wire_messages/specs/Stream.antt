@@ -1,5 +1,5 @@
 -- Streams of frames: what bytes begin with, the messages that were heard one after the other, and the feeder's state.
-use Rattle.std.specs.Prelude.{◌≡◌, ℕ, ◌+◌, nat_lt, if◌then◌else◌, List, [], ◌∷◌, ◌++◌, length, take, drop, Option, Some}
+use Rattle.std.specs.Prelude.{◌≡◌, ℕ, ◌+◌, ◌-◌, nat_lt, if◌then◌else◌, List, [], ◌∷◌, ◌++◌, length, take, drop, Option, Some}
 use Rattle.std.specs.Prelude.{None, Result, Ok, Err}
 use Rattle.wire_messages.specs.declared.messages.Framed.{Framed}
 use Rattle.wire_messages.specs.declared.operations.Heard.{Heard}
@@ -53,6 +53,15 @@ unfed heard = record { heard = heard; waiting = []; partial = []; failed = None 
 -- the bytes are less than a frame, and what is there of it is right
 abbrev pub IsOpen : Heard → List ℕ → Type 0
 IsOpen heard bytes = first_of heard bytes ≡ Partial
+
+-- how many bytes are wanted until the length of the frame under way is there, or else until the frame is whole
+abbrev pub wanted : List ℕ → ℕ
+wanted partial = if nat_lt (length partial) 4 then 4 - length partial else length_of partial + 4 - length partial
+
+-- one message at most was heard in the bytes, and no byte is behind it
+pub data HearsOne (bytes : List ℕ) (messages : List Framed) (behind : List ℕ) : Type 0 where
+  none : messages ≡ [] → behind ≡ bytes → HearsOne bytes messages behind
+  one : (framed : Framed) → messages ≡ framed ∷ [] → behind ≡ [] → HearsOne bytes messages behind
 
 -- the state after a piece, without a refusal: the messages heard wait behind those before, and the rest is no whole
 -- frame

@@ -1,12 +1,34 @@
 ghost use Rattle.std.specs.Prelude.{◌≡◌, Some, IfOk};
+ghost use Rattle.desk_state.specs.declared.commands.Command.TheVariants.{Install as InstallCommand};
 ghost use Rattle.wire_messages.specs.Commands as words;
+ghost use Rattle.wire_messages.specs.Message.{commit_of};
 ghost use Rattle.wire_messages.specs.Commands.{IsByRule};
 ghost use Rattle.wire_messages.specs.Right.{IsRight, HasRoom};
 
 use crate::Message;
-use crate::right_fields::{command_is_right, refusal_is_right};
+use crate::right_fields::{command_is_right, refusal_is_right, text_is_right};
+use app_registry::Install;
 use desk_state::{Command, Refusal};
 use std::alloc::AllocError;
+
+impl Message {
+    /// The commit that a reply tells: of the policies that it was given under, or of the command that it accepts. `None`
+    /// exactly for a message that tells none.
+    pub fn commit(&self) -> Option<u64>
+        ensures { result ≡ commit_of self.now }
+    {
+        match self {
+            Message::Judged { verdict } => Some(verdict.commit()),
+            Message::FromAgent { commit, .. } => Some(*commit),
+            Message::NotResolved { commit, .. } => Some(*commit),
+            Message::NoAgent { commit, .. } => Some(*commit),
+            Message::AgentGone { commit, .. } => Some(*commit),
+            Message::AgentFull { commit, .. } => Some(*commit),
+            Message::Done { commit, .. } => Some(*commit),
+            _ => None,
+        }
+    }
+}
 
 /// The command of an administrator's message; `None` exactly for a message that is no command.
 pub fn command_of(message: &Message) -> Result<Option<Command>, AllocError>
@@ -36,23 +58,31 @@ pub fn command_of(message: &Message) -> Result<Option<Command>, AllocError>
             kind: *kind,
         })),
         Message::UserRemove { uid } => Ok(Some(Command::UserRemove { uid: *uid })),
-        Message::Install { install } => Ok(Some(Command::Install {
-            install: install.copy()?,
-        })),
+        Message::Install { install } | Message::InstallHybrid { install } => {
+            Ok(Some(Command::Install {
+                install: install.copy()?,
+            }))
+        }
         Message::Uninstall { app, scope } => Ok(Some(Command::Uninstall {
             app: app.copy()?,
             scope: *scope,
+        })),
+        Message::Convert { package, hybrid } => Ok(Some(Command::Convert {
+            package: package.copy()?,
+            hybrid: *hybrid,
         })),
         _ => Ok(None),
     }
 }
 
-/// The message that carries a command, from which `command_of` gives the command back. No field of it is wrong.
+/// The message that carries a command, from which `command_of` gives the command back. No field of it is wrong, where its
+/// lists have fewer than 2^32 elements.
 pub fn message_of(command: &Command) -> Result<Message, AllocError>
     ensures message { IfOk result (λ message. message ≡ words.message_of command.now) }
     ensures back { IfOk result (λ message. words.command_of message ≡ Some command.now) }
     ensures right { IfOk result (λ message. HasRoom message → IsRight message) }
 {
+    text_is_right(command)?;
     command_is_right(command);
     match message_for(command) {
         Ok(message) => Ok(message),
@@ -88,13 +118,28 @@ fn message_for(command: &Command) -> Result<Message, AllocError>
             kind: *kind,
         }),
         Command::UserRemove { uid } => Ok(Message::UserRemove { uid: *uid }),
-        Command::Install { install } => Ok(Message::Install {
-            install: install.copy()?,
-        }),
+        Command::Install { install } => install_message(install),
         Command::Uninstall { app, scope } => Ok(Message::Uninstall {
             app: app.copy()?,
             scope: *scope,
         }),
+        Command::Convert { package, hybrid } => Ok(Message::Convert {
+            package: package.copy()?,
+            hybrid: *hybrid,
+        }),
+    }
+}
+
+/// The message that installs, by the kind of the package.
+fn install_message(install: &Install) -> Result<Message, AllocError>
+    ensures message { IfOk result (λ message. message ≡ words.install_message install.now) }
+    ensures back { IfOk result (λ message. words.command_of message ≡ Some (InstallCommand install.now)) }
+{
+    let install = install.copy()?;
+    if install.hybrid {
+        Ok(Message::InstallHybrid { install })
+    } else {
+        Ok(Message::Install { install })
     }
 }
 
@@ -124,6 +169,7 @@ fn refusal_copy(refusal: &Refusal) -> Result<Refusal, AllocError>
         Refusal::OtherPackage(name) => Ok(Refusal::OtherPackage(name.copy()?)),
         Refusal::OtherAuthor(Some(author)) => Ok(Refusal::OtherAuthor(Some(author.copy()?))),
         Refusal::OtherAuthor(None) => Ok(Refusal::OtherAuthor(None)),
+        Refusal::OtherHybrid(hybrid) => Ok(Refusal::OtherHybrid(*hybrid)),
         Refusal::NotInstalled => Ok(Refusal::NotInstalled),
         Refusal::Limit(counted, limit) => Ok(Refusal::Limit(*counted, *limit)),
         Refusal::Cycle(name) => Ok(Refusal::Cycle(name.copy()?)),

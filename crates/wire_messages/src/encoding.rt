@@ -1,12 +1,14 @@
 ghost use Rattle.wire_messages.specs.Limits.{most_length};
-ghost use Rattle.std.specs.Prelude.{◌≡◌, ◌≤◌, ◌++◌, ◌∷◌, [], length, IfOk, OnOk, IfErr, OnErr};
-ghost use Rattle.wire_messages.specs.Frame.{body, spelling, frame_of, IsTooLong};
+ghost use Rattle.std.specs.Prelude.{◌≡◌, ◌≤◌, ◌++◌, ◌∷◌, [], length, drop, Ok, IfOk, OnOk, IfErr, OnErr};
+ghost use Rattle.std.specs.Int.{w16, w32, to_be_bytes};
+ghost use Rattle.wire_messages.specs.Operation.{number_of};
+ghost use Rattle.wire_messages.specs.Frame.{body, spelling, with_sequence, frame_of, IsTooLong};
 ghost use Rattle.wire_messages.specs.Hearing.{IsHeard};
 ghost use Rattle.wire_messages.specs.declared.operations.Heard.{Heard};
 
 use crate::limits::MOST_LENGTH;
 use crate::message_writers::{operation, put_fields};
-use crate::{EncodeRefusal, Framed};
+use crate::{EncodeRefusal, Framed, Message, Operation};
 use byteorder::{BigEndian, ByteOrder};
 use desk_ports::Bytes;
 use std::alloc::{AllocError, Global};
@@ -34,8 +36,22 @@ pub fn encode_into(frame: &mut Bytes, framed: &Framed) -> Result<(), EncodeRefus
     ensures fits { OnOk result (length (body framed.now) ≤ most_length) }
     ensures refused { IfErr result (IsTooLong framed.now) }
 {
+    encode_message_into(frame, framed.sequence, &framed.message)
+}
+
+/// The same for a message that is lent, and its sequence number.
+pub fn encode_message_into(
+    frame: &mut Bytes,
+    sequence: u16,
+    message: &Message,
+) -> Result<(), EncodeRefusal>
+    ensures spelled { OnOk result (frame.new ≡ spelling (with_sequence sequence message.now)) }
+    ensures emptied { OnErr result (frame.new ≡ []) }
+    ensures fits { OnOk result (length (body (with_sequence sequence message.now)) ≤ most_length) }
+    ensures refused { IfErr result (IsTooLong (with_sequence sequence message.now)) }
+{
     frame.clear();
-    if let Err(error) = put_frame(frame, framed) {
+    if let Err(error) = put_frame(frame, sequence, message) {
         frame.clear();
         return Err(EncodeRefusal::Memory(error));
     }
@@ -51,13 +67,32 @@ pub fn encode_into(frame: &mut Bytes, framed: &Framed) -> Result<(), EncodeRefus
 }
 
 // a length of 0 and what follows it
-fn put_frame(out: &mut Bytes, framed: &Framed) -> Result<(), AllocError>
+fn put_frame(out: &mut Bytes, sequence: u16, message: &Message) -> Result<(), AllocError>
     requires { out.old ≡ [] }
-    ensures { OnOk result (out.new ≡ (0 ∷ 0 ∷ 0 ∷ 0 ∷ []) ++ body framed.now) }
+    ensures { OnOk result (out.new ≡ (0 ∷ 0 ∷ 0 ∷ 0 ∷ []) ++ body (with_sequence sequence message.now)) }
 {
-    let mut sequence = [0; 2];
-    BigEndian::write_u16(&mut sequence, framed.sequence);
-    let operation = operation(&framed.message).number();
-    out.append(&[0, 0, 0, 0, sequence[0], sequence[1], operation])?;
-    put_fields(out, &framed.message)
+    put_front(out, sequence, operation(message))?;
+    put_fields(out, message)
+}
+
+/// A length of 0, the sequence number and the operation, into a buffer without a byte.
+pub fn put_front(out: &mut Bytes, sequence: u16, operation: Operation) -> Result<(), AllocError>
+    requires { out.old ≡ [] }
+    ensures { OnOk result (out.new ≡
+        (0 ∷ 0 ∷ 0 ∷ 0 ∷ []) ++ (to_be_bytes w16 sequence ++ (number_of operation ∷ []))) }
+{
+    let mut number = [0; 2];
+    BigEndian::write_u16(&mut number, sequence);
+    out.append(&[0, 0, 0, 0, number[0], number[1], operation.number()])
+}
+
+/// Writes the length of what follows them over the first four bytes.
+pub fn set_length(frame: &mut Bytes)
+    requires least { 4 ≤ length frame.old }
+    requires most { length frame.old ≤ 1048580 }
+    ensures { frame.new ≡ to_be_bytes w32 (length (drop 4 frame.old)) ++ drop 4 frame.old }
+{
+    let mut front = [0; 4];
+    BigEndian::write_u32(&mut front, (frame.len() - 4) as u32);
+    frame.overwrite_front(&front);
 }

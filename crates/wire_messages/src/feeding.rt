@@ -1,7 +1,9 @@
 ghost use Rattle.std.specs.Prelude.{◌≡◌, ◌≤◌, ◌<◌, ◌+◌, ◌∷◌, [], ◌++◌, Some, None, length};
-ghost use Rattle.std.specs.Prelude.{Err, IfOk, IfErr, OnOk, MatchOption, if◌then◌else◌};
+ghost use Rattle.std.specs.Prelude.{Err, IfOk, IfErr, IfSome, OnOk, MatchOption, if◌then◌else◌};
+ghost use Rattle.std.specs.List.{AllByRecursion};
 ghost use Rattle.wire_messages.specs.Frame.{length_of, length_fault};
-ghost use Rattle.wire_messages.specs.Stream.{Fed, Failed, unfed, IsOpen};
+ghost use Rattle.wire_messages.specs.Hearing.{IsHeard};
+ghost use Rattle.wire_messages.specs.Stream.{Fed, Failed, unfed, IsOpen, wanted};
 ghost use Rattle.wire_messages.specs.parts.Feeding.{IsUpTo, Settled, Unsettled, Stepped, Unstepped};
 
 use crate::decoding::{length_fault, length_of};
@@ -24,6 +26,8 @@ pub struct Feeder {
 }
 
 impl Model for Feeder {
+    ghost use Rattle.std.specs.List.{AllByRecursion};
+    ghost use Rattle.wire_messages.specs.Hearing.{IsHeard};
     ghost use Rattle.wire_messages.specs.Stream.{Feeding, IsOpen};
 
     ghost Value = { Feeding };
@@ -35,7 +39,7 @@ impl Model for Feeder {
       failed = feeder.failed;
     } };
 
-    ghost invariant = { λ feeder. IsOpen feeder.heard feeder.partial };
+    ghost invariant = { λ feeder. IsOpen feeder.heard feeder.partial × AllByRecursion (IsHeard feeder.heard) feeder.waiting.items };
 }
 
 impl Feeder {
@@ -78,6 +82,7 @@ impl Feeder {
     pub fn take(&mut self) -> Option<Framed>
         ensures taken { MatchOption result (self.old.waiting ≡ [])
             (λ framed. self.old.waiting ≡ framed ∷ self.new.waiting) }
+        ensures right { IfSome result (IsHeard self.old.heard) }
         ensures rest { self.new ≡ record self.old { waiting = self.new.waiting } }
         ensures empty { self.old.waiting ≡ [] → self.new ≡ self.old }
     {
@@ -188,8 +193,10 @@ impl Feeder {
         }
     }
 
-    // how many bytes are wanted until the length is there, or else the whole frame
-    fn wanted(&self) -> usize
+    /// How many bytes may be fed until the length of the frame under way is there, or else until the frame is whole: a
+    /// piece of no more has at most one message, and no byte behind it.
+    pub fn wanted(&self) -> usize
+        ensures count { result ≡ wanted self.now.partial }
         ensures some { 0 < result }
         ensures up_to { length self.now.partial < 4 → result + length self.now.partial ≡ 4 }
         ensures whole { 4 ≤ length self.now.partial
@@ -222,6 +229,7 @@ fn settle(
     waiting: &mut VecDeque<Framed>,
 ) -> Result<bool, WireRefusal>
     requires { IsUpTo bytes.now }
+    ensures right { AllByRecursion (IsHeard heard) waiting.old.items → AllByRecursion (IsHeard heard) waiting.new.items }
     ensures settled { IfOk result (λ is_heard. Settled heard bytes.now (if is_heard then [] else bytes.now)
         waiting.old.items waiting.new.items) }
     ensures refused { IfErr result (Unsettled heard bytes.now waiting.old.items waiting.new.items) }

@@ -12,6 +12,8 @@ mod feeding;
 mod fields;
 mod five_texts;
 mod laws;
+mod lent_messages;
+mod lent_writers;
 mod limits;
 mod list_readers;
 mod list_writers;
@@ -29,14 +31,20 @@ mod writers;
 
 pub use commands::{command_of, message_of, refused_of};
 pub use decoding::decode;
-pub use encoding::{encode, encode_into};
+pub use encoding::{encode, encode_into, encode_message_into};
 pub use feeding::Feeder;
 pub use laws::{
-    one_reading, one_spelling, pieces_do_not_matter, what_is_heard_is_spelled,
-    what_is_spelled_is_heard,
+    no_byte_past_a_frame, one_reading, one_refusal, one_spelling, pieces_do_not_matter,
+    what_is_heard_is_spelled, what_is_spelled_is_heard,
+};
+pub use lent_messages::{
+    encode_check_into, encode_judged_into, encode_row_into, encode_verdict_into,
 };
 pub use limits::{LEAST_LENGTH, MOST_FRAME_BYTES, MOST_LENGTH};
 pub use messages::{Framed, Message};
 pub use operations::{Heard, Operation};
 pub use refusals::{EncodeRefusal, WireRefusal};
+pub use right_fields::{
+    agent_question_is_right, answer_is_right, policy_is_right, question_is_right,
+};
 pub use verdicts::{BorrowedRow, PackedVerdict};

@@ -71,8 +71,9 @@ fn name_behind(alloc: Global, last: Option<&Name>, fields: &mut Fields) -> Resul
     Ok(name)
 }
 
-pub fn install(alloc: Global, fields: &mut Fields) -> Result<Install, WireRefusal>
-    ensures { Gives result fields.new (field.install.read fields.old) }
+/// An install into a package of this kind.
+pub fn install(alloc: Global, hybrid: bool, fields: &mut Fields) -> Result<Install, WireRefusal>
+    ensures { Gives result fields.new ((field.install hybrid).read fields.old) }
 {
     let package = ident(alloc, fields)?;
     let author = author(alloc, fields)?;
@@ -86,6 +87,7 @@ pub fn install(alloc: Global, fields: &mut Fields) -> Result<Install, WireRefusa
         app,
         scope,
         privileges,
+        hybrid,
     })
 }
 

@@ -57,8 +57,9 @@ pub fn put_names(out: &mut Bytes, names: &[Name]) -> Result<(), AllocError>
     Ok(())
 }
 
+/// An install without the kind of its package, which the operation tells.
 pub fn put_install(out: &mut Bytes, install: &Install) -> Result<(), AllocError>
-    ensures { Appended result out.old out.new (field.install.spelled install.now) }
+    ensures { Appended result out.old out.new ((field.install install.now.hybrid).spelled install.now) }
 {
     put_ident(out, &install.package)?;
     put_author(out, &install.author)?;
@@ -76,7 +77,7 @@ pub fn put_verdict(out: &mut Bytes, verdict: &PackedVerdict) -> Result<(), Alloc
     put_optional_row(out, &verdict.row())
 }
 
-fn put_optional_row(out: &mut Bytes, row: &Option<BorrowedRow<'_>>) -> Result<(), AllocError>
+pub fn put_optional_row(out: &mut Bytes, row: &Option<BorrowedRow<'_>>) -> Result<(), AllocError>
     ensures { Appended result out.old out.new ((field.optional field.row).spelled row.now) }
 {
     match row {
@@ -119,6 +120,7 @@ pub fn put_refusal(out: &mut Bytes, refusal: &Refusal) -> Result<(), AllocError>
             put_author(out, author)?;
             put8(out, 0)
         }
+        Refusal::OtherHybrid(hybrid) => put_number(out, 14, if *hybrid { 1 } else { 0 }),
         Refusal::NotInstalled => put_plain(out, 10),
         Refusal::Limit(counted, limit) => {
             put1(out, 11)?;

@@ -36,6 +36,8 @@ pub fn message(
         Operation::Listing => listing(alloc, fields),
         Operation::AdminCheck => admin_check(alloc, fields),
         Operation::Stop => Ok(Message::Stop),
+        Operation::InstallHybrid => install_hybrid(alloc, fields),
+        Operation::Convert => convert(alloc, fields),
         Operation::Register => register(fields),
         Operation::AgentAnswer => agent_answer(fields),
         Operation::Judged => judged(alloc, fields),
@@ -127,8 +129,23 @@ fn user_remove(fields: &mut Fields) -> Result<Message, WireRefusal>
 fn install_message(alloc: Global, fields: &mut Fields) -> Result<Message, WireRefusal>
     ensures { Gives result fields.new (message.read Operation.Install fields.old) }
 {
-    let install = install(alloc, fields)?;
+    let install = install(alloc, false, fields)?;
     Ok(Message::Install { install })
+}
+
+fn install_hybrid(alloc: Global, fields: &mut Fields) -> Result<Message, WireRefusal>
+    ensures { Gives result fields.new (message.read Operation.InstallHybrid fields.old) }
+{
+    let install = install(alloc, true, fields)?;
+    Ok(Message::InstallHybrid { install })
+}
+
+fn convert(alloc: Global, fields: &mut Fields) -> Result<Message, WireRefusal>
+    ensures { Gives result fields.new (message.read Operation.Convert fields.old) }
+{
+    let package = ident(alloc, fields)?;
+    let hybrid = flag(fields)?;
+    Ok(Message::Convert { package, hybrid })
 }
 
 fn uninstall(alloc: Global, fields: &mut Fields) -> Result<Message, WireRefusal>

@@ -2,6 +2,7 @@
 ghost use Rattle.std.specs.Prelude.{◌≡◌};
 ghost use Rattle.wire_messages.specs.Appended.{Appended};
 ghost use Rattle.wire_messages.specs.Message as words;
+ghost use Rattle.wire_messages.specs.Operation.{number_of};
 
 use crate::list_writers::{put_changes, put_install, put_refusal, put_verdict};
 use crate::writers::{
@@ -33,6 +34,8 @@ pub fn operation(message: &Message) -> Operation
         Message::Listing { .. } => Operation::Listing,
         Message::AdminCheck { .. } => Operation::AdminCheck,
         Message::Stop => Operation::Stop,
+        Message::InstallHybrid { .. } => Operation::InstallHybrid,
+        Message::Convert { .. } => Operation::Convert,
         Message::Register { .. } => Operation::Register,
         Message::AgentAnswer { .. } => Operation::AgentAnswer,
         Message::Judged { .. } => Operation::Judged,
@@ -51,6 +54,15 @@ pub fn operation(message: &Message) -> Operation
         Message::KindTaken { .. } => Operation::KindTaken,
         Message::AgentQuestion { .. } => Operation::AgentQuestion,
         Message::UnknownNumber { .. } => Operation::UnknownNumber,
+    }
+}
+
+impl Message {
+    /// The number of the message's operation in a frame.
+    pub fn operation(&self) -> u8
+        ensures { result ≡ number_of (words.operation self.now) }
+    {
+        operation(self).number()
     }
 }
 
@@ -97,6 +109,11 @@ pub fn put_fields(out: &mut Bytes, message: &Message) -> Result<(), AllocError>
             put_question(out, question)
         }
         Message::Stop => Ok(()),
+        Message::InstallHybrid { install } => put_install(out, install),
+        Message::Convert { package, hybrid } => {
+            put_ident(out, package)?;
+            put_flag(out, *hybrid)
+        }
         Message::Register { kind } => put_kind(out, *kind),
         Message::AgentAnswer { number, allowed } => {
             put4(out, *number)?;

@@ -42,6 +42,7 @@ pub enum Message {
     UserRemove {
         uid: u32,
     },
+    /// An application of a plain package is installed.
     Install {
         install: Install,
     },
@@ -61,6 +62,15 @@ pub enum Message {
         question: Question,
     },
     Stop,
+    /// An application of a hybrid package is installed.
+    InstallHybrid {
+        install: Install,
+    },
+    /// A package becomes hybrid, or plain.
+    Convert {
+        package: Ident,
+        hybrid: bool,
+    },
     /// An agent says what kind it answers.
     Register {
         kind: Kind,

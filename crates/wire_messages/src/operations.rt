@@ -34,6 +34,8 @@ pub enum Operation {
     Listing,
     AdminCheck,
     Stop,
+    InstallHybrid,
+    Convert,
     Register,
     AgentAnswer,
     Judged,
@@ -88,6 +90,8 @@ impl Operation {
             Operation::Listing => 0x1A,
             Operation::AdminCheck => 0x1B,
             Operation::Stop => 0x1C,
+            Operation::InstallHybrid => 0x1D,
+            Operation::Convert => 0x1E,
             Operation::Register => 0x20,
             Operation::AgentAnswer => 0x21,
             Operation::Judged => 0x81,
@@ -137,6 +141,8 @@ fn at_admin(number: u8) -> Option<Operation>
         0x1A => Some(Operation::Listing),
         0x1B => Some(Operation::AdminCheck),
         0x1C => Some(Operation::Stop),
+        0x1D => Some(Operation::InstallHybrid),
+        0x1E => Some(Operation::Convert),
         _ => None,
     }
 }

@@ -2,7 +2,7 @@
 ghost use Rattle.std.specs.Prelude.{◌≡◌};
 ghost use Rattle.wire_messages.specs.Left.{Gives};
 ghost use Rattle.wire_messages.specs.Format.{made};
-ghost use Rattle.wire_messages.specs.Refused.{no_text, zero_value, value_below, which, counted_of, read_rule};
+ghost use Rattle.wire_messages.specs.Refused.{no_text, zero_value, value_below, yes_value, which, counted_of, read_rule};
 ghost use Rattle.wire_messages.specs.Refused.{refused, plain};
 
 use crate::WireRefusal;
@@ -69,6 +69,10 @@ fn refusal_by(alloc: Global, rule: Rule, fields: &mut Fields) -> Result<Refusal,
             zero(fields)?;
             Ok(Refusal::OtherAuthor(name))
         }
+        Rule::OtherHybrid => {
+            empty(fields)?;
+            Ok(Refusal::OtherHybrid(yes_value(fields)?))
+        }
         Rule::NotInstalled => {
             nothing_more(fields)?;
             Ok(Refusal::NotInstalled)
@@ -134,6 +138,18 @@ fn uid_value(fields: &mut Fields) -> Result<u32, WireRefusal>
         return Err(WireRefusal::BadField(place));
     }
     Ok(value as u32)
+}
+
+// 1 for yes, 0 for no
+fn yes_value(fields: &mut Fields) -> Result<bool, WireRefusal>
+    ensures { Gives result fields.new (yes_value.read fields.old) }
+{
+    let place = fields.place();
+    match fields.number8()? {
+        0 => Ok(false),
+        1 => Ok(true),
+        _ => Err(WireRefusal::BadField(place)),
+    }
 }
 
 // the word of what a limit counts

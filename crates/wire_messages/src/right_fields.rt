@@ -1,16 +1,25 @@
 // What the types of fields keep, told to the contracts of messages that are made of values. These functions change
 // nothing: that a name is a name is what its type knows.
-ghost use Rattle.std.specs.Prelude.{◌<◌, ◌^◌, length};
+ghost use Rattle.std.specs.Prelude.{◌<◌, ◌^◌, length, OnOk};
 ghost use Rattle.std.specs.List.{AllByRecursion};
-ghost use Rattle.wire_messages.specs.Commands.{IsByRule, message_of};
+ghost use Rattle.wire_messages.specs.Commands.{IsByRule, HasRightText, install_message, message_of};
 ghost use Rattle.wire_messages.specs.Right.{IsName, IsBucket, IsIdent, IsAuthor, IsFilterField, IsKey, IsFilter};
-ghost use Rattle.wire_messages.specs.Right.{IsKind, IsRuling, IsChange, IsScope, ArePrivileges, IsInstall, IsTold};
-ghost use Rattle.wire_messages.specs.Right.{IsRight, HasRoom};
+ghost use Rattle.wire_messages.specs.Right.{IsKind, IsRuling, IsChange, IsScope, ArePrivileges, IsInstall, IsTemplate, IsTold};
+ghost use Rattle.wire_messages.specs.Right.{IsRight, HasRoom, IsQuestion, IsRow, IsOptionalRow};
+ghost use Rattle.wire_messages.specs.Lent.{judged};
+ghost use Rattle.std.specs.Option.{option_map};
+ghost use Rattle.bucket_eval.specs.Found.{row_of};
 
+use crate::Message;
 use app_registry::{Ident, Install, NameSet, Scope};
+use bucket_eval::BorrowedAnswer;
 use bucket_store::Change;
-use cynara_keys::{BucketName, Filter, FilterField, Key, Kind, Name, PolicyResult};
+use cynara_keys::{
+    BucketName, Filter, FilterField, Key, Kind, Name, Policy, PolicyResult, Question,
+};
 use desk_state::{Command, Refusal};
+use rule_templates::Template;
+use std::alloc::AllocError;
 
 fn name_is_right(name: &Name)
     ensures { IsName name.now }
@@ -130,7 +139,7 @@ fn privileges_are_right(names: &NameSet)
 }
 
 fn install_is_right(install: &Install)
-    ensures { length install.now.privileges < 2 ^ 32 → IsInstall install.now }
+    ensures { length install.now.privileges < 2 ^ 32 → IsInstall install.now.hybrid install.now }
 {
     ident_is_right(&install.package);
     author_is_right(&install.author);
@@ -139,8 +148,15 @@ fn install_is_right(install: &Install)
     privileges_are_right(&install.privileges);
 }
 
-/// The message of a command has no field that is wrong, where there is room for its list or its template.
+fn install_message_is_right(install: &Install)
+    ensures { HasRoom (install_message install.now) → IsRight (install_message install.now) }
+{
+    install_is_right(install);
+}
+
+/// The message of a command has no field that is wrong, where there is room for its list.
 pub fn command_is_right(command: &Command)
+    requires { HasRightText command.now }
     ensures { HasRoom (message_of command.now) → IsRight (message_of command.now) }
 {
     match command {
@@ -162,12 +178,93 @@ pub fn command_is_right(command: &Command)
         Command::UserRemove { uid } => {
             let _uid = *uid;
         }
-        Command::Install { install } => install_is_right(install),
+        Command::Install { install } => install_message_is_right(install),
         Command::Uninstall { app, scope } => {
             ident_is_right(app);
             scope_is_right(*scope);
         }
+        Command::Convert { package, .. } => ident_is_right(package),
     }
+}
+
+/// A template that the command sets is one that its text is read as, and the text has room in a frame. Makes this text,
+/// where there is one, and drops it.
+pub fn text_is_right(command: &Command) -> Result<(), AllocError>
+    ensures { OnOk result (HasRightText command.now) }
+{
+    match command {
+        Command::SetTemplate { template } => template_is_right(template),
+        Command::SetBucket { .. } => Ok(()),
+        Command::RemoveBucket { .. } => Ok(()),
+        Command::SetPolicies { .. } => Ok(()),
+        Command::Erase { .. } => Ok(()),
+        Command::Layout => Ok(()),
+        Command::UserSet { .. } => Ok(()),
+        Command::UserRemove { .. } => Ok(()),
+        Command::Install { .. } => Ok(()),
+        Command::Uninstall { .. } => Ok(()),
+        Command::Convert { .. } => Ok(()),
+    }
+}
+
+fn template_is_right(template: &Template) -> Result<(), AllocError>
+    ensures { OnOk result (IsTemplate template.now) }
+{
+    let _text = template.text()?;
+    Ok(())
+}
+
+/// A law, which does nothing when it is called: no field of a client's question is wrong.
+pub fn question_is_right(question: &Question)
+    ensures { IsQuestion question.now }
+{
+    let _client = question.client();
+    let _user = question.user();
+    let _privilege = question.privilege();
+}
+
+/// A law, which does nothing when it is called: no field of a row that lists a policy is wrong.
+pub fn policy_is_right(policy: &Policy)
+    ensures { IsRight (Message.ListRow policy.now) }
+{
+    key_is_right(&policy.key);
+    ruling_is_right(&policy.result);
+}
+
+/// A law, which does nothing when it is called: no field of what an agent is asked is wrong.
+pub fn agent_question_is_right(number: u32, question: &Question, ruling: &PolicyResult)
+    ensures { IsRight (Message.AgentQuestion number question.now ruling.now) }
+{
+    question_is_right(question);
+    ruling_is_right(ruling);
+    let _number = number;
+}
+
+/// A law, which does nothing when it is called: no field of the reply is wrong that an answer of a database decides.
+pub fn answer_is_right(commit: u64, answer: &BorrowedAnswer<'_>)
+    ensures { IsRight (judged commit answer.now) }
+{
+    let _commit = commit;
+    ruling_is_right(answer.result);
+    bucket_is_right(answer.bucket);
+    optional_key_is_right(answer.key);
+}
+
+fn optional_key_is_right(key: Option<&Key>)
+    ensures { IsOptionalRow (option_map (λ key. row_of key.now) key.entry) }
+{
+    match key {
+        Some(key) => row_is_right(key),
+        None => {}
+    }
+}
+
+fn row_is_right(key: &Key)
+    ensures { IsRow (row_of key.now) }
+{
+    let _client = key.client();
+    let _user = key.user();
+    let _privilege = key.privilege();
 }
 
 /// A refusal by a rule has no field that is wrong.
@@ -187,6 +284,7 @@ pub fn refusal_is_right(refusal: &Refusal)
         }
         Refusal::OtherPackage(name) => ident_is_right(name),
         Refusal::OtherAuthor(author) => author_is_right(author),
+        Refusal::OtherHybrid(_) => {}
         Refusal::NotInstalled => {}
         Refusal::Limit(_, limit) => {
             let _limit = *limit;

@@ -13,6 +13,7 @@ pub enum Rule {
     UnknownUser,
     OtherPackage,
     OtherAuthor,
+    OtherHybrid,
     NotInstalled,
     Limit,
     Cycle,
@@ -36,6 +37,7 @@ impl Rule {
             10 => Some(Rule::NotInstalled),
             11 => Some(Rule::Limit),
             12 => Some(Rule::Cycle),
+            14 => Some(Rule::OtherHybrid),
             _ => None,
         }
     }

@@ -158,10 +158,7 @@ impl PackedVerdict {
     {
         let answer = &verdict.answer;
         let ruling = BorrowedRuling::of(answer.kind, answer.metadata.as_slice());
-        let row = match &answer.cause.row {
-            Some(row) => Some(borrowed(row)),
-            None => None,
-        };
+        let row = lent_row(&answer.cause.row);
         let bucket = answer.cause.bucket.as_slice();
         PackedVerdict::of(alloc, verdict.commit, &ruling, bucket, row)
     }
@@ -233,6 +230,16 @@ impl PackedVerdict {
             user: self.texts.fourth(),
             privilege: self.texts.fifth(),
         })
+    }
+}
+
+// The texts of the row, if there is one, where they stand.
+pub(crate) fn lent_row(row: &Option<Row>) -> Option<BorrowedRow<'_>>
+    ensures { result ≡ row.now }
+{
+    match row {
+        Some(row) => Some(borrowed(row)),
+        None => None,
     }
 }
 

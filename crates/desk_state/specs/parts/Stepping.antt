@@ -19,7 +19,7 @@ use Rattle.desk_state.specs.declared.commands.Command.{Command}
 use Rattle.desk_state.specs.declared.desks.Applied.{Applied}
 use Rattle.desk_state.specs.Limits.{last_commit}
 use Rattle.desk_state.specs.declared.refusals.Refusal.{Refusal}
-use Rattle.desk_state.specs.declared.refusals.Refusal.TheVariants.{NoBucket, RootBucket, BadKind, UnknownUser, OtherPackage, OtherAuthor, NotInstalled, Limit, Cycle, Memory}
+use Rattle.desk_state.specs.declared.refusals.Refusal.TheVariants.{NoBucket, RootBucket, BadKind, UnknownUser, OtherPackage, OtherAuthor, OtherHybrid, NotInstalled, Limit, Cycle, Memory}
 
 -- the desk after the next command, with these parts
 abbrev pub moved : DeskState → Database → RegistryLists → List TemplateLine → DeskState
@@ -53,6 +53,7 @@ registered_refusal commit (registered.Limit counted most) = or_last commit (Limi
 registered_refusal commit (registered.UnknownUser uid) = UnknownUser uid
 registered_refusal commit (registered.OtherPackage name) = OtherPackage name
 registered_refusal commit (registered.OtherAuthor author) = OtherAuthor author
+registered_refusal commit (registered.OtherHybrid hybrid) = OtherHybrid hybrid
 registered_refusal commit registered.NotInstalled = NotInstalled
 registered_refusal commit (registered.Memory error) = Memory error
 

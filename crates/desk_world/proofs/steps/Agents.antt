@@ -228,7 +228,7 @@ put-steps w next kept link full e =
 
 -- ---- an agent answers, or leaves
 
-gone_stays : (state : EntryState) → is_open state ≡ false → gone_if_open state ≡ state
+pub gone_stays : (state : EntryState) → is_open state ≡ false → gone_if_open state ≡ state
 gone_stays Open e = absurd (true≢false e)
 gone_stays Gone e = refl
 gone_stays (Answered allowed) e = refl
@@ -264,20 +264,20 @@ find_passes p [] entry e = absurd (none-some entry e)
 find_passes p (first ∷ entries) entry e =
     find_passes_step p first (p first) refl (find p entries) entry (find_passes p entries entry) e
 
-answered_run : (run number : ℕ) (allowed : Bool) (entry : AgentEntry)
+pub answered_run : (run number : ℕ) (allowed : Bool) (entry : AgentEntry)
     → (answered run number allowed entry).run ≡ entry.run
 answered_run run number allowed entry =
     cond_each (λ (now : AgentEntry). now.run ≡ entry.run) (entry.run == run && entry.number == number)
     (record entry { state = Answered allowed }) entry refl refl
 
-answered_number : (run number : ℕ) (allowed : Bool) (entry : AgentEntry)
+pub answered_number : (run number : ℕ) (allowed : Bool) (entry : AgentEntry)
     → (answered run number allowed entry).number ≡ entry.number
 answered_number run number allowed entry =
     cond_each (λ (now : AgentEntry). now.number ≡ entry.number) (entry.run == run && entry.number == number)
     (record entry { state = Answered allowed }) entry refl refl
 
 -- the entry of this number is open, and no other is changed that can be found
-answered_grows : (w : World) (number : ℕ) (allowed : Bool) (open_one : AgentEntry)
+pub answered_grows : (w : World) (number : ℕ) (allowed : Bool) (open_one : AgentEntry)
     → entry_at w.run number w.entries ≡ Some open_one → is_open open_one.state ≡ true
     → (run other : ℕ) (entry : AgentEntry) → entry_at run other w.entries ≡ Some entry
     → EntryGrows entry (answered w.run number allowed entry)

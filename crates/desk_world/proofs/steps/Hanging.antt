@@ -27,7 +27,7 @@ use Rattle.desk_world.proofs.steps.Storing.{commit-step, drop-step, accepted_fol
 
 -- ---- what a closing of links and a stop leave of links and entries
 
-shut_grows : (link : Link) (up : Bool) → (link.up ≡ false → up ≡ false) → LinkGrows link (record link { up = up })
+pub shut_grows : (link : Link) (up : Bool) → (link.up ≡ false → up ≡ false) → LinkGrows link (record link { up = up })
 shut_grows link up down =
     record { client = refl; run = refl; entered = λ commit e. e; seen = λ commit e. omega arith; closed = down }
 
@@ -42,7 +42,7 @@ shut_is w link up is = record {
   not_entered = is.not_entered;
 }
 
-down_stays : (up test : Bool) → up ≡ false → (up && test) ≡ false
+pub down_stays : (up test : Bool) → up ≡ false → (up && test) ≡ false
 down_stays up test e = ap (λ up. up && test) e
 
 gone_stays : (state : EntryState) → is_open state ≡ false → gone_if_open state ≡ state

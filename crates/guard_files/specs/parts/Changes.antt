@@ -5,7 +5,7 @@ use Rattle.desk_ports.specs.declared.file_sets.SetFile.{SetFile}
 use Rattle.desk_ports.specs.FileMap.{FileMap, NameSet, with_name, with_content, names_of}
 use Rattle.desk_ports.specs.Disk.{DiskState}
 use Rattle.guard_files.specs.OwnName.{guard_name, list_name, primary_name, backup_name}
-use Rattle.guard_files.specs.ListFile.{list_text}
+use Rattle.guard_files.specs.ListFile.{saved_list}
 
 abbrev pub Change : Type 0
 Change = List ℕ × Option (List ℕ)
@@ -38,7 +38,7 @@ removals names = map (λ name. (name, None)) names
 
 -- the list of the set's names is written where it is placed
 abbrev pub list_write : (List ℕ → List ℕ) → List SetFile → Change
-list_write place set = (place list_name, Some (list_text (names_of set)))
+list_write place set = (place list_name, Some (saved_list (names_of set)))
 
 -- the whole set is written where it is placed
 abbrev pub set_writes : (List ℕ → List ℕ) → List SetFile → List Change
@@ -61,5 +61,5 @@ backups_away backups = (backup_name list_name, None) ∷ removals backups
 
 -- the set stands where it is placed: each of its files, and the list of their names
 pub record Holds (place : List ℕ → List ℕ) (set : List SetFile) (files : FileMap) : Type 0 where
-  pub list : files (place list_name) ≡ Some (list_text (names_of set))
+  pub list : files (place list_name) ≡ Some (saved_list (names_of set))
   pub each : AllByRecursion (λ file. files (place file.name) ≡ Some file.bytes) set

@@ -13,9 +13,9 @@ use Rattle.app_registry.specs.Ident.{is_ident_byte, begins_with_mark}
 use Rattle.rule_templates.specs.Placeholder.{begins_with_tilde}
 use Rattle.rule_templates.specs.TemplateLine.{word_of}
 use Rattle.line_script.specs.Numbers.{number_that}
-use Rattle.line_script.specs.WordForms.{bucket_at, name_at, field_at, filter_field_at, depth_at, result_at, uid_at, user_type_at, scope_at, ident_at, author_at, label_at, request_at}
+use Rattle.line_script.specs.WordForms.{bucket_at, name_at, field_at, filter_field_at, depth_at, result_at, uid_at, user_type_at, scope_at, package_kind_at, ident_at, author_at, label_at, request_at}
 use Rattle.line_reasons.specs.declared.forms.Form.{Form}
-use Rattle.line_reasons.specs.declared.forms.Form.TheVariants.{Bucket, Field, Name, Names, FilterField, Depth, Result, Uid, UserType, Scope, Ident, Author, Label, Request, TemplateLabel, Modes, MoreModes}
+use Rattle.line_reasons.specs.declared.forms.Form.TheVariants.{Bucket, Field, Name, Names, FilterField, Depth, Result, Uid, UserType, Scope, PackageKind, Ident, Author, Label, Request, TemplateLabel, Modes, MoreModes}
 use Rattle.line_reasons.specs.parts.Texts.{begins, begins_one, is_behind, begins_behind, is_run, cut_at, by_cut}
 
 -- ---- which words have a form
@@ -31,6 +31,7 @@ is_word Result text = is_some (result_at text)
 is_word Uid text = is_some (uid_at text)
 is_word UserType text = is_some (user_type_at text)
 is_word Scope text = is_some (scope_at text)
+is_word PackageKind text = is_some (package_kind_at text)
 is_word Ident text = is_some (ident_at text)
 is_word Author text = is_some (author_at text)
 is_word Label text = is_some (label_at text)
@@ -135,6 +136,7 @@ begins_word Result front = begins_result front
 begins_word Uid front = begins_uid front
 begins_word UserType front = begins_one (codes "system" ∷ codes "admin" ∷ codes "normal" ∷ codes "guest" ∷ []) front
 begins_word Scope front = begins front (codes "*") || begins_uid front
+begins_word PackageKind front = begins_one (codes "hybrid" ∷ codes "plain" ∷ []) front
 begins_word Ident front = begins_ident front
 begins_word Author front = begins front (codes "-") || begins_ident front
 begins_word Label front = begins_label front

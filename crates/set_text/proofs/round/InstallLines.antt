@@ -1,5 +1,5 @@
 -- The lines of `apps`, written and read.
-use Rattle.std.proofs.Common.{◌≡◌, ℕ, Bool, true, false, cond, ◌&&◌, decimal, List, [], ◌∷◌, Option, Some, None, refl}
+use Rattle.std.proofs.Common.{◌≡◌, ℕ, ◌==◌, Bool, true, false, not, cond, ◌&&◌, decimal, List, [], ◌∷◌, Option, Some, None, refl}
 use Rattle.std.proofs.Common.{sym, ap, subst, ◌∙◌, arith}
 use Rattle.std.specs.declared.cmp.Ordering.TheVariants.{Less}
 use Rattle.std.specs.Option.{option_map}
@@ -7,6 +7,7 @@ use Rattle.std.specs.List.{AllByRecursion, list_all}
 use Rattle.std.specs.List.Sorted.{IsStrictlySortedBy}
 use Rattle.std.specs.Ordering.{is_lt}
 use Rattle.std.proofs.lemmas.Bool.{and_parts, le-leb}
+use Rattle.std.proofs.lemmas.Bool.Decides.{nat_tests}
 use Rattle.cynara_keys.specs.Text.{same_text, text_cmp}
 use Rattle.cynara_keys.specs.Name.{is_name}
 use Rattle.cynara_keys.specs.Field.{wildcard}
@@ -14,18 +15,20 @@ use Rattle.cynara_keys.proofs.Order.{same_text-≡, text_total}
 use Rattle.app_registry.specs.declared.installs.Install.{Install}
 use Rattle.app_registry.specs.declared.installs.Scope.{Scope}
 use Rattle.app_registry.specs.declared.installs.Scope.TheVariants.{Everyone, One}
-use Rattle.app_registry.proofs.Texts.{decimal-no_wildcard}
+use Rattle.app_registry.specs.Ident.{is_ident_byte, ident_fault}
+use Rattle.app_registry.proofs.Texts.{decimal-no_wildcard, sound_ident}
 use Rattle.bucket_store.proofs.Lists.{All-weaker}
 use Rattle.bucket_store.proofs.Searching.{lt-Less}
 use Rattle.text_lines.specs.Lines.{HasNoNewline}
 use Rattle.set_text.specs.IsSpelt.{IsAuthor, IsScope, IsInstall}
 use Rattle.set_text.specs.Lines.{joined, fields_of}
 use Rattle.set_text.specs.Numbers.{decimal_of}
-use Rattle.set_text.specs.Registry.{last_uid, author_text, scope_text, install_line, is_ident, is_author, author_of}
+use Rattle.set_text.specs.Registry.{last_uid, author_text, package_text, scope_text, install_line, is_ident, is_author, author_of}
+use Rattle.set_text.specs.Registry.{is_marked, name_in}
 use Rattle.set_text.specs.Registry.{scope_of, are_rising, are_privileges, install_of_fields, install_of}
 use Rattle.set_text.proofs.Numbering.{decimal_of-decimal, decimal_of-text}
 use Rattle.set_text.proofs.round.Fields.{IsPlain, fields_of-joined, newline-joined, joined-fields_of}
-use Rattle.set_text.proofs.round.Plain.{plain-is_name, plain-ident, plain-none, plain-wildcard, plain-decimal}
+use Rattle.set_text.proofs.round.Plain.{none-is, plain-is_name, plain-ident, plain-none, plain-wildcard, plain-decimal}
 use Rattle.set_text.proofs.round.Results.{some-when, some-made}
 
 -- ---- the author
@@ -111,24 +114,66 @@ is-rising (name ∷ next ∷ names) rise =
       later,
     )
 
+-- ---- the package and its kind
+
+-- what may stand in an ident is no `+`
+no_plus : (byte : ℕ) → not (is_ident_byte byte) ≡ false → (byte == 43) ≡ false
+no_plus byte h = grind (arith, nat_tests)
+
+plus-plain : (name : List ℕ) → IsPlain name → IsPlain (43 ∷ name)
+plus-plain name plain = record { semicolon = (refl, plain.semicolon); newline = (refl, plain.newline) }
+
+package-plain : (hybrid : Bool) (name : List ℕ) → is_ident name ≡ true → IsPlain (package_text hybrid name)
+package-plain true name is = plus-plain name (plain-ident name is)
+package-plain false name is = plain-ident name is
+
+-- the text of a package says its name and its kind
+package-read : (hybrid : Bool) (name : List ℕ) → is_ident name ≡ true
+    → (name_in (package_text hybrid name) ≡ name) × (is_marked (package_text hybrid name) ≡ hybrid)
+package-read true name is = (refl, refl)
+package-read false [] is = (refl, refl)
+package-read false (byte ∷ bytes) is =
+    let other = no_plus byte (sound_ident (byte ∷ bytes) (none-is (ident_fault (byte ∷ bytes)) is)).none_wrong.0 in
+    (ap (λ b. cond b bytes (byte ∷ bytes)) other, other)
+
+-- and no other text does
+package-spelled : (text : List ℕ) → package_text (is_marked text) (name_in text) ≡ text
+package-spelled [] = refl
+package-spelled (byte ∷ bytes) = by (byte == 43) refl
+  where
+    same : (byte == 43) ≡ true → byte ≡ 43
+    same h = grind (arith, nat_tests)
+
+    by : (b : Bool) → (byte == 43) ≡ b → package_text b (cond b bytes (byte ∷ bytes)) ≡ byte ∷ bytes
+    by true is = ap (λ first. first ∷ bytes) (sym (same is))
+    by false is = refl
+
 -- ---- a line
 
 abbrev made : List ℕ → List ℕ → List ℕ → List (List ℕ) → Scope → Install
 made «package» author app privileges scope = record {
-  «package» = «package»;
+  «package» = name_in «package»;
   author = author_of author;
   app = app;
   scope = scope;
   privileges = privileges;
+  hybrid = is_marked «package»;
 }
 
 abbrev is_form : List ℕ → List ℕ → List ℕ → List (List ℕ) → Bool
-is_form «package» author app privileges = is_ident «package» &&
+is_form «package» author app privileges = is_ident (name_in «package») &&
     (is_author author && (is_ident app && are_privileges privileges))
 
 module _ (install : Install) (is : IsInstall install) where
   abbrev author : List ℕ
   author = author_text install.author
+
+  -- the text of the package
+  abbrev named : List ℕ
+  named = package_text install.hybrid install.«package»
+
+  told : (name_in named ≡ install.«package») × (is_marked named ≡ install.hybrid)
+  told = package-read install.hybrid install.«package» is.«package»
 
   abbrev others : List (List ℕ)
   others = author ∷ install.app ∷ scope_text install.scope ∷ install.privileges
@@ -146,11 +191,13 @@ module _ (install : Install) (is : IsInstall install) where
   )
 
   pub install-newline : HasNoNewline (install_line install)
-  install-newline = newline-joined install.«package» others (plain-ident install.«package» is.«package») others-plain
+  install-newline =
+      newline-joined named others (package-plain install.hybrid install.«package» is.«package») others-plain
 
-  form : is_form install.«package» author install.app install.privileges ≡ true
+  form : is_form named author install.app install.privileges ≡ true
   form =
-      ap (λ b. b && (is_author author && (is_ident install.app && are_privileges install.privileges))) is.«package»
+      ap (λ name. is_ident name && (is_author author && (is_ident install.app && are_privileges install.privileges))) told.0
+      ∙ ap (λ b. b && (is_author author && (is_ident install.app && are_privileges install.privileges))) is.«package»
       ∙ ap (λ b. b && (is_ident install.app && are_privileges install.privileges)) (author-is install.author is.author)
       ∙ ap (λ b. b && are_privileges install.privileges) is.app
       ∙ ap (λ b. b && are_rising install.privileges) (names-are install.privileges is.privileges)
@@ -159,12 +206,16 @@ module _ (install : Install) (is : IsInstall install) where
   pub install-read : install_of (install_line install) ≡ Some install
   install-read =
       ap install_of_fields
-      (fields_of-joined install.«package» others (plain-ident install.«package» is.«package») others-plain)
-      ∙ ap (λ b. cond b (option_map (made install.«package» author install.app install.privileges)
+      (fields_of-joined named others (package-plain install.hybrid install.«package» is.«package») others-plain)
+      ∙ ap (λ b. cond b (option_map (made named author install.app install.privileges)
       (scope_of (scope_text install.scope))) None) form
-      ∙ ap (option_map (made install.«package» author install.app install.privileges))
+      ∙ ap (option_map (made named author install.app install.privileges))
       (scope-read install.scope is.scope)
-      ∙ (λ i. Some (record install { author = author-read install.author is.author i }))
+      ∙ (λ i. Some (record install {
+        «package» = told.0 i;
+        author = author-read install.author is.author i;
+        hybrid = told.1 i;
+      }))
 
 pub install-spelled : (line : List ℕ) (install : Install) → install_of line ≡ Some install
     → (install_line install ≡ line) × IsInstall install
@@ -175,7 +226,7 @@ install-spelled line install h = by (fields_of line) refl h
     by («package» ∷ author ∷ app ∷ scope ∷ privileges) are h =
         let make = made «package» author app privileges in
         let formed = some-when (is_form «package» author app privileges) (option_map make (scope_of scope)) install h in
-        let parts = and_parts (is_ident «package»)
+        let parts = and_parts (is_ident (name_in «package»))
         (is_author author && (is_ident app && are_privileges privileges)) formed.0 in
         let more = and_parts (is_author author) (is_ident app && are_privileges privileges) parts.1 in
         let last = and_parts (is_ident app) (are_privileges privileges) more.1 in
@@ -184,7 +235,7 @@ install-spelled line install h = by (fields_of line) refl h
         let by_author = author-spelled author more.0 in
         let for_scope = scope-spelled scope found.0 found.1 in
         subst (λ (install : Install). (install_line install ≡ line) × IsInstall install) found.2 (
-          (λ i. joined («package» ∷ by_author.0 i ∷ app ∷ for_scope.0 i ∷ privileges))
+          (λ i. joined (package-spelled «package» i ∷ by_author.0 i ∷ app ∷ for_scope.0 i ∷ privileges))
               ∙ joined-fields_of line («package» ∷ author ∷ app ∷ scope ∷ privileges) are,
           record {
             «package» = parts.0;

@@ -11,13 +11,13 @@ use Rattle.std.proofs.lemmas.List.Sums.{sum_by-append}
 use Rattle.cynara_keys.specs.Text.{same_text}
 use Rattle.cynara_keys.specs.declared.limits.Counted.TheVariants.{Users, Packages, Installs, Grants}
 use Rattle.cynara_keys.proofs.Order.{same_text-≡, ≡-same_text}
-use Rattle.app_registry.specs.Install.{install_cmp, same_author}
-use Rattle.app_registry.specs.Refusal.{unknown_scope, is_elsewhere, other_package, is_by_another, other_author}
+use Rattle.app_registry.specs.Install.{install_cmp, same_author, same_kind}
+use Rattle.app_registry.specs.Refusal.{unknown_scope, is_elsewhere, other_package, is_by_another, other_author, is_of_other_kind, other_kind}
 use Rattle.app_registry.specs.Refusal.{owner_fault, over, installs_limit}
 use Rattle.app_registry.specs.Registry.{RegistryLists, packages, grant_count}
 use Rattle.app_registry.specs.Rules.{IsRegistry}
 use Rattle.app_registry.specs.declared.installs.Install.{Install}
-use Rattle.app_registry.specs.declared.refusals.RegistryRefusal.TheVariants.{OtherPackage, OtherAuthor, Limit}
+use Rattle.app_registry.specs.declared.refusals.RegistryRefusal.TheVariants.{OtherPackage, OtherAuthor, OtherHybrid, Limit}
 use Rattle.app_registry.specs.Limits.{most_users, most_packages, most_installs, most_grants}
 use Rattle.app_registry.specs.declared.users.User.{User}
 use Rattle.app_registry.proofs.Counts.{over-fits, or-none, both-none}
@@ -124,6 +124,27 @@ another-own x =
     ap (λ b. same_text x.«package» x.«package» && not b) (author-own x.author)
     ∙ and-false (same_text x.«package» x.«package»)
 
+kind-turn : (a b : Bool) → same_kind a b ≡ same_kind b a
+kind-turn true true = refl
+kind-turn true false = refl
+kind-turn false true = refl
+kind-turn false false = refl
+
+kind-own : (a : Bool) → same_kind a a ≡ true
+kind-own true = refl
+kind-own false = refl
+
+other_kind-turn : (x y : Install) → is_of_other_kind x y ≡ is_of_other_kind y x
+other_kind-turn x y =
+    let «package» = text-turn y.«package» x.«package» in
+    let kind = kind-turn y.hybrid x.hybrid in
+    λ i. «package» i && not (kind i)
+
+other_kind-own : (x : Install) → is_of_other_kind x x ≡ false
+other_kind-own x =
+    ap (λ b. same_text x.«package» x.«package» && not b) (kind-own x.hybrid)
+    ∙ and-false (same_text x.«package» x.«package»)
+
 -- ---- the limits of a front of the installs
 
 names-some : (name : List ℕ) (names : List (List ℕ)) → 1 ≤ length (dedup_from same_text name names)
@@ -179,9 +200,16 @@ module _ (users : List User) (whole : List Install) where
       → AllByRecursion (λ (install : Install). unknown_scope users install.scope ≡ None) values
       → AllByRecursion (λ install. other_package whole install ≡ None) values
       → AllByRecursion (λ install. other_author whole install ≡ None) values
+      → AllByRecursion (λ install. other_kind whole install ≡ None) values
       → AllFit (λ before install. is_none (owner_fault (registry before) install)) before values
-  owners-fit before [] is known one by_one = tt
-  owners-fit before (install ∷ values) is known one by_one =
+  owners-fit before [] is known one by_one of_one = tt
+  owners-fit before (install ∷ values) is known one by_one of_one =
+      let third : find (is_of_other_kind install) whole ≡ None =
+      option_map-none (λ (other : Install). OtherHybrid other.hybrid) (find (is_of_other_kind install) whole) of_one.0 in
+      let kind : other_kind before install ≡ None =
+      ap (option_map (λ (other : Install). OtherHybrid other.hybrid))
+      (find-front (is_of_other_kind install) before (install ∷ values)
+      (sym (ap (find (is_of_other_kind install)) is) ∙ third)) in
       let first : find (is_elsewhere install) whole ≡ None =
       option_map-none (λ (other : Install). OtherPackage other.«package») (find (is_elsewhere install) whole) one.0 in
       let second : find (is_by_another install) whole ≡ None =
@@ -194,9 +222,9 @@ module _ (users : List User) (whole : List Install) where
       ap (option_map (λ (other : Install). OtherAuthor other.author))
       (find-front (is_by_another install) before (install ∷ values)
       (sym (ap (find (is_by_another install)) is) ∙ second)) in (
-        ap is_none (both-none known.0 (both-none elsewhere another)),
+        ap is_none (both-none known.0 (both-none elsewhere (both-none another kind))),
         owners-fit (before ++ install ∷ []) values
-            (is ∙ sym (append_assoc before (install ∷ []) values)) known.1 one.1 by_one.1,
+            (is ∙ sym (append_assoc before (install ∷ []) values)) known.1 one.1 by_one.1 of_one.1,
       )
 
   limits-fit : (before values : List Install) → whole ≡ before ++ values → installs_limit whole ≡ None
@@ -227,7 +255,7 @@ installs-read users installs all is =
     (λ before install. owner_fits users before install && limit_fits before install) [] installs
     (rises-fit install_cmp installs is.installs_rise)
     (fit-both (owner_fits users) limit_fits [] installs
-    (owners-fit users installs [] installs refl is.users_known is.one_package is.one_author)
+    (owners-fit users installs [] installs refl is.users_known is.one_package is.one_author is.one_kind)
     (limits-fit users installs [] installs refl is.installs_fit)))
 
 -- ---- from each line to all installs
@@ -245,14 +273,16 @@ module _ (users : List User) where
     known : AllByRecursion (λ (install : Install). unknown_scope users install.scope ≡ None) values
     one : AllFit (λ before install. is_none (find (is_elsewhere install) before)) before values
     by_one : AllFit (λ before install. is_none (find (is_by_another install) before)) before values
+    of_one : AllFit (λ before install. is_none (find (is_of_other_kind install) before)) before values
 
   owners-whole : (before values : List Install) → AllFit (owner_fits users) before values → Owners before values
-  owners-whole before [] fit = record { known = tt; one = tt; by_one = tt }
+  owners-whole before [] fit = record { known = tt; one = tt; by_one = tt; of_one = tt }
   owners-whole before (install ∷ values) fit =
       let rest = owners-whole (before ++ install ∷ []) values fit.1 in
       let parts = or-none (unknown_scope users install.scope) _
       (none-is (owner_fault (record { users = users; installs = before }) install) fit.0) in
-      let owners = or-none (other_package before install) (other_author before install) parts.1 in
+      let owners = or-none (other_package before install) _ parts.1 in
+      let makers = or-none (other_author before install) (other_kind before install) owners.1 in
       record {
         known = (parts.0, rest.known);
         one = (
@@ -262,8 +292,13 @@ module _ (users : List User) where
         );
         by_one = (
           ap is_none (option_map-none (λ (other : Install). OtherAuthor other.author)
-              (find (is_by_another install) before) owners.1),
+              (find (is_by_another install) before) makers.0),
           rest.by_one,
+        );
+        of_one = (
+          ap is_none (option_map-none (λ (other : Install). OtherHybrid other.hybrid)
+              (find (is_of_other_kind install) before) makers.1),
+          rest.of_one,
         );
       }
 
@@ -295,6 +330,10 @@ installs-spelled users users_text text installs are h =
             (λ install. other_author installs install ≡ None)
             (λ install none. ap (option_map (λ (other : Install). OtherAuthor other.author)) none) installs
             (none-excluded is_by_another another-turn another-own [] installs tt owners.by_one);
+        one_kind = All-weaker (λ install. find (is_of_other_kind install) installs ≡ None)
+            (λ install. other_kind installs install ≡ None)
+            (λ install none. ap (option_map (λ (other : Install). OtherHybrid other.hybrid)) none) installs
+            (none-excluded is_of_other_kind other_kind-turn other_kind-own [] installs tt owners.of_one);
         users_fit = ap (λ b. cond b (Some (Limit Users most_users)) None) (le-ltb most_users (length users) are.few);
         installs_fit = limits-whole [] installs refl (fit-second (owner_fits users) limit_fits [] installs rules);
       },

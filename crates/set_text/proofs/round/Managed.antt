@@ -1,17 +1,17 @@
 -- What users and installs decide, as policies that have a text of their own.
-use Rattle.std.proofs.Common.{◌≡◌, ℕ, ◌<◌, ◌≤◌, ◌^◌, true, decimal, List, [], ◌∷◌, map, Some, is_none, Ok, refl, ap}
+use Rattle.std.proofs.Common.{◌≡◌, ℕ, ◌<◌, ◌≤◌, ◌^◌, Bool, true, false, cond, decimal, List, [], ◌∷◌, map, Some, None, is_none, Ok, refl, ap}
 use Rattle.std.proofs.Common.{◌∙◌, arith}
 use Rattle.std.specs.List.{AllByRecursion}
 use Rattle.cynara_keys.specs.BucketName.{is_bucket_name}
 use Rattle.cynara_keys.specs.Metadata.{is_metadata}
-use Rattle.cynara_keys.specs.Name.{is_name}
+use Rattle.cynara_keys.specs.Name.{is_name, name_fault}
 use Rattle.cynara_keys.specs.PolicyResult.{bucket, allow}
 use Rattle.cynara_keys.specs.declared.fields.Field.{Field}
 use Rattle.cynara_keys.specs.declared.fields.Field.TheVariants.{Any, Exact}
 use Rattle.cynara_keys.specs.declared.keys.Policy.{Policy}
 use Rattle.cynara_keys.proofs.Order.{key_total}
 use Rattle.app_registry.specs.Ident.{ident_fault}
-use Rattle.app_registry.specs.Label.{install_label}
+use Rattle.app_registry.specs.Label.{package_label, app_label, install_label}
 use Rattle.app_registry.specs.Manifest.{scope_field, grant, install_grants, grants, manifest_rows}
 use Rattle.app_registry.specs.Registry.{RegistryLists}
 use Rattle.app_registry.specs.declared.installs.Install.{Install}
@@ -21,7 +21,7 @@ use Rattle.app_registry.specs.declared.users.User.{User}
 use Rattle.app_registry.specs.declared.users.UserType.{UserType}
 use Rattle.app_registry.specs.declared.users.UserType.TheVariants.{System, Admin, Normal, Guest}
 use Rattle.app_registry.proofs.Rising.{AllByRecursion-rising}
-use Rattle.app_registry.proofs.Texts.{name_fault-decimal, name_fault-package_label}
+use Rattle.app_registry.proofs.Texts.{name_fault-decimal, name_fault-package_label, name_fault-app_label}
 use Rattle.bucket_store.proofs.Lists.{All-weaker, All-map}
 use Rattle.bucket_store.proofs.Sound.{policy_total}
 use Rattle.desk_state.specs.Layout.{manifests, type_bucket, link, user_link, main_policies, manifest_policies}
@@ -99,14 +99,21 @@ scope-is : (scope : Scope) → IsScope scope → IsField (scope_field scope)
 scope-is Everyone is = tt
 scope-is (One uid) is = decimal-is uid (omega (arith, is))
 
+-- the label of an install is a name
+label-is : (install : Install) → ident_fault install.«package» ≡ None → ident_fault install.app ≡ None → name_fault (install_label install) ≡ None
+label-is install sound own = by install.hybrid
+  where
+    by : (b : Bool) → name_fault (cond b (app_label install.«package» install.app) (package_label install.«package»)) ≡ None
+    by true = name_fault-app_label install.«package» install.app sound own
+    by false = name_fault-package_label install.«package» sound
+
 grants-are : (install : Install) → IsInstall install → AllByRecursion IsKey (install_grants install)
 grants-are install is =
     All-map IsKey (grant (Exact (install_label install)) (scope_field install.scope)) install.privileges
     (All-weaker (λ name. is_name name ≡ true)
     (λ name. IsKey (grant (Exact (install_label install)) (scope_field install.scope) name))
     (λ name named. record {
-      client = ap is_none (name_fault-package_label install.«package»
-          (none-is (ident_fault install.«package») is.«package»));
+      client = ap is_none (label-is install (none-is (ident_fault install.«package») is.«package») (none-is (ident_fault install.app) is.app));
       user = scope-is install.scope is.scope;
       privilege = named;
     }) install.privileges is.privileges)

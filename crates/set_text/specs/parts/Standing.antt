@@ -4,7 +4,7 @@ use Rattle.std.specs.BTreeMap.{BTreeMap, get}
 use Rattle.std.specs.Option.{option_map, option_or}
 use Rattle.cynara_keys.specs.Text.{same_text, text_cmp}
 use Rattle.cynara_keys.specs.declared.limits.Counted.TheVariants.{Packages, Installs, Grants}
-use Rattle.app_registry.specs.Install.{is_of_app, same_author}
+use Rattle.app_registry.specs.Install.{is_of_app, same_author, same_kind}
 use Rattle.app_registry.specs.Refusal.{over}
 use Rattle.app_registry.specs.Registry.{packages, grant_count}
 use Rattle.app_registry.specs.declared.idents.Ident.{Ident}
@@ -39,6 +39,11 @@ noted install app found = option_or found (if is_of_app app install then Some in
 abbrev pub author_fits : Option Install → Install → Bool
 author_fits None install = true
 author_fits (Some last) install = not (same_text last.package install.package) || same_author last.author install.author
+
+-- the last install is of another package, or of the same kind
+abbrev pub kind_fits : Option Install → Install → Bool
+kind_fits None install = true
+kind_fits (Some last) install = not (same_text last.package install.package) || same_kind last.hybrid install.hybrid
 
 -- ---- counts
 

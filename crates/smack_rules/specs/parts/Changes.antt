@@ -69,3 +69,8 @@ joined (first ∷ later) = joined_from first later
 -- a pair with the modes that its change makes of no access
 abbrev pub pair_modes : PairChange → PairModes
 pair_modes change = record { subject = change.key.subject; object = change.key.object; modes = change.change.added }
+
+-- the change that gives a pair the modes that a table has for it
+abbrev pub pair_change : PairModes → PairChange
+pair_change pair =
+    record { key = record { subject = pair.subject; object = pair.object }; change = record { removed = all_modes; added = pair.modes } }

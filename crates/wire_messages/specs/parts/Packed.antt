@@ -31,3 +31,13 @@ pub record AreShort (texts : Texts) : Type 0 where
 
 abbrev pub IsShortRow : Row → Type 0
 IsShortRow row = (length row.client ≤ most_short_bytes) × ((length row.user ≤ most_short_bytes) × (length row.privilege ≤ most_short_bytes))
+
+abbrev pub IsShortOptionalRow : Option Row → Type 0
+IsShortOptionalRow None = Unit {0}
+IsShortOptionalRow (Some row) = IsShortRow row
+
+-- each text of a verdict is short enough for a fixed place
+pub record IsShortVerdict (verdict : Verdict) : Type 0 where
+  pub metadata : length verdict.answer.metadata ≤ most_short_bytes
+  pub bucket : length verdict.answer.cause.bucket ≤ most_short_bytes
+  pub row : IsShortOptionalRow verdict.answer.cause.row

@@ -1,5 +1,5 @@
-use Rattle.guard_files.proofs.Lists.{listed-text, text-listed}
+use Rattle.guard_files.proofs.Versions.{listing-text, text-listing}
 use Rattle.guard_files.proofs.laws.list_reads_back.Goals as goal
 
 pub returns : goal.returns
-returns c = record { back = listed-text; spelling = text-listed }
+returns c = record { back = listing-text; spelling = text-listing }

@@ -1,17 +1,18 @@
-use Rattle.std.proofs.Common.{◌≡◌, List, ℕ, Some, None, Ok, Err, sym, ◌∙◌, ap, subst}
-use Rattle.std.specs.Prelude.{Vec}
+use Rattle.std.proofs.Common.{◌≡◌, not, List, ℕ, Some, None, Ok, Err, sym, ◌∙◌, ap, subst}
+use Rattle.std.specs.Prelude.{Vec, nat_eq}
 use Rattle.std.specs.declared.alloc.Global.{Global}
 use Rattle.std.specs.Option.{option_map}
-use Rattle.std.specs.List.{list_all}
+use Rattle.std.specs.List.{list_all, starts_with}
 use Rattle.std.proofs.lemmas.Bool.{and_parts}
 use Rattle.desk_ports.specs.declared.file_sets.SetFile.{SetFile}
-use Rattle.desk_ports.specs.FileMap.{NamesRise}
+use Rattle.desk_ports.specs.FileMap.{names_of, NamesRise}
 use Rattle.desk_ports.specs.Disk.{WhereTold}
 use Rattle.guard_files.specs.OwnName.{list_name, is_listable}
-use Rattle.guard_files.specs.ListFile.{listed}
+use Rattle.guard_files.specs.ListFile.{listed, are_listable, is_old_list, version_text}
 use Rattle.guard_files.specs.Recovery.{files_at}
 use Rattle.guard_files.specs.Mounted.{placed, set_read}
-use Rattle.guard_files.proofs.Lists.{text-listed, NamesRise-from}
+use Rattle.guard_files.proofs.Lists.{NamesRise-from}
+use Rattle.guard_files.proofs.Versions.{listed-listable, old_list-is}
 use Rattle.guard_files.proofs.Reading.{unlisted, set_read-unlisted, set_read-bad_list, set_read-whole, set_read-absent, IfDamaged-more}
 use Rattle.guard_files.proofs.set_reading.read_set.Goals as goal
 
@@ -37,13 +38,13 @@ returns-in_default-read-clause-damaged g c before told =
 pub read_files-requires : goal.read_files-requires
 read_files-requires g c =
     let are : listed c.in-Some.bytes ≡ Some c.in-Some-read.list.items = ap listed (sym c.as_slice.ensures) ∙ sym c.in-Ok-read_list.ensures ∙ ap (option_map (λ (names : Vec (List ℕ) Global). names.items)) c.in-Some-read.is in
-    ap (list_all is_listable) c.deref.ensures.value ∙ (and_parts _ _ (text-listed c.in-Some.bytes c.in-Some-read.list.items are).1).0
+    ap (list_all is_listable) c.deref.ensures.value ∙ (and_parts _ _ (listed-listable c.in-Some.bytes c.in-Some-read.list.items are)).0
 
 pub of-requires : goal.of-requires
 of-requires g c =
     let are : listed c.in-Some.bytes ≡ Some c.in-Some-read.list.items = ap listed (sym c.as_slice.ensures) ∙ sym c.in-Ok-read_list.ensures ∙ ap (option_map (λ (names : Vec (List ℕ) Global). names.items)) c.in-Some-read.is in
     subst NamesRise (sym (c.in-Ok-read_files.ensures.named ∙ c.deref.ensures.value))
-    (NamesRise-from c.in-Some-read.list.items (and_parts _ _ (text-listed c.in-Some.bytes c.in-Some-read.list.items are).1).1)
+    (NamesRise-from c.in-Some-read.list.items (and_parts _ _ (listed-listable c.in-Some.bytes c.in-Some-read.list.items are)).1)
 
 pub returns-in-Ok-read_files-clause-read : goal.returns-in-Ok-read_files-clause-read
 returns-in-Ok-read_files-clause-read g c before told =
@@ -66,3 +67,20 @@ returns-clause-damaged g c =
     (ap (files_at (placed c.args.guarded) before.current) (sym c.deref.ensures.value)
     ∙ is before (c.list_content.ensures.kept before told)))
     c.in-Err-read_files.ensures.damaged
+
+pub returns-in_default-clause-version : goal.returns-in_default-clause-version
+returns-in_default-clause-version g c before told =
+    ap is_old_list (sym c.in_default.is ∙ c.in-Ok-list_content.ensures.content before told)
+
+pub returns-in-Ok-read_files-clause-listable : goal.returns-in-Ok-read_files-clause-listable
+returns-in-Ok-read_files-clause-listable g c =
+    let are : listed c.in-Some.bytes ≡ Some c.in-Some-read.list.items = ap listed (sym c.as_slice.ensures) ∙ sym c.in-Ok-read_list.ensures ∙ ap (option_map (λ (names : Vec (List ℕ) Global). names.items)) c.in-Some-read.is in
+    ap are_listable (ap names_of c.of.ensures ∙ c.in-Ok-read_files.ensures.named ∙ c.deref.ensures.value)
+    ∙ listed-listable c.in-Some.bytes c.in-Some-read.list.items are
+
+pub returns-in-Ok-read_files-clause-version : goal.returns-in-Ok-read_files-clause-version
+returns-in-Ok-read_files-clause-version g c before told =
+    let are : listed c.in-Some.bytes ≡ Some c.in-Some-read.list.items = ap listed (sym c.as_slice.ensures) ∙ sym c.in-Ok-read_list.ensures ∙ ap (option_map (λ (names : Vec (List ℕ) Global). names.items)) c.in-Some-read.is in
+    ap not (c.has_version.ensures ∙ ap (λ bytes. starts_with nat_eq bytes version_text) c.as_slice-in-Ok-read_files.ensures)
+    ∙ sym (old_list-is c.in-Some.bytes c.in-Some-read.list.items are)
+    ∙ ap is_old_list (sym c.in-Some.is ∙ c.in-Ok-list_content.ensures.content before told)

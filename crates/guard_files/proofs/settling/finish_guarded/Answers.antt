@@ -1,7 +1,6 @@
-use Rattle.std.proofs.Common.{◌≡◌, true, filter, Some, Ok, ◌∙◌, ap}
+use Rattle.std.proofs.Common.{true, filter, Some, ◌∙◌, ap}
 use Rattle.desk_ports.proofs.Moments.{AddsOnly-then}
-use Rattle.guard_files.specs.Recovery.{recover}
-use Rattle.guard_files.specs.Mounted.{is_left_over}
+use Rattle.guard_files.specs.Mounted.{is_left_over, StandsFor}
 use Rattle.guard_files.proofs.Mounting.{low}
 use Rattle.guard_files.proofs.MountMoments.{over_tidying, ends_guarded}
 use Rattle.guard_files.proofs.settling.finish_guarded.Goals as goal
@@ -12,7 +11,7 @@ returns-in-Ok-tidy-clause-moments g c base bytes told guarded backups are =
     c.deref.ensures.value ∙ c.in-Ok.ensures ∙ ap (λ held. filter (is_left_over true held) c.args.listing.now) c.requires in
     let restored = c.in-Ok-restore.ensures.done base told in
     AddsOnly-then g.D.Disk.moment g.D.Disk.left_since c.args.disk.now c.restore.new.disk c.tidy.new.disk
-    (λ left. recover left ≡ Ok (Some c.args.set.now)) (c.restore.ensures.moments base bytes told guarded backups)
+    (StandsFor base.current (Some c.args.set.now)) (c.restore.ensures.moments base bytes told guarded backups)
     (over_tidying g.D.Disk.state g.D.Disk.moment g.D.Disk.left_since base bytes c.args.set.now c.args.listing.now guarded backups are
     c.restore.new.disk c.tidy.new.disk c.deref.result.now rest restored c.tidy.ensures.moments)
 
@@ -22,7 +21,7 @@ returns-clause-moments g c base bytes told guarded backups are =
     c.deref.ensures.value ∙ c.in-Ok.ensures ∙ ap (λ held. filter (is_left_over true held) c.args.listing.now) c.requires in
     let restored = c.in-Ok-restore.ensures.done base told in
     AddsOnly-then g.D.Disk.moment g.D.Disk.left_since c.args.disk.now c.restore.new.disk c.tidy.new.disk
-    (λ left. recover left ≡ Ok (Some c.args.set.now)) (c.restore.ensures.moments base bytes told guarded backups)
+    (StandsFor base.current (Some c.args.set.now)) (c.restore.ensures.moments base bytes told guarded backups)
     (over_tidying g.D.Disk.state g.D.Disk.moment g.D.Disk.left_since base bytes c.args.set.now c.args.listing.now guarded backups are
     c.restore.new.disk c.tidy.new.disk c.deref.result.now rest restored c.tidy.ensures.moments)
 

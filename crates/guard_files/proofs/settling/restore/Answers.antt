@@ -1,8 +1,7 @@
-use Rattle.std.proofs.Common.{◌≡◌, filter, Some, Ok, ◌∙◌, ap}
+use Rattle.std.proofs.Common.{filter, Some, ◌∙◌, ap}
 use Rattle.desk_ports.proofs.Moments.{AddsOnly-then}
-use Rattle.guard_files.specs.Recovery.{recover}
-use Rattle.guard_files.specs.Mounted.{goes}
-use Rattle.guard_files.proofs.MountMoments.{over_renewal, told_renewal, over_fall}
+use Rattle.guard_files.specs.Mounted.{goes, StandsFor}
+use Rattle.guard_files.proofs.MountMoments.{over_renewal, told_primaries, told_renewal, over_fall}
 use Rattle.guard_files.proofs.settling.restore.Goals as goal
 
 pub returns-in-Err-save_primaries-clause-moments : goal.returns-in-Err-save_primaries-clause-moments
@@ -24,7 +23,7 @@ returns-in-Ok-lower_guard-clause-moments g c base bytes told guarded backups =
     c.args.disk.now c.save_primaries.new.disk c.deref.result.now c.as_slice-2.result.now gone c.as_slice-2.ensures.files told
     c.in-Ok-save_primaries.ensures.done in
     AddsOnly-then g.D.Disk.moment g.D.Disk.left_since c.args.disk.now c.save_primaries.new.disk c.lower_guard.new.disk
-    (λ left. recover left ≡ Ok (Some c.args.set.now)) renewal
+    (StandsFor base.current (Some c.args.set.now)) renewal
     (over_fall g.D.Disk.state g.D.Disk.moment g.D.Disk.left_since base bytes c.args.set.now c.args.listing.now guarded backups
     c.save_primaries.new.disk c.lower_guard.new.disk renewed c.lower_guard.ensures.moments)
 
@@ -40,6 +39,14 @@ returns-clause-moments g c base bytes told guarded backups =
     c.args.disk.now c.save_primaries.new.disk c.deref.result.now c.as_slice-2.result.now gone c.as_slice-2.ensures.files told
     c.in-Ok-save_primaries.ensures.done in
     AddsOnly-then g.D.Disk.moment g.D.Disk.left_since c.args.disk.now c.save_primaries.new.disk c.lower_guard.new.disk
-    (λ left. recover left ≡ Ok (Some c.args.set.now)) renewal
+    (StandsFor base.current (Some c.args.set.now)) renewal
     (over_fall g.D.Disk.state g.D.Disk.moment g.D.Disk.left_since base bytes c.args.set.now c.args.listing.now guarded backups
     c.save_primaries.new.disk c.lower_guard.new.disk renewed c.lower_guard.ensures.moments)
+
+pub returns-in-Ok-lower_guard-clause-done : goal.returns-in-Ok-lower_guard-clause-done
+returns-in-Ok-lower_guard-clause-done g c base told =
+    let gone = c.deref.ensures.value ∙ c.in-Ok.ensures ∙ ap (λ held. filter (goes held) c.args.listing.now) c.requires in
+    c.in-Ok-lower_guard.ensures.done _
+    (told_primaries g.D.Disk.state base c.args.set.now (filter (goes (Some c.args.set.now)) c.args.listing.now) c.args.disk.now
+    c.save_primaries.new.disk c.deref.result.now c.as_slice-2.result.now gone c.as_slice-2.ensures.files told
+    c.in-Ok-save_primaries.ensures.done)

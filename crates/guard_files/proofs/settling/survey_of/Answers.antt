@@ -15,7 +15,12 @@ returns-in-Ok-read_set-clause-done g c before told =
     let listed = c.in-Ok-names.ensures.listed (with_all_durable before) told_1 in
     let guard = c.has_guard-guarded.ensures ∙ ap (λ (names : List (List ℕ)). is_among names guard_name) c.deref.ensures.value ∙ guard_is before.current c.in-Ok-names.listing.items listed in (
       c.in-Ok-read_set.ensures.kept (with_all_durable before) told_2,
-      record { listed = listed; guard = guard; read = c.in-Ok-read_set.ensures.read (with_all_durable before) told_2 },
+      record {
+        listed = listed;
+        guard = guard;
+        old = c.in-Ok-read_set.ensures.version (with_all_durable before) told_2;
+        read = c.in-Ok-read_set.ensures.read (with_all_durable before) told_2;
+      },
     )
 
 pub returns-in-Err-read_set-clause-damaged : goal.returns-in-Err-read_set-clause-damaged

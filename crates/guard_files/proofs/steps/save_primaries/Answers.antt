@@ -2,7 +2,7 @@ use Rattle.std.proofs.Common.{[], ◌∷◌, ◌++◌, Some, subst, sym, append_
 use Rattle.desk_ports.specs.FileMap.{names_of}
 use Rattle.desk_ports.specs.Disk.{Gives, Disturbs}
 use Rattle.guard_files.specs.OwnName.{primary_name, list_name}
-use Rattle.guard_files.specs.ListFile.{list_text}
+use Rattle.guard_files.specs.ListFile.{saved_list}
 use Rattle.guard_files.specs.parts.Changes.{removals, writes, list_write, set_writes, primary_changes}
 use Rattle.guard_files.proofs.Rows.{IsAfter, IsAfter-first, IsAfter-first_failed, IsAfter-more, IsAfter-failed, IsAfter-row, IsAfter-row_failed, IsAfter-durable, IsAfter-synced, IsAfter-unsynced}
 use Rattle.guard_files.proofs.steps.save_primaries.Goals as goal
@@ -14,14 +14,14 @@ listed g c =
     let assoc = append_assoc (removals c.args.gone.now) (writes primary_name c.args.files.now) (list_write primary_name c.args.files.now ∷ []) in
     subst (λ done. IsAfter g.D.Disk.state g.D.Disk.moment g.D.Disk.left_since (primary_changes c.args.gone.now c.args.files.now) done c.args.disk.now c.write.new.self) assoc
     (IsAfter-more g.D.Disk.state g.D.Disk.moment g.D.Disk.left_since (primary_changes c.args.gone.now c.args.files.now) (removals c.args.gone.now ++ writes primary_name c.args.files.now) []
-    list_name (Some (list_text (names_of c.args.files.now))) c.args.disk.now c.write_primaries.new.disk c.write.new.self (sym assoc)
+    list_name (Some (saved_list (names_of c.args.files.now))) c.args.disk.now c.write_primaries.new.disk c.write.new.self (sym assoc)
     (IsAfter-row g.D.Disk.state g.D.Disk.moment g.D.Disk.left_since (primary_changes c.args.gone.now c.args.files.now) (removals c.args.gone.now) (writes primary_name c.args.files.now)
     (list_write primary_name c.args.files.now ∷ []) c.args.disk.now c.remove_files.new.disk c.write_primaries.new.disk
     (sym (append_assoc (removals c.args.gone.now) (writes primary_name c.args.files.now) (list_write primary_name c.args.files.now ∷ [])))
     (IsAfter-first g.D.Disk.state g.D.Disk.moment g.D.Disk.left_since (removals c.args.gone.now) (set_writes primary_name c.args.files.now)
     c.args.disk.now c.remove_files.new.disk c.in_ok-remove_files.ensures.done c.remove_files.ensures.moments)
     c.in_ok-write_primaries.ensures.done c.write_primaries.ensures.moments)
-    (subst (λ name. Gives (g.D.Disk.state c.write_primaries.new.disk) name (Some (list_text (names_of c.args.files.now))) (g.D.Disk.state c.write.new.self)) c.requires.list_name
+    (subst (λ name. Gives (g.D.Disk.state c.write_primaries.new.disk) name (Some (saved_list (names_of c.args.files.now))) (g.D.Disk.state c.write.new.self)) c.requires.list_name
     (subst (λ bytes. Gives (g.D.Disk.state c.write_primaries.new.disk) c.args.list_file.now (Some bytes) (g.D.Disk.state c.write.new.self)) c.requires.list
     c.in_ok-write.ensures.written))
     c.write.ensures.time)
@@ -44,7 +44,7 @@ pub returns-in_err-write-clause-moments : goal.returns-in_err-write-clause-momen
 returns-in_err-write-clause-moments g c =
     let assoc = append_assoc (removals c.args.gone.now) (writes primary_name c.args.files.now) (list_write primary_name c.args.files.now ∷ []) in
     IsAfter-failed g.D.Disk.state g.D.Disk.moment g.D.Disk.left_since (primary_changes c.args.gone.now c.args.files.now) (removals c.args.gone.now ++ writes primary_name c.args.files.now) []
-    list_name (Some (list_text (names_of c.args.files.now))) c.args.disk.now c.write_primaries.new.disk c.write.new.self (sym assoc)
+    list_name (Some (saved_list (names_of c.args.files.now))) c.args.disk.now c.write_primaries.new.disk c.write.new.self (sym assoc)
     (IsAfter-row g.D.Disk.state g.D.Disk.moment g.D.Disk.left_since (primary_changes c.args.gone.now c.args.files.now) (removals c.args.gone.now) (writes primary_name c.args.files.now)
     (list_write primary_name c.args.files.now ∷ []) c.args.disk.now c.remove_files.new.disk c.write_primaries.new.disk
     (sym (append_assoc (removals c.args.gone.now) (writes primary_name c.args.files.now) (list_write primary_name c.args.files.now ∷ [])))

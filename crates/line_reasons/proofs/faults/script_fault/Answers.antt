@@ -1,5 +1,5 @@
 use Rattle.std.proofs.Common.{subst}
-use Rattle.line_script.specs.Grammar.{step_at}
+use Rattle.line_script.specs.Grammar.{any_length_step_at}
 use Rattle.line_reasons.specs.parts.Grounds.{ground_of}
 use Rattle.line_reasons.specs.parts.Places.{Finds}
 use Rattle.line_reasons.specs.declared.grounds.Ground.{Ground}
@@ -10,5 +10,5 @@ use Rattle.line_reasons.proofs.faults.script_fault.Goals as goal
 pub returns : goal.returns
 returns c = λ block at.
     let Found : Ground → Type 0 = λ ground. Finds ground c.args.line.now c.fault_at.result in
-    explains (step_at block) (ground_of c.args.spot) (steps_are block c.args.spot at) c.args.line.now c.fault_at.result
+    explains (any_length_step_at block) (ground_of c.args.spot) (steps_are block c.args.spot at) c.args.line.now c.fault_at.result
     (subst Found c.of.ensures c.fault_at.ensures)

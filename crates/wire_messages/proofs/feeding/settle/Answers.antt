@@ -7,6 +7,8 @@ use Rattle.wire_messages.specs.Frame.{length_of, length_fault, frame_of}
 use Rattle.wire_messages.specs.Stream.{Whole, first_of, front_of}
 use Rattle.wire_messages.proofs.Settling.{kept, short_open, begins_wrong, length_wrong, not_finished, finished}
 use Rattle.wire_messages.proofs.Settling.{heard_whole, refused_whole}
+use Rattle.wire_messages.specs.Hearing.{IsHeard}
+use Rattle.wire_messages.proofs.Hearings.{all_and_one}
 use Rattle.wire_messages.proofs.feeding.settle.Goals as goal
 
 pub returns-then-bytes-lt4-clause-settled : goal.returns-then-bytes-lt4-clause-settled
@@ -60,3 +62,9 @@ returns-in-Err-clause-refused c =
       waiting = refl;
       wrong = refused_whole c.args.heard bytes c.in-Err.refusal (finished c.args.heard bytes long none same) refused;
     }
+
+pub returns-in-Ok-push_back-clause-right : goal.returns-in-Ok-push_back-clause-right
+returns-in-Ok-push_back-clause-right c all =
+    let pushed : c.push_back.new.self.items ≡ c.args.waiting.now.items ++ c.in-Ok.framed ∷ [] = search rules in
+    rw pushed
+    (all_and_one (IsHeard c.args.heard) c.args.waiting.now.items c.in-Ok.framed all c.in-Ok.ensures.found.0)

@@ -1,6 +1,6 @@
 use Rattle.std.proofs.Common.{◌≡◌, Ok, ap, sym, ◌∙◌}
 use Rattle.desk_keeper.specs.Kept.{desk_of_set}
-use Rattle.desk_keeper.proofs.Keeping.{moments-stand, store-damage, set-damage, at-rest-kept, kept-of}
+use Rattle.desk_keeper.proofs.Keeping.{moments-stand, store-damage, set-damage, at-rest-kept, kept-of, store-unchanged, set-unchanged}
 use Rattle.desk_keeper.proofs.folders.KeptDesk.find.Goals as goal
 use Rattle.desk_keeper.proofs.folders.KeptDesk.find.Given.{Over}
 
@@ -39,3 +39,13 @@ pub returns-in-Ok-desk_of-clause-moments : goal.returns-in-Ok-desk_of-clause-mom
 returns-in-Ok-desk_of-clause-moments g c before told =
     moments-stand g.D.Disk.moment g.D.Disk.left_since c.args.disk.now c.find.new.disk before
     (c.in-Ok.ensures.moments before told)
+
+pub returns-in-Err-clause-unchanged : goal.returns-in-Err-clause-unchanged
+returns-in-Err-clause-unchanged g c =
+    rw c.refusal_of.ensures
+    (store-unchanged (g.D.Disk.state c.args.disk.now) (g.D.Disk.state c.find.new.disk) c.in-Err.refusal c.in-Err.ensures.refused.damaged)
+
+pub returns-in-Err-desk_of-clause-unchanged : goal.returns-in-Err-desk_of-clause-unchanged
+returns-in-Err-desk_of-clause-unchanged g c =
+    set-unchanged (g.D.Disk.state c.args.disk.now) (g.D.Disk.state c.find.new.disk) c.in-Ok.found c.in-Err-desk_of.refusal
+    c.in-Ok.ensures.held

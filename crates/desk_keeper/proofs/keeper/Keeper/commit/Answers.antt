@@ -12,7 +12,7 @@ returns-in-Err-clause-moments g c before told kept =
     subst (λ (prepared : Commit). LeavesOnly g.D.Disk.moment g.D.Disk.left_since c.args.self.now.vault.disk.now
     c.replace.new.self.disk.now (IsBeforeOrAfter c.args.self.now.desk prepared.desk)) c.prepared.view_is
     (moments-one-of g.D.Disk.moment g.D.Disk.left_since c.args.self.now.vault.disk.now c.replace.new.self.disk.now
-    c.args.self.now.desk c.prepared.inside.desk c.args.self.now.vault.held c.prepared.inside.save.set kept.stands
+    before c.args.self.now.desk c.prepared.inside.desk c.args.self.now.vault.held c.prepared.inside.save.set kept.stands
     c.prepared.invariant
     (c.replace.ensures.moments before told kept.settled))
 
@@ -28,6 +28,6 @@ returns-clause-moments g c before told kept =
     subst (λ (prepared : Commit). LeavesOnly g.D.Disk.moment g.D.Disk.left_since c.args.self.now.vault.disk.now
     c.replace.new.self.disk.now (IsBeforeOrAfter c.args.self.now.desk prepared.desk)) c.prepared.view_is
     (moments-one-of g.D.Disk.moment g.D.Disk.left_since c.args.self.now.vault.disk.now c.replace.new.self.disk.now
-    c.args.self.now.desk c.prepared.inside.desk c.args.self.now.vault.held c.prepared.inside.save.set kept.stands
+    before c.args.self.now.desk c.prepared.inside.desk c.args.self.now.vault.held c.prepared.inside.save.set kept.stands
     c.prepared.invariant
     (c.replace.ensures.moments before told kept.settled))

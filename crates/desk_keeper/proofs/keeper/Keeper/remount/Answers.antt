@@ -3,7 +3,7 @@ use Rattle.std.proofs.lemmas.Bool.Decides.{nat_tests}
 use Rattle.desk_keeper.specs.parts.Reading.{RefusesSet}
 use Rattle.desk_keeper.specs.Kept.{desk_of_set}
 use Rattle.desk_keeper.proofs.Keeping.{moments-stand, store-damage, set-damage, older-damage, first-damage}
-use Rattle.desk_keeper.proofs.Keeping.{at-rest-kept, kept-of}
+use Rattle.desk_keeper.proofs.Keeping.{at-rest-kept, kept-of, store-unchanged, set-unchanged}
 use Rattle.desk_keeper.proofs.keeper.Keeper.remount.Goals as goal
 
 pub returns-in-Err-clause-moments : goal.returns-in-Err-clause-moments
@@ -55,3 +55,19 @@ pub returns-clause-moments : goal.returns-clause-moments
 returns-clause-moments g c before told =
     moments-stand g.D.Disk.moment g.D.Disk.left_since c.args.self.now.vault.disk.now c.remount.new.self.disk.now before
     (c.remount.ensures.moments before told)
+
+pub returns-in-Err-clause-unchanged : goal.returns-in-Err-clause-unchanged
+returns-in-Err-clause-unchanged g c =
+    rw c.refusal_of.ensures
+    (store-unchanged (g.D.Disk.state c.args.self.now.vault.disk.now) (g.D.Disk.state c.remount.new.self.disk.now) c.in-Err.refusal
+    c.in-Err.ensures.damaged)
+
+pub returns-in-Err-desk_of-clause-unchanged : goal.returns-in-Err-desk_of-clause-unchanged
+returns-in-Err-desk_of-clause-unchanged g c =
+    set-unchanged (g.D.Disk.state c.args.self.now.vault.disk.now) (g.D.Disk.state c.remount.new.self.disk.now)
+    c.remount.new.self.held c.in-Err-desk_of.refusal c.in_default.ensures.held
+
+pub returns-then-commit-clause-unchanged : goal.returns-then-commit-clause-unchanged
+returns-then-commit-clause-unchanged g c =
+    set-unchanged (g.D.Disk.state c.args.self.now.vault.disk.now) (g.D.Disk.state c.remount.new.self.disk.now)
+    c.remount.new.self.held c.older.result c.in_default.ensures.held

@@ -1,11 +1,13 @@
 use Rattle.std.proofs.Common.{◌≡◌, List, None, true, find, refl, sym, ap, ◌∙◌, subst}
-use Rattle.std.specs.List.{flat_map, list_any}
+use Rattle.std.specs.List.{AllByRecursion, flat_map, list_any}
 use Rattle.bucket_store.specs.Change.{with_changes}
 use Rattle.bucket_store.specs.Refusal.{named_by, no_bucket}
 use Rattle.bucket_store.specs.declared.policy_changes.Change.{Change}
+use Rattle.app_registry.specs.Ident.{ident_fault}
 use Rattle.app_registry.specs.Refusal as registry
 use Rattle.app_registry.specs.Install.{is_of_app, is_install_of}
 use Rattle.app_registry.specs.Registry.{RegistryLists, without_install}
+use Rattle.app_registry.specs.declared.installs.Install.{Install}
 use Rattle.desk_state.specs.Layout.{has_layout, settled}
 use Rattle.desk_state.specs.Rules.{Refuses}
 use Rattle.desk_state.specs.declared.commands.Command.{Command}
@@ -33,9 +35,13 @@ settle-requires c =
     let has : has_layout desk.database ≡ true = laid_known (has_layout desk.database) c.requires.known in
     let registries : c.in-Ok.registry ≡ without_install desk.registry c.args.app.now c.args.scope =
     c.in-Ok.ensures.registry ∙ ap (λ (lists : RegistryLists). without_install lists c.args.app.now c.args.scope) c.registry.ensures.registry in
-    let before : c.registry-2.result.now ≡ desk.registry = c.registry-2.ensures.registry in
+    let before : c.registry-3.result.now ≡ desk.registry = c.registry-3.ensures.registry in
     let accepted : registry.uninstall_fault desk.registry c.args.app.now c.args.scope ≡ None =
     subst (λ (lists : RegistryLists). registry.uninstall_fault lists c.args.app.now c.args.scope ≡ None) c.registry.ensures.registry c.in-Ok.ensures.accepted in
+    let installs : c.installs.result.now ≡ desk.registry.installs =
+    c.installs.ensures.installs ∙ ap (λ (lists : RegistryLists). lists.installs) c.registry-2.ensures.registry in
+    let idents : AllByRecursion (λ (install : Install). ident_fault install.package ≡ None) desk.registry.installs =
+    subst (AllByRecursion (λ (install : Install). ident_fault install.package ≡ None)) installs c.idents_fit.ensures in
     let installed = was_installed (list_any (is_install_of c.args.app.now c.args.scope) desk.registry.installs) accepted in
     let changes : c.deref.result.now ≡ app_changes (find (is_of_app c.args.app.now) desk.registry.installs) desk.registry.installs (without_install desk.registry c.args.app.now c.args.scope).installs =
     c.deref.ensures.value ∙ c.in-Ok-app_changes.ensures
@@ -45,7 +51,7 @@ settle-requires c =
       named = subst (λ list. no_bucket (flat_map named_by list) desk.database ≡ None) (sym changes) (named-uninstall desk is has c.args.app.now c.args.scope);
       follows =
           subst (λ (list : List Change). with_changes list desk.database ≡ settled c.in-Ok.registry desk.database) (sym changes)
-          (subst (λ (lists : RegistryLists). with_changes (app_changes (find (is_of_app c.args.app.now) desk.registry.installs) desk.registry.installs (without_install desk.registry c.args.app.now c.args.scope).installs) desk.database ≡ settled lists desk.database) (sym registries) (follows-uninstall desk is has c.args.app.now c.args.scope installed));
+          (subst (λ (lists : RegistryLists). with_changes (app_changes (find (is_of_app c.args.app.now) desk.registry.installs) desk.registry.installs (without_install desk.registry c.args.app.now c.args.scope).installs) desk.database ≡ settled lists desk.database) (sym registries) (follows-uninstall desk is has c.args.app.now c.args.scope idents installed));
     }
 
 pub returns : goal.returns

@@ -10,7 +10,7 @@ returns-in-Err-clause-refused g c = record {
   moments = λ before told.
       let disk = c.args.disk.now in
       LeavesOnly-from g.D.Disk.moment g.D.Disk.left_since disk disk (RecoversAsAllowed before)
-      (λ left was. (left, g.met.D.Disk.only_now disk left before told was, refl))
+      (λ left was. (left, g.met.D.Disk.only_now disk left before told was, refl, λ name foreign free. g.met.D.Disk.only_now disk left before told was name free))
       (AddsOnly-none g.D.Disk.moment g.D.Disk.left_since disk (RecoversAsAllowed before));
   damaged = tt;
 }

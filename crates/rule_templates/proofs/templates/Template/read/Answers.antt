@@ -9,8 +9,8 @@ returns-in-Ok-clause-canonical c lines sound is =
     reads_canonical (Ok c.in-Ok.template) c.args.text.now lines c.in-Ok.ensures sound is
 
 pub returns-in-Ok-clause-rules : goal.returns-in-Ok-clause-rules
-returns-in-Ok-clause-rules c fixed name author =
-    rules_from-fixed 1 (lines_of c.args.text.now) c.in-Ok.template name author c.in-Ok.ensures fixed
+returns-in-Ok-clause-rules c fixed registry name =
+    rules_from-fixed 1 (lines_of c.args.text.now) c.in-Ok.template registry name c.in-Ok.ensures fixed
 
 pub returns-in-Err-clause-canonical : goal.returns-in-Err-clause-canonical
 returns-in-Err-clause-canonical c lines sound is =

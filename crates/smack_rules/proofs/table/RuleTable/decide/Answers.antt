@@ -10,4 +10,4 @@ returns-clause-bring_up c =
     let o = c.args.object.now in
     let grants : c.modes_at-granted.result ≡ granted c.args.self.now s o =
     c.modes_at-granted.ensures ∙ ap (λ table. granted table s o) (c.as_slice.ensures.value ∙ c.self.view_is) in
-    λ tried. c.decide.ensures ∙ ap (decision s o c.args.asked) grants ∙ decision-tried s o c.args.asked _ tried c.requires
+    λ tried. c.decide.ensures.decided ∙ ap (decision s o c.args.asked) grants ∙ decision-tried s o c.args.asked _ tried c.requires

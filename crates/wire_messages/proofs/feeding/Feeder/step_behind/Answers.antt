@@ -14,7 +14,7 @@ keep-requires c =
 
 pub invariant_of-self-in-Err-settle : goal.invariant_of-self-in-Err-settle
 invariant_of-self-in-Err-settle c =
-    rw c.clear-in-Err-settle.ensures (short_open c.self.inside.heard [] (omega arith))
+    (rw c.clear-in-Err-settle.ensures (short_open c.self.inside.heard [] (omega arith)), search rules)
 
 pub returns-in-Err-settle-clause-refused : goal.returns-in-Err-settle-clause-refused
 returns-in-Err-settle-clause-refused c =

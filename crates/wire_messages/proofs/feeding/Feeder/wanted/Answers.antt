@@ -9,7 +9,7 @@ overflow_sub-result-2 c =
     let size : c.length_of.result ≡ length_of bytes = search rules in
     let there : c.len-there.result ≡ length bytes = search rules in
     let long : 4 ≤ length bytes = omega (arith, there) in
-    let less = (open_bound c.self.inside.heard bytes c.self.invariant).less long in
+    let less = (open_bound c.self.inside.heard bytes c.self.invariant.0).less long in
     omega (arith, size, there, less)
 
 pub returns-clause-some : goal.returns-clause-some
@@ -18,7 +18,7 @@ returns-clause-some c =
     let size : c.length_of.result ≡ length_of bytes = search rules in
     let there : c.len-there.result ≡ length bytes = search rules in
     let long : 4 ≤ length bytes = omega (arith, there) in
-    let less = (open_bound c.self.inside.heard bytes c.self.invariant).less long in
+    let less = (open_bound c.self.inside.heard bytes c.self.invariant.0).less long in
     omega (arith, size, there, less)
 
 pub returns-clause-whole : goal.returns-clause-whole
@@ -28,6 +28,6 @@ returns-clause-whole c long =
     let size : c.length_of.result ≡ length_of bytes = search rules in
     let there : c.len-there.result ≡ length bytes = search rules in
     let enough : 4 ≤ length bytes = omega (arith, there) in
-    let less = (open_bound c.self.inside.heard bytes c.self.invariant).less enough in
+    let less = (open_bound c.self.inside.heard bytes c.self.invariant.0).less enough in
     let told : length_of c.args.self.now.partial ≡ length_of bytes = ap length_of same in
     omega (arith, size, there, less, told, ap length same)

@@ -1,0 +1,3 @@
+pub mod RuleTexts
+pub mod Accessing
+pub mod Completing

@@ -1,0 +1,3 @@
+mod Numerals
+pub mod Within
+pub mod Running

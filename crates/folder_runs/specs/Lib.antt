@@ -1,0 +1,4 @@
+pub mod Mounting
+pub mod Folder
+pub mod LoadRun
+pub mod Keeping

@@ -1,0 +1,2 @@
+pub mod LocalRun
+pub mod parts

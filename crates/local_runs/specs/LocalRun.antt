@@ -1,0 +1,92 @@
+-- What a run of `local` reads, answers and keeps.
+use Rattle.std.specs.Prelude.{◌≡◌, ◌≤◌, ◌<◌, ◌⊎◌, List, [], ◌∷◌, ◌++◌, length, take, ℕ, Some, None, IsOk}
+use Rattle.text_lines.specs.Lines.{HasNoNewline, AreWholeLines}
+use Rattle.desk_ports.specs.Disk.{WhereTold}
+use Rattle.desk_state.specs.DeskState.{DeskState}
+use Rattle.desk_state.specs.Rules.{fault}
+use Rattle.desk_state.specs.declared.commands.Command.{Command}
+use Rattle.line_script.specs.declared.places.Place.TheVariants.{Local}
+use Rattle.line_script.specs.declared.steps.Step.{Step}
+use Rattle.line_script.specs.declared.steps.Step.TheVariants as step
+use Rattle.script_replies.specs.Script.{Script, read_script, wrong_line, replies, state_after, AreInTurn}
+use Rattle.run_endings.specs.Outside.{SourceSeen, DiskSeen, HadInput}
+use Rattle.run_endings.specs.Saying.{Said}
+use Rattle.folder_runs.specs.Folder.{RefusesFolder, KeepsFolder}
+use Rattle.script_replies.specs.Limits.{most_line_bytes}
+use Rattle.run_endings.specs.declared.endings.Ending.{Ending}
+use Rattle.run_endings.specs.declared.endings.Ending.TheVariants.{Done, Memory, Line, Source, Sink, Disk}
+
+-- ---- what was read
+
+-- what the bytes of a script say that is for this program's own folder
+abbrev pub read_local : List ℕ → Script
+read_local bytes = read_script Local bytes
+
+-- Some whole lines at the front of the input have these steps, and none of them is wrong; they may end within a block.
+-- Other bytes were read behind them. At the end of the input the last line needs no newline.
+pub record ReadsLines (input rest : List ℕ) (steps : List Step) : Type 0 where
+  pub lines : List ℕ
+  pub behind : List ℕ
+  pub parts : input ≡ (lines ++ behind) ++ rest
+  pub whole : AreWholeLines lines ⊎ (behind ++ rest ≡ [])
+  pub right : IsOk (read_local lines).stands
+  pub steps_are : steps ≡ (read_local lines).steps
+
+-- What was read behind these lines is no whole line, and no longer than one may be.
+pub record ReadsAllLines (input rest : List ℕ) (steps : List Step) : Type 0 where
+  pub reads : ReadsLines input rest steps
+  pub unfinished : HasNoNewline reads.behind
+  pub short : length reads.behind ≤ most_line_bytes
+
+-- The input, what is left of it, and the steps that were read, for each way in which the run ends.
+abbrev pub HasRead : Ending → List ℕ → List ℕ → List Step → Type 0
+HasRead Done input rest steps =
+    (rest ≡ []) × (wrong_line (read_local input) ≡ None) × (steps ≡ (read_local input).steps)
+HasRead (Line number) input rest steps =
+    (wrong_line (read_local input) ≡ Some number) × (steps ≡ (read_local input).steps)
+HasRead Memory input rest steps = ReadsLines input rest steps
+HasRead Source input rest steps = ReadsAllLines input rest steps
+HasRead Sink input rest steps = ReadsLines input rest steps
+HasRead Disk input rest steps = ReadsLines input rest steps
+HasRead ending input rest steps = ⊥
+
+-- ---- what was answered
+
+-- Each step that was read was answered; but where a call of the disk failed, all up to a last one, a command that was
+-- accepted and not committed.
+abbrev pub AreAnswered : Ending → DeskState → List Step → List Step → Type 0
+AreAnswered Disk start answered steps =
+    (command : Command) × (steps ≡ answered ++ step.Command command ∷ [])
+    × (fault (state_after start answered) command ≡ None)
+AreAnswered ending start answered steps = steps ≡ answered
+
+-- The script of the source was answered from this state on.
+pub record AnswersScript (start : DeskState) (said : Said) (ending : Ending) (before after : SourceSeen) : Type 0 where
+  pub input : List ℕ
+  pub rest : List ℕ
+  pub steps : List Step
+  pub answered : List Step
+  pub had : HadInput before.left after.left input rest
+  pub read : HasRead ending input rest steps
+  pub are_answered : AreAnswered ending start answered steps
+  pub in_turn : AreInTurn start answered said.written
+  pub due : said.due ≡ replies start answered
+
+-- ---- the run
+
+-- The folder was not mounted, and the source was not read.
+pub record RunsUnmounted (said : Said) (ending : Ending) (source source_after : SourceSeen) (disk disk_after : DiskSeen) : Type 0 where
+  pub folder : RefusesFolder said ending disk disk_after
+  pub unread : source_after ≡ source
+
+-- The folder was mounted, and stood for this state.
+pub record RunsOver (said : Said) (ending : Ending) (source source_after : SourceSeen) (disk disk_after : DiskSeen) : Type 0 where
+  pub start : DeskState
+  pub script : AnswersScript start said ending source source_after
+  pub folder : WhereTold disk.state
+      (λ entry. KeepsFolder entry disk disk_after ending start script.answered script.steps)
+
+abbrev pub RunsLocal : Said → Ending → SourceSeen → SourceSeen → DiskSeen → DiskSeen → Type 0
+RunsLocal said ending source source_after disk disk_after =
+    RunsUnmounted said ending source source_after disk disk_after
+    ⊎ RunsOver said ending source source_after disk disk_after

@@ -1,0 +1,33 @@
+-- A run that no failing call stops.
+use Rattle.std.proofs.Common.{◌≡◌, ℕ, Option, Some, None}
+use Rattle.run_endings.specs.Outside.{Outside}
+use Rattle.run_endings.specs.Ending.{NoCallFails}
+use Rattle.run_endings.proofs.Completing.{is-unfailed, gives}
+use Rattle.command_words.specs.declared.commands.Command.{Command}
+use Rattle.command_words.specs.declared.commands.Command.TheVariants.{Local, Serve, Check, Simple, Admin, Agent, SmackAccess, SmackLoad, Sample}
+use Rattle.folder_runs.proofs.Completing.{completes-load}
+use Rattle.local_runs.proofs.Completing.{completes-local}
+use Rattle.access_runs.proofs.Completing.{completes-access}
+use Rattle.privilege_cli.specs.Program.{Ends, Completes}
+
+pub Ends-completes : (command : Option Command) (status : ℕ) (before after : Outside) → Ends command status before after
+    → NoCallFails before after → Completes command status before after
+Ends-completes (Some Local) status before after e none input start told right stands =
+    let unfailed = is-unfailed e.ending e.said before after e.counts e.writes none in
+    gives e.ending e.said status before.sink after.sink _ e.status_is e.writes
+    (completes-local e.said before.source after.source before.disk after.disk input start told right stands e.ending unfailed e.runs)
+Ends-completes (Some SmackLoad) status before after e none start stands =
+    let unfailed = is-unfailed e.ending e.said before after e.counts e.writes none in
+    gives e.ending e.said status before.sink after.sink _ e.status_is e.writes
+    (completes-load e.said before.disk after.disk start stands e.ending unfailed e.runs)
+Ends-completes (Some (SmackAccess subject object asked)) status before after e none input rules told right =
+    let unfailed = is-unfailed e.ending e.said before after e.counts e.writes none in
+    gives e.ending e.said status before.sink after.sink _ e.status_is e.writes
+    (completes-access subject object asked e.said before.source after.source input rules told right e.ending unfailed e.runs)
+Ends-completes None status before after e none = tt
+Ends-completes (Some (Sample count)) status before after e none = tt
+Ends-completes (Some (Serve workers)) status before after e none = tt
+Ends-completes (Some (Check asked)) status before after e none = tt
+Ends-completes (Some (Simple asked)) status before after e none = tt
+Ends-completes (Some Admin) status before after e none = tt
+Ends-completes (Some (Agent kind allowed)) status before after e none = tt

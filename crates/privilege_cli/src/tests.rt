@@ -1,4 +1,0 @@
-mod disk_calls;
-mod endings;
-mod interrupted;
-mod runs;

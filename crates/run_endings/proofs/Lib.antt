@@ -1,0 +1,5 @@
+pub mod Outcomes
+pub mod Trying
+pub mod LastLine
+pub mod Hads
+pub mod Completing

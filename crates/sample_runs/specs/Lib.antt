@@ -1,0 +1,4 @@
+pub mod Lines
+pub mod Sample
+pub mod SampleRun
+pub mod parts

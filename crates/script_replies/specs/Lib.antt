@@ -1,0 +1,5 @@
+pub mod Limits
+pub mod Script
+pub mod Reply
+pub mod Folded
+pub mod parts
