@@ -224,7 +224,7 @@ ordered-push : (w : World) (desk : DeskState) → IsOrdered w → last w ≤ des
     → IsOrdered (record (with_commit desk w) { candidate = None })
 ordered-push w desk order low high =
     let is : last (with_commit desk w) ≡ desk.commit =
-        ap (λ (desk : DeskState). desk.commit) (latest-push w.first w.later desk) in
+    ap (λ (desk : DeskState). desk.commit) (latest-push w.first w.later desk) in
     record {
       first = order.first;
       acknowledged = order.acknowledged;

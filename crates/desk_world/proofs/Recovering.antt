@@ -56,7 +56,7 @@ unchanged-left w command kept =
     (λ e.
     let other = eqb-false (last w) w.acknowledged e in
     let next_one : last w ≡ w.acknowledged + 1 =
-        omega (arith, other, order.acknowledged, order.note, order.published, order.under_way) in
+    omega (arith, other, order.acknowledged, order.note, order.published, order.under_way) in
     inr (inl (subst (λ commit. desk_at commit (history w) ≡ Some (latest w)) next_one found)))
 
 committed-left : (w : World) (command : Option Command) (state : Option DeskState) → IsKept w

@@ -157,8 +157,8 @@ run_from-alike client at (event ∷ events) w last none e =
 pub never_older : NeverOlder
 never_older desk earlier later client question simple before after first second none =
     let same =
-        run_from-alike client 0 later (asked client question simple before) after none second
-        ∙ put-told before.clients client client (record (client_of before client) { asking = Some (length before.asks) }) refl in
+    run_from-alike client 0 later (asked client question simple before) after none second
+    ∙ put-told before.clients client client (record (client_of before client) { asking = Some (length before.asks) }) refl in
     All-weaker
     (λ (given : Given).
     given.ask ≡ length before.asks
