@@ -49,7 +49,7 @@ name_goes_on (byte ∷ bytes) =
     let long = nat_lt 255 (length text) in
     let bad = position (λ byte. not (is_visible byte)) text in
     sym (goes_on_tests (length text == 0) long bad (is_reserved text)
-    ∙ ap (λ empty. empty || (not long && is_none bad)) (ne_eqb (length text) 0 (λ same. omega (arith, same)))
+    ∙ ap (λ empty. empty || (not long && is_none bad)) (ne_eqb (length (byte ∷ bytes)) 0 (λ same. omega (arith, same)))
     ∙ short_position 255 is_visible text)
 
 bucket_tests : (long : Bool) (bad : Option ℕ)
