@@ -98,10 +98,14 @@ bucket_tests true name text = refl
 bucket_tests false true text = refl
 bucket_tests false false text = refl
 
+pub bucket_known : (text : List ℕ) → is_some (bucket_at text)
+    ≡ same_text text (codes ".") || (is_bucket_name text && not (length text == 0))
+bucket_known text = bucket_tests (same_text text (codes ".")) (is_bucket_name text && not (length text == 0)) text
+
 pub bucket_is : (text : List ℕ) → is_some (bucket_at text)
     ≡ same_text text (codes ".") || (is_run 64 is_word_byte text && not (length text == 0))
 bucket_is text =
-    bucket_tests (same_text text (codes ".")) (is_bucket_name text && not (length text == 0)) text
+    bucket_known text
     ∙ ap (λ b. same_text text (codes ".") || (b && not (length text == 0))) (bucket_name_is text)
 
 bucket_front : (front rest : List ℕ) → is_some (bucket_at (front ++ rest)) ≡ true → begins_bucket front ≡ true

@@ -1,9 +1,9 @@
 -- Names, names of buckets and metadata.
-use Rattle.std.proofs.Common.{◌≡◌, ℕ, Bool, true, false, not, cond, ◌&&◌, List, [], ◌∷◌, ◌++◌, length, Option, Some, None, refl, sym, ap, ◌∙◌}
+use Rattle.std.proofs.Common.{◌≡◌, ℕ, Bool, true, false, not, cond, ◌&&◌, ◌||◌, List, [], ◌∷◌, ◌++◌, length, Option, Some, None, refl, sym, ap, ◌∙◌, arith}
 use Rattle.std.specs.Prelude.{◌==◌, nat_le, nat_lt, is_none, position}
-use Rattle.std.proofs.lemmas.Bool.{and_parts, and_from, not_from_false}
+use Rattle.std.proofs.lemmas.Bool.{and_parts, and_from, not_from_false, ne_eqb}
 use Rattle.cynara_keys.specs.Text.{is_visible, is_word_byte}
-use Rattle.cynara_keys.specs.Name.{is_reserved, bad_byte_or, is_name}
+use Rattle.cynara_keys.specs.Name.{is_reserved, bad_byte_or, is_name, name_fault}
 use Rattle.cynara_keys.specs.BucketName.{bad_byte as bad_bucket_byte, is_bucket_name}
 use Rattle.cynara_keys.specs.Metadata.{bad_byte as bad_metadata_byte, is_metadata}
 use Rattle.cynara_keys.specs.declared.names.NameRefusal.{NameRefusal}
@@ -13,6 +13,7 @@ use Rattle.cynara_keys.specs.declared.bucket_names.BucketNameRefusal.TheVariants
 use Rattle.cynara_keys.specs.declared.metadata_texts.MetadataRefusal.{MetadataRefusal}
 use Rattle.cynara_keys.specs.declared.metadata_texts.MetadataRefusal.TheVariants.{TooLong as TooLongMetadata}
 use Rattle.line_reasons.specs.parts.Texts.{is_run}
+use Rattle.line_reasons.specs.parts.Forms.{may_go_on}
 use Rattle.line_reasons.proofs.Fronts.{Fronts, is_dark}
 use Rattle.line_reasons.proofs.Runs.{short_position, Fronts-closed, as_it_is, run-front, some_bytes}
 
@@ -31,6 +32,25 @@ pub name_is : (text : List ℕ) → is_name text ≡ not (length text == 0) && (
 name_is text =
     name_tests (length text == 0) (nat_lt 255 (length text)) (position (λ byte. not (is_visible byte)) text) (is_reserved text)
     ∙ ap (λ b. not (length text == 0) && (b && not (is_reserved text))) (short_position 255 is_visible text)
+
+goes_on_tests : (empty long : Bool) (bad : Option ℕ) (reserved : Bool)
+    → may_go_on (cond {A = Option NameRefusal} empty (Some Empty) (cond {A = Option NameRefusal} long (Some TooLong) (bad_byte_or bad (cond reserved (Some Reserved) None))))
+    ≡ empty || (not long && is_none bad)
+goes_on_tests true long bad reserved = refl
+goes_on_tests false true bad reserved = refl
+goes_on_tests false false (Some at) reserved = refl
+goes_on_tests false false None true = refl
+goes_on_tests false false None false = refl
+
+pub name_goes_on : (text : List ℕ) → is_run 255 is_visible text ≡ may_go_on (name_fault text)
+name_goes_on [] = refl
+name_goes_on (byte ∷ bytes) =
+    let text = byte ∷ bytes in
+    let long = nat_lt 255 (length text) in
+    let bad = position (λ byte. not (is_visible byte)) text in
+    sym (goes_on_tests (length text == 0) long bad (is_reserved text)
+    ∙ ap (λ empty. empty || (not long && is_none bad)) (ne_eqb (length (byte ∷ bytes)) 0 (λ same. omega (arith, same)))
+    ∙ short_position 255 is_visible text)
 
 bucket_tests : (long : Bool) (bad : Option ℕ)
     → is_none (cond {A = Option BucketNameRefusal} long (Some TooLongBucket) (bad_bucket_byte bad)) ≡ not long && is_none bad

@@ -1,5 +1,5 @@
 -- The fronts of the words of each form.
-use Rattle.std.proofs.Common.{◌≡◌, ℕ, ◌<◌, ltb, arith, Bool, true, false, cond, ◌||◌, List, [], ◌∷◌, ◌++◌, inl, inr, Option, Some, None, refl, ap, ◌∙◌}
+use Rattle.std.proofs.Common.{◌≡◌, ℕ, ◌<◌, ltb, arith, Bool, true, false, cond, ◌||◌, List, [], ◌∷◌, ◌++◌, inl, inr, Option, Some, None, refl, sym, ap, ◌∙◌}
 use Rattle.std.specs.Prelude.{◌==◌, is_some, is_none, codes, option_map}
 use Rattle.std.specs.List.{list_all, list_any}
 use Rattle.std.specs.Str.{bytes_eq}
@@ -63,14 +63,23 @@ no_fault : (special : Bool) (fault : Option NameRefusal) → is_none (cond speci
 no_fault true fault = refl
 no_fault false fault = refl
 
+pub field_tested : (text : List ℕ) → is_some (field_at text) ≡ is_none (field_fault text)
+field_tested text = some_field (is_none (field_fault text)) (field_of text)
+
 pub field_known : (text : List ℕ) → is_some (field_at text) ≡ same_text text (codes "*") || is_name text
-field_known text = some_field (is_none (field_fault text)) (field_of text) ∙ no_fault (same_text text (codes "*")) (name_fault text)
+field_known text = field_tested text ∙ no_fault (same_text text (codes "*")) (name_fault text)
 
 pub filter_known : (text : List ℕ) → is_some (filter_field_at text) ≡ same_text text (codes "#") || (same_text text (codes "*") || is_name text)
 filter_known text =
     some_filter (is_none (filter_field_fault text)) (filter_field_of text)
     ∙ no_fault (same_text text (codes "#")) (field_fault text)
     ∙ ap (λ b. same_text text (codes "#") || b) (no_fault (same_text text (codes "*")) (name_fault text))
+
+pub filter_tested : (text : List ℕ) → is_some (filter_field_at text) ≡ same_text text (codes "#") || is_some (field_at text)
+filter_tested text =
+    some_filter (is_none (filter_field_fault text)) (filter_field_of text)
+    ∙ no_fault (same_text text (codes "#")) (field_fault text)
+    ∙ ap (λ b. same_text text (codes "#") || b) (sym (field_tested text))
 
 Fronts-field-name : Fronts (λ text. same_text text (codes "*") || is_name text) begins_name
 Fronts-field-name = Fronts-special (codes "*") is_name begins_name Fronts-name refl

@@ -1,34 +1,17 @@
-//! Words of bytes that pass a test, as short as a limit says.
+//! Idents, labels and modes as far as they go: bytes that pass a test, as short as a limit says.
 
 ghost use Rattle.std.specs.Prelude.{◌≡◌, not};
 ghost use Rattle.std.specs.List.{list_all};
-ghost use Rattle.cynara_keys.specs.Text.{is_visible, is_word_byte};
-ghost use Rattle.cynara_keys.specs.Limits.{most_name_bytes, most_bucket_name_bytes, most_metadata_bytes};
+ghost use Rattle.cynara_keys.specs.Text.{is_word_byte};
 ghost use Rattle.smack_rules.specs.Label.{is_label_byte};
 ghost use Rattle.smack_rules.specs.Modes.{is_mode_byte};
 ghost use Rattle.app_registry.specs.Ident.{is_ident_byte, begins_with_mark};
-ghost use Rattle.line_reasons.specs.parts.Texts.{is_run};
 ghost use Rattle.line_reasons.specs.parts.Forms.{begins_ident, begins_label, begins_modes};
 
 use app_registry::IDENT_LIMIT;
-use cynara_keys::{MOST_BUCKET_NAME_BYTES, MOST_NAME_BYTES};
 use smack_rules::{MOST_LABEL_BYTES, MOST_MODE_WORD_BYTES};
 
-/// Whether a text is short enough for a name or metadata, and its bytes may stand there.
-pub(crate) fn is_visible_run(text: &[u8]) -> bool
-    ensures { result ≡ is_run 255 is_visible text.now }
-{
-    text.len() <= MOST_NAME_BYTES && are_visible(text)
-}
-
-/// The same for the name of a bucket.
-pub(crate) fn is_bucket_run(text: &[u8]) -> bool
-    ensures { result ≡ is_run 64 is_word_byte text.now }
-{
-    text.len() <= MOST_BUCKET_NAME_BYTES && are_word_bytes(text)
-}
-
-/// The same for an ident, whose first byte is no mark.
+/// Whether a text is short enough for an ident, its bytes may stand there, and its first is no mark.
 pub(crate) fn is_ident_run(text: &[u8]) -> bool
     ensures { result ≡ begins_ident text.now }
 {
@@ -49,18 +32,6 @@ pub(crate) fn is_mode_run(text: &[u8]) -> bool
     text.len() <= MOST_MODE_WORD_BYTES && are_mode_bytes(text)
 }
 
-fn are_visible(text: &[u8]) -> bool
-    ensures { result ≡ list_all is_visible text.now }
-{
-    text.iter().all(|byte| is_visible(*byte))
-}
-
-fn are_word_bytes(text: &[u8]) -> bool
-    ensures { result ≡ list_all is_word_byte text.now }
-{
-    text.iter().all(|byte| is_word_byte(*byte))
-}
-
 fn are_ident_bytes(text: &[u8]) -> bool
     ensures { result ≡ list_all is_ident_byte text.now }
 {
@@ -79,36 +50,29 @@ fn are_mode_bytes(text: &[u8]) -> bool
     text.iter().all(|byte| is_mode_byte(*byte))
 }
 
-/// Whether a byte may stand in a name: printable ASCII, but not the space and not the semicolon.
-pub(crate) fn is_visible(byte: u8) -> bool
-    ensures { result ≡ is_visible byte }
-{
-    byte > 32 && byte < 127 && byte != b';'
-}
-
-/// Whether a byte may stand in the name of a bucket.
-pub(crate) fn is_word_byte(byte: u8) -> bool
+/// Whether a byte is a letter, a digit, an underscore or a dash.
+fn is_word_byte(byte: u8) -> bool
     ensures { result ≡ is_word_byte byte }
 {
     matches!(byte, b'a'..=b'z' | b'A'..=b'Z' | b'0'..=b'9' | b'_' | b'-')
 }
 
 /// Whether a byte may stand in an ident.
-pub(crate) fn is_ident_byte(byte: u8) -> bool
+fn is_ident_byte(byte: u8) -> bool
     ensures { result ≡ is_ident_byte byte }
 {
     is_word_byte(byte) || byte == b'.'
 }
 
 /// Whether a byte may stand in a label.
-pub(crate) fn is_label_byte(byte: u8) -> bool
+fn is_label_byte(byte: u8) -> bool
     ensures { result ≡ is_label_byte byte }
 {
     matches!(byte, 0x21..=0x7e) && !matches!(byte, b'/' | b'\\' | b'\'' | b'"')
 }
 
 /// Whether a byte may stand in a mode word.
-pub(crate) fn is_mode_byte(byte: u8) -> bool
+fn is_mode_byte(byte: u8) -> bool
     ensures { result ≡ is_mode_byte byte }
 {
     matches!(

@@ -1,8 +1,6 @@
 //! Which words have a form, and what such a word can begin with. No function here takes memory.
 
 ghost use Rattle.std.specs.Prelude.{◌≡◌, ◌==◌, not, position, codes, Some, None, is_some, MatchOption, nat_le};
-ghost use Rattle.cynara_keys.specs.Metadata.{is_metadata};
-ghost use Rattle.cynara_keys.specs.Name.{is_reserved};
 ghost use Rattle.cynara_keys.specs.PolicyResult.{is_agent};
 ghost use Rattle.smack_rules.specs.Modes.{stands_in, is_empty, letters_that, modes_of};
 ghost use Rattle.rule_templates.specs.TemplateLine.{word_of};
@@ -12,11 +10,12 @@ ghost use Rattle.line_script.specs.WordForms.{scope_at, ident_at, author_at, lab
 ghost use Rattle.line_reasons.specs.parts.Texts.{begins, cut_at, by_cut};
 ghost use Rattle.line_reasons.specs.parts.Forms as forms;
 
-use crate::byte_runs::{is_bucket_run, is_ident_run, is_label_run, is_mode_run, is_visible_run};
+use crate::byte_runs::{is_ident_run, is_label_run, is_mode_run};
 use crate::fixed_words::{
     begins_depth, begins_package_kind, begins_user_type, is_depth, is_package_kind, is_user_type,
 };
 use crate::forms::Form;
+use cynara_keys::{NameRefusal, field_fault, is_bucket_name, is_metadata, name_fault};
 use line_script::read_number;
 use rule_templates::Placeholder;
 use smack_rules::{Modes, label_fault};
@@ -52,7 +51,7 @@ impl Form {
     {
         match self {
             Form::Bucket => begins_bucket(front),
-            Form::Field | Form::Name | Form::Names | Form::FilterField => is_visible_run(front),
+            Form::Field | Form::Name | Form::Names | Form::FilterField => begins_name(front),
             Form::Depth => begins_depth(front),
             Form::Result => begins_result(front),
             Form::Uid => begins_uid(front),
@@ -78,50 +77,55 @@ pub(crate) fn begins(front: &[u8], text: &[u8]) -> bool
 
 // ---- names
 
-#[tactic(auto, using(crate::proofs::IdentFronts::bucket_is))]
+#[tactic(auto, using(crate::proofs::IdentFronts::bucket_known))]
 fn is_bucket(text: &[u8]) -> bool
     ensures { result ≡ is_some (bucket_at text.now) }
 {
     if text == b".".as_slice() {
         return true;
     }
-    is_bucket_run(text) && !text.is_empty()
+    is_bucket_name(text) && !text.is_empty()
 }
 
-#[tactic(auto, using(crate::proofs::NameFronts::name_is, crate::proofs::WordFronts::name_known))]
+#[tactic(auto, using(crate::proofs::WordFronts::name_known))]
 fn is_name(text: &[u8]) -> bool
     ensures { result ≡ is_some (name_at text.now) }
 {
-    if text.is_empty() || !is_visible_run(text) {
-        return false;
-    }
-    !is_reserved(text)
+    name_fault(text).is_none()
 }
 
-fn is_reserved(text: &[u8]) -> bool
-    ensures { result ≡ is_reserved text.now }
+#[tactic(auto, using(crate::proofs::NameFronts::name_goes_on))]
+fn begins_name(front: &[u8]) -> bool
+    ensures { result ≡ forms.begins_name front.now }
 {
-    matches!(text, [b'*' | b'#'])
+    may_go_on(name_fault(front))
 }
 
-#[tactic(auto, using(crate::proofs::WordFronts::field_known, crate::proofs::WordFronts::name_known))]
+/// Whether more bytes can make a name of what has this fault, or has none.
+fn may_go_on(fault: Option<NameRefusal>) -> bool
+    ensures { result ≡ forms.may_go_on fault }
+{
+    match fault {
+        None | Some(NameRefusal::Empty | NameRefusal::Reserved) => true,
+        Some(NameRefusal::TooLong | NameRefusal::BadByte(_) | NameRefusal::Memory(_)) => false,
+    }
+}
+
+#[tactic(auto, using(crate::proofs::WordFronts::field_tested))]
 fn is_field(text: &[u8]) -> bool
     ensures { result ≡ is_some (field_at text.now) }
 {
-    if text == b"*".as_slice() {
-        return true;
-    }
-    is_name(text)
+    field_fault(text).is_none()
 }
 
-#[tactic(auto, using(crate::proofs::WordFronts::filter_known, crate::proofs::WordFronts::name_known))]
+#[tactic(auto, using(crate::proofs::WordFronts::filter_tested))]
 fn is_filter_field(text: &[u8]) -> bool
     ensures { result ≡ is_some (filter_field_at text.now) }
 {
-    if text == b"#".as_slice() || text == b"*".as_slice() {
+    if text == b"#".as_slice() {
         return true;
     }
-    is_name(text)
+    is_field(text)
 }
 
 #[tactic(auto, using(crate::proofs::IdentFronts::ident_is))]
@@ -144,10 +148,14 @@ fn is_author(text: &[u8]) -> bool
     is_ident(text)
 }
 
+#[tactic(auto, using(crate::proofs::NameFronts::bucket_name_is))]
 fn begins_bucket(front: &[u8]) -> bool
     ensures { result ≡ forms.begins_bucket front.now }
 {
-    front == b".".as_slice() || is_bucket_run(front)
+    if front == b".".as_slice() {
+        return true;
+    }
+    is_bucket_name(front)
 }
 
 // ---- numbers
@@ -222,11 +230,10 @@ fn is_agent_text(text: &[u8]) -> bool
     }
 }
 
-#[tactic(auto, using(crate::proofs::NameFronts::metadata_is))]
 fn is_agent_pair(kind: &[u8], metadata: &[u8]) -> bool
     ensures { result ≡ forms.is_agent_pair kind.now metadata.now }
 {
-    is_kind(kind) && is_visible_run(metadata)
+    is_kind(kind) && is_metadata(metadata)
 }
 
 #[tactic(auto, using(crate::proofs::NumberFronts::number_is))]

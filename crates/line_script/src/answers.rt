@@ -130,17 +130,17 @@ pub enum LineAnswer<'a> {
     },
 }
 
-/// The line of words that are no command, for a place where there may be no memory to print it.
+/// The line of words that are no command.
 #[tactic(auto, unfolding(crate::specs::Answers::command_line_text))]
-pub fn command_line_fault() -> &'static [u8]
+pub(crate) fn command_line_fault() -> &'static [u8]
     ensures { result.now ≡ command_line_text }
 {
     b"fault command line\n"
 }
 
-/// The line of bytes that are no reply, for the same.
+/// The line of bytes that are no reply.
 #[tactic(auto, unfolding(crate::specs::Answers::reply_fault_text))]
-pub fn reply_fault() -> &'static [u8]
+pub(crate) fn reply_fault() -> &'static [u8]
     ensures { result.now ≡ reply_fault_text }
 {
     b"fault reply\n"

@@ -7,7 +7,6 @@ mod answers;
 mod changes;
 mod commands;
 mod installs;
-mod last_lines;
 mod line_words;
 mod lines;
 mod numbers;
@@ -27,8 +26,7 @@ mod steps;
 mod verbs;
 mod word_forms;
 
-pub use answers::{LineAnswer, command_line_fault, print, reply_fault};
-pub use last_lines::{write_damage, write_line_fault, write_too_long};
+pub use answers::{LineAnswer, print};
 pub use numbers::read_number;
 pub use places::Place;
 pub use reader::{MOST_LINE_BYTES, Reader};

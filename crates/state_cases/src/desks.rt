@@ -138,7 +138,7 @@ pub fn ask(alloc: Global, desk: &Desk, step: &Step<'_>, out: &mut Bytes) -> Opti
             let commit = desk.commit();
             print(&LineAnswer::Status { commit }, out).ok()
         }
-        Step::Command(_) | Step::Access { .. } => None,
+        Step::Command(_) | Step::Access { .. } | Step::Stop => None,
     }
 }
 

@@ -1,9 +1,11 @@
 -- The forms of words: which words have a form, and what such a word can begin with.
-use Rattle.std.specs.Prelude.{ℕ, Bool, true, false, not, ◌&&◌, ◌||◌, nat_lt, nat_le, ◌==◌, if◌then◌else◌, List, [], ◌∷◌, length, is_some, codes}
+use Rattle.std.specs.Prelude.{ℕ, Bool, true, false, not, ◌&&◌, ◌||◌, nat_lt, nat_le, ◌==◌, if◌then◌else◌, List, [], ◌∷◌, length, Option, Some, None, is_some, codes}
 use Rattle.cynara_keys.specs.Text.{same_text, is_visible, is_word_byte}
 use Rattle.cynara_keys.specs.Metadata.{is_metadata}
 use Rattle.cynara_keys.specs.PolicyResult.{is_agent, last_agent}
 use Rattle.cynara_keys.specs.Limits.{most_name_bytes, most_bucket_name_bytes}
+use Rattle.cynara_keys.specs.declared.names.NameRefusal.{NameRefusal}
+use Rattle.cynara_keys.specs.declared.names.NameRefusal.TheVariants.{Empty, TooLong, BadByte, Reserved, Memory}
 use Rattle.smack_rules.specs.Limits.{most_label_bytes}
 use Rattle.smack_rules.specs.Limits.{most_mode_word_bytes}
 use Rattle.smack_rules.specs.Label.{is_label_byte, begins_with_dash}
@@ -44,6 +46,15 @@ is_word MoreModes text = is_some (modes_of text)
 
 abbrev pub begins_bucket : List ℕ → Bool
 begins_bucket front = same_text front (codes ".") || is_run most_bucket_name_bytes is_word_byte front
+
+-- more bytes can make a name of what has this fault: of no bytes, and of `*` and `#` alone
+abbrev pub may_go_on : Option NameRefusal → Bool
+may_go_on None = true
+may_go_on (Some Empty) = true
+may_go_on (Some Reserved) = true
+may_go_on (Some TooLong) = false
+may_go_on (Some (BadByte at)) = false
+may_go_on (Some (Memory error)) = false
 
 -- `*` and `#`, which are no names, are fronts of names
 abbrev pub begins_name : List ℕ → Bool
