@@ -10,7 +10,7 @@ use Rattle.smack_rules.specs.Rule.{is_label}
 use Rattle.smack_rules.specs.Modes.{modes_of, is_request}
 use Rattle.smack_rules.specs.declared.modes.Modes.{Modes}
 use Rattle.command_words.specs.Numbers.{number_within}
-use Rattle.command_words.specs.Commands.{access_asked, access_of, serve_of, sample_of, single_of, of_two, of_three, of_four, of_five, named, is_run, is_option, begins_with_run, command_of, Reads, RunsNow, agent_of, names_of}
+use Rattle.command_words.specs.Commands.{access_asked, access_of, serve_of, sample_of, single_of, of_two, of_three, of_four, of_five, named, is_run, is_option, begins_with_run, command_of, ReadsCommand, RunsNow, agent_of, names_of}
 use Rattle.command_words.specs.declared.commands.Command.{Command}
 use Rattle.command_words.specs.declared.commands.CommandRefusal.{CommandRefusal}
 use Rattle.command_words.specs.declared.commands.Command.TheVariants.{Local, Serve, Check, Simple, Admin, Agent, SmackAccess, SmackLoad, Sample}
@@ -92,7 +92,7 @@ command_of-runs words command is = by_test (list_any is_option words) (begins_wi
     by_test false true begins is = named-runs words command begins is
     by_test false false begins is = cc
 
-pub Reads-named-runs : (result : Result Command CommandRefusal) (words : List (String Global)) → begins_with_run words ≡ true
-    → Reads result (named words) → IfOk result RunsNow
-Reads-named-runs (Ok command) words begins reads = named-runs words command begins reads
-Reads-named-runs (Err refusal) words begins reads = tt
+pub read-runs : (result : Result Command CommandRefusal) (words : List (String Global)) → begins_with_run words ≡ true
+    → ReadsCommand result (named words) → IfOk result RunsNow
+read-runs (Ok command) words begins reads = named-runs words command begins reads
+read-runs (Err refusal) words begins reads = tt

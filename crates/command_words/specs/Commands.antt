@@ -125,10 +125,10 @@ copies_words (Simple asked) = true
 copies_words command = false
 
 -- The command of the words, or that they name none. Memory may run out only where words are to be copied.
-abbrev pub Reads : Result Command CommandRefusal → Option Command → Type 0
-Reads (Ok command) expected = expected ≡ Some command
-Reads (Err (Unknown fault)) expected = expected ≡ None
-Reads (Err (Memory error)) expected = (command : Command) × (expected ≡ Some command) × IsTrue (copies_words command)
+abbrev pub ReadsCommand : Result Command CommandRefusal → Option Command → Type 0
+ReadsCommand (Ok command) expected = expected ≡ Some command
+ReadsCommand (Err (Unknown fault)) expected = expected ≡ None
+ReadsCommand (Err (Memory error)) expected = (command : Command) × (expected ≡ Some command) × IsTrue (copies_words command)
 
 -- a command asks for a decision only where the modes are a request
 abbrev pub AsksRequest : Command → Type 0

@@ -6,7 +6,7 @@ ghost use Rattle.cynara_keys.specs.Name.{name_fault};
 ghost use Rattle.smack_rules.specs.Label.{label_fault};
 ghost use Rattle.command_words.specs.Commands.{is_option, is_run, named, single_of, of_two, of_three, of_four, of_five};
 ghost use Rattle.command_words.specs.Commands.{serve_of, sample_of, allowed_of, agent_of, access_of, names_of, command_of};
-ghost use Rattle.command_words.specs.Commands.{Reads, AsksRequest, RunsNow};
+ghost use Rattle.command_words.specs.Commands.{ReadsCommand, AsksRequest, RunsNow};
 ghost use Rattle.command_words.specs.parts.Names.{ReadsNames};
 
 use crate::commands::{AskedNames, Command, CommandRefusal};
@@ -19,7 +19,7 @@ use std::alloc::{AllocError, Global};
 impl Command {
     /// Reads the words behind the program's name. `Unknown` exactly where they name no command that runs.
     pub fn read(alloc: Global, words: &[String]) -> Result<Command, CommandRefusal>
-        ensures command { Reads result (command_of words.now) }
+        ensures command { ReadsCommand result (command_of words.now) }
         ensures asked { IfOk result AsksRequest }
         ensures runs { IfOk result RunsNow }
     {
@@ -69,7 +69,7 @@ fn is_run(word: &[u8]) -> bool
 
 // The command that words name, whether it runs or not.
 fn read_named(alloc: Global, words: &[String]) -> Result<Command, CommandRefusal>
-    ensures command { Reads result (named words.now) }
+    ensures command { ReadsCommand result (named words.now) }
     ensures asked { IfOk result AsksRequest }
 {
     match words {
@@ -136,7 +136,7 @@ fn words_behind(name: &[u8]) -> Option<usize> {
 
 // One word alone.
 fn read_single(word: &[u8]) -> Result<Command, CommandRefusal>
-    ensures command { Reads result (single_of word.now) }
+    ensures command { ReadsCommand result (single_of word.now) }
     ensures asked { IfOk result AsksRequest }
 {
     if word == b"local".as_slice() {
@@ -153,7 +153,7 @@ fn read_single(word: &[u8]) -> Result<Command, CommandRefusal>
 
 // Two words: a command with a number.
 fn read_two(word: &[u8], number: &[u8]) -> Result<Command, CommandRefusal>
-    ensures command { Reads result (of_two word.now number.now) }
+    ensures command { ReadsCommand result (of_two word.now number.now) }
     ensures asked { IfOk result AsksRequest }
 {
     if word == b"serve".as_slice() {
@@ -166,7 +166,7 @@ fn read_two(word: &[u8], number: &[u8]) -> Result<Command, CommandRefusal>
 }
 
 fn read_serve(workers: &[u8]) -> Result<Command, CommandRefusal>
-    ensures command { Reads result (serve_of workers.now) }
+    ensures command { ReadsCommand result (serve_of workers.now) }
     ensures asked { IfOk result AsksRequest }
 {
     match number_within(workers, 1, 64) {
@@ -176,7 +176,7 @@ fn read_serve(workers: &[u8]) -> Result<Command, CommandRefusal>
 }
 
 fn read_sample(count: &[u8]) -> Result<Command, CommandRefusal>
-    ensures command { Reads result (sample_of count.now) }
+    ensures command { ReadsCommand result (sample_of count.now) }
     ensures asked { IfOk result AsksRequest }
 {
     match number_within(count, 1, 1_000) {
@@ -196,7 +196,7 @@ fn number_fault(least: u32, most: u32) -> WordFault {
 
 // Three words, the first of which is `agent`.
 fn read_three(word: &[u8], kind: &[u8], answer: &[u8]) -> Result<Command, CommandRefusal>
-    ensures command { Reads result (of_three word.now kind.now answer.now) }
+    ensures command { ReadsCommand result (of_three word.now kind.now answer.now) }
     ensures asked { IfOk result AsksRequest }
 {
     if word != b"agent".as_slice() {
@@ -206,7 +206,7 @@ fn read_three(word: &[u8], kind: &[u8], answer: &[u8]) -> Result<Command, Comman
 }
 
 fn read_agent(kind: &[u8], answer: &[u8]) -> Result<Command, CommandRefusal>
-    ensures command { Reads result (agent_of kind.now answer.now) }
+    ensures command { ReadsCommand result (agent_of kind.now answer.now) }
     ensures asked { IfOk result AsksRequest }
 {
     let Some(kind) = number_within(kind, 2, 65_533) else {
@@ -241,7 +241,7 @@ fn read_four(
     object: &[u8],
     modes: &[u8],
 ) -> Result<Command, CommandRefusal>
-    ensures command { Reads result (of_four word.now subject.now object.now modes.now) }
+    ensures command { ReadsCommand result (of_four word.now subject.now object.now modes.now) }
     ensures asked { IfOk result AsksRequest }
 {
     if word != b"smack-access".as_slice() {
@@ -257,7 +257,7 @@ fn read_access(
     object: &[u8],
     modes: &[u8],
 ) -> Result<Command, CommandRefusal>
-    ensures command { Reads result (access_of subject.now object.now modes.now) }
+    ensures command { ReadsCommand result (access_of subject.now object.now modes.now) }
     ensures asked { IfOk result AsksRequest }
 {
     if let Some(fault) = label_fault(subject) {
@@ -302,7 +302,7 @@ fn read_five(
     user: &[u8],
     privilege: &[u8],
 ) -> Result<Command, CommandRefusal>
-    ensures command { Reads result (of_five word.now client.now session.now user.now privilege.now) }
+    ensures command { ReadsCommand result (of_five word.now client.now session.now user.now privilege.now) }
     ensures asked { IfOk result AsksRequest }
 {
     if word == b"check".as_slice() {

@@ -1,5 +1,6 @@
 // `local`: mounts the folder, reads a script from the source, and has the sink take its answers.
-ghost use Rattle.std.specs.Prelude.{◌≡◌, ◌&&◌, true, [], None};
+ghost use Rattle.std.specs.Prelude.{◌≡◌, [], None};
+ghost use Rattle.desk_keeper.specs.Keeper.{disk_of, held_of, IsDecided, IsSameDisk};
 ghost use Rattle.line_script.specs.Block.{outside};
 ghost use Rattle.line_script.specs.declared.places.Place.TheVariants.{Local};
 ghost use Rattle.run_endings.specs.Ending.{source_faults_after, disk_faults_after};
@@ -54,16 +55,16 @@ fn answer_over<S: Source, K: Sink, D: Disk>(
     source: &mut S,
     sink: &mut K,
 ) -> Ending
-    requires decided { (keeper.old.read && keeper.old.vault.decided) ≡ true }
+    requires decided { IsDecided keeper.old }
     ensures run { (said : Said)
         × (script : AnswersScript keeper.old.desk said result (source_seen S.left S.faults source.old)
         (source_seen S.left S.faults source.new))
-        × KeepsSteps D.state D.moment D.left_since keeper.old.vault.disk.now keeper.new.vault.disk.now
-        keeper.old.desk keeper.old.vault.held result script.answered script.steps
+        × KeepsSteps D.state D.moment D.left_since (disk_of keeper.old) (disk_of keeper.new)
+        keeper.old.desk (held_of keeper.old) result script.answered script.steps
         × WritesAnswers result said (sink_seen K.taken K.faults sink.old) (sink_seen K.taken K.faults sink.new) }
     ensures source { S.faults source.new ≡ source_faults_after result (S.faults source.old) }
-    ensures disk { D.faults keeper.new.vault.disk.now ≡ disk_faults_after result (D.faults keeper.old.vault.disk.now) }
-    ensures same_disk { keeper.new.vault.disk.ghost_name ≡ keeper.old.vault.disk.ghost_name }
+    ensures disk { D.faults (disk_of keeper.new) ≡ disk_faults_after result (D.faults (disk_of keeper.old)) }
+    ensures same_disk { IsSameDisk keeper.old keeper.new }
 {
     let mut script = LocalScript::new(alloc);
     match answer_script(&mut script, keeper, alloc, source, sink) {
@@ -83,15 +84,15 @@ fn answer_script<S: Source, K: Sink, D: Disk>(
     requires reader { script.old.reader ≡ outside Local }
     requires rules { script.old.rules ≡ None }
     requires answers { script.old.answers ≡ [] }
-    requires decided { (keeper.old.read && keeper.old.vault.decided) ≡ true }
+    requires decided { IsDecided keeper.old }
     ensures answered { (answers : Answers keeper.old.desk (ending_of result) script.new.answers
         (S.left source.old) (S.left source.new) (K.taken sink.old) (K.taken sink.new))
-        × KeepsSteps D.state D.moment D.left_since keeper.old.vault.disk.now keeper.new.vault.disk.now
-        keeper.old.desk keeper.old.vault.held (ending_of result) answers.answered answers.steps }
+        × KeepsSteps D.state D.moment D.left_since (disk_of keeper.old) (disk_of keeper.new)
+        keeper.old.desk (held_of keeper.old) (ending_of result) answers.answered answers.steps }
     ensures source { S.faults source.new ≡ counts_source result (S.faults source.old) }
     ensures sink { K.faults sink.new ≡ counts_sink result (K.faults sink.old) }
-    ensures disk { D.faults keeper.new.vault.disk.now ≡ counts_disk result (D.faults keeper.old.vault.disk.now) }
-    ensures same_disk { keeper.new.vault.disk.ghost_name ≡ keeper.old.vault.disk.ghost_name }
+    ensures disk { D.faults (disk_of keeper.new) ≡ counts_disk result (D.faults (disk_of keeper.old)) }
+    ensures same_disk { IsSameDisk keeper.old keeper.new }
 {
     let mut lines = LineReader::new(alloc, MOST_LINE_BYTES, MOST_SCRIPT_BYTES)?;
     'lines: while script.answer_next(&mut lines, keeper, source, sink)? {}

@@ -1,7 +1,8 @@
 // A script that is being answered over a folder, line by line.
-ghost use Rattle.std.specs.Prelude.{◌≡◌, ◌&&◌, ◌++◌, true, [], None, IsTrue, OnOk, OnErr, MatchResult};
+ghost use Rattle.std.specs.Prelude.{◌≡◌, ◌++◌, [], None, IsTrue, OnOk, OnErr, MatchResult};
 ghost use Rattle.smack_rules.specs.Modes.{is_request};
 ghost use Rattle.desk_state.specs.Next.{next};
+ghost use Rattle.desk_keeper.specs.Keeper.{disk_of, held_of, IsDecided, IsSameDisk};
 ghost use Rattle.line_script.specs.Block.{outside};
 ghost use Rattle.line_script.specs.Grammar.{step_at};
 ghost use Rattle.line_script.specs.declared.places.Place.TheVariants.{Local};
@@ -61,7 +62,7 @@ impl LocalScript {
         source: &mut S,
         sink: &mut K,
     ) -> Result<bool, Ending>
-        requires decided { (keeper.old.read && keeper.old.vault.decided) ≡ true }
+        requires decided { IsDecided keeper.old }
         requires folded { AreFolded self.old.rules keeper.old.desk }
 
         ensures turn { Turns (S.left source.old) (S.left source.new) (K.taken sink.old) (K.taken sink.new)
@@ -70,12 +71,12 @@ impl LocalScript {
         ensures sink { K.faults sink.new ≡ counts_sink result (K.faults sink.old) }
         ensures folded { AreFolded self.new.rules keeper.new.desk }
 
-        ensures keeper { Moves D.state D.moment D.left_since keeper.old.vault.disk.now keeper.new.vault.disk.now
-            keeper.old.desk keeper.old.vault.held keeper.new.desk keeper.new.vault.held
+        ensures keeper { Moves D.state D.moment D.left_since (disk_of keeper.old) (disk_of keeper.new)
+            keeper.old.desk (held_of keeper.old) keeper.new.desk (held_of keeper.new)
             (after keeper.old.desk (step_of (step_at self.old.reader lines.new.line))) result }
-        ensures decided { UnlessDisk result ((keeper.new.read && keeper.new.vault.decided) ≡ true) }
-        ensures disk { D.faults keeper.new.vault.disk.now ≡ counts_disk result (D.faults keeper.old.vault.disk.now) }
-        ensures same_disk { keeper.new.vault.disk.ghost_name ≡ keeper.old.vault.disk.ghost_name }
+        ensures decided { UnlessDisk result (IsDecided keeper.new) }
+        ensures disk { D.faults (disk_of keeper.new) ≡ counts_disk result (D.faults (disk_of keeper.old)) }
+        ensures same_disk { IsSameDisk keeper.old keeper.new }
     {
         self.hand_over(lines, sink)?;
         let has_line = match lines.next(source) {
@@ -112,7 +113,7 @@ impl LocalScript {
         keeper: &mut Keeper<'_, D>,
         sink: &mut K,
     ) -> Result<(), Ending>
-        requires decided { (keeper.old.read && keeper.old.vault.decided) ≡ true }
+        requires decided { IsDecided keeper.old }
         requires folded { AreFolded self.old.rules keeper.old.desk }
 
         ensures line { MatchResult result
@@ -121,12 +122,12 @@ impl LocalScript {
         ensures sink { K.faults sink.new ≡ counts_sink result (K.faults sink.old) }
         ensures folded { AreFolded self.new.rules keeper.new.desk }
 
-        ensures keeper { Moves D.state D.moment D.left_since keeper.old.vault.disk.now keeper.new.vault.disk.now
-            keeper.old.desk keeper.old.vault.held keeper.new.desk keeper.new.vault.held
+        ensures keeper { Moves D.state D.moment D.left_since (disk_of keeper.old) (disk_of keeper.new)
+            keeper.old.desk (held_of keeper.old) keeper.new.desk (held_of keeper.new)
             (after keeper.old.desk (step_of (step_at self.old.reader line.now))) result }
-        ensures decided { UnlessDisk result ((keeper.new.read && keeper.new.vault.decided) ≡ true) }
-        ensures disk { D.faults keeper.new.vault.disk.now ≡ counts_disk result (D.faults keeper.old.vault.disk.now) }
-        ensures same_disk { keeper.new.vault.disk.ghost_name ≡ keeper.old.vault.disk.ghost_name }
+        ensures decided { UnlessDisk result (IsDecided keeper.new) }
+        ensures disk { D.faults (disk_of keeper.new) ≡ counts_disk result (D.faults (disk_of keeper.old)) }
+        ensures same_disk { IsSameDisk keeper.old keeper.new }
     {
         if let Some(question) = self.reader.check(line) {
             self.answer_check(keeper.desk(), &question)?;
@@ -144,7 +145,7 @@ impl LocalScript {
         keeper: &mut Keeper<'_, D>,
         sink: &mut K,
     ) -> Result<(), Ending>
-        requires decided { (keeper.old.read && keeper.old.vault.decided) ≡ true }
+        requires decided { IsDecided keeper.old }
         requires folded { AreFolded self.old.rules keeper.old.desk }
 
         ensures line { MatchResult result
@@ -153,12 +154,12 @@ impl LocalScript {
         ensures sink { K.faults sink.new ≡ counts_sink result (K.faults sink.old) }
         ensures folded { AreFolded self.new.rules keeper.new.desk }
 
-        ensures keeper { Moves D.state D.moment D.left_since keeper.old.vault.disk.now keeper.new.vault.disk.now
-            keeper.old.desk keeper.old.vault.held keeper.new.desk keeper.new.vault.held
+        ensures keeper { Moves D.state D.moment D.left_since (disk_of keeper.old) (disk_of keeper.new)
+            keeper.old.desk (held_of keeper.old) keeper.new.desk (held_of keeper.new)
             (after keeper.old.desk (step_of (step_at self.old.reader line.now))) result }
-        ensures decided { UnlessDisk result ((keeper.new.read && keeper.new.vault.decided) ≡ true) }
-        ensures disk { D.faults keeper.new.vault.disk.now ≡ counts_disk result (D.faults keeper.old.vault.disk.now) }
-        ensures same_disk { keeper.new.vault.disk.ghost_name ≡ keeper.old.vault.disk.ghost_name }
+        ensures decided { UnlessDisk result (IsDecided keeper.new) }
+        ensures disk { D.faults (disk_of keeper.new) ≡ counts_disk result (D.faults (disk_of keeper.old)) }
+        ensures same_disk { IsSameDisk keeper.old keeper.new }
     {
         let spot = self.reader.spot();
         match self.reader.line(line) {
@@ -179,7 +180,7 @@ impl LocalScript {
         sink: &mut K,
     ) -> Result<(), Ending>
         requires asked { AsksRequest step.now }
-        requires decided { (keeper.old.read && keeper.old.vault.decided) ≡ true }
+        requires decided { IsDecided keeper.old }
         requires folded { AreFolded self.old.rules keeper.old.desk }
 
         ensures step { MatchResult result
@@ -191,12 +192,12 @@ impl LocalScript {
         ensures reader { self.new.reader ≡ self.old.reader }
         ensures folded { AreFolded self.new.rules keeper.new.desk }
 
-        ensures keeper { Moves D.state D.moment D.left_since keeper.old.vault.disk.now keeper.new.vault.disk.now
-            keeper.old.desk keeper.old.vault.held keeper.new.desk keeper.new.vault.held
+        ensures keeper { Moves D.state D.moment D.left_since (disk_of keeper.old) (disk_of keeper.new)
+            keeper.old.desk (held_of keeper.old) keeper.new.desk (held_of keeper.new)
             (after keeper.old.desk step.now) result }
-        ensures decided { UnlessDisk result ((keeper.new.read && keeper.new.vault.decided) ≡ true) }
-        ensures disk { D.faults keeper.new.vault.disk.now ≡ counts_disk result (D.faults keeper.old.vault.disk.now) }
-        ensures same_disk { keeper.new.vault.disk.ghost_name ≡ keeper.old.vault.disk.ghost_name }
+        ensures decided { UnlessDisk result (IsDecided keeper.new) }
+        ensures disk { D.faults (disk_of keeper.new) ≡ counts_disk result (D.faults (disk_of keeper.old)) }
+        ensures same_disk { IsSameDisk keeper.old keeper.new }
     {
         if let Step::Command(command) = step {
             return self.obey(command.get(), keeper, sink);
@@ -213,7 +214,7 @@ impl LocalScript {
         keeper: &mut Keeper<'_, D>,
         sink: &mut K,
     ) -> Result<(), Ending>
-        requires decided { (keeper.old.read && keeper.old.vault.decided) ≡ true }
+        requires decided { IsDecided keeper.old }
         requires folded { AreFolded self.old.rules keeper.old.desk }
 
         ensures step { MatchResult result
@@ -225,12 +226,12 @@ impl LocalScript {
         ensures reader { self.new.reader ≡ self.old.reader }
         ensures folded { AreFolded self.new.rules keeper.new.desk }
 
-        ensures keeper { Moves D.state D.moment D.left_since keeper.old.vault.disk.now keeper.new.vault.disk.now
-            keeper.old.desk keeper.old.vault.held keeper.new.desk keeper.new.vault.held
+        ensures keeper { Moves D.state D.moment D.left_since (disk_of keeper.old) (disk_of keeper.new)
+            keeper.old.desk (held_of keeper.old) keeper.new.desk (held_of keeper.new)
             (after keeper.old.desk (step.Command command.now)) result }
-        ensures decided { UnlessDisk result ((keeper.new.read && keeper.new.vault.decided) ≡ true) }
-        ensures disk { D.faults keeper.new.vault.disk.now ≡ counts_disk result (D.faults keeper.old.vault.disk.now) }
-        ensures same_disk { keeper.new.vault.disk.ghost_name ≡ keeper.old.vault.disk.ghost_name }
+        ensures decided { UnlessDisk result (IsDecided keeper.new) }
+        ensures disk { D.faults (disk_of keeper.new) ≡ counts_disk result (D.faults (disk_of keeper.old)) }
+        ensures same_disk { IsSameDisk keeper.old keeper.new }
     {
         let prepared = match keeper.prepare(command) {
             Ok(prepared) => prepared,

@@ -8,6 +8,7 @@ use Rattle.command_words.specs.declared.commands.Command.TheVariants.{Local, Ser
 use Rattle.folder_runs.proofs.Completing.{completes-load}
 use Rattle.local_runs.proofs.Completing.{completes-local}
 use Rattle.access_runs.proofs.Completing.{completes-access}
+use Rattle.sample_runs.proofs.Completing.{completes-sample}
 use Rattle.privilege_cli.specs.Program.{Ends, Completes}
 
 pub Ends-completes : (command : Option Command) (status : ℕ) (before after : Outside) → Ends command status before after
@@ -24,8 +25,11 @@ Ends-completes (Some (SmackAccess subject object asked)) status before after e n
     let unfailed = is-unfailed e.ending e.said before after e.counts e.writes none in
     gives e.ending e.said status before.sink after.sink _ e.status_is e.writes
     (completes-access subject object asked e.said before.source after.source input rules told right e.ending unfailed e.runs)
+Ends-completes (Some (Sample count)) status before after e none found comes_to =
+    let unfailed = is-unfailed e.ending e.said before after e.counts e.writes none in
+    gives e.ending e.said status before.sink after.sink _ e.status_is e.writes
+    (completes-sample count e.said found comes_to e.ending unfailed e.runs)
 Ends-completes None status before after e none = tt
-Ends-completes (Some (Sample count)) status before after e none = tt
 Ends-completes (Some (Serve workers)) status before after e none = tt
 Ends-completes (Some (Check asked)) status before after e none = tt
 Ends-completes (Some (Simple asked)) status before after e none = tt

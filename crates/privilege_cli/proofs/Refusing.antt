@@ -10,7 +10,7 @@ use Rattle.run_endings.specs.Saying.{Said, silence, WritesAnswers}
 use Rattle.run_endings.specs.declared.endings.Ending.{Ending}
 use Rattle.run_endings.specs.declared.endings.Ending.TheVariants.{Memory, Words, Net}
 use Rattle.run_endings.proofs.Hads.{Took-Had}
-use Rattle.command_words.specs.Commands.{Reads, command_of, copies_words, RunsNow}
+use Rattle.command_words.specs.Commands.{ReadsCommand, command_of, copies_words, RunsNow}
 use Rattle.command_words.proofs.Running.{command_of-runs}
 use Rattle.command_words.specs.declared.commands.Command.{Command}
 use Rattle.command_words.specs.declared.commands.Command.TheVariants.{Local, Serve, Check, Simple, Admin, Agent, SmackAccess, SmackLoad, Sample}
@@ -54,7 +54,7 @@ unread Admin source disk runs copies = absurd runs
 unread (Agent kind allowed) source disk runs copies = absurd runs
 
 pub without_memory : (words : List (String Global)) (error : AllocError) (source : SourceSeen) (sink : SinkSeen) (disk : DiskSeen)
-    → Reads (Err (NoMemory error)) (command_of words)
+    → ReadsCommand (Err (NoMemory error)) (command_of words)
     → (said : Said) × RunsCommand (command_of words) said Memory source source disk disk × WritesAnswers Memory said sink sink
 without_memory words error source sink disk named = (
   silence,

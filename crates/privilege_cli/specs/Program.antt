@@ -18,6 +18,7 @@ use Rattle.folder_runs.specs.Folder.{StandsFor}
 use Rattle.folder_runs.specs.LoadRun.{loads_text, RunsLoad}
 use Rattle.local_runs.specs.LocalRun.{read_local, RunsLocal}
 use Rattle.access_runs.specs.AccessRun.{rules_read, RunsAccess}
+use Rattle.sample_runs.specs.Sample.{Outcome, outcome, sample_text}
 use Rattle.sample_runs.specs.SampleRun.{RunsSample}
 
 -- What the command that words name says, and how it ends, over a source and a disk before and after. Words name no other
@@ -56,4 +57,6 @@ Completes (Some SmackLoad) status before after =
 Completes (Some (SmackAccess subject object asked)) status before after =
     (input : List ℕ) (rules : List Rule) → before.source.left ≡ Some input → rules_read input ≡ Ok rules
     → Gives status before after (decided_text (decision subject object asked (effective rules subject object)))
+Completes (Some (Sample count)) status before after =
+    (found : Outcome) → outcome count ≡ Some found → Gives status before after (sample_text count found)
 Completes command status before after = Unit {0}

@@ -1,1 +1,4 @@
 pub mod Going
+pub mod Reading
+pub mod Telling
+pub mod Completing

@@ -37,11 +37,12 @@ fn sample_answer(alloc: Global, count: u32) -> Result<Bytes, Ending>
         Ok(sample) => sample,
         Err(ending) => return Err(ending),
     };
+    let commits = sample.desk.commit();
     let tally = match ask_all(alloc, &mut sample, count) {
         Ok(tally) => tally,
         Err(ending) => return Err(ending),
     };
-    match print_outcome(alloc, count, sample.desk.commit(), tally) {
+    match print_outcome(alloc, count, commits, tally) {
         Ok(text) => Ok(text),
         Err(_) => Err(Ending::Memory),
     }
