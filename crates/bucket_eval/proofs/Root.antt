@@ -53,14 +53,6 @@ root-first [] rise any = absurd (false≢true any)
 root-first (first ∷ headings) rise any =
     (first, refl, root-named first headings (same_text first.name []) refl rise.0 any, omega arith)
 
-pub root-there : (database : Database) (buckets : List Bucket) → database_of buckets ≡ database → IsWellFormed database
-    → 0 < length buckets
-root-there database buckets same formed =
-    let first = root-first database.buckets formed.names_rise formed.sound.root in
-    let some : 0 < length (map heading_of buckets) =
-    subst (λ (d : Database). 0 < length d.buckets) (sym same) first.3 in
-    subst (λ n. 0 < n) (length-map buckets heading_of) some
-
 -- what the first bucket answers is the answer from the root
 pub root-answer : (database : Database) (buckets : List Bucket) (question : Question) (held : Held)
     → database_of buckets ≡ database → IsKept buckets → IsWellFormed database

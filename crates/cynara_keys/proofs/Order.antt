@@ -45,20 +45,12 @@ key_total =
     then_total (on_total (λ (key : Key). key.client) field_total)
     (then_total (on_total (λ (key : Key). key.user) field_total) (on_total (λ (key : Key). key.privilege) field_total))
 
-pub same_key_equiv : IsEquivalence same_key
-same_key_equiv =
-    and_equiv (on_equiv (λ (key : Key). key.client) same_field_equiv)
-    (and_equiv (on_equiv (λ (key : Key). key.user) same_field_equiv) (on_equiv (λ (key : Key). key.privilege) same_field_equiv))
-
 pub key_cmp-equal : (a b : Key) → is_eq (key_cmp a b) ≡ same_key a b
 key_cmp-equal a b =
     let clients = sym (field_cmp-equal a.client b.client) in
     let users = sym (field_cmp-equal a.user b.user) in
     let privileges = sym (field_cmp-equal a.privilege b.privilege) in
     sym (both_tied _ _ _ _ clients (both_tied _ _ _ _ users privileges))
-
-pub key_partial_order : IsPartialOrder same_key (as_partial_cmp key_cmp)
-key_partial_order = po key_total (λ a b. sym (key_cmp-equal a b))
 
 -- ---- results
 
@@ -76,17 +68,8 @@ pub result_cmp-equal : (a b : Ruling) → is_eq (result_cmp a b) ≡ same_result
 result_cmp-equal a b =
     sym (both_tied _ _ _ _ (unsigned_ties a.kind b.kind) (texts_ties a.metadata b.metadata))
 
-pub result_partial_order : IsPartialOrder same_result (as_partial_cmp result_cmp)
-result_partial_order = po result_total (λ a b. sym (result_cmp-equal a b))
-
 pub same_result-≡ : (a b : Ruling) → same_result a b ≡ true → a ≡ b
 same_result-≡ a b h =
     let kinds : a.kind ≡ b.kind = eqb-true a.kind b.kind (first_so _ _ h) in
     let metadata : a.metadata ≡ b.metadata = same_text-≡ a.metadata b.metadata (second_so _ _ h) in
     λ i. record { kind = kinds i; metadata = metadata i }
-
-pub ≡-same_result : (a b : Ruling) → a ≡ b → same_result a b ≡ true
-≡-same_result a b h = ap (same_result a) (sym h) ∙ same_result_equiv.refl a
-
-pub result_cmp-≡ : (a b : Ruling) → result_cmp a b ≡ Equal → a ≡ b
-result_cmp-≡ a b h = same_result-≡ a b (sym (result_cmp-equal a b) ∙ ap is_eq h)

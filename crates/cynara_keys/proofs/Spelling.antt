@@ -47,10 +47,6 @@ pub field_of-field_text : (field : Field) → IsSound field → field_of (field_
 field_of-field_text Any sound = refl
 field_of-field_text (Exact name) sound = field_of-name name sound
 
-pub field_fault-field_text : (field : Field) → IsSound field → field_fault (field_text field) ≡ None
-field_fault-field_text Any sound = refl
-field_fault-field_text (Exact name) sound = field_fault-name name sound
-
 -- fields with the same text are equal
 pub same_field-≡ : (a b : Field) → IsSound a → IsSound b → same_field a b ≡ true → a ≡ b
 same_field-≡ a b first second same =
@@ -61,11 +57,3 @@ pub record IsSoundKey (key : Key) : Type 0 where
   pub client : IsSound key.client
   pub user : IsSound key.user
   pub privilege : IsSound key.privilege
-
-pub same_key-≡ : (a b : Key) → IsSoundKey a → IsSoundKey b → same_key a b ≡ true → a ≡ b
-same_key-≡ a b first second same =
-    let client : a.client ≡ b.client = same_field-≡ a.client b.client first.client second.client (first_so _ _ same) in
-    let user : a.user ≡ b.user = same_field-≡ a.user b.user first.user second.user (first_so _ _ (second_so _ _ same)) in
-    let privilege : a.privilege ≡ b.privilege =
-    same_field-≡ a.privilege b.privilege first.privilege second.privilege (second_so _ _ (second_so _ _ same)) in
-    λ i. record { client = client i; user = user i; privilege = privilege i }

@@ -24,9 +24,6 @@ longer-then {old} {now} {later} first second = record {
   is = second.is ∙ ap (λ l. l ++ second.more) first.is ∙ append_assoc old first.more second.more;
 }
 
-pub scanned-start : (test : Row → Bool) (rows : List Row) (from : ℕ) (old : List ℕ) → IsScanned test rows from from old old
-scanned-start test rows from old = record { longer = record { more = []; is = sym (append-nil old) }; joins = refl }
-
 module _ {test : Row → Bool} {rows : List Row} {from at : ℕ} {old now : List ℕ} (h : IsScanned test rows from at old now) where
   next_row : (row : Row) → at < length rows
       → numbers_from at test (drop at rows)

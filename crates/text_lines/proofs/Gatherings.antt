@@ -7,19 +7,6 @@ use Rattle.text_lines.specs.parts.Gathering.{Gathers, IsPastLimit, FailsToRead}
 use Rattle.text_lines.specs.declared.refusal.ReadRefusal.{ReadRefusal}
 use Rattle.text_lines.specs.declared.refusal.ReadRefusal.TheVariants.{PastLimit, Source, Memory}
 
-pub Keeps-nothing : (left : Option (List ℕ)) (reading : LineReading) → Keeps left left reading reading
-Keeps-nothing left reading =
-    record {
-      given = [];
-      took = Took-nothing left;
-      ended = λ _. refl;
-      stays_ended = λ ended. ended;
-      waiting = sym (append-nil reading.waiting);
-      number = refl;
-      room = refl;
-      longest = refl;
-    }
-
 module _ {left left_now left_after : Option (List ℕ)} {old now new : LineReading} where
   pub Keeps-then : Keeps left left_now old now → Keeps left_now left_after now new → Keeps left left_after old new
   Keeps-then first second =
