@@ -10,7 +10,7 @@ use Rattle.std.proofs.lemmas.List.{length-map}
 use Rattle.std.proofs.lemmas.Option.{same_Some}
 use Rattle.cynara_keys.specs.declared.keys.Policy.{Policy}
 use Rattle.bucket_store.specs.Bucket.{Bucket}
-use Rattle.bucket_store.specs.Database.{Placed, heading_of, placed_of}
+use Rattle.bucket_store.specs.Database.{Placed, placed_of}
 use Rattle.bucket_store.specs.WellFormed.{IsKept}
 use Rattle.bucket_eval.specs.Evaluation.{Outcome}
 use Rattle.bucket_eval.specs.declared.nested.Asked.{Asked}
@@ -34,12 +34,6 @@ spot-by bucket policy false of is =
 pub spot-some : (slot : Slot) (of : ℕ) → Some of ≡ option_map (λ (spot : Spot). spot.bucket) (spot_of slot)
     → spot_of slot ≡ Some (record { bucket = of; policy = none_or slot.policy })
 spot-some slot of is = spot-by slot.bucket (none_or slot.policy) (slot.bucket == 4294967295) of (sym is)
-
-spot-none-by : (bucket : ℕ) (policy : Option ℕ) (none : Bool)
-    → option_map (λ (spot : Spot). spot.bucket) (cond {A = Option Spot} none None (Some (record { bucket = bucket; policy = policy }))) ≡ None
-    → cond {A = Option Spot} none None (Some (record { bucket = bucket; policy = policy })) ≡ None
-spot-none-by bucket policy true is = refl
-spot-none-by bucket policy false is = cc
 
 -- the spot at a place
 pub spot_at-is : (slots : List Slot) (at : ℕ) (slot : Slot) (spot : Option Spot) → slice_get slots at ≡ Some slot

@@ -1,16 +1,15 @@
 -- The root bucket is the first.
-use Rattle.std.proofs.Common.{◌≡◌, ◌<◌, ◌||◌, ℕ, Bool, true, false, List, [], ◌∷◌, length, map, slice_get, Some, IfSome}
+use Rattle.std.proofs.Common.{◌≡◌, ◌<◌, ◌||◌, ℕ, Bool, true, false, List, [], ◌∷◌, length, slice_get, Some, IfSome}
 use Rattle.std.proofs.Common.{refl, sym, ap, ◌∙◌, subst, arith}
 use Rattle.std.specs.declared.cmp.Ordering.TheVariants.{Less}
 use Rattle.std.specs.List.{AllByRecursion, list_any}
 use Rattle.std.specs.List.Sorted.{IsStrictlySortedBy}
 use Rattle.std.proofs.lemmas.Bool.{false≢true}
-use Rattle.std.proofs.lemmas.List.{length-map}
 use Rattle.cynara_keys.specs.Key.{Question}
 use Rattle.cynara_keys.specs.Text.{same_text, text_cmp}
 use Rattle.cynara_keys.proofs.Order.{same_text-≡}
 use Rattle.bucket_store.specs.Bucket.{Bucket}
-use Rattle.bucket_store.specs.Database.{Database, Heading, database_of, heading_of, root}
+use Rattle.bucket_store.specs.Database.{Database, Heading, database_of, root}
 use Rattle.bucket_store.specs.Order.{heading_cmp}
 use Rattle.bucket_store.specs.WellFormed.{IsKept, IsWellFormed}
 use Rattle.bucket_eval.specs.Evaluation.{answer, answer_within}

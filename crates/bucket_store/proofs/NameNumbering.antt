@@ -1,13 +1,13 @@
 -- Names numbered in the order in which they are met: a number stays when more names come, and tells equal texts apart
 -- from others.
-use Rattle.std.proofs.Common.{◌≡◌, ℕ, suc, ◌+◌, Bool, true, false, not, ◌||◌, cond, if◌then◌else◌, ltb, eqb, List, [], ◌∷◌, ◌++◌, map, length, Some, None, refl, sym, ap, subst, ◌∙◌, true≢false, arith, append-nil}
+use Rattle.std.proofs.Common.{◌≡◌, ℕ, suc, ◌+◌, Bool, true, false, not, ◌||◌, cond, if◌then◌else◌, ltb, eqb, List, [], ◌∷◌, ◌++◌, map, length, Some, None, refl, sym, ap, subst, ◌∙◌, true≢false, arith}
 use Rattle.std.specs.List.{list_any, position, position_or_len}
 use Rattle.std.proofs.lemmas.List.{length-map}
 use Rattle.std.proofs.lemmas.List.Folds.{list_any-append}
 use Rattle.cynara_keys.specs.Text.{same_text}
 use Rattle.cynara_keys.specs.Field.{wildcard}
 use Rattle.cynara_keys.proofs.Order.{same_text-≡, ≡-same_text}
-use Rattle.bucket_store.specs.parts.Numbering.{HasNumber, IsNext}
+use Rattle.bucket_store.specs.parts.Numbering.{HasNumber}
 
 -- ---- places
 

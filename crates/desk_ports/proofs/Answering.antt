@@ -2,9 +2,8 @@
 use Rattle.std.proofs.Common.{◌≡◌, inl, inr, ℕ, true, List, length, Some, Result, Ok, Err, IfOk, OnOk, OnErr, ◌∙◌, ap, subst}
 use Rattle.desk_ports.specs.Disk.{DiskState, WhereTold, KeepsState, Disturbs}
 use Rattle.desk_ports.specs.Moments.{Elapses}
-use Rattle.desk_ports.specs.PortFault.{count_after, count_after_call}
 use Rattle.desk_ports.specs.DiskCalls.{after_done, after_failed, with_only_touched}
-use Rattle.desk_ports.specs.MemDisk.{RecordedDisk, with_call, IsFailedCall, AnswersCall, AnswersChange, state_of, LeftSince}
+use Rattle.desk_ports.specs.MemDisk.{RecordedDisk, IsFailedCall, AnswersCall, AnswersChange, state_of, LeftSince}
 use Rattle.desk_ports.specs.MemDiskLaws.{told_state}
 use Rattle.desk_ports.proofs.Recording.{told-done, told-failed, Disturbs-failed, Elapses-done, Elapses-failed, Elapses-without_memory}
 use Rattle.desk_ports.specs.declared.streams.Failed.{Failed}
@@ -19,10 +18,6 @@ module _ (old new : RecordedDisk) (call : DiskCall) where
       → KeepsState (Some (state_of old)) (Some (state_of new))
   keeps-failed keeps (inl is) before told = told-failed old new call is.1 before told ∙ ap Some (keeps before)
   keeps-failed keeps (inr is) before told = ap (λ disk. Some (state_of disk)) is ∙ told
-
-  -- a call that was done and changes nothing keeps the state
-  keeps-done : ((state : DiskState) → after_done state call ≡ state) → new ≡ with_call old call true → KeepsState (Some (state_of old)) (Some (state_of new))
-  keeps-done keeps is before told = told-done old new call is before told ∙ ap Some (keeps before)
 
 module _ {T : Type 0} (old new : RecordedDisk) (call : DiskCall) where
   pub time-change : (result : Result T Failed) → AnswersChange result old call new

@@ -1,6 +1,6 @@
 -- Rows gone over from a place on: what was found, and then what is found in the rows that are left, is what is found in
 -- all of them.
-use Rattle.std.proofs.Common.{◌≡◌, ℕ, suc, ◌+◌, ◌<◌, ◌≤◌, Bool, true, false, if◌then◌else◌, List, [], ◌∷◌, ◌++◌, map, length, take, drop, get_or, refl, sym, ap, ◌∙◌, arith, append_assoc, append-nil, drop-cons}
+use Rattle.std.proofs.Common.{◌≡◌, ℕ, suc, ◌+◌, ◌<◌, ◌≤◌, Bool, true, false, if◌then◌else◌, List, [], ◌∷◌, ◌++◌, map, length, take, drop, get_or, sym, ap, ◌∙◌, arith, append_assoc, append-nil, drop-cons}
 use Rattle.std.proofs.lemmas.Simd.{chunk-drop, length-chunk}
 use Rattle.std.proofs.lemmas.List.{drop_all, length-map}
 use Rattle.std.specs.Simd.Lanes.{mask_l}

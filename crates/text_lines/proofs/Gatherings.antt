@@ -1,6 +1,6 @@
 -- Reading up to the next line, one reading after another.
-use Rattle.std.proofs.Common.{◌+◌, ◌-◌, ℕ, cond, List, [], ◌++◌, length, Option, Err, refl, sym, ap, ◌∙◌, subst, arith, append_assoc, append-nil}
-use Rattle.desk_ports.proofs.Readings.{Took-then, Took-nothing}
+use Rattle.std.proofs.Common.{◌+◌, ◌-◌, ℕ, cond, List, ◌++◌, length, Option, Err, sym, ap, ◌∙◌, subst, arith, append_assoc}
+use Rattle.desk_ports.proofs.Readings.{Took-then}
 use Rattle.text_lines.specs.Lines.{HasNoNewline}
 use Rattle.text_lines.specs.LineReader.{LineReading, Keeps, IsUnfinished, GoesPast}
 use Rattle.text_lines.specs.parts.Gathering.{Gathers, IsPastLimit, FailsToRead}
