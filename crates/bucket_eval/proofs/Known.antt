@@ -10,7 +10,7 @@ use Rattle.std.proofs.lemmas.List.{length-map}
 use Rattle.std.proofs.lemmas.Option.{same_Some}
 use Rattle.cynara_keys.specs.declared.keys.Policy.{Policy}
 use Rattle.bucket_store.specs.Bucket.{Bucket}
-use Rattle.bucket_store.specs.Database.{Placed, heading_of, placed_of}
+use Rattle.bucket_store.specs.Database.{Placed, placed_of}
 use Rattle.bucket_store.specs.WellFormed.{IsKept}
 use Rattle.bucket_eval.specs.Evaluation.{Outcome}
 use Rattle.bucket_eval.specs.declared.nested.Asked.{Asked}
@@ -34,15 +34,6 @@ spot-by bucket policy false of is =
 pub spot-some : (slot : Slot) (of : ℕ) → Some of ≡ option_map (λ (spot : Spot). spot.bucket) (spot_of slot)
     → spot_of slot ≡ Some (record { bucket = of; policy = none_or slot.policy })
 spot-some slot of is = spot-by slot.bucket (none_or slot.policy) (slot.bucket == 4294967295) of (sym is)
-
-spot-none-by : (bucket : ℕ) (policy : Option ℕ) (none : Bool)
-    → option_map (λ (spot : Spot). spot.bucket) (cond {A = Option Spot} none None (Some (record { bucket = bucket; policy = policy }))) ≡ None
-    → cond {A = Option Spot} none None (Some (record { bucket = bucket; policy = policy })) ≡ None
-spot-none-by bucket policy true is = refl
-spot-none-by bucket policy false is = cc
-
-pub spot-none : (slot : Slot) → None ≡ option_map (λ (spot : Spot). spot.bucket) (spot_of slot) → spot_of slot ≡ None
-spot-none slot is = spot-none-by slot.bucket (none_or slot.policy) (slot.bucket == 4294967295) (sym is)
 
 -- the spot at a place
 pub spot_at-is : (slots : List Slot) (at : ℕ) (slot : Slot) (spot : Option Spot) → slice_get slots at ≡ Some slot
@@ -193,9 +184,6 @@ grows-set slots at slot spot within of = record {
   ];
 }
 
-pub grows-same : (slots : List Slot) → Grows slots slots
-grows-same slots = record { room = refl; known = λ at is. is }
-
 pub grows-more : (old between new : List Slot) → Grows old between → Grows between new → Grows old new
 grows-more old between new first then = record {
   room = then.room ∙ first.room;
@@ -261,14 +249,6 @@ length-policies (first ∷ buckets) zero bucket is =
 length-policies (first ∷ buckets) (suc at) bucket is =
     let rest = length-policies buckets at bucket is in
     omega (arith, rest, length-append (placed_of first) (flat_map placed_of buckets))
-
-pub held-bucket : (buckets : List Bucket) (outcome : Outcome) (held : Held) → IsKept buckets
-    → IsHeld buckets outcome held → held.found.bucket < 65536
-held-bucket buckets outcome held kept is =
-    let within = some-there (outcome_in held.found.policy) buckets held.found.bucket
-    (slice_get buckets held.found.bucket) refl (ap is_some is.there) in
-    let few = kept.sound.buckets in
-    omega (arith, within, few, length-map buckets heading_of)
 
 policy-at : (buckets : List Bucket) (at place : ℕ) (here : Option Bucket) (outcome : Outcome) → IsKept buckets
     → slice_get buckets at ≡ here → option_and_then (outcome_in (Some place)) here ≡ Some outcome → place < 65536

@@ -1,16 +1,15 @@
 -- The root bucket is the first.
-use Rattle.std.proofs.Common.{◌≡◌, ◌<◌, ◌||◌, ℕ, Bool, true, false, List, [], ◌∷◌, length, map, slice_get, Some, IfSome}
+use Rattle.std.proofs.Common.{◌≡◌, ◌<◌, ◌||◌, ℕ, Bool, true, false, List, [], ◌∷◌, length, slice_get, Some, IfSome}
 use Rattle.std.proofs.Common.{refl, sym, ap, ◌∙◌, subst, arith}
 use Rattle.std.specs.declared.cmp.Ordering.TheVariants.{Less}
 use Rattle.std.specs.List.{AllByRecursion, list_any}
 use Rattle.std.specs.List.Sorted.{IsStrictlySortedBy}
 use Rattle.std.proofs.lemmas.Bool.{false≢true}
-use Rattle.std.proofs.lemmas.List.{length-map}
 use Rattle.cynara_keys.specs.Key.{Question}
 use Rattle.cynara_keys.specs.Text.{same_text, text_cmp}
 use Rattle.cynara_keys.proofs.Order.{same_text-≡}
 use Rattle.bucket_store.specs.Bucket.{Bucket}
-use Rattle.bucket_store.specs.Database.{Database, Heading, database_of, heading_of, root}
+use Rattle.bucket_store.specs.Database.{Database, Heading, database_of, root}
 use Rattle.bucket_store.specs.Order.{heading_cmp}
 use Rattle.bucket_store.specs.WellFormed.{IsKept, IsWellFormed}
 use Rattle.bucket_eval.specs.Evaluation.{answer, answer_within}
@@ -52,14 +51,6 @@ unfolding IsStrictlySortedBy
 root-first [] rise any = absurd (false≢true any)
 root-first (first ∷ headings) rise any =
     (first, refl, root-named first headings (same_text first.name []) refl rise.0 any, omega arith)
-
-pub root-there : (database : Database) (buckets : List Bucket) → database_of buckets ≡ database → IsWellFormed database
-    → 0 < length buckets
-root-there database buckets same formed =
-    let first = root-first database.buckets formed.names_rise formed.sound.root in
-    let some : 0 < length (map heading_of buckets) =
-    subst (λ (d : Database). 0 < length d.buckets) (sym same) first.3 in
-    subst (λ n. 0 < n) (length-map buckets heading_of) some
 
 -- what the first bucket answers is the answer from the root
 pub root-answer : (database : Database) (buckets : List Bucket) (question : Question) (held : Held)

@@ -54,12 +54,6 @@ module _ {X : Type 0} (f : X → List ℕ) (xs : List X) (text : List ℕ) where
 -- ---- tables
 
 module _ (names : List (List ℕ)) (policies : List Policy) where
-  pub table-none : (places : ℕ → Option ℕ) → ((mark : ℕ) → places mark ≡ None) → IsTableTo names policies places 0
-  table-none places none = record {
-    sound = λ mark place is. let no : None ≡ Some place = sym (none mark) ∙ is in cc;
-    complete = λ place policy less. absurd (omega arith);
-  }
-
   pub table-all : (places : ℕ → Option ℕ) (count : ℕ) → length policies ≤ count → IsTableTo names policies places count
       → IsTable names policies places
   table-all places count all table = record {
@@ -138,9 +132,6 @@ shaped-more policies shapes at policy there shaped = λ place other less other_t
           set-there shapes (shape_of policy.key)
           (ap (λ (p : Policy). slice_get (set shapes (shape_of policy.key) true) (shape_of p.key)) same ∙ lacks))
     ]
-
-pub shaped-none : (policies : List Policy) (shapes : List Bool) → IsShapedTo policies shapes 0
-shaped-none policies shapes = λ place policy less. absurd (omega arith)
 
 pub shaped-all : (policies : List Policy) (shapes : List Bool) (count : ℕ) → length policies ≤ count
     → IsShapedTo policies shapes count → IsShaped policies shapes

@@ -172,11 +172,6 @@ module _ (buckets : List Bucket) (rise : IsStrictlySortedBy bucket_cmp buckets) 
 
   -- ---- the least bucket on a cycle
 
-  pub Ends-off : (at : ℕ) → Ends (flat_map placed_of buckets) (name_at buckets at)
-      → IsOnCycle (flat_map placed_of buckets) (name_at buckets at)
-      → ⊥
-  Ends-off at ends on = ends (name_at buckets at) on on
-
   pub none-on : ((at : ℕ) → at < length buckets → IsOnCycle (flat_map placed_of buckets) (name_at buckets at) → ⊥)
       → IsLeast buckets None
   none-on none name on =

@@ -1,13 +1,13 @@
 -- Names numbered in the order in which they are met: a number stays when more names come, and tells equal texts apart
 -- from others.
-use Rattle.std.proofs.Common.{◌≡◌, ℕ, suc, ◌+◌, Bool, true, false, not, ◌||◌, cond, if◌then◌else◌, ltb, eqb, List, [], ◌∷◌, ◌++◌, map, length, Some, None, refl, sym, ap, subst, ◌∙◌, true≢false, arith, append-nil}
+use Rattle.std.proofs.Common.{◌≡◌, ℕ, suc, ◌+◌, Bool, true, false, not, ◌||◌, cond, if◌then◌else◌, ltb, eqb, List, [], ◌∷◌, ◌++◌, map, length, Some, None, refl, sym, ap, subst, ◌∙◌, true≢false, arith}
 use Rattle.std.specs.List.{list_any, position, position_or_len}
 use Rattle.std.proofs.lemmas.List.{length-map}
 use Rattle.std.proofs.lemmas.List.Folds.{list_any-append}
 use Rattle.cynara_keys.specs.Text.{same_text}
 use Rattle.cynara_keys.specs.Field.{wildcard}
 use Rattle.cynara_keys.proofs.Order.{same_text-≡, ≡-same_text}
-use Rattle.bucket_store.specs.parts.Numbering.{HasNumber, IsNext}
+use Rattle.bucket_store.specs.parts.Numbering.{HasNumber}
 
 -- ---- places
 
@@ -86,13 +86,6 @@ module _ {X : Type 0} (view : X → List ℕ) where
   abbrev pub inserted : List X → X → List X
   inserted xs x = if list_any (λ other. same_text (view x) (view other)) xs then xs else xs ++ x ∷ []
 
-  pub inserted-next : (xs : List X) (x : X) (new : List X) → new ≡ inserted xs x → IsNext (map view xs) (map view new)
-  inserted-next xs x new is = subst (λ l. IsNext (map view xs) (map view l)) (sym is) (by (list_any (λ other. same_text (view x) (view other)) xs))
-    where
-      by : (b : Bool) → IsNext (map view xs) (map view (if b then xs else xs ++ x ∷ []))
-      by true = record { more = []; is = sym (append-nil (map view xs)); at_most_one = omega arith }
-      by false = record { more = view x ∷ []; is = map-push xs x; at_most_one = omega arith }
-
   pub inserted-number : (xs : List X) (x : X) (new : List X) (place : ℕ) → new ≡ inserted xs x
       → place ≡ position_or_len (λ other. same_text (view x) (view other)) xs → same_text (view x) wildcard ≡ false
       → HasNumber (map view new) (view x) (place + 1)
@@ -157,10 +150,6 @@ has-more names more text number has = by (same_text text wildcard) refl
               ∙ ap (λ n. n + 1) (sym (place-more (same_text text) names more there))
               ∙ sym (ap (λ b. if b then 0 else position_or_len (same_text text) (names ++ more) + 1) e);
         }
-
-pub has-next : (old new : List (List ℕ)) (text : List ℕ) (number : ℕ) → IsNext old new → HasNumber old text number → HasNumber new text number
-has-next old new text number next has =
-    subst (λ names. HasNumber names text number) (sym next.is) (has-more old next.more text number has)
 
 -- two texts whose places are the same are the same
 same_place : (names : List (List ℕ)) (a b : List ℕ) → list_any (same_text a) names ≡ true

@@ -93,18 +93,6 @@ flagged-start count = record {
     all-off zero = refl
     all-off (suc count) = ap suc (all-off count)
 
-pub flagged-has : (flags : List Bool) (places : List ℕ) (at : ℕ) → IsFlagged flags places → at < length flags
-    → flag flags at ≡ true
-    → with_place places (Some at) ≡ places
-flagged-has flags places at is lt on =
-    ap (λ b. cond b places (places ++ at ∷ [])) (sym (is.tells at lt) ∙ on)
-
-pub flagged-new : (flags : List Bool) (places : List ℕ) (at : ℕ) → IsFlagged flags places → at < length flags
-    → flag flags at ≡ false
-    → with_place places (Some at) ≡ places ++ at ∷ []
-flagged-new flags places at is lt off =
-    ap (λ b. cond b places (places ++ at ∷ [])) (sym (is.tells at lt) ∙ off)
-
 pub flagged-more : (flags : List Bool) (places : List ℕ) (at : ℕ) → IsFlagged flags places → at < length flags
     → flag flags at ≡ false
     → IsFlagged (set flags at true) (places ++ at ∷ [])

@@ -1,15 +1,13 @@
--- The laws of how texts, fields, keys and results compare, for this crate's comparisons and for searches in the crates above.
-use Rattle.std.proofs.Common.{◌≡◌, ℕ, true, List, sym, ap, ◌∙◌}
-use Rattle.std.specs.declared.cmp.Ordering.TheVariants.{Equal}
-use Rattle.std.specs.Cmp.{IsTotalOrder, IsEquivalence, IsPartialOrder, po, both_tied, unsigned_ties, first_so, second_so}
+-- The laws of how texts, fields, keys and results compare, for this crate's comparisons and for the crates above.
+use Rattle.std.proofs.Common.{◌≡◌, ℕ, true, List, sym}
+use Rattle.std.specs.Cmp.{IsTotalOrder, both_tied}
 use Rattle.std.specs.Cmp.Lexicographic.{texts_ties, bytes_decides}
-use Rattle.std.specs.Ordering.{is_eq, as_partial_cmp}
-use Rattle.std.proofs.lemmas.Cmp.{nat_cmp_total, nat_eq_equiv, nat_list_cmp_total, nat_list_eq_equiv, on_total, on_equiv, then_total, and_equiv}
-use borrow.Author.Tests.{eqb-true}
+use Rattle.std.specs.Ordering.{is_eq}
+use Rattle.std.proofs.lemmas.Cmp.{nat_cmp_total, nat_list_cmp_total, on_total, then_total}
 use Rattle.cynara_keys.specs.Text.{same_text, text_cmp}
 use Rattle.cynara_keys.specs.Field.{field_text, field_cmp, same_field}
 use Rattle.cynara_keys.specs.Key.{key_cmp, same_key}
-use Rattle.cynara_keys.specs.PolicyResult.{Ruling, result_cmp, same_result}
+use Rattle.cynara_keys.specs.PolicyResult.{Ruling, result_cmp}
 use Rattle.cynara_keys.specs.declared.fields.Field.{Field}
 use Rattle.cynara_keys.specs.Key.{Key}
 
@@ -32,9 +30,6 @@ text_cmp-equal a b = sym (texts_ties a b)
 pub field_total : IsTotalOrder field_cmp
 field_total = on_total field_text text_total
 
-pub same_field_equiv : IsEquivalence same_field
-same_field_equiv = on_equiv field_text nat_list_eq_equiv
-
 pub field_cmp-equal : (a b : Field) → is_eq (field_cmp a b) ≡ same_field a b
 field_cmp-equal a b = text_cmp-equal (field_text a) (field_text b)
 
@@ -45,11 +40,6 @@ key_total =
     then_total (on_total (λ (key : Key). key.client) field_total)
     (then_total (on_total (λ (key : Key). key.user) field_total) (on_total (λ (key : Key). key.privilege) field_total))
 
-pub same_key_equiv : IsEquivalence same_key
-same_key_equiv =
-    and_equiv (on_equiv (λ (key : Key). key.client) same_field_equiv)
-    (and_equiv (on_equiv (λ (key : Key). key.user) same_field_equiv) (on_equiv (λ (key : Key). key.privilege) same_field_equiv))
-
 pub key_cmp-equal : (a b : Key) → is_eq (key_cmp a b) ≡ same_key a b
 key_cmp-equal a b =
     let clients = sym (field_cmp-equal a.client b.client) in
@@ -57,36 +47,9 @@ key_cmp-equal a b =
     let privileges = sym (field_cmp-equal a.privilege b.privilege) in
     sym (both_tied _ _ _ _ clients (both_tied _ _ _ _ users privileges))
 
-pub key_partial_order : IsPartialOrder same_key (as_partial_cmp key_cmp)
-key_partial_order = po key_total (λ a b. sym (key_cmp-equal a b))
-
 -- ---- results
 
 pub result_total : IsTotalOrder result_cmp
 result_total =
     then_total (on_total (λ (result : Ruling). result.kind) nat_cmp_total)
     (on_total (λ (result : Ruling). result.metadata) text_total)
-
-pub same_result_equiv : IsEquivalence same_result
-same_result_equiv =
-    and_equiv (on_equiv (λ (result : Ruling). result.kind) nat_eq_equiv)
-    (on_equiv (λ (result : Ruling). result.metadata) nat_list_eq_equiv)
-
-pub result_cmp-equal : (a b : Ruling) → is_eq (result_cmp a b) ≡ same_result a b
-result_cmp-equal a b =
-    sym (both_tied _ _ _ _ (unsigned_ties a.kind b.kind) (texts_ties a.metadata b.metadata))
-
-pub result_partial_order : IsPartialOrder same_result (as_partial_cmp result_cmp)
-result_partial_order = po result_total (λ a b. sym (result_cmp-equal a b))
-
-pub same_result-≡ : (a b : Ruling) → same_result a b ≡ true → a ≡ b
-same_result-≡ a b h =
-    let kinds : a.kind ≡ b.kind = eqb-true a.kind b.kind (first_so _ _ h) in
-    let metadata : a.metadata ≡ b.metadata = same_text-≡ a.metadata b.metadata (second_so _ _ h) in
-    λ i. record { kind = kinds i; metadata = metadata i }
-
-pub ≡-same_result : (a b : Ruling) → a ≡ b → same_result a b ≡ true
-≡-same_result a b h = ap (same_result a) (sym h) ∙ same_result_equiv.refl a
-
-pub result_cmp-≡ : (a b : Ruling) → result_cmp a b ≡ Equal → a ≡ b
-result_cmp-≡ a b h = same_result-≡ a b (sym (result_cmp-equal a b) ∙ ap is_eq h)

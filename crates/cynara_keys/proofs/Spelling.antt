@@ -1,13 +1,10 @@
 -- A field and its one text give each other back, and so keys of names that compare as equal are one key.
 use Rattle.std.proofs.Common.{◌≡◌, Bool, true, false, List, ℕ, None, cond, refl, sym, ap, ◌∙◌}
-use Rattle.std.specs.Cmp.{first_so, second_so}
 use Rattle.cynara_keys.specs.Text.{same_text}
 use Rattle.cynara_keys.specs.Name.{name_fault}
-use Rattle.cynara_keys.specs.Field.{wildcard, field_text, field_of, field_fault, same_field}
-use Rattle.cynara_keys.specs.Key.{same_key}
+use Rattle.cynara_keys.specs.Field.{wildcard, field_text, field_of, field_fault}
 use Rattle.cynara_keys.specs.declared.fields.Field.{Field}
 use Rattle.cynara_keys.specs.declared.fields.Field.TheVariants.{Any, Exact}
-use Rattle.cynara_keys.specs.Key.{Key}
 use Rattle.cynara_keys.proofs.Order.{same_text-≡}
 
 -- what each field of the program is: the wildcard, or a name without a fault
@@ -41,31 +38,3 @@ sound_at text false fits = fits
 
 pub field_of-sound : (text : List ℕ) → field_fault text ≡ None → IsSound (field_of text)
 field_of-sound text fits = sound_at text (same_text text wildcard) fits
-
--- the text of a field reads back
-pub field_of-field_text : (field : Field) → IsSound field → field_of (field_text field) ≡ field
-field_of-field_text Any sound = refl
-field_of-field_text (Exact name) sound = field_of-name name sound
-
-pub field_fault-field_text : (field : Field) → IsSound field → field_fault (field_text field) ≡ None
-field_fault-field_text Any sound = refl
-field_fault-field_text (Exact name) sound = field_fault-name name sound
-
--- fields with the same text are equal
-pub same_field-≡ : (a b : Field) → IsSound a → IsSound b → same_field a b ≡ true → a ≡ b
-same_field-≡ a b first second same =
-    sym (field_of-field_text a first) ∙ ap field_of (same_text-≡ (field_text a) (field_text b) same)
-    ∙ field_of-field_text b second
-
-pub record IsSoundKey (key : Key) : Type 0 where
-  pub client : IsSound key.client
-  pub user : IsSound key.user
-  pub privilege : IsSound key.privilege
-
-pub same_key-≡ : (a b : Key) → IsSoundKey a → IsSoundKey b → same_key a b ≡ true → a ≡ b
-same_key-≡ a b first second same =
-    let client : a.client ≡ b.client = same_field-≡ a.client b.client first.client second.client (first_so _ _ same) in
-    let user : a.user ≡ b.user = same_field-≡ a.user b.user first.user second.user (first_so _ _ (second_so _ _ same)) in
-    let privilege : a.privilege ≡ b.privilege =
-    same_field-≡ a.privilege b.privilege first.privilege second.privilege (second_so _ _ (second_so _ _ same)) in
-    λ i. record { client = client i; user = user i; privilege = privilege i }

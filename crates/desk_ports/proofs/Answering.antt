@@ -2,9 +2,8 @@
 use Rattle.std.proofs.Common.{◌≡◌, inl, inr, ℕ, true, List, length, Some, Result, Ok, Err, IfOk, OnOk, OnErr, ◌∙◌, ap, subst}
 use Rattle.desk_ports.specs.Disk.{DiskState, WhereTold, KeepsState, Disturbs}
 use Rattle.desk_ports.specs.Moments.{Elapses}
-use Rattle.desk_ports.specs.PortFault.{count_after, count_after_call}
 use Rattle.desk_ports.specs.DiskCalls.{after_done, after_failed, with_only_touched}
-use Rattle.desk_ports.specs.MemDisk.{RecordedDisk, with_call, IsFailedCall, AnswersCall, AnswersChange, state_of, LeftSince}
+use Rattle.desk_ports.specs.MemDisk.{RecordedDisk, IsFailedCall, AnswersCall, AnswersChange, state_of, LeftSince}
 use Rattle.desk_ports.specs.MemDiskLaws.{told_state}
 use Rattle.desk_ports.proofs.Recording.{told-done, told-failed, Disturbs-failed, Elapses-done, Elapses-failed, Elapses-without_memory}
 use Rattle.desk_ports.specs.declared.streams.Failed.{Failed}
@@ -20,16 +19,7 @@ module _ (old new : RecordedDisk) (call : DiskCall) where
   keeps-failed keeps (inl is) before told = told-failed old new call is.1 before told ∙ ap Some (keeps before)
   keeps-failed keeps (inr is) before told = ap (λ disk. Some (state_of disk)) is ∙ told
 
-  -- a call that was done and changes nothing keeps the state
-  keeps-done : ((state : DiskState) → after_done state call ≡ state) → new ≡ with_call old call true → KeepsState (Some (state_of old)) (Some (state_of new))
-  keeps-done keeps is before told = told-done old new call is before told ∙ ap Some (keeps before)
-
 module _ {T : Type 0} (old new : RecordedDisk) (call : DiskCall) where
-  pub count-change : (result : Result T Failed) → AnswersChange result old call new → new.faults ≡ count_after_call result old.faults
-  count-change (Ok value) is = ap (λ disk. disk.faults) is
-  count-change (Err failed) (inl is) = ap (λ disk. disk.faults) is.1
-  count-change (Err failed) (inr is) = ap (λ disk. disk.faults) is
-
   pub time-change : (result : Result T Failed) → AnswersChange result old call new
       → WhereTold (Some (state_of new)) (Elapses (length old.calls) (length new.calls) (LeftSince old) (LeftSince new))
   time-change (Ok value) is = Elapses-done old new call true is
@@ -51,25 +41,11 @@ module _ {T : Type 0} (old new : RecordedDisk) (call : DiskCall) where
   keeps-change (Ok value) keeps is = tt
   keeps-change (Err failed) keeps is = keeps-failed old new call keeps is
 
-  pub count-call : (result : Result T PortFault) → AnswersCall result old call new → new.faults ≡ count_after result old.faults
-  count-call (Ok value) is = ap (λ disk. disk.faults) is
-  count-call (Err fault.Failed) is = ap (λ disk. disk.faults) is.1
-  count-call (Err (Memory error)) (inl is) = ap (λ disk. disk.faults) is
-  count-call (Err (Memory error)) (inr is) = ap (λ disk. disk.faults) is
-
   pub time-call : (result : Result T PortFault) → AnswersCall result old call new
       → WhereTold (Some (state_of new)) (Elapses (length old.calls) (length new.calls) (LeftSince old) (LeftSince new))
   time-call (Ok value) is = Elapses-done old new call true is
   time-call (Err fault.Failed) is = Elapses-failed old new call (inl is)
   time-call (Err (Memory error)) is = Elapses-without_memory old new call is
-
-  pub keeps-call : (result : Result T PortFault) → ((state : DiskState) → after_done state call ≡ state)
-      → ((state : DiskState) → after_failed state call ≡ state) → AnswersCall result old call new
-      → KeepsState (Some (state_of old)) (Some (state_of new))
-  keeps-call (Ok value) keeps also is = keeps-done old new call keeps is
-  keeps-call (Err fault.Failed) keeps also is = keeps-failed old new call also (inl is)
-  keeps-call (Err (Memory error)) keeps also (inl is) = keeps-done old new call keeps is
-  keeps-call (Err (Memory error)) keeps also (inr is) = λ before told. ap (λ disk. Some (state_of disk)) is ∙ told
 
   -- what is read after a call that changes nothing is what was there before
   pub told-call : (P : T → DiskState → Type 0) (result : Result T PortFault) → ((state : DiskState) → after_done state call ≡ state)

@@ -1,6 +1,6 @@
 -- Rows gone over from a place on: what was found, and then what is found in the rows that are left, is what is found in
 -- all of them.
-use Rattle.std.proofs.Common.{◌≡◌, ℕ, suc, ◌+◌, ◌<◌, ◌≤◌, Bool, true, false, if◌then◌else◌, List, [], ◌∷◌, ◌++◌, map, length, take, drop, get_or, refl, sym, ap, ◌∙◌, arith, append_assoc, append-nil, drop-cons}
+use Rattle.std.proofs.Common.{◌≡◌, ℕ, suc, ◌+◌, ◌<◌, ◌≤◌, Bool, true, false, if◌then◌else◌, List, [], ◌∷◌, ◌++◌, map, length, take, drop, get_or, sym, ap, ◌∙◌, arith, append_assoc, append-nil, drop-cons}
 use Rattle.std.proofs.lemmas.Simd.{chunk-drop, length-chunk}
 use Rattle.std.proofs.lemmas.List.{drop_all, length-map}
 use Rattle.std.specs.Simd.Lanes.{mask_l}
@@ -23,9 +23,6 @@ longer-then {old} {now} {later} first second = record {
   more = first.more ++ second.more;
   is = second.is ∙ ap (λ l. l ++ second.more) first.is ∙ append_assoc old first.more second.more;
 }
-
-pub scanned-start : (test : Row → Bool) (rows : List Row) (from : ℕ) (old : List ℕ) → IsScanned test rows from from old old
-scanned-start test rows from old = record { longer = record { more = []; is = sym (append-nil old) }; joins = refl }
 
 module _ {test : Row → Bool} {rows : List Row} {from at : ℕ} {old now : List ℕ} (h : IsScanned test rows from at old now) where
   next_row : (row : Row) → at < length rows

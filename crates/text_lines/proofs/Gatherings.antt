@@ -1,24 +1,11 @@
 -- Reading up to the next line, one reading after another.
-use Rattle.std.proofs.Common.{◌+◌, ◌-◌, ℕ, cond, List, [], ◌++◌, length, Option, Err, refl, sym, ap, ◌∙◌, subst, arith, append_assoc, append-nil}
-use Rattle.desk_ports.proofs.Readings.{Took-then, Took-nothing}
+use Rattle.std.proofs.Common.{◌+◌, ◌-◌, ℕ, cond, List, ◌++◌, length, Option, Err, sym, ap, ◌∙◌, subst, arith, append_assoc}
+use Rattle.desk_ports.proofs.Readings.{Took-then}
 use Rattle.text_lines.specs.Lines.{HasNoNewline}
 use Rattle.text_lines.specs.LineReader.{LineReading, Keeps, IsUnfinished, GoesPast}
 use Rattle.text_lines.specs.parts.Gathering.{Gathers, IsPastLimit, FailsToRead}
 use Rattle.text_lines.specs.declared.refusal.ReadRefusal.{ReadRefusal}
 use Rattle.text_lines.specs.declared.refusal.ReadRefusal.TheVariants.{PastLimit, Source, Memory}
-
-pub Keeps-nothing : (left : Option (List ℕ)) (reading : LineReading) → Keeps left left reading reading
-Keeps-nothing left reading =
-    record {
-      given = [];
-      took = Took-nothing left;
-      ended = λ _. refl;
-      stays_ended = λ ended. ended;
-      waiting = sym (append-nil reading.waiting);
-      number = refl;
-      room = refl;
-      longest = refl;
-    }
 
 module _ {left left_now left_after : Option (List ℕ)} {old now new : LineReading} where
   pub Keeps-then : Keeps left left_now old now → Keeps left_now left_after now new → Keeps left left_after old new
