@@ -1,10 +1,10 @@
 -- Lines that are `check`.
-use Rattle.std.proofs.Common.{◌≡◌, ℕ, true, cond, List, [], ◌∷◌, Some, None, refl, sym, ap, subst, ◌∙◌}
+use Rattle.std.proofs.Common.{◌≡◌, ◌≤◌, ℕ, true, cond, List, [], ◌∷◌, length, Option, Some, None, IfSome, refl, sym, ap, subst, ◌∙◌}
 use Rattle.std.specs.Prelude.{option_map, codes}
-use Rattle.std.proofs.lemmas.Bool.{eqb-true}
+use Rattle.std.proofs.lemmas.Bool.{eqb-true, le-leb}
 use Rattle.cynara_keys.specs.Key.{Question}
 use Rattle.line_script.specs.Block.{outside}
-use Rattle.line_script.specs.Grammar.{outside_at, lone_step, line_at, check_at}
+use Rattle.line_script.specs.Grammar.{outside_at, lone_step, line_at, check_at, any_length_step_at, step_at}
 use Rattle.line_script.specs.Verbs.{verb_at, is_known_in}
 use Rattle.line_script.specs.Words.{words_of, word, ◌>>=◌}
 use Rattle.line_script.specs.declared.places.Place.{Place}
@@ -40,3 +40,12 @@ pub read_as_check : (place : Place) (line first : List ℕ) (rest : List (List �
     → outside_at place line ≡ Some (outside place, step.Check question)
 read_as_check place line first rest question begins words is asked =
     stands_alone place line begins ∙ ap (option_map (λ read. (outside place, read))) (asks place line first rest question words is asked)
+
+-- the same of a line that is not too long, as the step of a reader
+pub step_as_check : (place : Place) (line : List ℕ) (result : Option Question) → length line ≤ 65535
+    → IfSome result (λ question. (place : Place) → outside_at place line ≡ Some (outside place, step.Check question))
+    → IfSome result (λ question. step_at (outside place) line ≡ Some (outside place, step.Check question))
+unfolding step_at any_length_step_at
+step_as_check place line None short is = tt
+step_as_check place line (Some question) short is =
+    ap (λ fits. cond fits (outside_at place line) None) (le-leb (length line) 65535 short) ∙ is place

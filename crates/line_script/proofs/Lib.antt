@@ -1,3 +1,4 @@
+pub mod Appended
 pub mod Checks
 pub mod NameWords
 pub mod Numerals

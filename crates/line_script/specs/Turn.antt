@@ -24,4 +24,4 @@ is_in_block failed = false
 -- a decision is asked for only where the modes are a request
 abbrev pub AsksRequest : Step → Type 0
 AsksRequest (Access subject object asked) = IsTrue (is_request asked)
-AsksRequest step = Unit {0}
+AsksRequest other = Unit {0}

@@ -25,10 +25,7 @@ pub(crate) fn append_from_agent(
     out.append(b" ")?;
     append_number(out, commit)?;
     out.append(b" agent ")?;
-    append_number(out, u64::from(kind.0))?;
-    out.append(b" ")?;
-    append_number(out, u64::from(number))?;
-    out.append(b"\n")
+    append_last_numbers(out, u64::from(kind.0), number)
 }
 
 #[tactic(auto, unfolding(crate::specs::Answers::not_resolved_text))]

@@ -75,10 +75,12 @@ impl Reader {
     pub fn check<'a>(&self, line: &'a [u8]) -> Option<BorrowedQuestion<'a>>
         ensures { IfSome result (λ question. step_at self.now line.now ≡ Some (self.now, step.Check question)) }
     {
-        if matches!(self.progress, Progress::Outside) && line.len() <= MOST_LINE_BYTES {
-            lone_check(line)
-        } else {
-            None
+        if line.len() > MOST_LINE_BYTES {
+            return None;
+        }
+        match &self.progress {
+            Progress::Outside => lone_check(line),
+            Progress::Batch(_) | Progress::Template(_) | Progress::Failed => None,
         }
     }
 
