@@ -1,14 +1,11 @@
 -- What a line that was read does: to the policy state, or to the count of decisions.
-use Rattle.std.proofs.Common.{◌≡◌, true, ℕ, List, [], ◌∷◌, Option, Some, None, Ok, Err, option_and_then, refl, sym, ap, ◌∙◌}
+use Rattle.std.proofs.Common.{◌≡◌, ℕ, List, [], ◌∷◌, Option, Some, None, Ok, Err, option_and_then, sym, ap, ◌∙◌}
 use Rattle.std.specs.Option.{option_map}
-use Rattle.cynara_keys.specs.Key.{Question}
-use Rattle.bucket_store.specs.Database.{Database, root}
-use Rattle.bucket_eval.specs.Evaluation.{answer}
+use Rattle.bucket_store.specs.Database.{Database}
 use Rattle.desk_state.specs.DeskState.{DeskState}
 use Rattle.line_script.specs.Block.{Block}
 use Rattle.line_script.specs.Grammar.{step_at}
 use Rattle.line_script.specs.declared.steps.Step.{Step}
-use Rattle.line_script.specs.declared.steps.Step.TheVariants.{Check}
 use Rattle.script_replies.specs.Reply.{after}
 use Rattle.run_endings.specs.declared.endings.Ending.TheVariants.{Line}
 use Rattle.sample_runs.specs.Sample.{Stand, follow_line, Asked, with_kind, kind_at, ask_line}
@@ -47,14 +44,15 @@ abbrev asked_behind : Database → Tally → Block × Step → Option Asked
 asked_behind database tally read = option_map (λ (kind : ℕ). asked read.0 (with_kind kind tally)) (kind_at database read.1)
 
 -- a question was decided and counted
-pub asks-check : (database : Database) (line : List ℕ) (block block_after : Block) (tally tally_after : Tally) (question : Question)
-    (kind : ℕ) → step_at block line ≡ Some (block_after, Check question) → kind ≡ (answer database root question true).result.kind
+pub asks-kind : (database : Database) (line : List ℕ) (block block_after : Block) (tally tally_after : Tally) (step : Step)
+    (kind : ℕ) → step_at block line ≡ Some (block_after, step) → Some kind ≡ kind_at database step
     → tally_after ≡ with_kind kind tally
     → Goes (ask_line database) (line ∷ []) (asked block tally) (asked block_after tally_after) (Ok tt)
-asks-check database line block block_after tally tally_after question kind reads decided counted =
+asks-kind database line block block_after tally tally_after step kind reads decided counted =
     goes-one (ask_line database) line (asked block tally) (asked block_after tally_after)
     (ap (option_and_then (asked_behind database tally)) reads
-    ∙ ap (λ (tally : Tally). Some (asked block_after tally)) (sym (counted ∙ ap (λ (kind : ℕ). with_kind kind tally) decided)))
+    ∙ (ap (option_map (λ (kind : ℕ). asked block_after (with_kind kind tally))) (sym decided)
+    ∙ ap (λ (tally : Tally). Some (asked block_after tally)) (sym counted)))
 
 -- a line has no step
 pub unasked : (database : Database) (line : List ℕ) (block : Block) (tally : Tally) (behind : Asked) (number : ℕ)
@@ -63,16 +61,11 @@ unasked database line block tally behind number reads =
     stops-one (ask_line database) line (asked block tally) behind (Line number)
     (ap (option_and_then (asked_behind database tally)) reads)
 
--- a step that is no question has no kind
-no-kind : (database : Database) (step : Step) → ((question : Question) → step ≡ Check question → ⊥) → kind_at database step ≡ None
-no-kind database (Check question) other = absurd (other question refl)
-no-kind database step other = refl
-
 -- a line asks nothing
 pub asks-nothing : (database : Database) (line : List ℕ) (block block_after : Block) (tally : Tally) (behind : Asked) (number : ℕ)
-    (step : Step) → step_at block line ≡ Some (block_after, step) → ((question : Question) → step ≡ Check question → ⊥)
+    (step : Step) → step_at block line ≡ Some (block_after, step) → None ≡ kind_at database step
     → Goes (ask_line database) (line ∷ []) (asked block tally) behind (Err (Line number))
 asks-nothing database line block block_after tally behind number step reads other =
     stops-one (ask_line database) line (asked block tally) behind (Line number)
     (ap (option_and_then (asked_behind database tally)) reads
-    ∙ ap (option_map (λ (kind : ℕ). asked block_after (with_kind kind tally))) (no-kind database step other))
+    ∙ ap (option_map (λ (kind : ℕ). asked block_after (with_kind kind tally))) (sym other))

@@ -1,7 +1,7 @@
 // How the questions of the generated script are decided.
-ghost use Rattle.std.specs.Prelude.{◌≡◌, ◌≤◌, ◌<◌, ◌+◌, ◌^◌, ◌∷◌, []};
+ghost use Rattle.std.specs.Prelude.{◌≡◌, ◌≤◌, ◌<◌, ◌+◌, ◌^◌, ◌∷◌, [], option_map};
 ghost use Rattle.sample_runs.specs.Lines.{check_line, checks_of, checks};
-ghost use Rattle.sample_runs.specs.Sample.{with_kind, ask_line};
+ghost use Rattle.sample_runs.specs.Sample.{with_kind, kind_at, ask_line};
 ghost use Rattle.sample_runs.specs.parts.Following.{Goes};
 ghost use Rattle.sample_runs.specs.parts.Asking.{asked_of, AsksAll};
 
@@ -135,13 +135,24 @@ fn ask_line(
 {
     sample.number = sample.number.saturating_add(1);
     match sample.reader.line(sample.line.as_slice()) {
-        Ok(Step::Check(question)) => {
-            let answer = index.decide(scratch, &question);
-            tally.count(answer.result.kind());
-            Ok(())
-        }
-        Ok(_) => Err(Ending::Line(sample.number)),
+        Ok(step) => match kind_asked(&step, index, scratch) {
+            Some(kind) => {
+                tally.count(kind);
+                Ok(())
+            }
+            None => Err(Ending::Line(sample.number)),
+        },
         Err(LineRefusal::Syntax) => Err(Ending::Line(sample.number)),
         Err(LineRefusal::Memory(_)) => Err(Ending::Memory),
+    }
+}
+
+// The kind of the result that decides a step, where it is a question.
+fn kind_asked(step: &Step<'_>, index: &Index, scratch: &mut Scratch) -> Option<Kind>
+    ensures { option_map (λ kind. kind.0) result ≡ kind_at index.now step.now }
+{
+    match step {
+        Step::Check(question) => Some(index.decide(scratch, question).result.kind()),
+        _ => None,
     }
 }
