@@ -1,26 +1,26 @@
 -- Each event that is enabled lets the world grow, whatever else the world keeps, where its numbers are in their order.
-use Rattle.std.proofs.Common.{◌≡◌, ℕ, ◌≤◌, ◌<◌, ◌+◌, ◌==◌, ◌&&◌, Bool, true, false, cond, List, [], ◌∷◌, ◌++◌, length, map, Option, Some, None, refl, sym, ap, subst, ◌∙◌, arith}
+use Rattle.std.proofs.Common.{◌≡◌, ℕ, ◌≤◌, ◌+◌, ◌==◌, ◌&&◌, Bool, true, false, cond, List, [], ◌∷◌, ◌++◌, length, map, Option, Some, None, refl, sym, ap, subst, ◌∙◌, arith}
 use Rattle.std.specs.Prelude.{slice_get, nat_le, nat_lt, is_none, is_some, not, max, filter}
-use Rattle.std.proofs.lemmas.Bool.{and_parts, leb-true, ltb-true, cond_both}
+use Rattle.std.proofs.lemmas.Bool.{and_parts, leb-true}
 use Rattle.std.proofs.lemmas.Option.{none-some, same_Some}
 use Rattle.std.proofs.Math.Nat.{le-max_left}
+use Rattle.cynara_keys.specs.PolicyResult.{is_agent}
 use Rattle.cynara_keys.specs.Key.{Question}
 use Rattle.cynara_keys.specs.declared.results.Kind.{Kind}
 use Rattle.desk_state.specs.DeskState.{DeskState}
 use Rattle.desk_state.specs.Next.{next as next_state}
 use Rattle.desk_state.specs.declared.commands.Command.{Command}
 use Rattle.desk_world.specs.Client.{Client}
-use Rattle.desk_world.specs.World.{World, latest, latest_of, last, with_commit, with_link, client_of, put_client, entry_at}
-use Rattle.desk_world.specs.Clients.{when, with_some, new_link}
-use Rattle.desk_world.specs.Links.{is_nothing}
-use Rattle.desk_world.specs.Commits.{committed, decided, entered_before, hung_up, hang, closed, restarted, under_way, may_stop}
-use Rattle.desk_world.specs.Agents.{has_agent, is_open, count_of, new_entry, put_down, put_with, put_to, put_due, answered, once_stopped, once_left}
+use Rattle.desk_world.specs.World.{World, history, latest, latest_of, last, desk_at, root_outcome, with_commit, with_link, with_client, client_of, put_client, entry_at}
+use Rattle.desk_world.specs.Clients.{same_question, new_link, dialled, dial, new_ask, asked, send, given as given_to, hit, kept as cached, delivered, deliver, notice, tell}
+use Rattle.desk_world.specs.Links.{enter, is_nothing, reading_of, read, outgoing, write, lose}
+use Rattle.desk_world.specs.Commits.{may_store, stored, undecided, committed, decided, decide, entered_before, hung_up, hang, closed, restarted, under_way, may_stop, stop}
+use Rattle.desk_world.specs.Agents.{has_agent, is_open, join, count_of, fits, new_entry, put_with, put_to, put_due, put, answered, answer, once_stopped, once_left, leave}
 use Rattle.desk_world.specs.Events.{connect, after}
-use Rattle.desk_world.specs.Grows.{BeginsWith, LinkGrows, LinksGrow, EntryGrows, EntriesGrow, Grows}
+use Rattle.desk_world.specs.Grows.{BeginsWith, LinkGrows, LinksGrow, EntryGrows, Grows}
 use Rattle.desk_world.specs.Kept.{IsOrdered, Follows, HasHistory}
 use Rattle.desk_world.specs.Growth.{EachGrows}
 use Rattle.desk_world.specs.declared.agent_entries.AgentEntry.{AgentEntry}
-use Rattle.desk_world.specs.declared.clients.Slot.{Slot}
 use Rattle.desk_world.specs.declared.events.Event.{Event}
 use Rattle.desk_world.specs.declared.events.Event.TheVariants.{Connect, Ask, Hit, Send, Read, Write, Deliver, Notice, Lose, Stored, Undecided, Decide, Publish, Hang, Acknowledge, AgentJoin, AgentPut, AgentReply, AgentLeave, Stop, Tell}
 use Rattle.desk_world.specs.declared.events.Half.{Half}
@@ -29,8 +29,10 @@ use Rattle.desk_world.specs.declared.links.Asked.{Asked}
 use Rattle.desk_world.specs.declared.links.Link.{Link}
 use Rattle.desk_world.specs.declared.links.Reading.{Reading}
 use Rattle.desk_world.specs.declared.links.Reading.TheVariants.{Nothing, Ready, Due, Waiting}
+use Rattle.desk_world.specs.declared.links.Transit.{Transit}
 use Rattle.desk_world.specs.declared.replies.Given.{Given}
-use Rattle.desk_world.proofs.Options.{none_there}
+use Rattle.desk_world.specs.declared.replies.Reply.TheVariants.{Judged, NoAgent, AgentFull}
+use Rattle.desk_world.proofs.Options.{with_some-tells, when-tells, some-tells, none_there}
 use Rattle.desk_world.proofs.Lists.{begins_same, begins_push}
 use Rattle.desk_world.proofs.Growing.{links_same, links_push, links_set, links_map, entry_same, entries_same, entries_push, entries_map, serving}
 use Rattle.desk_world.proofs.Keeping.{cond_each, told_with, told_same}
@@ -39,20 +41,6 @@ use Rattle.desk_world.proofs.Relinking.{relink_grows}
 use Rattle.desk_world.proofs.steps.Agents.{gone_stays, answered_run, answered_number, answered_grows}
 use Rattle.desk_world.proofs.steps.Hanging.{shut_grows, down_stays}
 use Rattle.desk_world.proofs.steps.Storing.{accepted_follows}
-
--- the world has grown, if the event is enabled
-abbrev IsGrown : World → Option World → Type 0
-IsGrown w None = Unit {0}
-IsGrown w (Some next) = Grows w next
-
-when-grown : (w : World) (enabled : Bool) (next : World) → (enabled ≡ true → Grows w next) → IsGrown w (when enabled next)
-when-grown w true next grows = grows refl
-when-grown w false next grows = tt
-
-some-grown : {X : Type 0} (w : World) (o : Option X) (event : X → Option World)
-    → ((x : X) → o ≡ Some x → IsGrown w (event x)) → IsGrown w (with_some o event)
-some-grown w None event each = tt
-some-grown w (Some x) event each = each x refl
 
 -- ---- clients and links
 
@@ -81,14 +69,21 @@ client-grows w client changed asks given links told asks_begin given_begin links
     serving w links _ asks given w.agents w.entries asks_begin given_begin (told_with w.clients client changed told) links_grow
     (entries_same w.entries)
 
-connect-grown : (w : World) (half : Half) → IsGrown w (connect half w)
-connect-grown w (Dial client) =
-    when-grown w _ _ (λ may.
-    client-grows w client _ w.asks w.given _ (told_same w.clients client) (begins_same w.asks) (begins_same w.given)
+dial-grows : (w next : World) (client : ℕ) → dial client w ≡ Some next → Grows w next
+dial-grows w next client e =
+    when-tells (Grows w) (is_none (client_of w client).link) (dialled client w) next e
+    (λ may.
+    client-grows w client (record (client_of w client) { link = Some (length w.links); log = [] }) w.asks w.given
+    (w.links ++ new_link client w.run ∷ []) (told_same w.clients client) (begins_same w.asks) (begins_same w.given)
     (links_push w.links (new_link client w.run)))
-connect-grown w (Enter link) =
-    some-grown w _ _ (λ found there. when-grown w _ _ (λ may.
-    let both = and_parts (found.run == w.run) (is_none found.entered) may in
+
+enter-grows : (w next : World) (link : ℕ) → enter link w ≡ Some next → Grows w next
+enter-grows w next link e =
+    with_some-tells (slice_get w.links link) _ next e (λ found there e.
+    when-tells (Grows w) (found.run == w.run && is_none found.entered)
+    (with_link link (record found { entered = Some w.note; seen = w.note }) w) next e
+    (λ tests.
+    let both = and_parts (found.run == w.run) (is_none found.entered) tests in
     let not_yet = none_there found.entered both.1 in
     relink_grows w link found (record found { entered = Some w.note; seen = w.note }) there (record {
       client = refl;
@@ -98,56 +93,112 @@ connect-grown w (Enter link) =
       closed = λ e. e;
     })))
 
-send-grown : (w : World) (client : ℕ) → IsGrown w (after (Send client) w)
-send-grown w client =
-    some-grown w _ _ (λ ask asks_it. some-grown w _ _ (λ link holds. some-grown w _ _ (λ found there.
-    when-grown w _ _ (λ may. relink_grows w link found _ there (steady found _ refl refl refl refl refl)))))
+connect-grows : (w next : World) (half : Half) → connect half w ≡ Some next → Grows w next
+connect-grows w next (Dial client) e = dial-grows w next client e
+connect-grows w next (Enter link) e = enter-grows w next link e
 
-hit-grown : (w : World) (client entry : ℕ) → IsGrown w (after (Hit client entry) w)
-hit-grown w client entry =
-    some-grown w _ _ (λ ask asks_it. some-grown w _ _ (λ asked asks. some-grown w _ _ (λ link holds.
-    some-grown w _ _ (λ found there. some-grown w _ _ (λ known logged. when-grown w _ _ (λ may.
-    client-grows w client _ w.asks _ w.links (told_same w.clients client) (begins_same w.asks) (begins_push w.given _)
-    (links_same w.links)))))))
+ask-grows : (w : World) (client : ℕ) (question : Question) (simple : Bool) → Grows w (asked client question simple w)
+ask-grows w client question simple =
+    client-grows w client (record (client_of w client) { asking = Some (length w.asks) })
+    (w.asks ++ new_ask client question simple w ∷ []) w.given w.links (told_same w.clients client)
+    (begins_push w.asks (new_ask client question simple w)) (begins_same w.given) (links_same w.links)
 
-read-grown : (w : World) (link commit : ℕ) → IsGrown w (after (Read link commit) w)
-read-grown w link commit =
-    some-grown w _ _ (λ found there. some-grown w _ _ (λ ask asks_it. some-grown w _ _ (λ asked asks.
-    some-grown w _ _ (λ desk is. when-grown w _ _ (λ tests.
+send-grows : (w next : World) (client : ℕ) → send client w ≡ Some next → Grows w next
+send-grows w next client e =
+    with_some-tells (client_of w client).asking _ next e (λ ask asking e.
+    with_some-tells (client_of w client).link _ next e (λ link holds e.
+    with_some-tells (slice_get w.links link) _ next e (λ found there e.
+    when-tells (Grows w) (found.up && (is_none found.question && is_none found.reply))
+    (with_link link (record found { question = Some ask }) w) next e
+    (λ tests.
+    relink_grows w link found (record found { question = Some ask }) there
+    (steady found (record found { question = Some ask }) refl refl refl refl refl)))))
+
+hit-grows : (w next : World) (client entry : ℕ) → hit client entry w ≡ Some next → Grows w next
+hit-grows w next client entry e =
+    with_some-tells (client_of w client).asking _ next e (λ ask asking e.
+    with_some-tells (slice_get w.asks ask) _ next e (λ one asks e.
+    with_some-tells (client_of w client).link _ next e (λ link holds e.
+    with_some-tells (slice_get w.links link) _ next e (λ found there e.
+    with_some-tells (slice_get (client_of w client).log entry) _ next e (λ known stands e.
+    let fits_it : Bool = same_question known.question one.question && nat_le (client_of w client).told known.verdict.commit in
+    let new : Given = record { ask = ask; run = found.run; reply = Judged known.verdict } in
+    when-tells (Grows w) (found.up && fits_it) (given_to client ask found.run (Judged known.verdict) w) next e
+    (λ tests.
+    client-grows w client (record (client_of w client) { asking = None }) w.asks (w.given ++ new ∷ []) w.links
+    (told_same w.clients client) (begins_same w.asks) (begins_push w.given new) (links_same w.links)))))))
+
+read-grows : (w next : World) (link commit : ℕ) → read link commit w ≡ Some next → Grows w next
+read-grows w next link commit e =
+    with_some-tells (slice_get w.links link) _ next e (λ found there e.
+    with_some-tells found.question _ next e (λ ask asks_it e.
+    with_some-tells (slice_get w.asks ask) _ next e (λ one asks e.
+    with_some-tells (desk_at commit (history w)) _ next e (λ desk is e.
     let bounds : Bool = nat_le found.seen commit && nat_le commit w.published in
+    let changed : Link =
+    record found { seen = commit; reading = reading_of commit one.simple (root_outcome desk one.question) } in
+    when-tells (Grows w) (is_some found.entered && (is_nothing found.reading && bounds)) (with_link link changed w) next e
+    (λ tests.
     let both = and_parts (is_some found.entered) (is_nothing found.reading && bounds) tests in
     let rest = and_parts (is_nothing found.reading) bounds both.1 in
     let low = and_parts (nat_le found.seen commit) (nat_le commit w.published) rest.1 in
-    relink_grows w link found _ there (record {
+    relink_grows w link found changed there (record {
       client = refl;
       run = refl;
-      entered = λ commit e. e;
+      entered = λ entered e. e;
       seen = λ entered e. leb-true found.seen commit low.0;
       closed = λ e. e;
     }))))))
 
-write-grown : (w : World) (link : ℕ) → IsGrown w (after (Write link) w)
-write-grown w link =
-    some-grown w _ _ (λ found there. some-grown w _ _ (λ ask asks_it. some-grown w _ _ (λ reply is.
-    when-grown w _ _ (λ may. relink_grows w link found _ there (steady found _ refl refl refl refl refl)))))
+write-grows : (w next : World) (link : ℕ) → write link w ≡ Some next → Grows w next
+write-grows w next link e =
+    with_some-tells (slice_get w.links link) _ next e (λ found there e.
+    with_some-tells found.question _ next e (λ ask asks_it e.
+    with_some-tells (outgoing found.run w.entries found.reading) _ next e (λ reply out e.
+    let sent : Transit = record { ask = ask; reply = reply } in
+    let changed : Link = record found { question = None; reading = Nothing; reply = Some sent } in
+    when-tells (Grows w) found.up (with_link link changed w) next e
+    (λ up. relink_grows w link found changed there (steady found changed refl refl refl refl refl)))))
 
-deliver-grown : (w : World) (client : ℕ) → IsGrown w (after (Deliver client) w)
-deliver-grown w client =
-    some-grown w _ _ (λ ask asks_it. some-grown w _ _ (λ asked asks. some-grown w _ _ (λ link holds.
-    some-grown w _ _ (λ found there. some-grown w _ _ (λ transit sent. when-grown w _ _ (λ may.
-    client-grows w client _ w.asks _ _ (told_same w.clients client) (begins_same w.asks) (begins_push w.given _)
-    (links_set w.links link found (record found { reply = None }) there (steady found _ refl refl refl refl refl))))))))
+deliver-grows : (w next : World) (client : ℕ) → deliver client w ≡ Some next → Grows w next
+deliver-grows w next client e =
+    with_some-tells (client_of w client).asking _ next e (λ ask asking e.
+    with_some-tells (slice_get w.asks ask) _ next e (λ one asks e.
+    with_some-tells (client_of w client).link _ next e (λ link holds e.
+    with_some-tells (slice_get w.links link) _ next e (λ found there e.
+    with_some-tells found.reply _ next e (λ transit sent e.
+    let new : Given = record { ask = ask; run = found.run; reply = transit.reply } in
+    let emptied : Link = record found { reply = None } in
+    when-tells (Grows w) (transit.ask == ask) (delivered client ask one.question link found transit.reply w) next e
+    (λ mine.
+    client-grows w client
+    (record (client_of w client) { asking = None; log = cached one.question transit.reply (client_of w client).log }) w.asks
+    (w.given ++ new ∷ []) (with_link link emptied w).links (told_same w.clients client) (begins_same w.asks)
+    (begins_push w.given new)
+    (links_set w.links link found emptied there (steady found emptied refl refl refl refl refl))))))))
 
-notice-grown : (w : World) (client : ℕ) → IsGrown w (after (Notice client) w)
-notice-grown w client =
-    some-grown w _ _ (λ link holds. some-grown w _ _ (λ found there. when-grown w _ _ (λ may.
-    client-grows w client _ w.asks w.given w.links (told_same w.clients client) (begins_same w.asks) (begins_same w.given)
-    (links_same w.links))))
+notice-grows : (w next : World) (client : ℕ) → notice client w ≡ Some next → Grows w next
+notice-grows w next client e =
+    with_some-tells (client_of w client).link _ next e (λ link holds e.
+    with_some-tells (slice_get w.links link) _ next e (λ found there e.
+    when-tells (Grows w) (not found.up) (with_client client (record (client_of w client) { link = None; log = [] }) w) next e
+    (λ down.
+    client-grows w client (record (client_of w client) { link = None; log = [] }) w.asks w.given w.links
+    (told_same w.clients client) (begins_same w.asks) (begins_same w.given) (links_same w.links))))
 
-lose-grown : (w : World) (link : ℕ) → IsGrown w (after (Lose link) w)
-lose-grown w link =
-    some-grown w _ _ (λ found there. when-grown w _ _ (λ may.
-    relink_grows w link found (record found { up = false }) there (shut_grows found false (λ e. refl))))
+lose-grows : (w next : World) (link : ℕ) → lose link w ≡ Some next → Grows w next
+lose-grows w next link e =
+    with_some-tells (slice_get w.links link) _ next e (λ found there e.
+    when-tells (Grows w) found.up (with_link link (record found { up = false }) w) next e
+    (λ up. relink_grows w link found (record found { up = false }) there (shut_grows found false (λ e. refl))))
+
+tell-grows : (w next : World) (client commit : ℕ) → tell client commit w ≡ Some next → Grows w next
+tell-grows w next client commit e =
+    when-tells (Grows w) (nat_le commit w.acknowledged)
+    (with_client client (record (client_of w client) { told = max (client_of w client).told commit }) w) next e
+    (λ may.
+    client-grows w client (record (client_of w client) { told = max (client_of w client).told commit }) w.asks w.given
+    w.links (le-max_left (client_of w client).told commit) (begins_same w.asks) (begins_same w.given) (links_same w.links))
 
 -- ---- commits
 
@@ -260,24 +311,54 @@ under_way-follows w order (Some command) may true desk e =
 
 module _ (w : World) (link : ℕ) (found : Link) (there : slice_get w.links link ≡ Some found) (ask : ℕ)
     (question : Question) where
+  abbrev waiting : ℕ → Kind → Link
+  waiting commit kind = record found { reading = Waiting commit kind (count_of w.run w.entries) }
+
+  abbrev refused : ℕ → Kind → ℕ → Link
+  refused commit kind most = record found { reading = Ready (AgentFull commit kind most) }
+
+  abbrev unheard : ℕ → Kind → Link
+  unheard commit kind = record found { reading = Ready (NoAgent commit kind) }
+
   put_with-grows : (full : Option ℕ) (commit : ℕ) (kind : Kind)
       → Grows w (put_with link found ask question full commit kind w)
   put_with-grows None commit kind =
-      serving w _ w.clients w.asks w.given w.agents _ (begins_same w.asks) (begins_same w.given) (told_same w.clients)
-      (links_set w.links link found
-      (record found { reading = Waiting commit kind (count_of w.run w.entries) }) there
-      (steady found _ refl refl refl refl refl))
+      serving w (with_link link (waiting commit kind) w).links w.clients w.asks w.given w.agents
+      (w.entries ++ new_entry ask question kind commit w ∷ []) (begins_same w.asks) (begins_same w.given)
+      (told_same w.clients)
+      (links_set w.links link found (waiting commit kind) there
+      (steady found (waiting commit kind) refl refl refl refl refl))
       (entries_push w.entries (new_entry ask question kind commit w))
-  put_with-grows (Some most) commit kind = relink_grows w link found _ there (steady found _ refl refl refl refl refl)
+  put_with-grows (Some most) commit kind =
+      relink_grows w link found (refused commit kind most) there
+      (steady found (refused commit kind most) refl refl refl refl refl)
 
-  put_due-grown : (full : Option ℕ) (reading : Reading) → IsGrown w (put_due link found ask question full reading w)
-  put_due-grown full Nothing = tt
-  put_due-grown full (Ready reply) = tt
-  put_due-grown full (Due commit kind metadata) =
-      when-grown w _ _ (λ may.
-      cond_each (Grows w) (has_agent kind.0 w) _ _ (put_with-grows full commit kind)
-      (relink_grows w link found _ there (steady found _ refl refl refl refl refl)))
-  put_due-grown full (Waiting commit kind number) = tt
+  put_due-grows : (next : World) (full : Option ℕ) (reading : Reading)
+      → put_due link found ask question full reading w ≡ Some next → Grows w next
+  put_due-grows next full Nothing e = absurd (none-some next e)
+  put_due-grows next full (Ready reply) e = absurd (none-some next e)
+  put_due-grows next full (Due commit kind metadata) e =
+      when-tells (Grows w) (found.run == w.run && fits full w) (put_to link found ask question full commit kind w) next e
+      (λ may.
+      cond_each (Grows w) (has_agent kind.0 w) (put_with link found ask question full commit kind w)
+      (with_link link (unheard commit kind) w) (put_with-grows full commit kind)
+      (relink_grows w link found (unheard commit kind) there
+      (steady found (unheard commit kind) refl refl refl refl refl)))
+  put_due-grows next full (Waiting commit kind number) e = absurd (none-some next e)
+
+put-grows : (w next : World) (link : ℕ) (full : Option ℕ) → put link full w ≡ Some next → Grows w next
+put-grows w next link full e =
+    with_some-tells (slice_get w.links link) _ next e (λ found there e.
+    with_some-tells found.question _ next e (λ ask asks_it e.
+    with_some-tells (slice_get w.asks ask) _ next e (λ one asks e.
+    put_due-grows w link found there ask one.question next full found.reading e)))
+
+join-grows : (w next : World) (kind : Kind) → join kind w ≡ Some next → Grows w next
+join-grows w next kind e =
+    when-tells (Grows w) (is_agent kind.0 && not (has_agent kind.0 w)) (record w { agents = w.agents ++ kind.0 ∷ [] }) next e
+    (λ tests.
+    serving w w.links w.clients w.asks w.given (w.agents ++ kind.0 ∷ []) w.entries (begins_same w.asks)
+    (begins_same w.given) (told_same w.clients) (links_same w.links) (entries_same w.entries))
 
 -- entries have changed
 entries-grow : (w : World) (agents : List ℕ) (f : AgentEntry → AgentEntry)
@@ -289,10 +370,23 @@ entries-grow w agents f runs numbers each =
     serving w w.links w.clients w.asks w.given agents (map f w.entries) (begins_same w.asks) (begins_same w.given)
     (told_same w.clients) (links_same w.links) (entries_map f w.entries runs numbers each)
 
-leave-grows : (w : World) (kind : Kind) (agents : List ℕ)
-    → Grows w (record w { agents = agents; entries = map (once_left kind.0) w.entries })
-leave-grows w kind agents =
-    entries-grow w agents (once_left kind.0)
+answer-grows : (w next : World) (number : ℕ) (allowed : Bool) → answer number allowed w ≡ Some next → Grows w next
+answer-grows w next number allowed e =
+    with_some-tells (entry_at w.run number w.entries) _ next e (λ entry there e.
+    when-tells (Grows w) (is_open entry.state) (record w { entries = map (answered w.run number allowed) w.entries }) next e
+    (λ open_still.
+    entries-grow w w.agents (answered w.run number allowed) (answered_run w.run number allowed)
+    (answered_number w.run number allowed) (answered_grows w number allowed entry there open_still)))
+
+leave-grows : (w next : World) (kind : Kind) → leave kind w ≡ Some next → Grows w next
+leave-grows w next kind e =
+    when-tells (Grows w) (has_agent kind.0 w)
+    (record w {
+      agents = filter (λ other. not (other == kind.0)) w.agents;
+      entries = map (once_left kind.0) w.entries;
+    }) next e
+    (λ there.
+    entries-grow w (filter (λ other. not (other == kind.0)) w.agents) (once_left kind.0)
     (λ entry. cond_each (λ (now : AgentEntry). now.run ≡ entry.run) (entry.kind.0 == kind.0) (once_stopped entry) entry refl refl)
     (λ entry.
     cond_each (λ (now : AgentEntry). now.number ≡ entry.number) (entry.kind.0 == kind.0) (once_stopped entry) entry refl
@@ -300,50 +394,62 @@ leave-grows w kind agents =
     (λ run number entry e.
     cond_each (EntryGrows entry) (entry.kind.0 == kind.0) (once_stopped entry) entry
     (record { ask = refl; question = refl; kind = refl; commit = refl; settled = gone_stays entry.state })
-    (entry_same entry))
+    (entry_same entry)))
 
 -- ---- all events
 
-event-grown : (w : World) → HasHistory w → (event : Event) → IsGrown w (after event w)
-event-grown w order (Connect half) = connect-grown w half
-event-grown w order (Ask client question simple) =
-    client-grows w client _ _ w.given w.links (told_same w.clients client) (begins_push w.asks _) (begins_same w.given)
-    (links_same w.links)
-event-grown w order (Hit client entry) = hit-grown w client entry
-event-grown w order (Send client) = send-grown w client
-event-grown w order (Read link commit) = read-grown w link commit
-event-grown w order (Write link) = write-grown w link
-event-grown w order (Deliver client) = deliver-grown w client
-event-grown w order (Notice client) = notice-grown w client
-event-grown w order (Lose link) = lose-grown w link
-event-grown w order (Stored command) =
-    when-grown w _ _ (λ may. commit-grows w _ w.candidate (omega arith))
-event-grown w order (Undecided command) = when-grown w _ _ (λ may. propose-grows w _)
-event-grown w order (Decide kept) = some-grown w _ _ (λ desk is. decided-grows w order kept desk is)
-event-grown w order Publish = when-grown w _ _ (λ may. publish-grows w order)
-event-grown w order Hang = hang-grows w order
-event-grown w order Acknowledge = when-grown w _ _ (λ may. acknowledge-grows w order)
-event-grown w order (AgentJoin kind) =
-    when-grown w _ _ (λ may.
-    serving w w.links w.clients w.asks w.given _ w.entries (begins_same w.asks) (begins_same w.given) (told_same w.clients)
-    (links_same w.links) (entries_same w.entries))
-event-grown w order (AgentPut link full) =
-    some-grown w _ _ (λ found there. some-grown w _ _ (λ ask asks_it. some-grown w _ _ (λ asked asks.
-    put_due-grown w link found there ask asked.question full found.reading)))
-event-grown w order (AgentReply number allowed) =
-    some-grown w _ _ (λ entry there. when-grown w _ _ (λ open_still.
-    entries-grow w w.agents (answered w.run number allowed) (answered_run w.run number allowed)
-    (answered_number w.run number allowed) (answered_grows w number allowed entry there open_still)))
-event-grown w order (AgentLeave kind) = when-grown w _ _ (λ may. leave-grows w kind _)
-event-grown w order (Stop command kept) =
-    when-grown w _ _ (λ may. stop-grown w order command kept may _ (under_way-follows w order command may kept))
-event-grown w order (Tell client commit) =
-    when-grown w _ _ (λ may.
-    client-grows w client _ w.asks w.given w.links (le-max_left (client_of w client).told commit) (begins_same w.asks)
-    (begins_same w.given) (links_same w.links))
+stored-grows : (w next : World) (command : Command) → stored command w ≡ Some next → Grows w next
+stored-grows w next command e =
+    when-tells (Grows w) (may_store command w) (with_commit (next_state (latest w) command) w) next e
+    (λ may.
+    let is : (next_state (latest w) command).commit ≡ last w + 1 = refl in
+    commit-grows w (next_state (latest w) command) w.candidate (omega (arith, is)))
 
-grown-after : (w next : World) (outcome : Option World) → IsGrown w outcome → outcome ≡ Some next → Grows w next
-grown-after w next outcome grown e = let is = subst (IsGrown w) e grown in is
+undecided-grows : (w next : World) (command : Command) → undecided command w ≡ Some next → Grows w next
+undecided-grows w next command e =
+    when-tells (Grows w) (may_store command w) (record w { candidate = Some (next_state (latest w) command) }) next e
+    (λ may. propose-grows w (Some (next_state (latest w) command)))
+
+decide-grows : (w next : World) → HasHistory w → (kept : Bool) → decide kept w ≡ Some next → Grows w next
+decide-grows w next order kept e =
+    with_some-tells w.candidate _ next e (λ desk is e.
+    some-tells (Grows w) (decided kept desk w) next e (decided-grows w order kept desk is))
+
+stop-grows : (w next : World) → HasHistory w → (command : Option Command) (kept : Bool) → stop command kept w ≡ Some next
+    → Grows w next
+stop-grows w next order command kept e =
+    when-tells (Grows w) (may_stop command w) (restarted (committed (cond kept (under_way command w) None) w)) next e
+    (λ may.
+    stop-grown w order command kept may (cond kept (under_way command w) None)
+    (under_way-follows w order command may kept))
+
+event-grows : (w next : World) → HasHistory w → (event : Event) → after event w ≡ Some next → Grows w next
+event-grows w next order (Connect half) e = connect-grows w next half e
+event-grows w next order (Ask client question simple) e =
+    some-tells (Grows w) (asked client question simple w) next e (ask-grows w client question simple)
+event-grows w next order (Hit client entry) e = hit-grows w next client entry e
+event-grows w next order (Send client) e = send-grows w next client e
+event-grows w next order (Read link commit) e = read-grows w next link commit e
+event-grows w next order (Write link) e = write-grows w next link e
+event-grows w next order (Deliver client) e = deliver-grows w next client e
+event-grows w next order (Notice client) e = notice-grows w next client e
+event-grows w next order (Lose link) e = lose-grows w next link e
+event-grows w next order (Stored command) e = stored-grows w next command e
+event-grows w next order (Undecided command) e = undecided-grows w next command e
+event-grows w next order (Decide kept) e = decide-grows w next order kept e
+event-grows w next order Publish e =
+    when-tells (Grows w) (is_none w.candidate && nat_lt w.published (last w)) (record w { published = last w }) next e
+    (λ may. publish-grows w order)
+event-grows w next order Hang e = some-tells (Grows w) (hang w) next e (hang-grows w order)
+event-grows w next order Acknowledge e =
+    when-tells (Grows w) (nat_lt w.acknowledged w.note) (record w { acknowledged = w.note }) next e
+    (λ may. acknowledge-grows w order)
+event-grows w next order (AgentJoin kind) e = join-grows w next kind e
+event-grows w next order (AgentPut link full) e = put-grows w next link full e
+event-grows w next order (AgentReply number allowed) e = answer-grows w next number allowed e
+event-grows w next order (AgentLeave kind) e = leave-grows w next kind e
+event-grows w next order (Stop command kept) e = stop-grows w next order command kept e
+event-grows w next order (Tell client commit) e = tell-grows w next client commit e
 
 pub each_grows : EachGrows
-each_grows w next event order e = grown-after w next (after event w) (event-grown w order event) e
+each_grows w next event order e = event-grows w next order event e

@@ -1,14 +1,14 @@
 -- The state that a stop leaves is the acknowledged one, or one that was under way.
-use Rattle.std.proofs.Common.{◌≡◌, ℕ, ◌≤◌, ◌<◌, ◌+◌, ◌==◌, ◌⊎◌, inl, inr, Bool, true, false, cond, List, [], ◌∷◌, ◌++◌, Option, Some, None, refl, sym, ap, subst, ◌∙◌, arith}
+use Rattle.std.proofs.Common.{◌≡◌, ℕ, ◌≤◌, ◌<◌, ◌+◌, ◌==◌, ◌⊎◌, inl, inr, Bool, true, false, cond, List, [], ◌∷◌, Option, Some, None, refl, sym, ap, subst, ◌∙◌, arith}
 use Rattle.std.proofs.lemmas.Bool.{eqb-true, eqb-false, cond_both}
 use Rattle.std.proofs.lemmas.Option.{none-some, same_Some}
 use Rattle.desk_state.specs.DeskState.{DeskState}
 use Rattle.desk_state.specs.Next.{next}
 use Rattle.desk_state.specs.declared.commands.Command.{Command}
 use Rattle.desk_world.specs.World.{World, fresh, history, latest_of, latest, last, desk_at}
-use Rattle.desk_world.specs.Commits.{committed, restarted, under_way, may_stop, stop}
+use Rattle.desk_world.specs.Commits.{committed, restarted, under_way, may_stop}
 use Rattle.desk_world.specs.Kept.{Follows, IsChain, IsKept}
-use Rattle.desk_world.specs.Stops.{IsAcknowledged, IsStored, IsUnderWay, Recovery}
+use Rattle.desk_world.specs.Stops.{IsAcknowledged, IsUnderWay, Recovery}
 use Rattle.desk_world.proofs.Options.{when-tells}
 use Rattle.desk_world.proofs.Committing.{latest-push}
 use Rattle.desk_world.proofs.Runs.{fresh_is, run-steps}
@@ -32,7 +32,7 @@ find-later : (commit : ℕ) (desk : DeskState) (later : List DeskState) → desk
     → desk_at commit (desk ∷ later) ≡ desk_at commit later
 find-later commit desk later low =
     cond_both (desk.commit == commit) (Some desk) (desk_at commit later) (λ found. found ≡ desk_at commit later)
-    (λ e. let same = eqb-true desk.commit commit e in omega (arith, low, same)) (λ e. refl)
+    (λ e. let same = eqb-true desk.commit commit e in absurd (omega (arith, low, same))) (λ e. refl)
 
 latest-found : (desk : DeskState) (later : List DeskState) → IsChain desk later
     → desk_at (latest_of desk later).commit (desk ∷ later) ≡ Some (latest_of desk later)

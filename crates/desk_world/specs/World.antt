@@ -1,6 +1,6 @@
 -- All that freshness depends on: the committed policy states, the connections with what is on its way, the clients with
 -- their caches, and the agents' log.
-use Rattle.std.specs.Prelude.{ℕ, true, ◌==◌, ◌&&◌, if◌then◌else◌, List, [], ◌∷◌, ◌++◌, Option, None, find, slice_set}
+use Rattle.std.specs.Prelude.{ℕ, ◌==◌, ◌&&◌, if◌then◌else◌, List, [], ◌∷◌, ◌++◌, Option, None, find, slice_set}
 use Rattle.cynara_keys.specs.Key.{Question}
 use Rattle.bucket_eval.specs.Evaluation.{Outcome}
 use Rattle.bucket_eval.specs.Found.{answer_of}

@@ -16,6 +16,12 @@ returns-in-Ok-run_all-clause-grows c =
     (world_of c.run_all.new.world) c.world.invariant c.in-Ok.ensures c.in-Ok-run_all.ensures.done in
     subst (λ w. Grows w (world_of c.run_all.new.world)) c.world.view_is step.grows
 
+pub returns-in-Ok-run_all-clause-kept : goal.returns-in-Ok-run_all-clause-kept
+returns-in-Ok-run_all-clause-kept c =
+    let step = copied-steps c.args.events.now (world_of c.world.inside.parts) (world_of c.in-Ok.parts)
+    (world_of c.run_all.new.world) c.world.invariant c.in-Ok.ensures c.in-Ok-run_all.ensures.done in
+    step.kept
+
 pub returns-in-Ok-run_all-clause-sound : goal.returns-in-Ok-run_all-clause-sound
 returns-in-Ok-run_all-clause-sound c =
     let step = copied-steps c.args.events.now (world_of c.world.inside.parts) (world_of c.in-Ok.parts)
