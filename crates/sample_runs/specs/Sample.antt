@@ -50,7 +50,7 @@ none_asked block = record { block = block; tally = record { allowed = 0; denied 
 -- the kind that a question is decided by; other steps ask nothing
 abbrev pub kind_at : Database → Step → Option ℕ
 kind_at database (Check question) = Some (answer database root question true).result.kind
-kind_at database step = None
+kind_at database other = None
 
 -- one line more, where it is a question
 abbrev pub ask_line : Database → List ℕ → Asked → Option Asked

@@ -88,4 +88,4 @@ reply desk step.Stop = accepted_text desk.commit
 -- the state behind a step
 abbrev pub after : DeskState → Step → DeskState
 after desk (step.Command command) = applied desk command (fault desk command)
-after desk step = desk
+after desk other = desk
