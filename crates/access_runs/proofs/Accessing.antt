@@ -1,16 +1,16 @@
 -- A run of `smack-access`: what its parts read and wrote, put together.
-use Rattle.std.proofs.Common.{◌≡◌, ◌++◌, [], ℕ, Bool, true, false, nat_lt, List, length, take, Option, Err, inl, inr, refl, sym, ap, ◌∙◌, subst, arith, append-nil, length-append}
+use Rattle.std.proofs.Common.{◌≡◌, ◌++◌, [], ℕ, Bool, true, false, nat_lt, List, length, take, Option, Err, inl, inr, refl, sym, ap, ◌∙◌, subst, arith, length-append}
 use Rattle.std.proofs.lemmas.Bool.{ltb-true, ltb-false}
 use Rattle.desk_ports.specs.Content.{ReadToEnd, Appended}
 use Rattle.desk_ports.proofs.Appends.{Appended-none}
 use Rattle.smack_rules.specs.declared.modes.Modes.{Modes}
 use Rattle.smack_rules.specs.Decision.{decision}
 use Rattle.run_endings.specs.Ending.{source_faults_after}
-use Rattle.run_endings.specs.Outside.{SourceSeen, HadInput}
+use Rattle.run_endings.specs.Outside.{SourceSeen}
 use Rattle.run_endings.specs.Saying.{Said, silence, WritesAnswers}
-use Rattle.access_runs.specs.AccessRun.{rules_read, IsDecided, IsReadThrough, RunsAccess}
+use Rattle.access_runs.specs.AccessRun.{IsDecided, IsReadThrough, RunsAccess}
 use Rattle.script_replies.specs.Reply.{decided_text}
-use Rattle.access_runs.specs.parts.Access.{IsRead, IsWrongAt, AreGranted, AreRead, IsWrongInput, ReadsRules, WritesAnswer, counts_sink}
+use Rattle.access_runs.specs.parts.Access.{IsRead, IsWrongAt, AreRead, IsWrongInput, ReadsRules, WritesAnswer, counts_sink}
 use Rattle.access_runs.specs.Limits.{most_rules_bytes}
 use Rattle.run_endings.specs.declared.endings.Ending.{Ending}
 use Rattle.run_endings.specs.declared.endings.Ending.TheVariants.{Done, Memory, Words, Line, Source, Sink, Disk, Net, Damaged, Reply, TooLong}
@@ -18,21 +18,6 @@ use Rattle.run_endings.proofs.Hads.{Took-Had}
 use Rattle.run_endings.proofs.Trying.{IsCut-take}
 
 module _ (left left_after : Option (List ℕ)) (text : List ℕ) (read : IsRead left left_after text) where
-  -- what the rules of the text that was read grant a pair
-  pub AreRead-text : (subject object : List ℕ) (granted : Modes) → AreGranted text subject object granted
-      → AreRead left left_after subject object granted
-  AreRead-text subject object granted loads =
-      let had = Took-Had left left_after text read.took in
-      let rest = had.2 (read.end loads.within) in
-      let input : text ++ had.0 ≡ text = ap (λ rest. text ++ rest) rest ∙ append-nil text in
-      record {
-        input = text ++ had.0;
-        rules = loads.rules;
-        had = subst (HadInput left left_after (text ++ had.0)) rest had.1;
-        right = ap rules_read input ∙ loads.right;
-        grants = loads.grants;
-      }
-
   pub IsWrongInput-text : (number : ℕ) → IsWrongAt text number → IsWrongInput left left_after number
   IsWrongInput-text number wrong =
       let had = Took-Had left left_after text read.took in

@@ -29,17 +29,17 @@ module _ {S : Type 0} (step : List ℕ → S → Option S) where
   -- more lines behind lines
   pub goes-on : (first second : List (List ℕ)) (a b c : S) (result : Result (Unit {0}) Ending) → Goes step first a b (Ok tt)
       → Goes step second b c result → Goes step (first ++ second) a c result
-  goes-on first second a b c (Ok value) one two rest =
-      ap (λ lines. each_line step lines a) (append_assoc first second rest) ∙ (one (second ++ rest) ∙ two rest)
-  goes-on first second a b c (Err ending) one two rest =
-      subst (λ next. StopsAt next ending)
-      (sym (ap (λ lines. each_line step lines a) (append_assoc first second rest) ∙ one (second ++ rest))) (two rest)
+  goes-on first second a b c (Ok value) one two =
+      λ (rest : List (List ℕ)). ap (λ (lines : List (List ℕ)). each_line step lines a) (append_assoc first second rest) ∙ (one (second ++ rest) ∙ two rest)
+  goes-on first second a b c (Err ending) one two =
+      λ (rest : List (List ℕ)). subst (λ (next : Option S). StopsAt next ending)
+      (sym (ap (λ (lines : List (List ℕ)). each_line step lines a) (append_assoc first second rest) ∙ one (second ++ rest))) (two rest)
 
   -- a stop in the first of them
   pub stops-on : (first second : List (List ℕ)) (a b c : S) (ending : Ending) → Goes step first a b (Err ending)
       → Goes step (first ++ second) a c (Err ending)
   stops-on first second a b c ending one rest =
-      subst (λ lines. StopsAt (each_line step lines a) ending) (sym (append_assoc first second rest)) (one (second ++ rest))
+      subst (λ (lines : List (List ℕ)). StopsAt (each_line step lines a) ending) (sym (append_assoc first second rest)) (one (second ++ rest))
 
   -- ---- a loop: what is left of the lines, from an application on
 
@@ -64,8 +64,8 @@ module _ {S : Type 0} (step : List ℕ → S → Option S) where
         ≡ each_line step (of app ++ (lines (app + 1) (count - (app + 1)) ++ rest)) now
     unfolds app now less goes rest =
         goes rest
-        ∙ (ap (λ lines. each_line step (lines ++ rest) now) (turn app less)
-        ∙ ap (λ lines. each_line step lines now) (append_assoc (of app) (lines (app + 1) (count - (app + 1))) rest))
+        ∙ (ap (λ (lines : List (List ℕ)). each_line step (lines ++ rest) now) (turn app less)
+        ∙ ap (λ (lines : List (List ℕ)). each_line step lines now) (append_assoc (of app) (lines (app + 1) (count - (app + 1))) rest))
 
     pub goes-turn : (app : ℕ) (now after : S) → app < count → GoesTo lines first count app now → Goes step (of app) now after (Ok tt)
         → GoesTo lines first count (app + 1) after
@@ -75,9 +75,9 @@ module _ {S : Type 0} (step : List ℕ → S → Option S) where
     pub stops-turn : (app : ℕ) (now after : S) (ending : Ending) → app < count → GoesTo lines first count app now
         → Goes step (of app) now after (Err ending) → Goes step (lines 0 count) first after (Err ending)
     stops-turn app now after ending less goes one rest =
-        subst (λ next. StopsAt next ending) (sym (unfolds app now less goes rest))
+        subst (λ (next : Option S). StopsAt next ending) (sym (unfolds app now less goes rest))
         (one (lines (app + 1) (count - (app + 1)) ++ rest))
 
     pub goes-all : (app : ℕ) (now : S) → count - app ≡ 0 → GoesTo lines first count app now → Goes step (lines 0 count) first now (Ok tt)
     goes-all app now done goes rest =
-        goes rest ∙ ap (λ lines. each_line step (lines ++ rest) now) (ap (lines app) done ∙ none app)
+        goes rest ∙ ap (λ (lines : List (List ℕ)). each_line step (lines ++ rest) now) (ap (lines app) done ∙ none app)

@@ -20,8 +20,11 @@ returns-in-Ok-clause-run g c =
 
 pub returns-in-Ok-clause-disk : goal.returns-in-Ok-clause-disk
 returns-in-Ok-clause-disk g c =
+    let desk = c.in-Ok.found.desk in
     let written = c.write_rules.ensures in
-    c.in-Ok.ensures.count ∙ loads-count c.write_rules.result _ written.0.due (g.D.Disk.faults c.args.disk.now) written.1
+    c.in-Ok.ensures.count
+    ∙ loads-count c.write_rules.result desk written.0.due (g.D.Disk.faults c.args.disk.now)
+    (subst (λ desk. LoadAnswers desk c.write_rules.result written.0.due) c.desk.ensures written.1)
 
 pub returns-in-Err-clause-run : goal.returns-in-Err-clause-run
 returns-in-Err-clause-run g c =

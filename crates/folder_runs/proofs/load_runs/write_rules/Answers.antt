@@ -16,8 +16,8 @@ returns g c =
       record { taken = part.2; are_written = (c.in-Err.ensures.count, IsCut-take part.0 text part.1) },
     )
 
-pub returns-in-Ok : goal.returns-in-Ok
-returns-in-Ok g c =
+pub returns-in-Ok-write_all : goal.returns-in-Ok-write_all
+returns-in-Ok-write_all g c =
     let text = loads_text c.args.desk.now in
     let all = subst (λ text. Appended (g.K.Sink.taken c.args.sink.now) text (g.K.Sink.taken c.write_all.new.sink))
     (c.as_slice.ensures ∙ c.in-Ok.ensures) c.in-Ok-write_all.ensures.ok in (
@@ -26,6 +26,6 @@ returns-in-Ok g c =
       record { taken = all; are_written = (c.in-Ok-write_all.ensures.count, refl) },
     )
 
-pub returns-else : goal.returns-else
-returns-else g c =
+pub returns-in_default : goal.returns-in_default
+returns-in_default g c =
     (silence, refl, record { taken = Appended-none (g.K.Sink.taken c.args.sink.now); are_written = inl (refl, refl) })
