@@ -15,8 +15,8 @@ returns-in-Ok-write_all g c =
       record { taken = all; are_written = (c.in-Ok-write_all.ensures.count, refl) },
     )
 
-pub returns-in-Err-write_all : goal.returns-in-Err-write_all
-returns-in-Err-write_all g c =
+pub returns-in-Ok : goal.returns-in-Ok
+returns-in-Ok g c =
     let text = c.in-Ok.text in
     let part = subst (λ text. AppendedPart (g.K.Sink.taken c.args.sink.now) text (g.K.Sink.taken c.write_all.new.sink))
     c.as_slice.ensures c.in-Err-write_all.ensures.err in (
@@ -25,6 +25,6 @@ returns-in-Err-write_all g c =
       record { taken = part.2; are_written = (c.in-Err-write_all.ensures.count, IsCut-take part.0 text part.1) },
     )
 
-pub returns-in-Err : goal.returns-in-Err
-returns-in-Err g c =
+pub returns : goal.returns
+returns g c =
     unsaid c.args.count (sink_seen g.K.Sink.taken g.K.Sink.faults c.args.sink.now) c.in-Err.ending c.in-Err.ensures
