@@ -14,18 +14,6 @@ stops-then f next (Line number) stops = ap (option_and_then f) stops
 stops-then f next ending stops = absurd stops
 
 module _ {S : Type 0} (step : List ℕ → S → Option S) where
-  -- no line
-  pub goes-none : (now : S) → Goes step [] now now (Ok tt)
-  goes-none now rest = refl
-
-  -- a line
-  pub goes-one : (line : List ℕ) (before after : S) → step line before ≡ Some after → Goes step (line ∷ []) before after (Ok tt)
-  goes-one line before after is rest = ap (option_and_then (each_line step rest)) is
-
-  pub stops-one : (line : List ℕ) (before after : S) (ending : Ending) → StopsAt (step line before) ending
-      → Goes step (line ∷ []) before after (Err ending)
-  stops-one line before after ending stops rest = stops-then (each_line step rest) (step line before) ending stops
-
   -- more lines behind lines
   pub goes-on : (first second : List (List ℕ)) (a b c : S) (result : Result (Unit {0}) Ending) → Goes step first a b (Ok tt)
       → Goes step second b c result → Goes step (first ++ second) a c result
