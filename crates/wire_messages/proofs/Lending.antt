@@ -1,11 +1,10 @@
 -- Messages whose parts are lent are heard: no field is wrong, and none is too long for a frame.
 use Rattle.std.proofs.Common.{◌≡◌, ℕ, ◌+◌, ◌^◌, ◌<◌, ◌≤◌, Bool, true, false, cond, ltb, eqb, List, [], ◌∷◌, ◌++◌, length}
-use Rattle.std.proofs.Common.{Option, Some, None, is_none, refl, sym, ap, ◌∙◌, arith}
+use Rattle.std.proofs.Common.{Option, Some, None, is_none, refl, ap, ◌∙◌, arith}
 use Rattle.std.specs.Int.{w16, w64, to_be_bytes}
 use Rattle.std.proofs.lemmas.Bool.{ltb-false}
 use Rattle.std.proofs.lemmas.List.{length-append}
 use Rattle.cynara_keys.specs.Field.{wildcard, field_text}
-use Rattle.cynara_keys.specs.Key.{Key, Question}
 use Rattle.cynara_keys.specs.Name.{is_name, name_fault}
 use Rattle.cynara_keys.specs.BucketName.{is_bucket_name}
 use Rattle.cynara_keys.specs.Metadata.{is_metadata}
@@ -22,17 +21,16 @@ use Rattle.cynara_keys.specs.declared.names.NameRefusal.{NameRefusal}
 use Rattle.cynara_keys.specs.declared.names.NameRefusal.TheVariants.{Empty, TooLong}
 use Rattle.bucket_eval.specs.declared.answers.Row.{Row}
 use Rattle.bucket_eval.specs.declared.answers.Verdict.{Verdict}
-use Rattle.wire_messages.specs.declared.messages.Message.TheVariants.{Check, SimpleCheck, Judged, ListRow}
-use Rattle.wire_messages.specs.declared.operations.Heard.TheVariants.{AtClient, Replies}
+use Rattle.wire_messages.specs.declared.messages.Message.TheVariants.{Judged, ListRow}
+use Rattle.wire_messages.specs.declared.operations.Heard.TheVariants.{Replies}
 use Rattle.wire_messages.specs.Format.{text}
 use Rattle.wire_messages.specs.Field as field
 use Rattle.wire_messages.specs.Frame.{body, with_sequence}
 use Rattle.wire_messages.specs.Hearing.{IsHeard}
-use Rattle.wire_messages.specs.Lent.{asks}
 use Rattle.wire_messages.specs.Message.{fields}
-use Rattle.wire_messages.specs.Right.{IsName, IsBucket, IsField, IsFieldText, IsQuestion, IsKey, IsRuling, IsPolicy, IsRow}
+use Rattle.wire_messages.specs.Right.{IsField, IsFieldText, IsRuling, IsPolicy}
 use Rattle.wire_messages.specs.Right.{IsOptionalRow, IsRightVerdict}
-use Rattle.wire_messages.specs.parts.Packed.{IsShortRow, IsShortOptionalRow, IsShortVerdict}
+use Rattle.wire_messages.specs.parts.Packed.{IsShortOptionalRow, IsShortVerdict}
 use Rattle.wire_messages.proofs.FieldLaws.{same_is, and_both}
 
 -- ---- texts are short
@@ -155,26 +153,6 @@ behind_size : (sequence operation : ℕ) (fields : List ℕ) (most : ℕ) → le
     → length (to_be_bytes w16 sequence ++ (operation ∷ fields)) ≤ 1048576
 behind_size sequence operation fields most few small =
     omega (arith, length-append (to_be_bytes w16 sequence) (operation ∷ fields))
-
-question_size : (question : Question) → IsQuestion question → length (field.question.spelled question) ≤ 771
-question_size question is =
-    three_size question.client question.user question.privilege (name_short question.client is.0)
-    (name_short question.user is.1.0) (name_short question.privilege is.1.1)
-
-pub check_heard : (sequence : ℕ) (simple : Bool) (question : Question) → sequence < 2 ^ 16 → IsQuestion question
-    → IsHeard AtClient (with_sequence sequence (asks simple question))
-check_heard sequence true question small is = record {
-  sequence = small;
-  right = is;
-  known = refl;
-  short = behind_size sequence 2 (field.question.spelled question) 771 (question_size question is) (omega arith);
-}
-check_heard sequence false question small is = record {
-  sequence = small;
-  right = is;
-  known = refl;
-  short = behind_size sequence 1 (field.question.spelled question) 771 (question_size question is) (omega arith);
-}
 
 pub verdict_fits : (sequence : ℕ) (verdict : Verdict) → IsShortVerdict verdict
     → length (body (with_sequence sequence (Judged verdict))) ≤ 1048576
