@@ -8,7 +8,7 @@ use Rattle.sample_runs.specs.Sample.{Outcome, outcome, sample_text}
 use Rattle.sample_runs.specs.SampleRun.{RunsSample}
 
 -- one found outcome is the other
-found_in : Outcome → Option Outcome → Outcome
+abbrev found_in : Outcome → Option Outcome → Outcome
 found_in other None = other
 found_in other (Some found) = found
 
