@@ -1,7 +1,8 @@
 use Rattle.std.proofs.Common.{List, ℕ, Option, Bool, false, subst, sym, refl, ap, ◌∙◌, ◌+◌, Ok}
 use Rattle.std.proofs.lemmas.Result.{err_from_is_err_and}
+use Rattle.script_replies.specs.Folded.{AreFolded}
 use Rattle.folder_runs.specs.Keeping.{KeepsSteps, KeepsSoFar}
-use Rattle.local_runs.specs.parts.Local.{Turns, AreFolded}
+use Rattle.local_runs.specs.parts.Local.{Turns}
 use Rattle.local_runs.specs.parts.Progress.{Goes}
 use Rattle.local_runs.proofs.Progressing.{Goes-start, Goes-next}
 use Rattle.local_runs.proofs.Answering.{Answers-nothing, Answers-done, Answers-unended, Answers-stopped}

@@ -1,6 +1,6 @@
 use Rattle.std.proofs.Common.{◌≡◌, ◌&&◌, true}
+use Rattle.script_replies.specs.Folded.{AreFolded}
 use Rattle.folder_runs.specs.Keeping.{KeepsSoFar}
-use Rattle.local_runs.specs.parts.Local.{AreFolded}
 use Rattle.local_runs.specs.parts.Progress.{Goes}
 use Rattle.local_runs.proofs.local_runs.answer_script.Given as goal
 
