@@ -13,19 +13,19 @@ use Rattle.privilege_cli.specs.Program.{Ends, Completes}
 
 pub Ends-completes : (command : Option Command) (status : ℕ) (before after : Outside) → Ends command status before after
     → NoCallFails before after → Completes command status before after
-Ends-completes (Some Local) status before after e none input start told right stands =
+Ends-completes (Some Local) status before after e none = λ input start told right stands.
     let unfailed = is-unfailed e.ending e.said before after e.counts e.writes none in
     gives e.ending e.said status before.sink after.sink _ e.status_is e.writes
     (completes-local e.said before.source after.source before.disk after.disk input start told right stands e.ending unfailed e.runs)
-Ends-completes (Some SmackLoad) status before after e none start stands =
+Ends-completes (Some SmackLoad) status before after e none = λ start stands.
     let unfailed = is-unfailed e.ending e.said before after e.counts e.writes none in
     gives e.ending e.said status before.sink after.sink _ e.status_is e.writes
     (completes-load e.said before.disk after.disk start stands e.ending unfailed e.runs)
-Ends-completes (Some (SmackAccess subject object asked)) status before after e none input rules told right =
+Ends-completes (Some (SmackAccess subject object asked)) status before after e none = λ input rules told right.
     let unfailed = is-unfailed e.ending e.said before after e.counts e.writes none in
     gives e.ending e.said status before.sink after.sink _ e.status_is e.writes
     (completes-access subject object asked e.said before.source after.source input rules told right e.ending unfailed e.runs)
-Ends-completes (Some (Sample count)) status before after e none found comes_to =
+Ends-completes (Some (Sample count)) status before after e none = λ found comes_to.
     let unfailed = is-unfailed e.ending e.said before after e.counts e.writes none in
     gives e.ending e.said status before.sink after.sink _ e.status_is e.writes
     (completes-sample count e.said found comes_to e.ending unfailed e.runs)

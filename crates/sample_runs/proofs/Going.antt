@@ -29,10 +29,10 @@ module _ {S : Type 0} (step : List ℕ → S → Option S) where
   -- more lines behind lines
   pub goes-on : (first second : List (List ℕ)) (a b c : S) (result : Result (Unit {0}) Ending) → Goes step first a b (Ok tt)
       → Goes step second b c result → Goes step (first ++ second) a c result
-  goes-on first second a b c (Ok value) one two rest =
-      ap (λ (lines : List (List ℕ)). each_line step lines a) (append_assoc first second rest) ∙ (one (second ++ rest) ∙ two rest)
-  goes-on first second a b c (Err ending) one two rest =
-      subst (λ (next : Option S). StopsAt next ending)
+  goes-on first second a b c (Ok value) one two =
+      λ (rest : List (List ℕ)). ap (λ (lines : List (List ℕ)). each_line step lines a) (append_assoc first second rest) ∙ (one (second ++ rest) ∙ two rest)
+  goes-on first second a b c (Err ending) one two =
+      λ (rest : List (List ℕ)). subst (λ (next : Option S). StopsAt next ending)
       (sym (ap (λ (lines : List (List ℕ)). each_line step lines a) (append_assoc first second rest) ∙ one (second ++ rest))) (two rest)
 
   -- a stop in the first of them

@@ -80,10 +80,10 @@ module _ (taken taken_after : Option (List ℕ)) (answers answers_after : List �
 
   -- the step was not done; no answer was added
   abbrev pub RefusesStep : Step → Ending → Type 0
-  RefusesStep step Memory = Hands taken taken_after answers answers_after × (desk_after ≡ desk)
-  RefusesStep step Sink = AppendedPart taken answers taken_after × (desk_after ≡ desk)
-  RefusesStep step Disk = FailsToKeep step
-  RefusesStep step ending = ⊥
+  RefusesStep asked Memory = Hands taken taken_after answers answers_after × (desk_after ≡ desk)
+  RefusesStep asked Sink = AppendedPart taken answers taken_after × (desk_after ≡ desk)
+  RefusesStep asked Disk = FailsToKeep asked
+  RefusesStep asked ending = ⊥
 
 module _ (taken taken_after : Option (List ℕ)) (old new : LocalScript) (desk desk_after : DeskState) (line : List ℕ) where
   -- the line's step was done
