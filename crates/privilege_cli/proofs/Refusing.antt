@@ -1,7 +1,8 @@
 -- Runs without a command, and runs that no net can stop.
-use Rattle.std.proofs.Common.{◌≡◌, ◌++◌, [], ℕ, String, List, Option, Some, None, IsTrue, Err, inl, inr, refl, sym, subst}
+use Rattle.std.proofs.Common.{◌≡◌, ◌++◌, [], ℕ, String, List, Option, Some, None, IsTrue, Bool, true, false, Err, inl, inr, refl, sym, subst}
 use Rattle.std.specs.declared.alloc.Global.{Global}
 use Rattle.std.specs.declared.alloc.AllocError.{AllocError}
+use Rattle.desk_ports.specs.Content.{Appended}
 use Rattle.desk_ports.proofs.Appends.{Appended-none}
 use Rattle.desk_ports.proofs.Readings.{Took-nothing}
 use Rattle.run_endings.specs.Ending.{net_faults_after}
@@ -38,15 +39,18 @@ module _ (source source_after : SourceSeen) (disk disk_after : DiskSeen) (said :
   net-still command Net run = absurd (never-net command run)
   net-still command ending run = refl
 
+untrue : IsTrue false → ⊥
+untrue is = let wrong : false ≡ true = is in cc
+
 -- a command for whose words there is no memory reads nothing, and says nothing
 unread : (command : Command) (source : SourceSeen) (disk : DiskSeen) → RunsNow command → IsTrue (copies_words command)
     → RunsCommand (Some command) silence Memory source source disk disk
 unread (SmackAccess subject object asked) source disk runs copies =
     let had = Took-Had source.left source.left [] (Took-nothing source.left) in
     record { input = [] ++ had.0; rest = had.0; had = had.1; answered = refl }
-unread Local source disk runs copies = absurd copies
-unread SmackLoad source disk runs copies = absurd copies
-unread (Sample count) source disk runs copies = absurd copies
+unread Local source disk runs copies = absurd (untrue copies)
+unread SmackLoad source disk runs copies = absurd (untrue copies)
+unread (Sample count) source disk runs copies = absurd (untrue copies)
 unread (Serve workers) source disk runs copies = absurd runs
 unread (Check asked) source disk runs copies = absurd runs
 unread (Simple asked) source disk runs copies = absurd runs
@@ -58,7 +62,20 @@ pub without_memory : (words : List (String Global)) (error : AllocError) (source
     → (said : Said) × RunsCommand (command_of words) said Memory source source disk disk × WritesAnswers Memory said sink sink
 without_memory words error source sink disk named = (
   silence,
-  subst (λ command. RunsCommand command silence Memory source source disk disk) (sym named.1)
+  subst (λ (command : Option Command). RunsCommand command silence Memory source source disk disk) (sym named.1)
       (unread named.0 source disk (command_of-runs words named.0 named.1) named.2),
   record { taken = Appended-none sink.taken; are_written = inl (refl, refl) },
+)
+
+-- words that name no command read nothing, and only a note is made of them
+pub without_command : (words : List (String Global)) (source : SourceSeen) (sink sink_after : SinkSeen) (disk : DiskSeen)
+    → command_of words ≡ None → sink_after.taken ≡ sink.taken → sink_after.faults ≡ sink.faults
+    → (said : Said) × RunsCommand (command_of words) said Words source source disk disk × WritesAnswers Words said sink sink_after
+without_command words source sink sink_after disk none taken faults = (
+  silence,
+  subst (λ (command : Option Command). RunsCommand command silence Words source source disk disk) (sym none) (refl, refl),
+  record {
+    taken = subst (λ (now : Option (List ℕ)). Appended sink.taken [] now) (sym taken) (Appended-none sink.taken);
+    are_written = (faults, refl);
+  },
 )

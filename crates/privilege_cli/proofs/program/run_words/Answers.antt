@@ -3,7 +3,7 @@ use Rattle.desk_ports.proofs.Appends.{Appended-none}
 use Rattle.run_endings.specs.Outside.{source_seen, sink_seen, disk_seen}
 use Rattle.run_endings.specs.Saying.{silence}
 use Rattle.command_words.specs.Commands.{ReadsCommand, command_of}
-use Rattle.privilege_cli.proofs.Refusing.{without_memory}
+use Rattle.privilege_cli.proofs.Refusing.{without_memory, without_command}
 use Rattle.privilege_cli.proofs.program.run_words.Goals as goal
 
 pub returns-in-Err-Memory-clause-run : goal.returns-in-Err-Memory-clause-run
@@ -12,3 +12,11 @@ returns-in-Err-Memory-clause-run g c =
     (source_seen g.S.Source.left g.S.Source.faults c.args.source.now) (sink_seen g.K.Sink.taken g.K.Sink.faults c.args.sink.now)
     (disk_seen g.D.Disk.state g.D.Disk.moment g.D.Disk.left_since g.D.Disk.faults c.args.disk.now)
     (subst (λ refusal. ReadsCommand (Err refusal) (command_of c.args.words.now)) c.in-Err-Memory.field-0-is c.in-Err-Memory.ensures.command)
+
+pub returns-in-Err-Unknown-clause-run : goal.returns-in-Err-Unknown-clause-run
+returns-in-Err-Unknown-clause-run g c =
+    without_command c.args.words.now (source_seen g.S.Source.left g.S.Source.faults c.args.source.now)
+    (sink_seen g.K.Sink.taken g.K.Sink.faults c.args.sink.now) (sink_seen g.K.Sink.taken g.K.Sink.faults c.note_words.new.sink)
+    (disk_seen g.D.Disk.state g.D.Disk.moment g.D.Disk.left_since g.D.Disk.faults c.args.disk.now)
+    (subst (λ refusal. ReadsCommand (Err refusal) (command_of c.args.words.now)) c.in-Err-Unknown.field-0-is
+    c.in-Err-Unknown.ensures.command) c.note_words.ensures.taken c.note_words.ensures.count
