@@ -104,3 +104,17 @@ module _ {K : Type 0} (text : K → List ℕ) where
         ∙ (ap (λ a. (a, verdict) ∷ entries_of text (take (cap - 1) left)) (is_own k own)
         ∙ ap (λ rest. (asked, verdict) ∷ rest)
         (sym (take-map (λ e. (asked_of (text e.0), e.1)) (cap - 1) left) ∙ ap (take (cap - 1)) (removed-held es)))
+
+    -- a pair is taken out, and put in again
+    pub kept-held : (old popped new : LruCache K Verdict) (k : K) (verdict : Verdict) → text k ≡ key
+        → IsDistinct same_keys (keys_of old.entries)
+        → popped ≡ lru_cache (remove_entry is_at old.entries) old.cap
+        → new ≡ lru_cache (put_entries same_keys popped k verdict) popped.cap
+        → (entries_of text new.entries ≡ (asked, verdict) ∷ take (old.cap - 1) (remove_entry (same_asked asked) (entries_of text old.entries)))
+        × (new.cap ≡ old.cap)
+    kept-held old popped new k verdict own distinct out put =
+        let all : new ≡ lru_cache (put_entries same_keys (lru_cache (remove_entry is_at old.entries) old.cap) k verdict) old.cap =
+        put ∙ ap (λ (s : LruCache K Verdict). lru_cache (put_entries same_keys s k verdict) s.cap) out in (
+          ap (λ (s : LruCache K Verdict). entries_of text s.entries) all ∙ put-held k verdict old.cap old.entries own distinct,
+          ap (λ (s : LruCache K Verdict). s.cap) all,
+        )

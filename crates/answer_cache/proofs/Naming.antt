@@ -1,5 +1,5 @@
 -- No two questions, nor one question in two sessions, have one key.
-use Rattle.std.proofs.Common.{◌≡◌, ℕ, ◌+◌, ◌≤◌, Bool, true, false, not, ◌&&◌, cond, nat_eq, ltb, eqb, List, [], ◌∷◌, ◌++◌, length, Some, None, Option, position, refl, sym, ap, ◌∙◌, arith}
+use Rattle.std.proofs.Common.{◌≡◌, ℕ, suc, ◌+◌, ◌≤◌, Bool, true, false, not, ◌&&◌, cond, nat_eq, ltb, eqb, List, [], ◌∷◌, ◌++◌, length, Some, None, Option, position, refl, sym, ap, ◌∙◌, arith}
 use Rattle.std.proofs.lemmas.Bool.{ltb-false}
 use Rattle.std.proofs.lemmas.Bool.Decides.{nat_tests}
 use Rattle.std.specs.List.{AllByRecursion, position_or_len}
@@ -21,7 +21,7 @@ Spaceless = AllByRecursion (λ byte. nat_eq 32 byte ≡ false)
 not_space : (byte : ℕ) → not (is_visible byte) ≡ false → nat_eq 32 byte ≡ false
 not_space byte visible = grind (arith, nat_tests)
 
-at_head : (b : Bool) (n m : ℕ) → 1 + n ≤ cond (not b) (1 + m) 0 → (b ≡ false) × (n ≤ m)
+at_head : (b : Bool) (n m : ℕ) → suc n ≤ cond (not b) (1 + m) 0 → (b ≡ false) × (n ≤ m)
 at_head true n m h = absurd (omega arith)
 at_head false n m h = (refl, omega arith)
 
