@@ -5,10 +5,12 @@ use Rattle.std.specs.Option.{option_map}
 use Rattle.std.specs.List.{list_all}
 use Rattle.std.proofs.lemmas.Bool.{ltb-false, leb-true}
 use Rattle.std.proofs.lemmas.List.{length-append}
+use Rattle.text_lines.specs.Lines.{lines_of}
 use Rattle.smack_rules.specs.Label.{label_fault}
 use Rattle.smack_rules.specs.Modes.{spelling, is_mode_word, is_mode_byte, modes_of, letters_that, stands_in}
 use Rattle.smack_rules.specs.Rule.{is_label}
 use Rattle.smack_rules.specs.Spelling.{parted}
+use Rattle.smack_rules.specs.Words.{words_of}
 use Rattle.smack_rules.specs.declared.label.LabelRefusal.{LabelRefusal}
 use Rattle.smack_rules.specs.declared.label.LabelRefusal.TheVariants.{Empty, TooLong}
 use Rattle.smack_rules.specs.declared.modes.Modes.{Modes}
@@ -150,11 +152,12 @@ lines_small number [] lines low e =
     let none : [] ≡ lines = cc in
     subst (λ (all : List TemplateLine). length (template_text all) + 642 * number ≤ 41730) none (omega arith)
 lines_small number (text ∷ texts) lines low e =
-    with_line_small number (line_of text) (template_from (number + 1) texts) lines (λ line. words_small _ line)
+    with_line_small number (line_of text) (template_from (number + 1) texts) lines (λ line. words_small (words_of text) line)
     (λ rest few. lines_small (number + 1) texts rest (omega arith)) e
 
 pub template_room : (lines : List TemplateLine) → template_of (template_text lines) ≡ Ok lines
     → length (template_text lines) < 2 ^ 16
 template_room lines is =
-    let few = lines_small 1 _ lines (omega arith) is in
+    let few : length (template_text lines) + 642 * 1 ≤ 41730 =
+    lines_small 1 (lines_of (template_text lines)) lines (omega arith) is in
     omega (arith, few)

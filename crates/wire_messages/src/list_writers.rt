@@ -120,7 +120,7 @@ pub fn put_refusal(out: &mut Bytes, refusal: &Refusal) -> Result<(), AllocError>
             put_author(out, author)?;
             put8(out, 0)
         }
-        Refusal::OtherHybrid(hybrid) => put_number(out, 14, if *hybrid { 1 } else { 0 }),
+        Refusal::OtherHybrid(hybrid) => put_number(out, 14, u64::from(*hybrid)),
         Refusal::NotInstalled => put_plain(out, 10),
         Refusal::Limit(counted, limit) => {
             put1(out, 11)?;

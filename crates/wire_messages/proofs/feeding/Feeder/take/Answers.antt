@@ -1,3 +1,4 @@
+use Rattle.std.proofs.Common.{◌≡◌, rules}
 use Rattle.wire_messages.specs.Hearing.{IsHeard}
 use Rattle.wire_messages.proofs.Hearings.{front_heard}
 use Rattle.wire_messages.proofs.feeding.Feeder.take.Goals as goal
@@ -11,5 +12,7 @@ invariant_of-self c = (
 
 pub returns-clause-right : goal.returns-clause-right
 returns-clause-right c =
+    let side : c.args.self.now.heard ≡ c.self.inside.heard = search rules in
+    rw side
     (front_heard (IsHeard c.self.inside.heard) c.self.inside.waiting.items c.pop_front.new.self.items c.pop_front.result
     c.pop_front.ensures.items c.self.invariant.1).0
