@@ -48,9 +48,6 @@ parts_of : (name : List ℕ) → name_fault name ≡ None
     → (eqb (length name) 0 ≡ false) × ((ltb 255 (length name) ≡ false) × (position (λ byte. not (is_visible byte)) name ≡ None))
 parts_of name h = no_fault (eqb (length name) 0) (ltb 255 (length name)) (position (λ byte. not (is_visible byte)) name) (cond (is_reserved name) (Some Reserved) None) h
 
-pub short_name : (name : List ℕ) → name_fault name ≡ None → length name ≤ 255
-short_name name h = ltb-false _ _ (parts_of name h).1.0
-
 pub spaceless : (name : List ℕ) → name_fault name ≡ None → Spaceless name
 spaceless name h = spaceless_within name (ltb-false _ _ (cond_none _ _ (parts_of name h).1.1))
 
