@@ -39,7 +39,7 @@ IsSaid sequence message (Err refusal) bytes = IsRefused (wanted_of message) sequ
 
 -- The frame of the message went out once, and these bytes came; or nothing of it went out.
 pub record Exchanged (sequence : ℕ) (message : Message) (result : Result (List Message) AdminRefusal) (sent bytes : List ℕ) : Type 0 where
-  pub sent : (sent ≡ frame_of sequence message) ⊎ ((sent ≡ []) × (result ≡ Err Unavailable))
+  pub went : (sent ≡ frame_of sequence message) ⊎ ((sent ≡ []) × (result ≡ Err Unavailable))
   pub said : IsSaid sequence message result bytes
 
 abbrev pub Exchanges : ℕ → Message → Result (List Message) AdminRefusal → Option Traffic → Option Traffic → Type 0
@@ -50,8 +50,8 @@ Exchanges sequence message result old new = IfTold old (λ before.
 module _ {N L : Type 0} (dial_faults dials : N → ℕ) (marks : L → LinkMarks) (traffic : L → Option Traffic) where
   -- what giving a link back may do to the dialler
   pub record GivesBack (old new : N) : Type 0 where
-    pub faults : (dial_faults new ≡ dial_faults old) ⊎ (dial_faults new ≡ next_count (dial_faults old))
-    pub dials : dials new ≡ dials old
+    pub counted : (dial_faults new ≡ dial_faults old) ⊎ (dial_faults new ≡ next_count (dial_faults old))
+    pub dialled : dials new ≡ dials old
 
   -- the link that the frame is to go out on: the one that was there, or one that was dialled, which is no failure
   pub record Begins (old : State N L) (base : L) (dial : N) : Type 0 where
@@ -87,8 +87,8 @@ module _ {N L : Type 0} (dial_faults dials : N → ℕ) (marks : L → LinkMarks
   pub record FailsToDial (result : Result (List Message) AdminRefusal) (old new : State N L) : Type 0 where
     pub was : old.link ≡ None
     pub is : result ≡ Err Unavailable
-    pub faults : dial_faults new.dial ≡ next_count (dial_faults old.dial)
-    pub dials : dials new.dial ≡ next_count (dials old.dial)
+    pub counted : dial_faults new.dial ≡ next_count (dial_faults old.dial)
+    pub dialled : dials new.dial ≡ next_count (dials old.dial)
     pub same : new ≡ record old { dial = new.dial }
 
   -- no memory was found before anything was sent

@@ -84,14 +84,11 @@ fn made(alloc: Global, dial: &mut MemDial, entries: u32) -> Result<Client<&mut M
 /// What the calls of a client answer, and what then stands.
 pub fn client(
     alloc: Global,
-    entries: u64,
+    entries: u32,
     fails: &str,
     links: &str,
     calls: &str,
 ) -> Result<String, Failure> {
-    let Ok(entries) = u32::try_from(entries) else {
-        return Err(Failure::Words);
-    };
     let mut dial = dial(alloc, links, fails)?;
     let mut text = make(alloc, &mut dial, entries, calls)?;
     put_dial(alloc, &mut text, &dial)?;

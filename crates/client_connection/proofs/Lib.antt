@@ -1,3 +1,4 @@
 mod Hearing
-mod Troubles
+mod Exchanging
+pub mod Troubles
 mod Trying

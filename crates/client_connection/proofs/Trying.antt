@@ -1,5 +1,6 @@
 -- One try behind another.
 use Rattle.std.proofs.Common.{◌≡◌, ◌⊎◌, ◌<◌, ◌≤◌, ◌-◌, ℕ, zero, suc, Bool, true, false, ◌||◌, cond, List, Option, Some, None, Result, Ok, Err, is_some, refl, sym, ap, ◌∙◌, subst, inl, inr, arith}
+use Rattle.std.proofs.lemmas.Bool.{false≢true}
 use Rattle.desk_ports.specs.Faults.{next_count}
 use Rattle.link_ports.specs.Traffic.{Traffic}
 use Rattle.link_ports.specs.LinkMarks.{LinkMarks, fresh_marks}
@@ -139,3 +140,10 @@ module _ {L : Type 0} (traffic : L → Option Traffic) (marks : L → LinkMarks)
       (over.0, (is_new, record { base = base; is_base = from; exchanged = over.1.0; ends = over.1.1 }))
   attempted entry is_new base (attempt.Lost is_sent) from over = tt
   attempted entry is_new base (attempt.Memory error) from over = tt
+
+-- nothing is said of a link that was not there
+pub sent_new : {L : Type 0} (result : Attempt L) → IsSentOn false result
+sent_new (attempt.Replied link is_new framed) = tt
+sent_new (attempt.Lost is_sent) = λ had. absurd (false≢true had)
+sent_new (attempt.Wrong refusal) = tt
+sent_new (attempt.Memory error) = refl

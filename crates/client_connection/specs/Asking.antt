@@ -29,13 +29,13 @@ IsSpent tries other lost rise = Unit {0}
 
 -- The dials and the rise of the dialler's count: the dials are as many as the dials and links that failed, and one more
 -- where no link was there.
-pub record Spends {L : Type 0} (tries : ℕ) (had : Bool) (result : Outcome L) (faults faults_after dials dials_after : ℕ) : Type 0 where
+pub record Spends {L : Type 0} (tries : ℕ) (had : Bool) (result : Outcome L) (count count_after made made_after : ℕ) : Type 0 where
   pub lost : ℕ
   pub rise : ℕ
   pub fewer : lost < tries
   pub least : lost ≤ rise
-  pub faults : faults_after ≡ counted rise faults
-  pub dials : dials_after ≡ counted (if had then lost else suc lost) dials
+  pub faults : count_after ≡ counted rise count
+  pub dials : made_after ≡ counted (if had then lost else suc lost) made
   pub spent : IsSpent tries result lost rise
 
 -- what one try does to the dialler's count

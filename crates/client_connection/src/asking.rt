@@ -1,6 +1,6 @@
-ghost use Rattle.std.specs.Prelude.{◌≡◌, ◌<◌, is_some, ◌||◌};
+ghost use Rattle.std.specs.Prelude.{◌≡◌, ◌<◌, true, is_some, ◌||◌};
 ghost use Rattle.std.specs.Option.{ForSome};
-ghost use Rattle.client_connection.specs.Asking.{Spends, IsAsked, IsTried, Attempts, FaultsAfter, IsAttempted, IsOver};
+ghost use Rattle.client_connection.specs.Asking.{Spends, IsAsked, IsTried, IsSentOn, Attempts, FaultsAfter, IsAttempted, IsOver};
 
 use crate::{Broken, exchange};
 use desk_ports::PortFault;
@@ -68,7 +68,7 @@ fn ask_on<N: Dial>(
     ensures asked { IsAsked N.Link.traffic N.Link.marks frame.now link result }
     ensures tried { IsTried (is_tried || is_some link) result }
 {
-    match attempt(alloc, dial, link, door, frame) {
+    match try_once(alloc, dial, link, door, frame) {
         Attempt::Replied {
             link,
             is_new,
@@ -106,7 +106,7 @@ pub(crate) enum Attempt<L: Link> {
     Memory(AllocError),
 }
 
-fn attempt<N: Dial>(
+fn try_once<N: Dial>(
     alloc: Global,
     dial: &mut N,
     link: Option<N::Link>,
@@ -138,6 +138,7 @@ fn ask_over<N: Dial>(
     requires unshared { (N.Link.marks link).ends ≡ 0 }
     ensures faults { FaultsAfter result (N.faults dial.old) (N.faults dial.new) }
     ensures dials { N.dials dial.new ≡ N.dials dial.old }
+    ensures sent { IsSentOn true result }
     ensures asked { IsOver N.Link.traffic N.Link.marks frame.now is_new link result }
 {
     let mut link = link;

@@ -1,17 +1,8 @@
 -- What giving a link back does to the dialler's count.
-use Rattle.std.proofs.Common.{◌≡◌, ◌⊎◌, ℕ, Bool, true, false, ◌&&◌, ◌||◌, not, cond, ltb, eqb, refl, ap, ◌∙◌, inl, inr}
+use Rattle.std.proofs.Common.{◌≡◌, ℕ, Bool, true, false, ◌&&◌, ◌||◌, cond, ltb, eqb, refl, ap, ◌∙◌}
 use Rattle.desk_ports.specs.Faults.{next_count}
 use Rattle.link_ports.specs.LinkMarks.{LinkMarks, marks_after_look}
 use Rattle.link_ports.specs.NetCounts.{gave_trouble, count_after_give_back}
-
-by_trouble : (b : Bool) (count : ℕ) → (cond b (next_count count) count ≡ count) ⊎ (cond b (next_count count) count ≡ next_count count)
-by_trouble true count = inr refl
-by_trouble false count = inl refl
-
--- it counts one failure, or none
-pub left_faults : (marks : LinkMarks) (faults count : ℕ)
-    → (count_after_give_back marks faults count ≡ count) ⊎ (count_after_give_back marks faults count ≡ next_count count)
-left_faults marks faults count = by_trouble (gave_trouble marks faults) count
 
 or_true : (a : Bool) → (a || true) ≡ true
 or_true true = refl

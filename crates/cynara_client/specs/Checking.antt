@@ -62,8 +62,8 @@ module _ {N L : Type 0} (dial_faults dials : N → ℕ) where
   -- The client is left without a link and without an entry. Giving a link back may count for the dialler, and dials none.
   pub record Leaves (old new : State N L) : Type 0 where
     pub bare : IsBare old new
-    pub faults : (dial_faults new.dial ≡ dial_faults old.dial) ⊎ (dial_faults new.dial ≡ next_count (dial_faults old.dial))
-    pub dials : dials new.dial ≡ dials old.dial
+    pub counted : (dial_faults new.dial ≡ dial_faults old.dial) ⊎ (dial_faults new.dial ≡ next_count (dial_faults old.dial))
+    pub dialled : dials new.dial ≡ dials old.dial
     pub sequence : new.sequence ≡ old.sequence
 
   -- What comes of what a reply says: a verdict is kept, and a refusal by the service changes nothing. A reply that is wrong
@@ -85,12 +85,12 @@ module _ {N L : Type 0} (dial_faults dials : N → ℕ) where
   module _ (marks : L → LinkMarks) (traffic : L → Option Traffic) where
     -- the question was to be sent, with so many tries
     pub record Sends (asked : Asked) (simple : Bool) (tries : ℕ) (result : Result Checked ClientRefusal) (old new : State N L) : Type 0 where
-      pub outcome : Outcome L
+      pub came_of : Outcome L
       pub dial : N
-      pub spends : Spends tries (is_some old.link) outcome (dial_faults old.dial) (dial_faults dial) (dials old.dial) (dials dial)
-      pub came : IsAsked traffic marks (frame_of old.sequence simple asked) old.link outcome
-      pub tried : IsTried (is_some old.link) outcome
-      pub concluded : Concludes asked outcome result (record old { dial = dial }) new
+      pub spends : Spends tries (is_some old.link) came_of (dial_faults old.dial) (dial_faults dial) (dials old.dial) (dials dial)
+      pub came : IsAsked traffic marks (frame_of old.sequence simple asked) old.link came_of
+      pub tried : IsTried (is_some old.link) came_of
+      pub concluded : Concludes asked came_of result (record old { dial = dial }) new
 
     -- no memory was found to spell the question, and nothing was sent
     pub record FindsNoRoom (result : Result Checked ClientRefusal) (old new : State N L) : Type 0 where

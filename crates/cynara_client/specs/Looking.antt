@@ -13,8 +13,8 @@ module _ {L : Type 0} (faults : L → ℕ) (marks : L → LinkMarks) (traffic : 
   -- the link was asked, and gave this answer
   pub record IsLooked (is_up : Bool) (before after : L) : Type 0 where
     pub answer : LooksUp is_up (content before) (faults before) (faults after)
-    pub traffic : KeepsTold (traffic before) (traffic after)
-    pub marks : marks after ≡ marks_after_look is_up (marks before)
+    pub kept : KeepsTold (traffic before) (traffic after)
+    pub marked : marks after ≡ marks_after_look is_up (marks before)
 
   module _ {N : Type 0} (dial_faults dials : N → ℕ) where
     -- the link was up, and stays
@@ -33,8 +33,8 @@ module _ {L : Type 0} (faults : L → ℕ) (marks : L → LinkMarks) (traffic : 
       pub looked : IsLooked false before after
       pub bare : IsBare old new
       pub sequence : new.sequence ≡ old.sequence
-      pub faults : dial_faults new.dial ≡ next_count (dial_faults old.dial)
-      pub dials : dials new.dial ≡ dials old.dial
+      pub counted : dial_faults new.dial ≡ next_count (dial_faults old.dial)
+      pub dialled : dials new.dial ≡ dials old.dial
 
     abbrev pub Looks : Look → State N L → State N L → Type 0
     Looks NoLink old new = (old.link ≡ None) × (new ≡ old)

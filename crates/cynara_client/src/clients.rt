@@ -118,7 +118,7 @@ impl<N: Dial> Client<N> {
         ensures { Checks N.faults N.dials N.Link.marks N.Link.traffic N.Link.faults N.Link.content
             (asked_in session.now question.now) simple result self.old self.new }
     {
-        match self.look() {
+        match self.look_at_link() {
             Look::NoLink => self.ask_service(session, question, simple, MOST_TRIES),
             Look::Down => self.ask_service(session, question, simple, MOST_TRIES - 1),
             Look::Up => match self.cache.answer(session, question) {
@@ -129,7 +129,7 @@ impl<N: Dial> Client<N> {
     }
 
     // Asks a link that is there whether it is up. One that is down is given back, with all that came over it.
-    fn look(&mut self) -> Look
+    fn look_at_link(&mut self) -> Look
         ensures { Looks N.Link.faults N.Link.marks N.Link.traffic N.Link.content N.faults N.dials
             result self.old self.new }
     {

@@ -14,7 +14,7 @@ pub(crate) struct Said {
 }
 
 // What the message answers, where it is one of the replies to a check.
-pub(crate) fn said(message: &Message) -> Option<Said>
+pub(crate) fn said_by(message: &Message) -> Option<Said>
     ensures { result ≡ words.said message.now }
 {
     match message {
@@ -79,7 +79,7 @@ pub(crate) fn reply_of(sequence: u16, told: u64, framed: &Framed) -> Result<Chec
             got: framed.sequence,
         }));
     }
-    let Some(said) = said(&framed.message) else {
+    let Some(said) = said_by(&framed.message) else {
         let operation = framed.message.operation();
         return Err(ClientRefusal::BadReply(ReplyFault::Operation(operation)));
     };
