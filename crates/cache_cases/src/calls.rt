@@ -1,5 +1,5 @@
 // The calls of a case.
-use crate::names::{numbered, question, session};
+use crate::names::{numbered_session, question_of, session_of};
 use answer_cache::{AnswerCache, MOST_ENTRIES};
 use bucket_eval::{Answer, Cause, Verdict};
 use case_words::Failure;
@@ -7,7 +7,7 @@ use cynara_keys::{Kind, Short};
 use std::alloc::Global;
 
 // A verdict of the commit.
-fn verdict(commit: u64) -> Verdict {
+fn verdict_of(commit: u64) -> Verdict {
     Verdict {
         commit,
         answer: Answer {
@@ -35,16 +35,16 @@ fn keep(
     letters: (u8, u8),
     commit: u64,
 ) -> Result<bool, Failure> {
-    let session = session(alloc, letters.0)?;
-    let question = question(alloc, letters.1)?;
-    let verdict = verdict(commit);
+    let session = session_of(alloc, letters.0)?;
+    let question = question_of(alloc, letters.1)?;
+    let verdict = verdict_of(commit);
     Ok(cache.keep(&session, &question, &verdict))
 }
 
 // The commit of the answer, if there is one.
 fn ask(alloc: Global, cache: &mut AnswerCache, letters: (u8, u8)) -> Result<Option<u64>, Failure> {
-    let session = session(alloc, letters.0)?;
-    let question = question(alloc, letters.1)?;
+    let session = session_of(alloc, letters.0)?;
+    let question = question_of(alloc, letters.1)?;
     match cache.answer(&session, &question) {
         Some(verdict) => Ok(Some(verdict.commit)),
         None => Ok(None),
@@ -53,11 +53,11 @@ fn ask(alloc: Global, cache: &mut AnswerCache, letters: (u8, u8)) -> Result<Opti
 
 // Keeps so many answers, and says how many were kept.
 fn fill(alloc: Global, cache: &mut AnswerCache, count: u64) -> Result<u64, Failure> {
-    let question = question(alloc, b'q')?;
-    let verdict = verdict(1);
+    let question = question_of(alloc, b'q')?;
+    let verdict = verdict_of(1);
     let mut kept = 0u64;
     for at in 0..count {
-        let session = numbered(alloc, at)?;
+        let session = numbered_session(alloc, at)?;
         if cache.keep(&session, &question, &verdict) {
             kept = kept.saturating_add(1);
         }
@@ -122,13 +122,11 @@ fn call_keep(
 // The number behind two letters.
 fn number_behind(rest: &str) -> Result<u64, Failure> {
     let mut number = 0u64;
-    for digit in rest.bytes().skip(2) {
-        if !digit.is_ascii_digit() {
-            return Err(Failure::Words);
+    for (place, digit) in rest.as_bytes().iter().enumerate() {
+        if place >= 2 {
+            let value = u64::from(digit.wrapping_sub(b'0'));
+            number = number.wrapping_mul(10).wrapping_add(value);
         }
-        number = number
-            .wrapping_mul(10)
-            .wrapping_add(u64::from(digit.wrapping_sub(b'0')));
     }
     Ok(number)
 }

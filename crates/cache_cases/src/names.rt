@@ -10,23 +10,23 @@ fn text_of(alloc: Global, letter: u8) -> Result<Vec<u8>, Failure> {
 }
 
 /// The session of a letter.
-pub fn session(alloc: Global, letter: u8) -> Result<Name, Failure> {
+pub fn session_of(alloc: Global, letter: u8) -> Result<Name, Failure> {
     let text = text_of(alloc, letter)?;
     Ok(Name::read(alloc, text.as_slice())?)
 }
 
 /// A session with a number of its own.
-pub fn numbered(alloc: Global, number: u64) -> Result<Name, Failure> {
+pub fn numbered_session(alloc: Global, number: u64) -> Result<Name, Failure> {
     let text = format!(in alloc; "n{number}")?;
     Ok(Name::read(alloc, text.as_bytes())?)
 }
 
 /// The question of a letter, of which all three names are made.
-pub fn question(alloc: Global, letter: u8) -> Result<Question, Failure> {
+pub fn question_of(alloc: Global, letter: u8) -> Result<Question, Failure> {
     let text = text_of(alloc, letter)?;
     let name = text.as_slice();
-    if name_fault(name).is_some() {
-        return Err(Failure::Words);
+    match name_fault(name) {
+        Some(_) => Err(Failure::Words),
+        None => Ok(Question::of(alloc, name, name, name)?),
     }
-    Ok(Question::of(alloc, name, name, name)?)
 }
