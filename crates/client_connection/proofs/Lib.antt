@@ -1,5 +1,0 @@
-mod Hearing
-mod Receiving
-mod Exchanging
-pub mod Troubles
-mod Trying

@@ -1,5 +1,0 @@
-pub mod Refusing
-pub mod Reply
-pub mod State
-pub mod Looking
-pub mod Checking
