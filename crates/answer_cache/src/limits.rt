@@ -1,0 +1,2 @@
+/// The most entries of a cache.
+pub const MOST_ENTRIES: u32 = 4096;
