@@ -1,4 +1,0 @@
-pub mod Unseen
-pub mod Alone
-pub mod Commanding
-pub mod Listing

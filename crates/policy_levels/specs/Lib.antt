@@ -1,5 +1,0 @@
-pub mod Command
-pub mod Refusal
-pub mod Levels
-pub mod Isolation
-pub mod parts

@@ -1,2 +1,0 @@
--- What only this crate's own functions cite.
-pub mod Listing
