@@ -1,6 +1,7 @@
 //! The levels that are set.
 
-ghost use Rattle.std.specs.Prelude.{◌≡◌, None, IfOk};
+ghost use Rattle.std.specs.Prelude.{◌≡◌, ◌++◌, None, IfOk, OnOk};
+ghost use Rattle.std.specs.Option.{option_to_list};
 ghost use Rattle.cynara_keys.specs.Field.{field_of, field_fault};
 ghost use Rattle.cynara_keys.specs.PolicyResult.{same_result};
 ghost use Rattle.desk_state.specs.DeskState.{DeskState};
@@ -65,11 +66,21 @@ fn levels_among(alloc: Global, policies: &[Policy]) -> Result<Vec<LevelRow>, All
 {
     let mut rows = Vec::new(alloc);
     for policy in policies {
-        if let Some(row) = row_in(alloc, policy)? {
-            rows.push(row)?;
-        }
+        let row = row_in(alloc, policy)?;
+        push_row(&mut rows, row)?;
     }
     Ok(rows)
+}
+
+/// Appends the row, if it is one.
+fn push_row(rows: &mut Vec<LevelRow>, row: Option<LevelRow>) -> Result<(), AllocError>
+    ensures { OnOk result (rows.new.items ≡ rows.old.items ++ option_to_list row) }
+{
+    let Some(row) = row else {
+        return Ok(());
+    };
+    rows.push(row)?;
+    Ok(())
 }
 
 fn row_in(alloc: Global, policy: &Policy) -> Result<Option<LevelRow>, AllocError>

@@ -13,6 +13,6 @@ returns-in-Ok-clause-alone c =
     let desk = c.args.desk.now in
     let request = c.args.request.now in
     let formed : IsWellFormed desk.database =
-    subst IsWellFormed c.database.ensures.database c.buckets-_database.ensures.well_formed in
+    subst IsWellFormed c.database.ensures.database c.buckets-database.ensures.well_formed in
     subst (λ command. ConcernsAlone (uid_of request) desk.database (next desk command).database) (sym c.in-Ok.ensures)
     (command-alone desk request formed.keys_rise)

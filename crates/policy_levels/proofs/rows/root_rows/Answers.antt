@@ -6,6 +6,6 @@ use Rattle.policy_levels.proofs.rows.root_rows.Goals as goal
 
 pub want_of_memory-requires : goal.want_of_memory-requires
 want_of_memory-requires c =
-    let formed = c.buckets-_buckets.ensures.well_formed in
+    let formed = c.buckets-buckets.ensures.well_formed in
     memory-alone root c.args.database.now formed.sound formed.sound.root c.in-Err.refusal
     (subst (λ name. Refuses c.args.database.now (list name c.args.database.now) c.in-Err.refusal) c.root-name.ensures c.in-Err.ensures.refused)
