@@ -1,6 +1,6 @@
 -- What the numbers of names say of the names.
-use Rattle.std.proofs.Common.{◌≡◌, ℕ, ◌+◌, ◌<◌, Bool, true, false, not, cond, ◌&&◌, ◌||◌, ltb, eqb, List, [], ◌∷◌, length, refl, sym, ap, subst, ◌∙◌, arith}
-use Rattle.std.specs.List.{list_any, position_or_len}
+use Rattle.std.proofs.Common.{◌≡◌, ℕ, ◌+◌, ◌<◌, Bool, true, false, not, cond, ◌&&◌, ◌||◌, ltb, eqb, List, [], ◌∷◌, length, refl, sym, ap, subst, ◌∙◌, arith, Option, Some, None}
+use Rattle.std.specs.List.{list_any, position, position_or_len}
 use Rattle.std.proofs.lemmas.Bool.{ltb-true, ne_eqb}
 use Rattle.cynara_keys.specs.Field.{field_matches}
 use Rattle.cynara_keys.specs.Key.{Question, key_matches}
@@ -24,6 +24,17 @@ place-none {X} test (x ∷ xs) none = by_case (place-none test xs) (test x) refl
   by_case later false is none =
       let rest = later none in
       ap (λ passes. cond (not passes) (1 + position_or_len test xs) 0) is ∙ omega (arith, rest)
+
+-- where none is found, the place is that of the end
+pub place-nowhere : {X : Type 0} (test : X → Bool) (xs : List X) → position test xs ≡ None → position_or_len test xs ≡ length xs
+place-nowhere test xs nowhere = place-none test xs (by_case (list_any test xs) refl) where
+  by_case : (passes : Bool) → list_any test xs ≡ passes → list_any test xs ≡ false
+  by_case false is = is
+  by_case true is =
+      let at = position_or_len test xs in
+      let found : position test xs ≡ Some at = ap (λ inside. cond inside (Some at) None) (place-within test xs ∙ is) in
+      let wrong : Some at ≡ None = sym found ∙ nowhere in
+      cc
 
 turned : (a b : List ℕ) → same_text a b ≡ same_text b a
 turned a b = by_case (same_text a b) (same_text b a) refl refl where
