@@ -164,11 +164,8 @@ fn obey(desk: &mut Desk, step: &Step<'_>) -> Result<(), AllocError>
     let Step::Command(command) = step else {
         return Ok(());
     };
-    match desk.apply(command.get()) {
-        Ok(applied) => {
-            *desk = applied.desk;
-            Ok(())
-        }
+    match desk.change(command.get()) {
+        Ok(_) => Ok(()),
         Err(refusal) => passed_over(refusal),
     }
 }
