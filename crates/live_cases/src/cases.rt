@@ -17,7 +17,7 @@ struct Service {
     roll: Roll<MemEnd>,
 }
 
-fn service<R: Wait>(rt: &R, alloc: Global) -> Result<Service, AllocError> {
+fn make_service<R: Wait>(rt: &R, alloc: Global) -> Result<Service, AllocError> {
     let desk = Desk::fresh(alloc)?;
     let (publisher, mut seats, roll) = start(rt, alloc, &desk, 2)?;
     let second = seats.pop();
@@ -72,7 +72,7 @@ fn check_first<R: Wait>(rt: &R, alloc: Global, service: &mut Service) -> Option<
 
 /// Two seats enter, one before a publication and one after it, and the commit hangs both up.
 pub fn hung_up_by_a_commit<R: Wait>(rt: &R, alloc: Global) -> Result<String, AllocError> {
-    let mut service = service(rt, alloc)?;
+    let mut service = make_service(rt, alloc)?;
     let told = commit_hangs_up(rt, alloc, &mut service);
     end(rt, service);
     told.ok_or(AllocError)
@@ -98,7 +98,7 @@ fn commit_hangs_up<R: Wait>(rt: &R, alloc: Global, service: &mut Service) -> Opt
 
 /// A seat leaves, and its link is hung up.
 pub fn left_and_hung_up<R: Wait>(rt: &R, alloc: Global) -> Result<String, AllocError> {
-    let mut service = service(rt, alloc)?;
+    let mut service = make_service(rt, alloc)?;
     let told = leaving_hangs_up(alloc, &mut service);
     end(rt, service);
     told.ok_or(AllocError)
@@ -121,7 +121,7 @@ fn leaving_hangs_up(alloc: Global, service: &mut Service) -> Option<String> {
 
 /// A seat enters after a publication that hung up nobody.
 pub fn entered_after_a_publication<R: Wait>(rt: &R, alloc: Global) -> Result<String, AllocError> {
-    let mut service = service(rt, alloc)?;
+    let mut service = make_service(rt, alloc)?;
     let told = enters_later(rt, alloc, &mut service);
     end(rt, service);
     told.ok_or(AllocError)
@@ -144,7 +144,7 @@ fn enters_later<R: Wait>(rt: &R, alloc: Global, service: &mut Service) -> Option
 
 /// A seat enters twice, and the end of its first link is hung up.
 pub fn hung_up_by_a_later_end<R: Wait>(rt: &R, alloc: Global) -> Result<String, AllocError> {
-    let mut service = service(rt, alloc)?;
+    let mut service = make_service(rt, alloc)?;
     let told = later_end_hangs_up(alloc, &mut service);
     end(rt, service);
     told.ok_or(AllocError)
@@ -164,7 +164,7 @@ fn later_end_hangs_up(alloc: Global, service: &mut Service) -> Option<String> {
 
 /// The roll is stopped, and its note rises later.
 pub fn stopped<R: Wait>(rt: &R, alloc: Global) -> Result<String, AllocError> {
-    let mut service = service(rt, alloc)?;
+    let mut service = make_service(rt, alloc)?;
     let told = stopping_hangs_up(alloc, &mut service);
     end(rt, service);
     told.ok_or(AllocError)
@@ -188,7 +188,7 @@ fn stopping_hangs_up(alloc: Global, service: &mut Service) -> Option<String> {
 
 /// A state that is made ready and dropped changes nothing, and the one after it is published.
 pub fn dropped_when_ready<R: Wait>(rt: &R, alloc: Global) -> Result<String, AllocError> {
-    let mut service = service(rt, alloc)?;
+    let mut service = make_service(rt, alloc)?;
     let told = ready_is_dropped(rt, alloc, &mut service);
     end(rt, service);
     told.ok_or(AllocError)

@@ -76,13 +76,13 @@ fn by_four<R: Wait + Threads + Sync>(
                 rt,
                 || join(
                     rt,
-                    || watch(rt, alloc, first, roll),
-                    || watch(rt, alloc, second, roll),
+                    || check_until_last(rt, alloc, first, roll),
+                    || check_until_last(rt, alloc, second, roll),
                 ),
                 || join(
                     rt,
-                    || watch(rt, alloc, third, roll),
-                    || watch(rt, alloc, fourth, roll),
+                    || check_until_last(rt, alloc, third, roll),
+                    || check_until_last(rt, alloc, fourth, roll),
                 ),
             )
         },
@@ -114,7 +114,12 @@ fn publish_all<R: Wait>(
 }
 
 // Checks until an answer is at the last commit. How many answers were wrong.
-fn watch<R: Wait>(rt: &R, alloc: Global, seat: Seat, roll: &Mutex<Roll<MemEnd>>) -> Option<u64> {
+fn check_until_last<R: Wait>(
+    rt: &R,
+    alloc: Global,
+    seat: Seat,
+    roll: &Mutex<Roll<MemEnd>>,
+) -> Option<u64> {
     let question = question(alloc)?;
     let mut seat = seat;
     let mut watch = Watch { last: 0, wrong: 0 };
