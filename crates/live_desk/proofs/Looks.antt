@@ -1,5 +1,5 @@
 -- What a look at the newest copy tells of what a seat has then seen.
-use Rattle.std.proofs.Common.{◌≡◌, ℕ, List, [], ◌∷◌, ◌++◌, Option, Some, None, IfSome, IsSome, refl, sym, ap, ◌∙◌, subst}
+use Rattle.std.proofs.Common.{ℕ, List, [], ◌++◌, Option, Some, None, IfSome, sym, ap, ◌∙◌, subst}
 use Rattle.std.proofs.lemmas.List.{append-nil, append_assoc}
 use Rattle.cynara_keys.specs.Key.{Question}
 use Rattle.desk_state.specs.DeskState.{DeskState}
@@ -24,10 +24,6 @@ pub sees_last : (note : ℕ) (now : Option DeskState) (v w : View) → IsFrom no
     → HasSeen note now w.seen
 sees_last note None v w from sees = from
 sees_last note (Some desk) v w from sees = (sees.1, sees.2, from)
-
-pub seen_there : (note : ℕ) (now : Option DeskState) (seen : List DeskState) → HasSeen note now seen → IsSome now
-seen_there note None seen has = absurd has
-seen_there note (Some desk) seen has = tt
 
 pub seen_tells : (now : Option DeskState) (question : Question) (seat : SeatState) (Told : BorrowedVerdict → Type 0)
     → HasSeen seat.note now seat.seen → IfSome now (λ desk. IsTold question desk Told) → Tells question seat Told

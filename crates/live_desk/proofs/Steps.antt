@@ -1,5 +1,5 @@
 -- Each kind of step keeps the rule.
-use Rattle.std.proofs.Common.{◌≡◌, ◌≢◌, ℕ, ◌<◌, Bool, true, false, List, [], ◌∷◌, ◌++◌, length, fold, set, refl, sym, ap, ◌∙◌, subst, ⊎_elim, Option, Some, None, arith}
+use Rattle.std.proofs.Common.{◌≡◌, ◌≢◌, ℕ, ◌<◌, true, false, List, [], ◌∷◌, ◌++◌, length, fold, set, refl, sym, ap, ◌∙◌, subst, ⊎_elim, Option, Some, None, arith}
 use Rattle.std.proofs.lemmas.List.{append-nil, append_assoc}
 use Rattle.std.proofs.lemmas.List.Sums.{fold-append}
 use mathlib.Core.Option.{some}
@@ -7,8 +7,8 @@ use lib.ListN.{get_elem?}
 use Rattle.atomic_table.proofs.Lists.{at_set, at_snoc, set_again}
 use Rattle.desk_state.specs.DeskState.{DeskState}
 use Rattle.live_desk.specs.declared.running.View.{View}
-use Rattle.live_desk.specs.History.{GoesOn, IsLast, Rises, RisesFrom, last_commit}
-use Rattle.live_desk.specs.Rule.{Runs, Fits, Newest, SeesNewest, PutsNewest, OpensWith}
+use Rattle.live_desk.specs.History.{GoesOn, Rises, RisesFrom, last_commit}
+use Rattle.live_desk.specs.Rule.{Runs, Fits, SeesNewest, PutsNewest, OpensWith}
 
 cons_ne_nil : (x : DeskState) (xs : List DeskState) → x ∷ xs ≡ [] → ⊥
 cons_ne_nil x xs is = let bad : length (x ∷ xs) ≡ length {A = DeskState} [] = ap (λ (ys : List DeskState). length ys) is in absurd (omega arith)

@@ -4,7 +4,7 @@
 -- A step is of one of four kinds. The places are made: a new view has seen nothing. The publisher puts a state behind
 -- all others: the list and the publisher's view change. A seat takes the newest copy: its view becomes the list. A seat
 -- gives a copy back: no view changes.
-use Rattle.std.specs.Prelude.{◌≡◌, ℕ, Bool, true, false, List, [], ◌∷◌, ◌++◌, Option, Some, None}
+use Rattle.std.specs.Prelude.{◌≡◌, ℕ, true, List, [], ◌∷◌, ◌++◌, Option, Some, None}
 use Rattle.std.specs.Option.{option_map}
 use Rattle.std.specs.Arc.{arc_value}
 use mathlib.Core.Option.{some}

@@ -90,7 +90,7 @@ impl Seat {
 
     /// The same, for a question whose names stand elsewhere: the verdict's texts are lent to `tell`, which is called
     /// once, and what it returns is answered.
-    #[tactic(auto, using(crate::proofs::Looks::seen_there, crate::proofs::Looks::seen_tells))]
+    #[tactic(auto, using(crate::proofs::Looks::seen_tells))]
     pub fn check_with<T, R: Wait, F: FnOnce(BorrowedVerdict<'_>) -> T>(
         &mut self,
         rt: &R,

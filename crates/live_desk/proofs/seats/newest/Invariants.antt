@@ -1,4 +1,3 @@
-use Rattle.std.proofs.Common.{◌≡◌}
 use Rattle.left_right.specs.Sides.{view}
 use Rattle.live_desk.specs.History.{GoesOn}
 use Rattle.live_desk.proofs.seats.newest.Given as goal

@@ -11,6 +11,6 @@ publish_as-writer-requires g c next is =
     let new = c.append.new.self in
     let none : latest new.desk.shown.value ≡ None = search rules in
     opens_next (latest new.desk.shown.value) (latest next) new.desk.place.id (view new.desk.place)
-    (arc_value c.in-Ready.copy) none
+    (arc_value c.first.inside.copy) none
     (is ∙ newest_put arc_value (latest new.desk.shown.value) (drop old.behind old.log.items)
-    (drop new.behind new.log.items) c.in-Ready.copy c.in_default.ensures.pending)
+    (drop new.behind new.log.items) c.first.inside.copy c.in_default.ensures.pending)
