@@ -1,10 +1,10 @@
 -- Each kind of step keeps the rule.
-use Rattle.std.proofs.Common.{◌≡◌, ◌≢◌, ℕ, suc, ◌+◌, ◌<◌, ◌≤◌, true, false, List, [], ◌∷◌, ◌++◌, length, set, refl, sym, ap, ◌∙◌, subst, ⊎_elim, inl, inr, zero, eq-eqb, ne_eqb, ◌==◌, append_assoc, arith}
+use Rattle.std.proofs.Common.{◌≡◌, ◌≢◌, ℕ, suc, ◌+◌, ◌<◌, ◌≤◌, true, false, List, [], ◌∷◌, ◌++◌, length, set, refl, sym, ap, ◌∙◌, subst, ⊎_elim, inl, inr, zero, eq-eqb, ne_eqb, ◌==◌, append_assoc, lt_of_not-le, arith}
 use Rattle.std.proofs.lemmas.List.{append-nil}
 use mathlib.Core.Option.{Option, some, none, some-injective, some-ne-none}
 use mathlib.Core.Bool.{Bool, cond}
 use mathlib.Core.Logic.{dite, ◌⊎◌}
-use native.Mathlib.Decide.{ℕ_discrete}
+use native.Mathlib.Decide.{dec_le, ℕ_discrete}
 use lib.ListN.{get_elem?}
 use Rattle.crossbeam_queue.specs.Fifo.{Pushes, Pops, Forks, Merges, Learns}
 use Rattle.crossbeam_queue.proofs.Lists.{at_set, at_snoc}
@@ -12,8 +12,8 @@ use Rattle.monitor_rule.specs.declared.entries.Entry.{Entry}
 use Rattle.monitor_rule.specs.declared.knowing.Account.{Account}
 use Rattle.monitor_rule.specs.declared.knowing.View.{View}
 use Rattle.monitor_rule.specs.Entries.{of_worker, NumberedFrom}
-use Rattle.monitor_rule.specs.Rule.{FitsRecorder, FitsReader, IsFinal, Keeps, Delivers}
-use Rattle.monitor_rule.specs.Steps.{new_reader, new_recorder, ended, with_one_made, with_put, with_handed, with_joined, account_of, IsNext, IsNumberedNext, StandsIn, AreSettled}
+use Rattle.monitor_rule.specs.Rule.{FitsRecorder, FitsReader, IsFinal, FitsEnd, Keeps, Delivers}
+use Rattle.monitor_rule.specs.Steps.{new_reader, new_recorder, ended, with_one_made, with_put, with_handed, with_joined, account_of, with_left, AreAllJoined, TellsLeft, TakesLeft, IsNext, IsNumberedNext, StandsIn, AreSettled}
 use Rattle.monitor_rule.proofs.Counts.{of-append, of-its, of-others, numbered-more, numbered-at}
 
 false-ne-true : false ≡ true → ⊥
@@ -28,6 +28,16 @@ all_set F views pass w mine others j u e = ⊎_elim
     (λ (t : (j ≢ pass) × (get_elem? views j ≡ some u)). others j u t.0 t.1)
     (at_set views pass j w u e)
 
+-- a reader that does not know what is left
+not-ended : (seat : ℕ → Option ℕ) (items : List Entry) (v : View) → v.ends ≡ false → FitsEnd seat items v
+not-ended seat items v not reads is = absurd (false-ne-true (sym not ∙ is))
+
+-- no other pass reads
+no-other : (reader pass : ℕ) (seat seat' : ℕ → Option ℕ) (handed all items : List Entry) (views : List View) → pass ≡ reader
+    → ((j : ℕ) (u : View) → get_elem? views j ≡ some u → FitsRecorder seat all j u × FitsReader reader seat handed all j u)
+    → (j : ℕ) (u : View) → j ≢ pass → get_elem? views j ≡ some u → FitsEnd seat' items u
+no-other reader pass seat seat' handed all items views mine each j u other e reads is = absurd (other (((each j u e).1 reads).0 ∙ sym mine))
+
 -- the queue is made
 begins-all : (pass : ℕ) (v : View) → get_elem? (new_reader ∷ []) pass ≡ some v → FitsRecorder (λ _. none) [] pass v × FitsReader 0 (λ _. none) [] [] pass v
 begins-all zero v e =
@@ -36,8 +46,12 @@ begins-all zero v e =
     ((λ is. absurd (false-ne-true is)), (λ _. (refl, refl, (λ worker _. (refl, refl)), (λ place account at. absurd (some-ne-none account (sym at))))))
 begins-all (suc pass) v e = absurd (some-ne-none v (sym e))
 
+begins-ends : (pass : ℕ) (v : View) → get_elem? (new_reader ∷ []) pass ≡ some v → FitsEnd (λ _. none) [] v
+begins-ends zero v e = subst (λ (u : View). FitsEnd (λ _. none) [] u) (some-injective new_reader v e) (λ _ (is : false ≡ true). absurd (false-ne-true is))
+begins-ends (suc pass) v e = absurd (some-ne-none v (sym e))
+
 pub begins : Delivers [] (new_reader ∷ [])
-begins = (0, (λ _. none), [], ((λ worker. tt), begins-all))
+begins = (0, (λ _. none), [], ((λ worker. tt), begins-all), begins-ends)
 
 -- a seat given away or taken back
 abbrev moved : (ℕ → Option ℕ) → ℕ → Option ℕ → ℕ → Option ℕ
@@ -72,8 +86,8 @@ at_end (x ∷ xs) a b (suc j) e = ⊎_elim
     (at_end xs a b j e)
 
 -- a recorder is made
-pub makes : (pass : ℕ) (v : View) → v.reads ≡ true → v.joined ≡ [] → Forks Delivers pass v (with_one_made v) (new_recorder v.made)
-makes pass v reads alone items views (reader, seat, handed, (numbered, each)) at =
+pub makes : (pass : ℕ) (v : View) → v.reads ≡ true → v.joined ≡ [] → v.ends ≡ false → Forks Delivers pass v (with_one_made v) (new_recorder v.made)
+makes pass v reads alone not items views (reader, seat, handed, (numbered, each), ends) at =
     let all : List Entry = handed ++ items in
     let mine = (each pass v at).1 reads in
     let left : View = with_one_made v in
@@ -110,6 +124,11 @@ makes pass v reads alone items views (reader, seat, handed, (numbered, each)) at
             ((λ _. (moved-here seat v.made (some (length vs)), sym (mine.2 v.made (omega arith)).1)), (λ (reads' : false ≡ true). absurd (false-ne-true reads')))))
             (at_end vs right u j e)),
       ),
+      (λ (j : ℕ) (u : View) e. ⊎_elim
+          (λ (t : get_elem? vs j ≡ some u). all_set (λ _ (z : View). FitsEnd seat' items z) views pass left (not-ended seat' items left not)
+          (no-other reader pass seat seat' handed all items views mine.0 each) j u t)
+          (λ (t : (j ≡ length vs) × (right ≡ u)). subst (λ (z : View). FitsEnd seat' items z) t.1 (not-ended seat' items right refl))
+          (at_end vs right u j e)),
     )
 
 -- what a pass that reads knows where the recorder of another worker puts an entry
@@ -135,7 +154,7 @@ numbers-grow all entry is numbered worker = dite (ℕ_discrete entry.worker work
 
 -- a recorder puts the next entry
 pub pushes : (room pass : ℕ) (v : View) (entry : Entry) → v.records ≡ true → IsNext v entry → Pushes Delivers room pass v entry (λ w. w ≡ with_put entry v)
-pushes room pass v entry records next items views short (reader, seat, handed, (numbered, each)) at =
+pushes room pass v entry records next items views short (reader, seat, handed, (numbered, each), ends) at =
     let all : List Entry = handed ++ items in
     let mine = (each pass v at).0 records in
     let w : View = with_put entry v in
@@ -158,7 +177,14 @@ pushes room pass v entry records next items views short (reader, seat, handed, (
             reader-grows reader seat handed all entry pass j u has (each j u e).1,
           )),
     ) in
-    (w, (reader, seat, handed, subst (λ (l : List Entry). Keeps reader seat handed l (set views pass w)) (append_assoc handed items (entry ∷ [])) grown), refl)
+    let more : List Entry = items ++ entry ∷ [] in
+    let never : (j : ℕ) (u : View) → get_elem? views j ≡ some u → FitsEnd seat more u = λ j u e reads' is.
+    absurd (some-ne-none pass (sym mine.0 ∙ (ends j u e reads' is).1 v.worker)) in
+    let kept = subst (λ (l : List Entry). Keeps reader seat handed l (set views pass w)) (append_assoc handed items (entry ∷ [])) grown in (
+      w,
+      (reader, seat, handed, kept, all_set (λ _ (z : View). FitsEnd seat more z) views pass w (never pass v at) (λ (j : ℕ) (u : View) _ e. never j u e)),
+      refl,
+    )
 
 -- the number of an entry that stands behind those that were handed out
 number-at : (handed items : List Entry) (entry : Entry) → NumberedFrom 0 (of_worker entry.worker (handed ++ entry ∷ items))
@@ -171,13 +197,15 @@ number-at handed items entry numbered =
     of-append entry.worker handed (entry ∷ items) ∙ ap (λ (l : List Entry). front ++ l) here in
     let is = numbered-at 0 front entry behind (subst (λ (l : List Entry). NumberedFrom 0 l) whole numbered) in omega (arith, is)
 
--- the reader takes an entry
-pub takes : (pass : ℕ) (v : View) → v.reads ≡ true → Pops Delivers pass v (λ entry w. (w ≡ with_handed entry v) × IsNumberedNext v entry)
-takes pass v reads entry items views (reader, seat, handed, (numbered, each)) at =
+-- the reader, with an entry more that it handed out
+handing : (reader pass : ℕ) (seat : ℕ → Option ℕ) (handed items : List Entry) (entry : Entry) (v : View) (views : List View) (ends : Bool) (left : List Entry)
+    → v.reads ≡ true → Keeps reader seat handed (handed ++ entry ∷ items) views → get_elem? views pass ≡ some v
+    → Keeps reader seat (handed ++ entry ∷ []) ((handed ++ entry ∷ []) ++ items) (set views pass (record (with_handed entry v) { ends = ends; left = left }))
+handing reader pass seat handed items entry v views ends left reads (numbered, each) at =
     let all : List Entry = handed ++ entry ∷ items in
     let longer : List Entry = handed ++ entry ∷ [] in
     let mine = (each pass v at).1 reads in
-    let w : View = with_handed entry v in
+    let w : View = record (with_handed entry v) { ends = ends; left = left } in
     let F : ℕ → View → Type 0 = λ j u. FitsRecorder seat all j u × FitsReader reader seat longer all j u in
     let here : F pass w = ((each pass v at).0, (λ _. (mine.0, ap (λ (l : List Entry). l ++ entry ∷ []) mine.1, mine.2, mine.3))) in
     let kept : Keeps reader seat longer all (set views pass w) = (
@@ -185,26 +213,96 @@ takes pass v reads entry items views (reader, seat, handed, (numbered, each)) at
       all_set F views pass w here
           (λ (j : ℕ) (u : View) other e. ((each j u e).0, (λ reads'. absurd (other (((each j u e).1 reads').0 ∙ sym mine.0))))),
     ) in
-    let count : entry.number ≡ length (of_worker entry.worker v.handed) =
-    number-at handed items entry (numbered entry.worker) ∙ ap (λ (l : List Entry). length (of_worker entry.worker l)) (sym mine.1) in (
+    subst (λ (l : List Entry). Keeps reader seat longer l (set views pass w)) (sym (append_assoc handed (entry ∷ []) items)) kept
+
+-- what ends of the reader and of the others
+ending : (reader pass : ℕ) (seat : ℕ → Option ℕ) (handed all items : List Entry) (w : View) (views : List View) → pass ≡ reader
+    → ((j : ℕ) (u : View) → get_elem? views j ≡ some u → FitsRecorder seat all j u × FitsReader reader seat handed all j u)
+    → FitsEnd seat items w → (j : ℕ) (u : View) → get_elem? (set views pass w) j ≡ some u → FitsEnd seat items u
+ending reader pass seat handed all items w views mine each here =
+    all_set (λ _ (z : View). FitsEnd seat items z) views pass w here (no-other reader pass seat seat handed all items views mine each)
+
+next-number : (handed items : List Entry) (entry : Entry) (v : View) → v.handed ≡ handed → NumberedFrom 0 (of_worker entry.worker (handed ++ entry ∷ items))
+    → IsNumberedNext v entry
+next-number handed items entry v is numbered =
+    number-at handed items entry numbered ∙ ap (λ (l : List Entry). length (of_worker entry.worker l)) (sym is)
+
+-- the reader takes an entry
+pub takes : (pass : ℕ) (v : View) → v.reads ≡ true → v.ends ≡ false → Pops Delivers pass v (λ entry w. (w ≡ with_handed entry v) × IsNumberedNext v entry)
+takes pass v reads not entry items views (reader, seat, handed, (numbered, each), ends) at =
+    let mine = (each pass v at).1 reads in
+    let w : View = with_handed entry v in (
       w,
-      (reader, seat, longer, subst (λ (l : List Entry). Keeps reader seat longer l (set views pass w)) (sym (append_assoc handed (entry ∷ []) items)) kept),
-      (refl, count),
+      (
+        reader,
+        seat,
+        handed ++ entry ∷ [],
+        handing reader pass seat handed items entry v views v.ends v.left reads (numbered, each) at,
+        ending reader pass seat handed (handed ++ entry ∷ items) items w views mine.0 each (not-ended seat items w not),
+      ),
+      (refl, next-number handed items entry v mine.1 (numbered entry.worker)),
     )
+
+-- the reader takes an entry once all recorders are joined
+pub takes-last : (pass : ℕ) (v : View) → v.reads ≡ true → v.ends ≡ false → AreAllJoined v → Pops Delivers pass v (TellsLeft v)
+takes-last pass v reads not joined entry items views (reader, seat, handed, (numbered, each), ends) at =
+    let mine = (each pass v at).1 reads in
+    let w : View = with_left items (with_handed entry v) in
+    let free : (worker : ℕ) → seat worker ≡ none = λ worker. dite (dec_le v.made worker)
+    (λ (low : v.made ≤ worker). (mine.2 worker low).0)
+    (λ (high : ¬ (v.made ≤ worker)). let (place, account, there, is) = joined worker (lt_of_not-le high) in
+    ap seat (sym is) ∙ (mine.3 place account there).0) in (
+      w,
+      (
+        reader,
+        seat,
+        handed ++ entry ∷ [],
+        handing reader pass seat handed items entry v views true items reads (numbered, each) at,
+        ending reader pass seat handed (handed ++ entry ∷ items) items w views mine.0 each (λ _ _. (refl, free)),
+      ),
+      (
+        items,
+        refl,
+        next-number handed items entry v mine.1 (numbered entry.worker),
+        (λ (place : ℕ) (account : Account) e.
+            (mine.3 place account e).1 ∙ ap (λ (l : List Entry). of_worker account.worker (l ++ entry ∷ items)) (sym mine.1)),
+      ),
+    )
+
+-- the reader takes the first of what is left
+pub takes-left : (pass : ℕ) (v : View) → v.reads ≡ true → v.ends ≡ true → Pops Delivers pass v (TakesLeft v)
+takes-left pass v reads is entry items views (reader, seat, handed, (numbered, each), ends) at =
+    let mine = (each pass v at).1 reads in
+    let known = ends pass v at reads is in
+    let w : View = with_left items (with_handed entry v) in (
+      w,
+      (
+        reader,
+        seat,
+        handed ++ entry ∷ [],
+        handing reader pass seat handed items entry v views true items reads (numbered, each) at,
+        ending reader pass seat handed (handed ++ entry ∷ items) items w views mine.0 each (λ _ _. (refl, known.1)),
+      ),
+      (items, known.0, refl, next-number handed items entry v mine.1 (numbered entry.worker)),
+    )
+
+-- what a reader knows to be left
+pub left-told : (pass : ℕ) (v : View) → v.reads ≡ true → v.ends ≡ true → Learns Delivers pass v (λ items. v.left ≡ items)
+left-told pass v reads is items views (reader, seat, handed, keeps, ends) at = (ends pass v at reads is).0
 
 -- what a recorder knows at a moment
 pub records-told : (pass : ℕ) (v : View) → v.records ≡ true → Learns Delivers pass v (StandsIn v)
-records-told pass v records items views (reader, seat, handed, (numbered, each)) at = (handed, ((each pass v at).0 records).1)
+records-told pass v records items views (reader, seat, handed, (numbered, each), ends) at = (handed, ((each pass v at).0 records).1)
 
 -- what the reader knows at a moment
 pub reads-told : (pass : ℕ) (v : View) → v.reads ≡ true → Learns Delivers pass v (AreSettled v)
-reads-told pass v reads items views (reader, seat, handed, (numbered, each)) at place account e =
+reads-told pass v reads items views (reader, seat, handed, (numbered, each), ends) at place account e =
     let mine = (each pass v at).1 reads in
     (mine.3 place account e).1 ∙ ap (λ (l : List Entry). of_worker account.worker (l ++ items)) (sym mine.1)
 
 -- the reader takes in a recorder
-pub joins : (pass other : ℕ) (v w : View) → v.reads ≡ true → w.records ≡ true → Merges Delivers pass v other w (with_joined w v) ended
-joins pass other v w reads records items views (reader, seat, handed, (numbered, each)) at apart at' =
+pub joins : (pass other : ℕ) (v w : View) → v.reads ≡ true → v.ends ≡ false → w.records ≡ true → Merges Delivers pass v other w (with_joined w v) ended
+joins pass other v w reads not records items views (reader, seat, handed, (numbered, each), ends) at apart at' =
     let all : List Entry = handed ++ items in
     let both : View = with_joined w v in
     let vs : List View = set views pass both in
@@ -245,4 +343,7 @@ joins pass other v w reads records items views (reader, seat, handed, (numbered,
         all_set F vs other ended ((λ (is : false ≡ true). absurd (false-ne-true is)), (λ (is : false ≡ true). absurd (false-ne-true is)))
             (λ (j : ℕ) (u : View) (differ : j ≢ other) e. now j u e differ),
       ),
+      all_set (λ _ (z : View). FitsEnd seat' items z) vs other ended (not-ended seat' items ended refl)
+          (λ (j : ℕ) (u : View) _ e. all_set (λ _ (z : View). FitsEnd seat' items z) views pass both (not-ended seat' items both not)
+          (no-other reader pass seat seat' handed all items views mine.0 each) j u e),
     )

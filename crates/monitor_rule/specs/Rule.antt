@@ -31,7 +31,12 @@ Keeps reader seat handed all views =
     × ((pass : ℕ) (v : View) → get_elem? views pass ≡ some v
     → FitsRecorder seat all pass v × FitsReader reader seat handed all pass v)
 
+-- Once a reader knows what is left, that is what the queue holds, and no recorder is there any more.
+abbrev pub FitsEnd : (ℕ → Option ℕ) → List Entry → View → Type 0
+FitsEnd seat items v = v.reads ≡ true → v.ends ≡ true → (v.left ≡ items) × ((worker : ℕ) → seat worker ≡ none)
+
 -- the rule
 abbrev pub Delivers : List Entry → List View → Type 0
 Delivers items views = (reader : ℕ) × (seat : ℕ → Option ℕ) × (handed : List Entry)
     × Keeps reader seat handed (handed ++ items) views
+    × ((pass : ℕ) (v : View) → get_elem? views pass ≡ some v → FitsEnd seat items v)

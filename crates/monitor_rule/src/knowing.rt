@@ -19,4 +19,7 @@ pub struct View {
     pub handed: [Entry; 0],
     pub made: u32,
     pub joined: [Account; 0],
+    /// All recorders were joined, and this is left in the queue.
+    pub ends: bool,
+    pub left: [Entry; 0],
 }

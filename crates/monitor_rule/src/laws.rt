@@ -1,11 +1,11 @@
 //! Each kind of step keeps the rule, whatever the other threads did before, and what it tells. These functions do nothing;
 //! their clauses are the laws, in the words of a queue under a rule.
-ghost use Rattle.std.specs.Prelude.{◌≡◌, ℕ, [], ◌∷◌, true};
+ghost use Rattle.std.specs.Prelude.{◌≡◌, ℕ, List, [], ◌∷◌, true, false};
 ghost use Rattle.crossbeam_queue.specs.Fifo.{Pushes, Pops, Forks, Merges, Learns};
 ghost use Rattle.monitor_rule.specs.declared.entries.Entry.{Entry};
 ghost use Rattle.monitor_rule.specs.declared.knowing.View.{View};
 ghost use Rattle.monitor_rule.specs.Rule.{Delivers};
-ghost use Rattle.monitor_rule.specs.Steps.{new_reader, new_recorder, ended, with_one_made, with_put, with_handed, with_joined, IsNext, IsNumberedNext, StandsIn, AreSettled};
+ghost use Rattle.monitor_rule.specs.Steps.{new_reader, new_recorder, ended, with_one_made, with_put, with_handed, with_joined, AreAllJoined, TellsLeft, TakesLeft, IsNext, IsNumberedNext, StandsIn, AreSettled};
 
 /// The queue is made, with a reader that handed out nothing.
 pub fn a_new_reader_keeps_the_rule()
@@ -14,7 +14,7 @@ pub fn a_new_reader_keeps_the_rule()
 
 /// A recorder is made, for the next worker.
 pub fn a_new_recorder_keeps_the_rule()
-    ensures { (pass : ℕ) (v : View) → v.reads ≡ true → v.joined ≡ []
+    ensures { (pass : ℕ) (v : View) → v.reads ≡ true → v.joined ≡ [] → v.ends ≡ false
         → Forks Delivers pass v (with_one_made v) (new_recorder v.made) }
 {}
 
@@ -32,7 +32,7 @@ pub fn a_recorder_is_told()
 
 /// The reader takes an entry, whose number is the count of its worker's entries that were handed out before.
 pub fn a_take_keeps_the_rule()
-    ensures { (pass : ℕ) (v : View) → v.reads ≡ true
+    ensures { (pass : ℕ) (v : View) → v.reads ≡ true → v.ends ≡ false
         → Pops Delivers pass v (λ entry w. (w ≡ with_handed entry v) × IsNumberedNext v entry) }
 {}
 
@@ -44,6 +44,23 @@ pub fn a_reader_is_told()
 
 /// The reader takes in a recorder that has ended.
 pub fn a_joined_recorder_keeps_the_rule()
-    ensures { (pass other : ℕ) (v w : View) → v.reads ≡ true → w.records ≡ true
+    ensures { (pass other : ℕ) (v w : View) → v.reads ≡ true → v.ends ≡ false → w.records ≡ true
         → Merges Delivers pass v other w (with_joined w v) ended }
+{}
+
+/// The reader takes an entry once it has taken in all recorders: what is left is known from then on.
+pub fn a_take_after_the_recorders_tells_what_is_left()
+    ensures { (pass : ℕ) (v : View) → v.reads ≡ true → v.ends ≡ false → AreAllJoined v
+        → Pops Delivers pass v (TellsLeft v) }
+{}
+
+/// A reader that knows what is left takes the first of it.
+pub fn what_is_left_comes_in_order()
+    ensures { (pass : ℕ) (v : View) → v.reads ≡ true → v.ends ≡ true → Pops Delivers pass v (TakesLeft v) }
+{}
+
+/// What a reader knows to be left is what the queue holds.
+pub fn what_is_left_is_told()
+    ensures { (pass : ℕ) (v : View) → v.reads ≡ true → v.ends ≡ true
+        → Learns Delivers pass v (λ items. v.left ≡ items) }
 {}

@@ -14,5 +14,7 @@ pub use entries::Entry;
 pub use knowing::{Account, View};
 pub use laws::{
     a_joined_recorder_keeps_the_rule, a_new_reader_keeps_the_rule, a_new_recorder_keeps_the_rule,
-    a_push_keeps_the_rule, a_reader_is_told, a_recorder_is_told, a_take_keeps_the_rule,
+    a_push_keeps_the_rule, a_reader_is_told, a_recorder_is_told,
+    a_take_after_the_recorders_tells_what_is_left, a_take_keeps_the_rule,
+    what_is_left_comes_in_order, what_is_left_is_told,
 };
