@@ -7,7 +7,7 @@ use Rattle.link_ports.specs.LinkMarks.{fresh_marks}
 use Rattle.link_ports.specs.NetCounts.{count_after_give_back}
 use Rattle.run_endings.specs.Saying.{Said, silence}
 use Rattle.run_endings.specs.declared.endings.Ending.{Ending}
-use Rattle.run_endings.specs.declared.endings.Ending.TheVariants.{Done, Memory, Sink, Net, Reply}
+use Rattle.run_endings.specs.declared.endings.Ending.TheVariants.{Memory, Sink, Net}
 use Rattle.agent_runs.specs.LinkSeen.{LinkSeen, DialSeen}
 use Rattle.agent_runs.specs.AgentTalk.{Serves}
 

@@ -8,7 +8,6 @@ use Rattle.wire_messages.specs.declared.messages.Message.{Message}
 use Rattle.wire_messages.specs.declared.messages.Message.TheVariants.{Register, AgentAnswer, Registered, KindTaken, AgentQuestion, UnknownNumber}
 use Rattle.wire_messages.specs.declared.operations.Heard.TheVariants.{AgentReplies}
 use Rattle.wire_messages.specs.declared.refusals.WireRefusal.{WireRefusal}
-use Rattle.wire_messages.specs.declared.refusals.WireRefusal.TheVariants.{Memory as NoMemory}
 use Rattle.wire_messages.specs.Frame.{spelling, with_sequence}
 use Rattle.wire_messages.specs.Stream.{Hears, IsOpen, Wrong, first_of}
 use Rattle.run_endings.specs.Ending.{net_faults_after}

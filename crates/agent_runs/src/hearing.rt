@@ -48,7 +48,7 @@ pub(crate) fn hear_next<L: Link>(link: &mut L, feeder: &mut Feeder) -> Result<Fr
     ensures again { OnOk result (feeder.new ≡ feeder.old) }
 {
     let mut room = [0u8; MOST_PIECE];
-    loop {
+    'pieces: loop {
         let there = feeder.rest();
         let want = feeder.wanted().min(MOST_PIECE);
         match take_piece(link, feeder, &mut room[..want]) {

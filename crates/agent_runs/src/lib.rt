@@ -4,11 +4,11 @@
 //! that is heard, and the line of a question is written before its answer is sent.
 #![tactic(auto)]
 
-mod agent_client;
-mod agent_runs;
+mod agents;
 mod hearing;
 mod reply_notes;
+mod runs;
 mod turns;
 
-pub use agent_client::agent_client;
-pub use agent_runs::run_agent;
+pub use agents::agent_client;
+pub use runs::run_agent;

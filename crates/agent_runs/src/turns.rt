@@ -3,6 +3,7 @@ ghost use Rattle.std.specs.Prelude.{◌≡◌, ◌≤◌, length};
 ghost use Rattle.run_endings.specs.Outside.{sink_seen};
 ghost use Rattle.line_script.specs.Answers.{answer_text};
 ghost use Rattle.wire_messages.specs.Frame.{body, spelling, with_sequence};
+ghost use Rattle.wire_messages.specs.declared.messages.Message.TheVariants.{AgentAnswer};
 ghost use Rattle.agent_runs.specs.LinkSeen.{link_seen};
 ghost use Rattle.agent_runs.specs.parts.Turns.{WritesLine, SendsFrame, WritesAndSends, Follows};
 
@@ -47,11 +48,7 @@ pub(crate) fn follow<L: Link, K: Sink>(
                 kind: result.kind(),
                 metadata: result.metadata().as_slice(),
             };
-            let answer = Message::AgentAnswer {
-                number: *number,
-                allowed,
-            };
-            write_and_send(room, &line, framed.sequence, &answer, link, sink)
+            answer(room, &line, framed.sequence, *number, allowed, link, sink)
         }
         Message::UnknownNumber { .. } => Ok(()),
         _ => {
@@ -61,24 +58,38 @@ pub(crate) fn follow<L: Link, K: Sink>(
     }
 }
 
-// Writes a line, and then sends a message.
-fn write_and_send<L: Link, K: Sink>(
+// Writes the line of a question, and then sends the answer to its number.
+fn answer<L: Link, K: Sink>(
     room: &mut Room,
     line: &LineAnswer<'_>,
     sequence: u16,
-    message: &Message,
+    number: u32,
+    allowed: bool,
     link: &mut L,
     sink: &mut K,
 ) -> Result<(), Ending>
-    requires short { length (body (with_sequence sequence message.now)) ≤ 1048576 }
-    ensures { WritesAndSends (answer_text line.now) (spelling (with_sequence sequence message.now)) result
+    ensures { WritesAndSends (answer_text line.now) (spelling (with_sequence sequence (AgentAnswer number allowed))) result
         (link_seen L.traffic L.marks L.faults link.old) (link_seen L.traffic L.marks L.faults link.new)
         (sink_seen K.taken K.faults sink.old) (sink_seen K.taken K.faults sink.new) }
 {
     match write_line(&mut room.line, line, sink) {
-        Ok(()) => send_message(&mut room.frame, sequence, message, link),
+        Ok(()) => send_answer(&mut room.frame, sequence, number, allowed, link),
         Err(ending) => Err(ending),
     }
+}
+
+fn send_answer<L: Link>(
+    room: &mut Bytes,
+    sequence: u16,
+    number: u32,
+    allowed: bool,
+    link: &mut L,
+) -> Result<(), Ending>
+    ensures { SendsFrame (spelling (with_sequence sequence (AgentAnswer number allowed))) result
+        (link_seen L.traffic L.marks L.faults link.old) (link_seen L.traffic L.marks L.faults link.new) }
+{
+    let message = Message::AgentAnswer { number, allowed };
+    send_message(room, sequence, &message, link)
 }
 
 /// Prints a line into the room in place of what it held, and has the sink take it.

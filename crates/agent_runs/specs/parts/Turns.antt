@@ -96,9 +96,11 @@ pub record Talked (kind : Kind) (allowed : Bool) (messages : List Framed) (link 
 -- The same, and this message was heard behind them.
 pub record Met (kind : Kind) (allowed : Bool) (messages : List Framed) (framed : Framed) (link link_after : LinkSeen) (sink sink_after : SinkSeen) : Type 0 where
   pub received : List ℕ
-  pub heard : Hears AgentReplies received (messages ++ framed ∷ []) []
+  pub bytes : List ℕ
+  pub heard : Hears AgentReplies received messages []
+  pub next : Hears AgentReplies bytes (framed ∷ []) []
   pub goes_on : GoesOn messages
-  pub carried : Carries (sent_after kind allowed messages) received false link link_after
+  pub carried : Carries (sent_after kind allowed messages) (received ++ bytes) false link link_after
   pub faults : link_after.faults ≡ link.faults
   pub whole : IsWhole (lines messages) sink sink_after
 

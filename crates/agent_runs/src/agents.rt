@@ -141,7 +141,7 @@ impl Agent {
             (link_seen L.traffic L.marks L.faults link.new) (sink_seen K.taken K.faults sink.old)
             (sink_seen K.taken K.faults sink.new) }
     {
-        for _ in rt.forever() {
+        'turns: for _ in rt.forever() {
             match self.turn(link, sink) {
                 Ok(()) => {}
                 Err(ending) => return ending,
