@@ -1,0 +1,5 @@
+pub mod Numbering
+pub mod Choice
+pub mod Agreeing
+pub mod Beginning
+pub mod Counting

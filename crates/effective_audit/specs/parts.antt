@@ -1,0 +1,2 @@
+-- What only this crate's own functions cite.
+pub mod Narrowing

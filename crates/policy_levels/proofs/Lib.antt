@@ -1,0 +1,4 @@
+pub mod Unseen
+pub mod Alone
+pub mod Commanding
+pub mod Listing

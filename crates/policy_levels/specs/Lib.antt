@@ -1,0 +1,5 @@
+pub mod Command
+pub mod Refusal
+pub mod Levels
+pub mod Isolation
+pub mod parts
