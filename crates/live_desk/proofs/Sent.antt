@@ -1,0 +1,142 @@
+-- A seat and a publisher may go to another thread. A `search` that goes down through all that they are made of runs out of
+-- steps, so each part has a lemma of its own. Who hands them to a thread lists `seat_send` or `publisher_send` at the call.
+use denote.Param.Send.{IsSend, IsSync, sendable}
+use denote.Param.SendFields.{as_row_send, as_row_sync}
+use Rattle.std.proofs.Crossing.{crosses}
+use Rattle.std.proofs.MapsCrossing as maps
+use Rattle.std.specs.contracts.alloc.Global as Global
+use Rattle.std.specs.contracts.impls.GlobalAllocator.TheImpl as heap
+use Rattle.cynara_keys.specs.contracts.shared.Shared as Shared
+use Rattle.cynara_keys.specs.contracts.keys.Key as Key
+use Rattle.cynara_keys.specs.contracts.keys.Policy as Policy
+use Rattle.cynara_keys.specs.contracts.results.PolicyResult as PolicyResult
+use Rattle.cynara_keys.specs.contracts.bucket_names.BucketName as BucketName
+use Rattle.bucket_store.specs.contracts.buckets.Body as Body
+use Rattle.bucket_store.specs.contracts.buckets.Bucket as Bucket
+use Rattle.bucket_store.specs.contracts.databases.Database as Database
+use Rattle.bucket_eval.specs.contracts.indexes.Index as Index
+use Rattle.bucket_eval.specs.contracts.names.Names as Names
+use Rattle.bucket_eval.specs.contracts.tables.Table as Table
+use Rattle.atomic_table.proofs.shared.Seat.TheSendSync as place
+use Rattle.atomic_table.proofs.shared.Shared.TheSendSync as board
+use Rattle.atomic_table.proofs.send_lease.SendLease.TheSendSync as lease
+use Rattle.left_right.specs.contracts.part.Part as Part
+use Rattle.left_right.proofs.part.Part.TheSendSync as part
+use Rattle.left_right.proofs.part.Deed.TheSendSync as deed
+use Rattle.left_right.specs.contracts.reader.Factory as Factory
+use Rattle.left_right.specs.contracts.reader.Reader as Reader
+use Rattle.live_desk.specs.contracts.copies.DeskCopy as DeskCopy
+use Rattle.live_desk.specs.contracts.copies.Published as Published
+use Rattle.live_desk.specs.contracts.running.Running as Running
+use Rattle.live_desk.specs.contracts.running.RunningProtocolPublishedView.TheImpl as rule
+use Rattle.live_desk.specs.contracts.running.View as View
+use Rattle.live_desk.specs.contracts.publishers.Publisher as Publisher
+use Rattle.live_desk.specs.contracts.seats.Seat as Seat
+
+-- what an index is made of
+shared_send : IsSend (Shared.the_field).row
+shared_send = search (sendable, crosses) depth 40
+
+shared_sync : IsSync (Shared.the_field).row
+shared_sync = search (sendable, crosses) depth 40
+
+key_send : IsSend (Key.the_field).row
+key_send = search (sendable, crosses) depth 40
+
+key_sync : IsSync (Key.the_field).row
+key_sync = search (sendable, crosses) depth 40
+
+result_send : IsSend (PolicyResult.the_field).row
+result_send = search (sendable, crosses, shared_send) depth 40
+
+result_sync : IsSync (PolicyResult.the_field).row
+result_sync = search (sendable, crosses, shared_sync) depth 40
+
+bucket_name_send : IsSend (BucketName.the_field).row
+bucket_name_send = search (sendable, crosses, shared_send) depth 40
+
+bucket_name_sync : IsSync (BucketName.the_field).row
+bucket_name_sync = search (sendable, crosses, shared_sync) depth 40
+
+policy_send : IsSend (Policy.the_field).row
+policy_send = search (sendable, crosses, key_send, result_send) depth 40
+
+policy_sync : IsSync (Policy.the_field).row
+policy_sync = search (sendable, crosses, key_sync, result_sync) depth 40
+
+body_send : IsSend (Body.the_field).row
+body_send = search (sendable, crosses, bucket_name_send, result_send, policy_send) depth 40
+
+body_sync : IsSync (Body.the_field).row
+body_sync = search (sendable, crosses, bucket_name_sync, result_sync, policy_sync) depth 40
+
+bucket_send : IsSend (Bucket.the_field).row
+bucket_send = search (sendable, crosses, body_send, body_sync) depth 40
+
+bucket_sync : IsSync (Bucket.the_field).row
+bucket_sync = search (sendable, crosses, body_send, body_sync) depth 40
+
+database_send : IsSend (Database.the_field).row
+database_send = search (sendable, crosses, bucket_send) depth 40
+
+database_sync : IsSync (Database.the_field).row
+database_sync = search (sendable, crosses, bucket_sync) depth 40
+
+names_send : IsSend (Names.the_field).row
+names_send = search (sendable, crosses, maps.crosses) depth 40
+
+names_sync : IsSync (Names.the_field).row
+names_sync = search (sendable, crosses, maps.crosses) depth 40
+
+table_send : IsSend (Table.the_field).row
+table_send = search (sendable, crosses, maps.crosses) depth 40
+
+table_sync : IsSync (Table.the_field).row
+table_sync = search (sendable, crosses, maps.crosses) depth 40
+
+index_send : IsSend (Index.the_field).row
+index_send = search (sendable, crosses, database_send, names_send, table_send) depth 40
+
+index_sync : IsSync (Index.the_field).row
+index_sync = search (sendable, crosses, database_sync, names_sync, table_sync) depth 40
+
+-- the copies
+copy_send : IsSend (DeskCopy.the_field).row
+copy_send = search (sendable, crosses, index_send) depth 40
+
+copy_sync : IsSync (DeskCopy.the_field).row
+copy_sync = search (sendable, crosses, index_sync) depth 40
+
+published_send : IsSend (Published.the_field).row
+published_send = search (sendable, crosses, copy_send, copy_sync) depth 40
+
+published_sync : IsSync (Published.the_field).row
+published_sync = search (sendable, crosses, copy_send, copy_sync) depth 40
+
+published_row_sync : IsSync Published.the_row
+published_row_sync = as_row_sync Published.the_field published_sync
+
+published_row_send : IsSend Published.the_row
+published_row_send = as_row_send Published.the_field published_send
+
+-- what readers and the writer have of them
+part_send : IsSend (Part.the_row Published.the_row)
+part_send = part.the_send Published.the_row published_row_sync
+
+factory_send : IsSend (Factory.the_field Published.the_row View.the_row Running.the_row Global.the_row rule.ghosts heap.ghosts).row
+factory_send = search (sendable, crosses, part_send, board.the_send, board.the_sync, lease.the_send, lease.the_sync) depth 40
+
+reader_send : IsSend (Reader.the_field Published.the_row View.the_row Running.the_row Global.the_row rule.ghosts heap.ghosts).row
+reader_send = search (sendable, crosses, factory_send, part_send, place.the_send) depth 40
+
+pub seat_send : IsSend (Seat.the_field).row
+seat_send = search (sendable, crosses, reader_send) depth 40
+
+pub seat_row_send : IsSend Seat.the_row
+seat_row_send = as_row_send Seat.the_field seat_send
+
+pub publisher_send : IsSend (Publisher.the_field).row
+publisher_send = search (sendable, crosses, factory_send, part_send, place.the_send, deed.the_send, published_row_send, copy_send, copy_sync) depth 40
+
+pub publisher_row_send : IsSend Publisher.the_row
+publisher_row_send = as_row_send Publisher.the_field publisher_send
