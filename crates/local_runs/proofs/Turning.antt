@@ -126,6 +126,7 @@ module _ (left left_after taken taken_mid : Option (List ℕ)) (old mid : LocalS
               hands = Hands-then taken taken_mid taken_after old.answers mid.answers done.waiting handed.0 done.hands;
               answer = done.answer;
               state = done.state;
+              sharing = done.sharing;
               in_turn = done.in_turn;
             };
           };

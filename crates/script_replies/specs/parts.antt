@@ -1,1 +1,3 @@
 pub mod Questions
+pub mod Refusing
+pub mod Plain

@@ -10,7 +10,7 @@ use Rattle.local_runs.proofs.local_script.LocalScript.obey.Goals as goal
 pub returns-in-Err-clause-step : goal.returns-in-Err-clause-step
 returns-in-Err-clause-step g c =
     answers-refusal (g.K.Sink.taken c.args.sink.now) c.args.self.now.answers c.print_refusal.new.out c.args.keeper.now.desk
-    c.args.command.now c.in-Err.refusal
+    c.args.self.now.shares c.args.command.now c.in-Err.refusal
     (refused-rule c.args.keeper.now.desk c.args.command.now c.in-Err.refusal c.in_ok-print_refusal-in-Err.ensures.rule
     c.in-Err.ensures.refused)
     c.in_ok-print_refusal-in-Err.ensures.ok
