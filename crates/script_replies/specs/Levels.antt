@@ -1,5 +1,5 @@
 -- What lines on levels and audits are answered.
-use Rattle.std.specs.Prelude.{ℕ, List, [], ◌++◌, length, Option, Some, None}
+use Rattle.std.specs.Prelude.{ℕ, Bool, true, false, List, [], ◌++◌, length, Option, Some, None}
 use Rattle.std.specs.List.{flat_map, filter_map}
 use Rattle.cynara_keys.specs.Key.{Key}
 use Rattle.cynara_keys.specs.Text.{text_cmp}
@@ -24,6 +24,11 @@ level_refusal_text level.NoLayout = refusal_text refusal.NoLayout
 level_refusal_text (level.UnknownUser uid) = refusal_text (refusal.UnknownUser uid)
 level_refusal_text (level.NotAdministrator kind) = not_administrator_text kind
 level_refusal_text (level.Memory error) = []
+
+-- a refusal names a rule; no line answers want of memory
+abbrev pub names_level_rule : LevelRefusal → Bool
+names_level_rule (level.Memory error) = false
+names_level_rule broken = true
 
 abbrev pub level_row_text : LevelRow → List ℕ
 level_row_text row = level_text row.client row.privilege row.level

@@ -1,5 +1,5 @@
 -- What lines on shares are answered, and the shares that lines leave.
-use Rattle.std.specs.Prelude.{ℕ, List, [], ◌++◌, length, Option, Some, None}
+use Rattle.std.specs.Prelude.{ℕ, Bool, true, false, List, [], ◌++◌, length, Option, Some, None}
 use Rattle.std.specs.List.{flat_map}
 use Rattle.smack_rules.specs.declared.rule.Rule.{Rule}
 use Rattle.smack_rules.specs.declared.rule.Rule.TheVariants.{Set, Adjust}
@@ -19,6 +19,11 @@ share_refusal_text (SameLabel label) = same_label_text label
 share_refusal_text NotShared = not_shared_text
 share_refusal_text (Most most) = share_limit_text most
 share_refusal_text (Memory error) = []
+
+-- a refusal names a rule; no line answers want of memory
+abbrev pub names_share_rule : ShareRefusal → Bool
+names_share_rule (Memory error) = false
+names_share_rule broken = true
 
 -- how often the share is open among these, or why it was refused
 abbrev pub shared_reply : List ℕ → List ℕ → List ℕ → List Share → Option ShareRefusal → List ℕ

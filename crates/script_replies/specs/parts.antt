@@ -1,3 +1,2 @@
 pub mod Questions
-pub mod Refusing
 pub mod Plain

@@ -4,9 +4,8 @@ ghost use Rattle.std.specs.Option.{option_to_list};
 ghost use Rattle.cynara_keys.specs.Field.{field_of, field_fault};
 ghost use Rattle.line_script.specs.parts.Appending.{Lengthens};
 ghost use Rattle.policy_levels.specs.Levels.{exact_name, levels_in};
-ghost use Rattle.script_replies.specs.Levels.{level_refusal_text, level_row_text, level_rows_text, clients_in, privileges_in};
+ghost use Rattle.script_replies.specs.Levels.{level_refusal_text, names_level_rule, level_row_text, level_rows_text, clients_in, privileges_in};
 ghost use Rattle.script_replies.specs.Levels.{pair_text, pair_rows_text, audit_among, audit_reply};
-ghost use Rattle.script_replies.specs.parts.Refusing.{names_level_rule};
 
 use app_registry::NameSet;
 use cynara_keys::{Key, Name, NameRefusal};

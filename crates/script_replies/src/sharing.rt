@@ -2,8 +2,7 @@
 ghost use Rattle.std.specs.Prelude.{◌≡◌, ◌++◌, true, OnOk, OnErr};
 ghost use Rattle.line_script.specs.Answers.{shared_text};
 ghost use Rattle.line_script.specs.parts.Appending.{Lengthens};
-ghost use Rattle.script_replies.specs.Sharing.{share_refusal_text, rule_text, rules_text, shares_reply};
-ghost use Rattle.script_replies.specs.parts.Refusing.{names_share_rule};
+ghost use Rattle.script_replies.specs.Sharing.{share_refusal_text, names_share_rule, rule_text, rules_text, shares_reply};
 
 use desk_ports::Bytes;
 use desk_state::Desk;
