@@ -92,8 +92,12 @@ module _ {C : Type 0} (forms : List Form) where
 -- `own`, or `admin` and the number of a user
 module _ {C : Type 0} (forms : List Form) (next : Setter × List (List ℕ) → Option C)
     (later : (setter : Setter) (left : List (List ℕ)) → is_some (next (setter, left)) ≡ fits forms left) where
+  -- what a word names that may be one of the two, and the words behind it
+  abbrev named_by : List (List ℕ) → Bool → Bool → Option (Bool × List (List ℕ))
+  named_by rest own admin = option_map (λ named. (named, rest)) (cond own (Some false) (cond admin (Some true) None))
+
   setter_by : (text : List ℕ) (rest : List (List ℕ)) (own admin : Bool)
-      → is_some ((option_map (λ named. (named, rest)) (cond own (Some false) (cond admin (Some true) None)) >>= (λ named. target_at named.0 named.1)) >>= next)
+      → is_some ((named_by rest own admin >>= (λ named. target_at named.0 named.1)) >>= next)
       ≡ holds_left (λ left. fits left rest) (cond (is_some (cond own (Some false) (cond admin (Some true) None))) (Some (cond own forms (Uid ∷ forms))) None)
   unfolding target_at
   setter_by text rest true admin = later Own rest

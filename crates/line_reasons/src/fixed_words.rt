@@ -7,7 +7,6 @@ ghost use Rattle.line_reasons.specs.declared.forms.Form.TheVariants.{Depth, User
 ghost use Rattle.line_reasons.specs.parts.Forms as forms;
 
 use crate::word_tests::begins;
-use level_requests::Level;
 
 pub(crate) fn is_depth(text: &[u8]) -> bool
     ensures { result ≡ is_some (depth_at text.now) }
@@ -57,7 +56,7 @@ pub(crate) fn begins_setter(front: &[u8]) -> bool
 pub(crate) fn is_level(text: &[u8]) -> bool
     ensures { result ≡ is_some (level_at text.now) }
 {
-    Level::of_word(text).is_some()
+    level_requests::Level::of_word(text).is_some()
 }
 
 pub(crate) fn begins_level(front: &[u8]) -> bool

@@ -2,6 +2,7 @@
 ghost use Rattle.std.specs.Prelude.{◌≡◌, ◌++◌, true, None, IfOk, OnOk, OnErr};
 ghost use Rattle.std.specs.Option.{option_to_list};
 ghost use Rattle.cynara_keys.specs.Field.{field_of, field_fault};
+ghost use Rattle.line_script.specs.Answers.{level_answer_text};
 ghost use Rattle.line_script.specs.parts.Appending.{Lengthens};
 ghost use Rattle.policy_levels.specs.Levels.{exact_name, levels_in};
 ghost use Rattle.script_replies.specs.Levels.{level_refusal_text, names_level_rule, level_row_text, level_rows_text, clients_in, privileges_in};
@@ -25,12 +26,18 @@ pub fn print_level_refusal(refusal: &LevelRefusal, out: &mut Bytes) -> Result<()
     match refusal {
         LevelRefusal::NoLayout => print_no_layout(out),
         LevelRefusal::UnknownUser(uid) => print_unknown_user(*uid, out),
-        LevelRefusal::NotAdministrator(kind) => print(
-            &LineAnswer::OfLevels(LevelAnswer::NotAdministrator { kind: *kind }),
-            out,
-        ),
+        LevelRefusal::NotAdministrator(kind) => {
+            print_level(LevelAnswer::NotAdministrator { kind: *kind }, out)
+        }
         LevelRefusal::Memory(error) => Err(*error),
     }
+}
+
+fn print_level(answer: LevelAnswer<'_>, out: &mut Bytes) -> Result<(), AllocError>
+    ensures ok { OnOk result (out.new ≡ out.old ++ level_answer_text answer) }
+    ensures err { OnErr result (out.new ≡ out.old) }
+{
+    print(&LineAnswer::OfLevels(answer), out)
 }
 
 fn print_no_layout(out: &mut Bytes) -> Result<(), AllocError>
@@ -80,7 +87,7 @@ fn append_level_rows(rows: &[LevelRow], out: &mut Bytes) -> Result<(), AllocErro
         print_level_row(row, out)?;
     }
     let count = rows.len() as u64;
-    print(&LineAnswer::OfLevels(LevelAnswer::Levels { count }), out)
+    print_level(LevelAnswer::Levels { count }, out)
 }
 
 fn print_level_row(row: &LevelRow, out: &mut Bytes) -> Result<(), AllocError>
@@ -92,7 +99,7 @@ fn print_level_row(row: &LevelRow, out: &mut Bytes) -> Result<(), AllocError>
         privilege: row.privilege.as_slice(),
         level: row.level,
     };
-    print(&LineAnswer::OfLevels(answer), out)
+    print_level(answer, out)
 }
 
 // ---- audits
@@ -134,10 +141,9 @@ fn print_audit_among(
 {
     match audit(alloc, desk.database(), user, clients, privileges) {
         Ok(pairs) => print_pairs(&pairs, out),
-        Err(AuditRefusal::TooMany(product)) => print(
-            &LineAnswer::OfLevels(LevelAnswer::TooMany { product }),
-            out,
-        ),
+        Err(AuditRefusal::TooMany(product)) => {
+            print_level(LevelAnswer::TooMany { product }, out)
+        }
         Err(AuditRefusal::Memory(error)) => Err(error),
     }
 }
@@ -162,7 +168,7 @@ fn append_pairs(pairs: &[Pair], out: &mut Bytes) -> Result<(), AllocError>
         print_pair(pair, out)?;
     }
     let count = pairs.len() as u64;
-    print(&LineAnswer::OfLevels(LevelAnswer::Pairs { count }), out)
+    print_level(LevelAnswer::Pairs { count }, out)
 }
 
 fn print_pair(pair: &Pair, out: &mut Bytes) -> Result<(), AllocError>
@@ -173,7 +179,7 @@ fn print_pair(pair: &Pair, out: &mut Bytes) -> Result<(), AllocError>
         client: pair.client.as_slice(),
         privilege: pair.privilege.as_slice(),
     };
-    print(&LineAnswer::OfLevels(answer), out)
+    print_level(answer, out)
 }
 
 // The applications that the keys name, by their labels.

@@ -1,6 +1,6 @@
 // The answers to lines on shares.
 ghost use Rattle.std.specs.Prelude.{◌≡◌, ◌++◌, true, OnOk, OnErr};
-ghost use Rattle.line_script.specs.Answers.{shared_text};
+ghost use Rattle.line_script.specs.Answers.{shared_text, share_answer_text};
 ghost use Rattle.line_script.specs.parts.Appending.{Lengthens};
 ghost use Rattle.script_replies.specs.Sharing.{share_refusal_text, names_share_rule, rule_text, rules_text, shares_reply};
 
@@ -16,7 +16,7 @@ pub fn print_shared(count: u32, out: &mut Bytes) -> Result<(), AllocError>
     ensures ok { OnOk result (out.new ≡ out.old ++ shared_text count) }
     ensures err { OnErr result (out.new ≡ out.old) }
 {
-    print(&LineAnswer::OfShares(ShareAnswer::Shared { count }), out)
+    print_share(ShareAnswer::Shared { count }, out)
 }
 
 /// Prints the rule that a share breaks. Want of memory is none.
@@ -25,17 +25,29 @@ pub fn print_share_refusal(refusal: &ShareRefusal, out: &mut Bytes) -> Result<()
     ensures rule { OnOk result (names_share_rule refusal.now ≡ true) }
     ensures err { OnErr result (out.new ≡ out.old) }
 {
-    let answer = match refusal {
-        ShareRefusal::UnknownApp(app) => ShareAnswer::UnknownApp {
-            app: app.as_slice(),
-        },
-        ShareRefusal::SameLabel(label) => ShareAnswer::SameLabel {
-            label: label.as_slice(),
-        },
-        ShareRefusal::NotShared => ShareAnswer::NotShared,
-        ShareRefusal::Most(most) => ShareAnswer::ShareLimit { most: *most },
-        ShareRefusal::Memory(error) => return Err(*error),
-    };
+    match refusal {
+        ShareRefusal::UnknownApp(app) => print_share(
+            ShareAnswer::UnknownApp {
+                app: app.as_slice(),
+            },
+            out,
+        ),
+        ShareRefusal::SameLabel(label) => print_share(
+            ShareAnswer::SameLabel {
+                label: label.as_slice(),
+            },
+            out,
+        ),
+        ShareRefusal::NotShared => print_share(ShareAnswer::NotShared, out),
+        ShareRefusal::Most(most) => print_share(ShareAnswer::ShareLimit { most: *most }, out),
+        ShareRefusal::Memory(error) => Err(*error),
+    }
+}
+
+fn print_share(answer: ShareAnswer<'_>, out: &mut Bytes) -> Result<(), AllocError>
+    ensures ok { OnOk result (out.new ≡ out.old ++ share_answer_text answer) }
+    ensures err { OnErr result (out.new ≡ out.old) }
+{
     print(&LineAnswer::OfShares(answer), out)
 }
 
@@ -68,7 +80,7 @@ fn append_rules(rules: &[Rule], out: &mut Bytes) -> Result<(), AllocError>
         print_rule(rule, out)?;
     }
     let count = rules.len() as u64;
-    print(&LineAnswer::OfShares(ShareAnswer::Rules { count }), out)
+    print_share(ShareAnswer::Rules { count }, out)
 }
 
 fn print_rule(rule: &Rule, out: &mut Bytes) -> Result<(), AllocError>
@@ -87,7 +99,7 @@ fn print_rule(rule: &Rule, out: &mut Bytes) -> Result<(), AllocError>
                 object: object.as_slice(),
                 modes: *allow,
             };
-            print(&LineAnswer::OfShares(answer), out)
+            print_share(answer, out)
         }
         Rule::Set { .. } => out.append(b""),
     }
