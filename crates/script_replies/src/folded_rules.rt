@@ -1,5 +1,5 @@
 // The Smack rules of a policy state and of the open shares, folded when they are first asked for.
-ghost use Rattle.std.specs.Prelude.{◌≡◌, ◌++◌, true, None, IsTrue, IfOk};
+ghost use Rattle.std.specs.Prelude.{◌≡◌, ◌++◌, true, None, IsTrue, IfOk, IfSome};
 ghost use Rattle.smack_rules.specs.Modes.{is_request, union};
 ghost use Rattle.smack_rules.specs.Effective.{effective};
 ghost use Rattle.smack_rules.specs.Decision as word;
@@ -7,6 +7,7 @@ ghost use Rattle.smack_rules.specs.Grants.{GrantsAs};
 ghost use Rattle.smack_rules.specs.Table.{granted};
 ghost use Rattle.smack_rules.specs.declared.rule.Rule.{Rule};
 ghost use Rattle.std.specs.Prelude.{List};
+ghost use Rattle.private_sharing.specs.Rules.{rules};
 ghost use Rattle.script_replies.specs.Folded.{unasked, AreFolded};
 ghost use Rattle.script_replies.specs.Reply.{decided};
 ghost use Rattle.script_replies.specs.parts.Plain.{are_plain};
@@ -71,14 +72,26 @@ impl FoldedRules {
             Some(table) => table,
             None => desk.rules()?,
         };
-        let given = match self.given.take() {
-            Some(given) => given,
-            None => shares.rules(desk.registry())?,
-        };
+        let given = given_rules(self.given.take(), desk, shares)?;
         let decision = decide_behind(&table, &given, subject, object, asked);
         self.table = Some(table);
         self.given = Some(given);
         Ok(decision)
+    }
+}
+
+// The rules that the shares give, which these are where there are some.
+fn given_rules(
+    given: Option<Vec<Rule>>,
+    desk: &Desk,
+    shares: &Shares,
+) -> Result<Vec<Rule>, AllocError>
+    requires { IfSome given (λ given. given.items ≡ rules desk.now.registry shares.now) }
+    ensures { IfOk result (λ given. given.items ≡ rules desk.now.registry shares.now) }
+{
+    match given {
+        Some(given) => Ok(given),
+        None => shares.rules(desk.registry()),
     }
 }
 

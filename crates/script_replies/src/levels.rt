@@ -27,17 +27,17 @@ pub fn print_level_refusal(refusal: &LevelRefusal, out: &mut Bytes) -> Result<()
         LevelRefusal::NoLayout => print_no_layout(out),
         LevelRefusal::UnknownUser(uid) => print_unknown_user(*uid, out),
         LevelRefusal::NotAdministrator(kind) => {
-            print_level(LevelAnswer::NotAdministrator { kind: *kind }, out)
+            print_level(&LevelAnswer::NotAdministrator { kind: *kind }, out)
         }
         LevelRefusal::Memory(error) => Err(*error),
     }
 }
 
-fn print_level(answer: LevelAnswer<'_>, out: &mut Bytes) -> Result<(), AllocError>
-    ensures ok { OnOk result (out.new ≡ out.old ++ level_answer_text answer) }
+fn print_level(answer: &LevelAnswer<'_>, out: &mut Bytes) -> Result<(), AllocError>
+    ensures ok { OnOk result (out.new ≡ out.old ++ level_answer_text answer.now) }
     ensures err { OnErr result (out.new ≡ out.old) }
 {
-    print(&LineAnswer::OfLevels(answer), out)
+    print(&LineAnswer::OfLevels(*answer), out)
 }
 
 fn print_no_layout(out: &mut Bytes) -> Result<(), AllocError>
@@ -87,7 +87,7 @@ fn append_level_rows(rows: &[LevelRow], out: &mut Bytes) -> Result<(), AllocErro
         print_level_row(row, out)?;
     }
     let count = rows.len() as u64;
-    print_level(LevelAnswer::Levels { count }, out)
+    print_level(&LevelAnswer::Levels { count }, out)
 }
 
 fn print_level_row(row: &LevelRow, out: &mut Bytes) -> Result<(), AllocError>
@@ -99,7 +99,7 @@ fn print_level_row(row: &LevelRow, out: &mut Bytes) -> Result<(), AllocError>
         privilege: row.privilege.as_slice(),
         level: row.level,
     };
-    print_level(answer, out)
+    print_level(&answer, out)
 }
 
 // ---- audits
@@ -142,7 +142,7 @@ fn print_audit_among(
     match audit(alloc, desk.database(), user, clients, privileges) {
         Ok(pairs) => print_pairs(&pairs, out),
         Err(AuditRefusal::TooMany(product)) => {
-            print_level(LevelAnswer::TooMany { product }, out)
+            print_level(&LevelAnswer::TooMany { product }, out)
         }
         Err(AuditRefusal::Memory(error)) => Err(error),
     }
@@ -168,7 +168,7 @@ fn append_pairs(pairs: &[Pair], out: &mut Bytes) -> Result<(), AllocError>
         print_pair(pair, out)?;
     }
     let count = pairs.len() as u64;
-    print_level(LevelAnswer::Pairs { count }, out)
+    print_level(&LevelAnswer::Pairs { count }, out)
 }
 
 fn print_pair(pair: &Pair, out: &mut Bytes) -> Result<(), AllocError>
@@ -179,7 +179,7 @@ fn print_pair(pair: &Pair, out: &mut Bytes) -> Result<(), AllocError>
         client: pair.client.as_slice(),
         privilege: pair.privilege.as_slice(),
     };
-    print_level(answer, out)
+    print_level(&answer, out)
 }
 
 // The applications that the keys name, by their labels.

@@ -16,7 +16,7 @@ pub fn print_shared(count: u32, out: &mut Bytes) -> Result<(), AllocError>
     ensures ok { OnOk result (out.new ≡ out.old ++ shared_text count) }
     ensures err { OnErr result (out.new ≡ out.old) }
 {
-    print_share(ShareAnswer::Shared { count }, out)
+    print_share(&ShareAnswer::Shared { count }, out)
 }
 
 /// Prints the rule that a share breaks. Want of memory is none.
@@ -27,28 +27,28 @@ pub fn print_share_refusal(refusal: &ShareRefusal, out: &mut Bytes) -> Result<()
 {
     match refusal {
         ShareRefusal::UnknownApp(app) => print_share(
-            ShareAnswer::UnknownApp {
+            &ShareAnswer::UnknownApp {
                 app: app.as_slice(),
             },
             out,
         ),
         ShareRefusal::SameLabel(label) => print_share(
-            ShareAnswer::SameLabel {
+            &ShareAnswer::SameLabel {
                 label: label.as_slice(),
             },
             out,
         ),
-        ShareRefusal::NotShared => print_share(ShareAnswer::NotShared, out),
-        ShareRefusal::Most(most) => print_share(ShareAnswer::ShareLimit { most: *most }, out),
+        ShareRefusal::NotShared => print_share(&ShareAnswer::NotShared, out),
+        ShareRefusal::Most(most) => print_share(&ShareAnswer::ShareLimit { most: *most }, out),
         ShareRefusal::Memory(error) => Err(*error),
     }
 }
 
-fn print_share(answer: ShareAnswer<'_>, out: &mut Bytes) -> Result<(), AllocError>
-    ensures ok { OnOk result (out.new ≡ out.old ++ share_answer_text answer) }
+fn print_share(answer: &ShareAnswer<'_>, out: &mut Bytes) -> Result<(), AllocError>
+    ensures ok { OnOk result (out.new ≡ out.old ++ share_answer_text answer.now) }
     ensures err { OnErr result (out.new ≡ out.old) }
 {
-    print(&LineAnswer::OfShares(answer), out)
+    print(&LineAnswer::OfShares(*answer), out)
 }
 
 /// Prints the Smack rules that open shares give, a line each, and how many they are.
@@ -80,7 +80,7 @@ fn append_rules(rules: &[Rule], out: &mut Bytes) -> Result<(), AllocError>
         print_rule(rule, out)?;
     }
     let count = rules.len() as u64;
-    print_share(ShareAnswer::Rules { count }, out)
+    print_share(&ShareAnswer::Rules { count }, out)
 }
 
 fn print_rule(rule: &Rule, out: &mut Bytes) -> Result<(), AllocError>
@@ -99,7 +99,7 @@ fn print_rule(rule: &Rule, out: &mut Bytes) -> Result<(), AllocError>
                 object: object.as_slice(),
                 modes: *allow,
             };
-            print_share(answer, out)
+            print_share(&answer, out)
         }
         Rule::Set { .. } => out.append(b""),
     }

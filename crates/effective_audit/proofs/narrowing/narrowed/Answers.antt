@@ -1,6 +1,6 @@
 use Rattle.std.proofs.Common.{Some, sym, ap, ◌∙◌, arith}
 use Rattle.std.proofs.lemmas.Option.{slice_get-get_or}
-use Rattle.bucket_eval.proofs.Known.{length-policies}
+use Rattle.effective_audit.proofs.Counting.{length-policies}
 use Rattle.effective_audit.proofs.narrowing.narrowed.Goals as goal
 
 -- a bucket has no more policies than the database
