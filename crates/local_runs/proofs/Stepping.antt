@@ -37,6 +37,16 @@ answers-still taken answers answers_after desk shares shares_now asked text stat
       in_turn = inl refl;
     }
 
+-- the same of a step, where the answer is said at another name of the state
+pub answers-told : (taken : Option (List ℕ)) (answers answers_after : List ℕ) (desk told : DeskState) (shares shares_now : List Share)
+    (did asked : Step) → told ≡ desk → did ≡ asked → answers_after ≡ answers ++ reply told shares asked → desk ≡ after desk asked
+    → shares_now ≡ shares_after told shares asked → AnswersStep taken taken answers answers_after desk desk shares shares_now did
+answers-told taken answers answers_after desk told shares shares_now did asked same is text state sharing =
+    subst (λ (did : Step). AnswersStep taken taken answers answers_after desk desk shares shares_now did) (sym is)
+    (answers-still taken answers answers_after desk shares shares_now asked
+    (text ∙ ap (λ desk. answers ++ reply desk shares asked) same) state
+    (sharing ∙ ap (λ desk. shares_after desk shares asked) same))
+
 -- a question leaves the policy state, and the shares
 pub question-after : (desk : DeskState) (asked : Step) → is_question asked ≡ true → desk ≡ after desk asked
 question-after desk step.Nothing is = refl
