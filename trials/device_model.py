@@ -3,6 +3,7 @@ what a question is answered."""
 
 from typing import NamedTuple
 
+from level_model import Levels, Refused, Shares
 from script_model import ALLOW, BUCKET, DENY, NONE, ROOT
 from smack_model import USUAL_TEMPLATE, decision_text, expanded, label_of
 
@@ -20,13 +21,6 @@ MAIN, MANIFESTS, ADMIN = b"MAIN", b"MANIFESTS", b"ADMIN"
 TYPE_BUCKETS = {kind: b"USER_TYPE_" + kind.upper() for kind in (b"system", b"admin", b"normal", b"guest")}
 KEPT_BUCKETS = (MAIN, MANIFESTS)
 BUILT_IN = (*KEPT_BUCKETS, ADMIN, *TYPE_BUCKETS.values())
-
-
-class Refused(Exception):
-    """The first rule that a command breaks: its number, and the words behind it."""
-
-    def __init__(self, number, *words):
-        self.text = b" ".join([b"refused %d" % number, *words])
 
 
 def bucket_text(name):
@@ -56,7 +50,7 @@ def install_label(app, install):
     return label_of(install.package, app if install.hybrid else None)
 
 
-class Device:
+class Device(Levels, Shares):
     def __init__(self):
         self.commit = 0
         self.fallbacks = {ROOT: (DENY, b"")}
@@ -65,6 +59,8 @@ class Device:
         # (application, scope) to what is installed
         self.installs = {}
         self.template = USUAL_TEMPLATE
+        # (owner, target, name) to how often the share is open
+        self.shares = {}
 
     # ---- answers
 
@@ -78,6 +74,7 @@ class Device:
 
     def done(self, *words):
         self.commit += 1
+        self.settle()
         return [b" ".join([b"ok %d" % self.commit, *words])]
 
     def do_status(self):
@@ -100,10 +97,14 @@ class Device:
 
     def do_access(self, subject, object_, modes):
         rules = [rule for package in sorted(self.packages()) for rule in self.package_rules(package)]
-        return [decision_text(rules, subject, object_, modes)]
+        return [decision_text(rules + self.share_rules(), subject, object_, modes)]
 
     def packages(self):
         return {install.package for install in self.installs.values()}
+
+    def labels(self):
+        """The label of each application, with its package."""
+        return {app: (install_label(app, install), install.package) for (app, _), install in self.installs.items()}
 
     def package_rules(self, package):
         installs = {app: install for (app, _), install in self.installs.items() if install.package == package}

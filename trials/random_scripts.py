@@ -2,6 +2,7 @@
 the lines meet one another. Some are broken at one line."""
 
 USER_TYPES = [b"system", b"admin", b"normal", b"guest"]
+LEVELS = [b"allow", b"ask", b"deny", b"unset"]
 BUCKETS = [b".", b"A", b"B", b"C", b"D", b"E", b"_", b"b" * 64]
 FALLBACKS = [b"deny", b"none", b"allow", b"agent:7:a"]
 BUILT_IN = [b"MAIN", b"MANIFESTS", b"ADMIN", b"USER_TYPE_SYSTEM", b"USER_TYPE_ADMIN", b"USER_TYPE_NORMAL", b"USER_TYPE_GUEST"]
@@ -18,6 +19,7 @@ LABELS = [
     b"System", b"User", b"User::Home", b"User::Pkg::pk::RO", b"User::Author::web", b"_", b"^", b"*", b"#", b"L" * 255,
     *(10 * [b"User::Pkg::pk", b"User::Pkg::x", b"System"]),
     *(5 * [b"User::Pkg::pk::App::a", b"User::Pkg::pk::App::b", b"User::Pkg::x::App::a"]),
+    *(5 * [b"User::Pkg::pk::Share::a", b"User::Pkg::x::Share::a"]),
 ]
 PLACEHOLDERS = [b"~PROCESS~", b"~PATH_RW~", b"~PATH_RO~", b"~AUTHOR~"]
 BAD_WORDS = [
@@ -29,6 +31,7 @@ BAD_WORDS = [
 BAD_LINES = [
     b" ", b"\t", b"end", b"End", b"batch ", b" layout", b"layout x", b"status 0", b"stop", b"Status", b"template x", b"serve 1",
     b"\xef\xbb\xbfstatus", b"status\r", b"set", b"set .", b"check", b"install pk - a", b"hybrid pk - a", b"convert pk", b"convert pk pure", b"access A X b", b"access A X -",
+    b"level 1 own c p", b"level 1 own 2 c p ask", b"level 1 admin c p ask", b"level 1 root c p ask", b"levels", b"audit", b"share a b", b"shares x",
 ]
 # How often each kind of line comes, by the kind of script.
 THEMES = {
@@ -37,6 +40,14 @@ THEMES = {
     "device": {
         "layout": 1, "user": 4, "nouser": 1, "install": 6, "hybrid": 4, "convert": 2, "remove": 3, "template": 1, "set": 6, "bucket": 1, "drop": 1, "batch": 1,
         "check": 10, "from": 3, "list": 3, "erase": 1, "access": 6, "status": 1, "skipped": 1,
+    },
+    "levels": {
+        "user": 2, "nouser": 1, "install": 3, "hybrid": 2, "convert": 1, "remove": 1, "set": 2, "level": 10, "levels": 3, "audit": 3,
+        "check": 4, "status": 1,
+    },
+    "shares": {
+        "install": 4, "hybrid": 3, "convert": 1, "remove": 2, "nouser": 1, "template": 1, "share": 12, "unshare": 6, "shares": 3, "access": 8,
+        "level": 1,
     },
 }
 
@@ -137,6 +148,30 @@ class Scripts:
         count = self.draw.choice([0, 1, 2, 3, 10, 64])
         return [b"template", *(self.template_line() for _ in range(count)), b"end"]
 
+    def level(self):
+        setter = self.one([b"own", b"own", b"admin " + self.one(UIDS)])
+        words = [self.one(UIDS), setter, self.one(CLIENTS[:6]), self.one(PRIVILEGES), self.one(LEVELS)]
+        return [b"level " + b" ".join(words)]
+
+    def levels(self):
+        return [b"levels " + self.one(UIDS)]
+
+    def audit(self):
+        return [b"audit " + self.one(USERS)]
+
+    def share_names(self):
+        apps = APPLICATIONS[:3]
+        return b"%s %s %s" % (self.one(apps), self.one(apps), self.one(APPLICATIONS[:2]))
+
+    def share(self):
+        return [b"share " + self.share_names()]
+
+    def unshare(self):
+        return [b"unshare " + self.share_names()]
+
+    def shares(self):
+        return [b"shares"]
+
     def status(self):
         return [b"status"]
 
@@ -176,11 +211,11 @@ class Scripts:
         if self.draw.random() < 0.01:
             return list(self.full())
         theme = self.one(list(THEMES))
-        self.buckets = {"policies": 15 * [b"."] + [b"A"], "buckets": BUCKETS, "device": BUILT_IN + [b".", b"A"]}[theme]
+        self.buckets = {"policies": 15 * [b"."] + [b"A"], "buckets": BUCKETS, "device": BUILT_IN + [b".", b"A"]}.get(theme, [b".", b"ADMIN"])
         before = []
         if theme == "buckets":
             before = [b"bucket %s %s" % (name, self.one(FALLBACKS)) for name in BUCKETS[1:]]
-        if theme == "device" and self.draw.random() < 0.9:
+        if theme in ("device", "levels", "shares") and self.draw.random() < 0.9:
             before = [b"layout", b"bucket A none"]
             before += [b"user %s %s" % (uid, self.one(USER_TYPES)) for uid in self.draw.sample(UIDS, 3)]
         return before + list(self.lines(THEMES[theme], self.draw.choice([0, 1, 2, 5, 20, 60, 200])))

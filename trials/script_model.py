@@ -7,11 +7,12 @@ from smack_model import is_label, is_request, template_rule_of
 DENY, NONE, BUCKET, ALLOW = 0, 1, 65534, 65535
 PLAIN_RESULTS = {b"deny": DENY, b"none": NONE, b"allow": ALLOW}
 USER_TYPES = (b"system", b"admin", b"normal", b"guest")
+LEVELS = (b"allow", b"ask", b"deny", b"unset")
 IN_NAMES = b"ABCDEFGHIJKLMNOPQRSTUVWXYZabcdefghijklmnopqrstuvwxyz0123456789"
 ROOT = b""
 MOST_TEMPLATE_LINES = 64
 # Lines that are known in scripts for the program's own folder alone, and in those for a service alone.
-OF_LOCAL = ("access", "status")
+OF_LOCAL = ("access", "status", "level", "levels", "audit", "share", "unshare", "shares")
 OF_ADMIN = ("stop",)
 
 
@@ -85,6 +86,11 @@ def change_of(words):
     return bucket, key, result
 
 
+def is_level(words):
+    """Whether these are an application, a privilege and a level."""
+    return len(words) == 3 and all(map(is_name, words[:2])) and words[2] in LEVELS
+
+
 @functools.lru_cache
 def step_of(line):
     """What a line outside a block asks for, as a tuple of a word and its arguments, or None where there is no such line."""
@@ -103,7 +109,7 @@ def step_of(line):
             return "evaluate", ROOT, True, question
         case [b"from", bucket, b"deep" | b"flat" as mode, *question] if bucket_of(bucket) is not None and len(question) == 3:
             return ("evaluate", bucket_of(bucket), mode == b"deep", question) if all(map(is_name, question)) else None
-        case [b"layout" | b"status" | b"stop" as word]:
+        case [b"layout" | b"status" | b"stop" | b"shares" as word]:
             return (word.decode(),)
         case [b"user", uid, kind] if uid_of(uid) is not None and kind in USER_TYPES:
             return "user", uid_of(uid), kind
@@ -120,6 +126,16 @@ def step_of(line):
             return "remove", app, scope_of(scope)
         case [b"access", subject, object_, modes] if is_label(subject) and is_label(object_) and is_request(modes):
             return "access", subject, object_, modes
+        case [b"level", caller, b"own", *words] if uid_of(caller) is not None and is_level(words):
+            return "level", uid_of(caller), None, *words
+        case [b"level", caller, b"admin", uid, *words] if uid_of(caller) is not None and uid_of(uid) is not None and is_level(words):
+            return "level", uid_of(caller), uid_of(uid), *words
+        case [b"levels", uid] if uid_of(uid) is not None:
+            return "levels", uid_of(uid)
+        case [b"audit", user] if is_name(user):
+            return "audit", user
+        case [b"share" | b"unshare" as word, *names] if len(names) == 3 and all(map(is_ident, names)):
+            return word.decode(), *names
     return None
 
 

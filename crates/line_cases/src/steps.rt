@@ -1,11 +1,12 @@
 //! What lines ask for, in words.
 
-use app_registry::{Install, Scope, UserType};
+use app_registry::{Ident, Install, Scope, UserType};
 use bucket_store::Change;
 use cynara_keys::{BorrowedQuestion, Filter, Key, PolicyResult};
 use desk_ports::Bytes;
 use desk_state::Command;
 use itoa::Buffer;
+use level_requests::{LevelRequest, Setter};
 use line_script::Step;
 use std::alloc::AllocError;
 
@@ -50,9 +51,62 @@ pub fn show(step: &Step<'_>, out: &mut Bytes) -> Result<(), AllocError> {
                 b" no read".as_slice()
             })
         }
+        Step::Level(request) => show_level(request.get(), out),
+        Step::Levels { uid } => {
+            out.append(b"levels ")?;
+            show_number(*uid, out)
+        }
+        Step::Audit { user } => {
+            out.append(b"audit")?;
+            show_text(user.as_slice(), out)
+        }
+        Step::Share {
+            owner,
+            target,
+            name,
+        } => {
+            out.append(b"share")?;
+            show_names(owner, target, name, out)
+        }
+        Step::Unshare {
+            owner,
+            target,
+            name,
+        } => {
+            out.append(b"unshare")?;
+            show_names(owner, target, name, out)
+        }
+        Step::Shares => out.append(b"shares"),
         Step::Status => out.append(b"status"),
         Step::Stop => out.append(b"stop"),
     }
+}
+
+fn show_level(request: &LevelRequest, out: &mut Bytes) -> Result<(), AllocError> {
+    out.append(b"level ")?;
+    show_number(request.caller, out)?;
+    match request.by {
+        Setter::Own => out.append(b" own")?,
+        Setter::Administrator { target } => {
+            out.append(b" for ")?;
+            show_number(target, out)?;
+        }
+    }
+    show_text(request.client.as_slice(), out)?;
+    show_text(request.privilege.as_slice(), out)?;
+    out.append(b" ")?;
+    out.append(request.level.text())
+}
+
+fn show_names(
+    owner: &Ident,
+    target: &Ident,
+    name: &Ident,
+    out: &mut Bytes,
+) -> Result<(), AllocError> {
+    show_text(owner.as_slice(), out)?;
+    show_text(target.as_slice(), out)?;
+    show_text(name.as_slice(), out)
 }
 
 fn show_command(command: &Command, out: &mut Bytes) -> Result<(), AllocError> {

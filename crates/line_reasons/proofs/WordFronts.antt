@@ -20,9 +20,11 @@ use Rattle.rule_templates.specs.declared.placeholders.Placeholder.TheVariants as
 use Rattle.rule_templates.specs.declared.lines.Word.TheVariants.{Fixed, OfPackage}
 use Rattle.rule_templates.specs.Placeholder.{placeholder_of, begins_with_tilde}
 use Rattle.rule_templates.specs.TemplateLine.{word_of}
-use Rattle.line_script.specs.WordForms.{name_at, field_at, filter_field_at, depth_at, result_at, uid_at, user_type_at, scope_at, package_kind_at, ident_at, author_at, label_at}
+use Rattle.level_requests.specs.Level.{level_at}
+use Rattle.level_requests.specs.declared.levels.Level.TheVariants.{Allow, Ask, Deny, Unset}
+use Rattle.line_script.specs.WordForms.{name_at, field_at, filter_field_at, depth_at, result_at, uid_at, user_type_at, scope_at, package_kind_at, setter_named, ident_at, author_at, label_at}
 use Rattle.line_reasons.specs.declared.forms.Form.{Form}
-use Rattle.line_reasons.specs.declared.forms.Form.TheVariants.{Bucket, Field, Name, Names, FilterField, Depth, Result, Uid, UserType, Scope, PackageKind, Ident, Author, Label, Request, TemplateLabel, Modes, MoreModes}
+use Rattle.line_reasons.specs.declared.forms.Form.TheVariants.{Bucket, Field, Name, Names, FilterField, Depth, Result, Uid, UserType, Scope, PackageKind, Setter, Level, Ident, Author, Label, Request, TemplateLabel, Modes, MoreModes}
 use Rattle.line_reasons.specs.parts.Texts.{begins, begins_one}
 use Rattle.line_reasons.specs.parts.Forms.{is_word, begins_word, begins_name, begins_uid, begins_ident, begins_label, begins_modes, placeholder_texts, begins_template_label}
 use Rattle.line_reasons.proofs.Fronts.{Fronts, WordFronts, Fronts-or, Fronts-same, Fronts-front, is_dark}
@@ -99,6 +101,23 @@ kind_known text = by_case (same_text text (codes "hybrid")) (same_text text (cod
   by_case true plain = refl
   by_case false true = refl
   by_case false false = refl
+
+pub setter_known : (text : List ℕ) → is_some (setter_named text) ≡ list_any (same_text text) (codes "own" ∷ codes "admin" ∷ [])
+setter_known text = by_case (same_text text (codes "own")) (same_text text (codes "admin")) where
+  by_case : (own admin : Bool) → is_some (cond own (Some false) (cond admin (Some true) None)) ≡ own || (admin || false)
+  by_case true admin = refl
+  by_case false true = refl
+  by_case false false = refl
+
+pub level_known : (text : List ℕ) → is_some (level_at text) ≡ list_any (same_text text) (codes "allow" ∷ codes "ask" ∷ codes "deny" ∷ codes "unset" ∷ [])
+unfolding level_at
+level_known text = by_case (same_text text (codes "allow")) (same_text text (codes "ask")) (same_text text (codes "deny")) (same_text text (codes "unset")) where
+  by_case : (a b c d : Bool) → is_some (cond a (Some Allow) (cond b (Some Ask) (cond c (Some Deny) (cond d (Some Unset) None)))) ≡ a || (b || (c || (d || false)))
+  by_case true b c d = refl
+  by_case false true c d = refl
+  by_case false false true d = refl
+  by_case false false false true = refl
+  by_case false false false false = refl
 
 pub type_known : (text : List ℕ) → is_some (user_type_at text) ≡ list_any (same_text text) (codes "system" ∷ codes "admin" ∷ codes "normal" ∷ codes "guest" ∷ [])
 type_known text = by_case (same_text text (codes "system")) (same_text text (codes "admin")) (same_text text (codes "normal")) (same_text text (codes "guest")) where
@@ -205,6 +224,10 @@ result_some : is_some (result_at []) ≡ false
 unfolding result_at
 result_some = refl
 
+level_some : is_some (level_at []) ≡ false
+unfolding level_at
+level_some = refl
+
 pub form_fronts : (form : Form) → WordFronts (is_word form) (begins_word form)
 form_fronts Bucket = record { parts = Fronts-bucket; dark = bucket-dark; some = refl; starts = refl }
 form_fronts Field = record {
@@ -244,6 +267,21 @@ form_fronts PackageKind = record {
       (Fronts-texts (codes "hybrid" ∷ codes "plain" ∷ []));
   dark = λ front is. dark-one (codes "hybrid" ∷ codes "plain" ∷ []) front refl is;
   some = refl;
+  starts = refl;
+}
+form_fronts Setter = record {
+  parts = Fronts-same (λ text. is_some (setter_named text)) (λ text. list_any (same_text text) (codes "own" ∷ codes "admin" ∷ [])) (begins_one (codes "own" ∷ codes "admin" ∷ [])) setter_known
+      (Fronts-texts (codes "own" ∷ codes "admin" ∷ []));
+  dark = λ front is. dark-one (codes "own" ∷ codes "admin" ∷ []) front refl is;
+  some = refl;
+  starts = refl;
+}
+form_fronts Level = record {
+  parts = Fronts-same (λ text. is_some (level_at text)) (λ text. list_any (same_text text) (codes "allow" ∷ codes "ask" ∷ codes "deny" ∷ codes "unset" ∷ []))
+      (begins_one (codes "allow" ∷ codes "ask" ∷ codes "deny" ∷ codes "unset" ∷ [])) level_known
+      (Fronts-texts (codes "allow" ∷ codes "ask" ∷ codes "deny" ∷ codes "unset" ∷ []));
+  dark = λ front is. dark-one (codes "allow" ∷ codes "ask" ∷ codes "deny" ∷ codes "unset" ∷ []) front refl is;
+  some = level_some;
   starts = refl;
 }
 form_fronts Scope = record {

@@ -5,9 +5,9 @@ use Rattle.std.specs.List.{list_all}
 use Rattle.std.proofs.lemmas.Bool.{or_cases, or_right, and_parts, true_from_ne_false, ltb-true, ne_eqb}
 use Rattle.std.proofs.lemmas.List.Folds.{list_all-append}
 use Rattle.line_reasons.specs.declared.forms.Form.{Form}
-use Rattle.line_reasons.specs.declared.forms.Form.TheVariants.{Bucket, Field, Name, Names, FilterField, Depth, Result, Uid, UserType, Scope, PackageKind, Ident, Author, Label, Request, TemplateLabel, Modes, MoreModes}
-use Rattle.line_reasons.specs.parts.Forms.{is_word, may_lack, repeats}
-use Rattle.line_reasons.specs.parts.Runs.{parts_words, is_gap, behind_form, behind_word, behind_part, Stand, stand, with_byte, run, may_end_with, ends_at, begins_at, goes_on_at, holds_at, is_line_of, begins_line_of}
+use Rattle.line_reasons.specs.declared.forms.Form.TheVariants.{Bucket, Field, Name, Names, FilterField, Depth, Result, Uid, UserType, Scope, PackageKind, Setter, Level, Ident, Author, Label, Request, TemplateLabel, Modes, MoreModes}
+use Rattle.line_reasons.specs.parts.Forms.{is_word, may_lack, repeats, leaves_out}
+use Rattle.line_reasons.specs.parts.Runs.{parts_words, is_gap, without_first, behind_form, behind_word, behind_part, Stand, stand, with_byte, run, may_end_with, ends_at, begins_at, goes_on_at, holds_at, is_line_of, begins_line_of}
 use Rattle.line_reasons.proofs.Fronts.{Fronts, is_dark}
 use Rattle.line_reasons.proofs.WordFronts.{form_fronts}
 
@@ -25,6 +25,8 @@ once Uid is = refl
 once UserType is = refl
 once Scope is = refl
 once PackageKind is = refl
+once Setter is = refl
+once Level is = refl
 once Ident is = refl
 once Author is = refl
 once Label is = refl
@@ -71,7 +73,7 @@ behind_word-begins : (forms : List Form) (part : List ℕ) (left : List Form) �
 behind_word-begins [] part left is = cc
 behind_word-begins (form ∷ forms) part left is =
     let Word : List ℕ → Type 0 = λ text. is_word form text ≡ true in
-    let word : is_word form part ≡ true = true_from_ne_false _ (λ wrong. let none = ap (λ b. cond b (Some (behind_form form forms)) None) wrong in cc) in
+    let word : is_word form part ≡ true = true_from_ne_false _ (λ wrong. let none = ap (λ b. cond b (Some (behind_form form forms part)) None) wrong in cc) in
     (form_fronts form).parts.is_front part [] (subst Word (sym (append-nil part)) word)
 
 part-goes_on : (blanks : Bool) (at : Stand) (left : List Form) → behind_part blanks at.forms at.part ≡ Some left
@@ -136,10 +138,10 @@ gap_of-word true form (byte ∷ bytes) is = refl
 gap_of-word false form word is = refl
 
 behind_part-word : (blanks : Bool) (form : Form) (forms : List Form) (word : List ℕ) → is_word form word ≡ true
-    → behind_part blanks (form ∷ forms) word ≡ Some (behind_form form forms)
+    → behind_part blanks (form ∷ forms) word ≡ Some (behind_form form forms word)
 behind_part-word blanks form forms word is =
     ap (λ gap. cond gap (Some (form ∷ forms)) (behind_word (form ∷ forms) word)) (gap_of-word blanks form word is)
-    ∙ ap (λ b. cond b (Some (behind_form form forms)) None) is
+    ∙ ap (λ b. cond b (Some (behind_form form forms word)) None) is
 
 space_parts : (blanks : Bool) → parts_words blanks 32 ≡ true
 space_parts true = refl
@@ -156,7 +158,7 @@ dark_behind part word dark =
 
 -- a word that is done, and the tail behind it
 with_tail : (blanks : Bool) (form : Form) (forms : List Form) (part word : List ℕ) → is_word form (part ++ word) ≡ true
-    → (tail : List ℕ) → ((at : Stand) → behind_part blanks at.forms at.part ≡ Some (behind_form form forms)
+    → (tail : List ℕ) → ((at : Stand) → behind_part blanks at.forms at.part ≡ Some (behind_form form forms (part ++ word))
     → holds_at (ends_at blanks) (run blanks at tail) ≡ true)
     → holds_at (ends_at blanks) (run blanks (stand (form ∷ forms) part) (word ++ tail)) ≡ true
 with_tail blanks form forms part word is tail ends =
@@ -174,15 +176,26 @@ spaced blanks at forms bytes found =
     (cond b (option_and_then (λ left. Some (stand left [])) (behind_part blanks at.forms at.part)) joined)) (space_parts blanks)
     ∙ ap (λ left. option_and_then (λ next. run blanks next bytes) (option_and_then (λ left. Some (stand left [])) left)) found
 
-tail_behind : (blanks : Bool) (form : Form) (forms : List Form) → (lacks : Bool) → may_lack form ≡ lacks → Tail blanks forms
+-- behind forms, and behind these without the first
+abbrev Tails : Bool → List Form → Type 0
+Tails blanks forms = Tail blanks forms × Tail blanks (without_first forms)
+
+-- behind the forms that are left, be one of them left out or not
+tail_left : (blanks : Bool) (forms : List Form) (out : Bool) → Tails blanks forms → Tail blanks (cond out (without_first forms) forms)
+tail_left blanks forms true tails = tails.1
+tail_left blanks forms false tails = tails.0
+
+tail_behind : (blanks : Bool) (form : Form) (forms : List Form) → (lacks : Bool) → may_lack form ≡ lacks → Tails blanks forms
     → Tail blanks (form ∷ forms)
 unfolding Tail
-tail_behind blanks form forms true is later = ([], λ at found. ap may_end_with found ∙ is)
-tail_behind blanks form forms false is later =
+tail_behind blanks form forms true is tails = ([], λ at found. ap may_end_with found ∙ is)
+tail_behind blanks form forms false is tails =
     let fronts = form_fronts form in
     let word = fronts.parts.rest_of [] fronts.starts in
-    let next : behind_form form forms ≡ forms = ap (λ b. cond b (form ∷ forms) forms) (once form is) in
-    let ends = λ (at : Stand) (found : behind_part blanks at.forms at.part ≡ Some (behind_form form forms)).
+    let left : List Form = cond (leaves_out form word.0) (without_first forms) forms in
+    let later = tail_left blanks forms (leaves_out form word.0) tails in
+    let next : behind_form form forms word.0 ≡ left = ap (λ b. cond b (form ∷ forms) left) (once form is) in
+    let ends = λ (at : Stand) (found : behind_part blanks at.forms at.part ≡ Some (behind_form form forms word.0)).
     later.1 at (found ∙ ap Some next) in (
       32 ∷ (word.0 ++ later.0),
       λ at found.
@@ -190,10 +203,14 @@ tail_behind blanks form forms false is later =
           ∙ with_tail blanks form forms [] word.0 word.1 later.0 ends,
     )
 
-tail_of : (blanks : Bool) (forms : List Form) → Tail blanks forms
+tails_of : (blanks : Bool) (forms : List Form) → Tails blanks forms
 unfolding Tail
-tail_of blanks [] = ([], λ at found. ap may_end_with found)
-tail_of blanks (form ∷ forms) = tail_behind blanks form forms (may_lack form) refl (tail_of blanks forms)
+tails_of blanks [] = (([], λ at found. ap may_end_with found), ([], λ at found. ap may_end_with found))
+tails_of blanks (form ∷ forms) =
+    let later = tails_of blanks forms in (tail_behind blanks form forms (may_lack form) refl later, later.0)
+
+tail_of : (blanks : Bool) (forms : List Form) → Tail blanks forms
+tail_of blanks forms = (tails_of blanks forms).0
 
 -- what follows a front that can go on
 Rest : Bool → Stand → Type 0
@@ -204,7 +221,7 @@ unfolding Rest Tail
 on_word blanks [] part is = cc
 on_word blanks (form ∷ forms) part is =
     let word = (form_fronts form).parts.rest_of part is in
-    let tail = tail_of blanks (behind_form form forms) in
+    let tail = tail_of blanks (behind_form form forms (part ++ word.0)) in
     (word.0 ++ tail.0, with_tail blanks form forms part word.0 word.1 tail.0 tail.1)
 
 on_gap : (blanks : Bool) (forms : List Form) (part : List ℕ) → is_gap blanks part ≡ true → Rest blanks (stand forms part)

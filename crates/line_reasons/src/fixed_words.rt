@@ -1,8 +1,9 @@
 //! Words that are one of a few fixed texts, and what such a word can begin with. No function here takes memory.
 
 ghost use Rattle.std.specs.Prelude.{◌≡◌, is_some};
-ghost use Rattle.line_script.specs.WordForms.{depth_at, user_type_at, package_kind_at};
-ghost use Rattle.line_reasons.specs.declared.forms.Form.TheVariants.{Depth, UserType, PackageKind};
+ghost use Rattle.level_requests.specs.Level.{level_at};
+ghost use Rattle.line_script.specs.WordForms.{depth_at, user_type_at, package_kind_at, setter_named};
+ghost use Rattle.line_reasons.specs.declared.forms.Form.TheVariants.{Depth, UserType, PackageKind, Setter, Level};
 ghost use Rattle.line_reasons.specs.parts.Forms as forms;
 
 use crate::word_tests::begins;
@@ -35,6 +36,36 @@ pub(crate) fn begins_package_kind(front: &[u8]) -> bool
     ensures { result ≡ forms.begins_word PackageKind front.now }
 {
     begins(front, b"hybrid") || begins(front, b"plain")
+}
+
+pub(crate) fn is_setter(text: &[u8]) -> bool
+    ensures { result ≡ is_some (setter_named text.now) }
+{
+    if text == b"own".as_slice() {
+        return true;
+    }
+    text == b"admin".as_slice()
+}
+
+pub(crate) fn begins_setter(front: &[u8]) -> bool
+    ensures { result ≡ forms.begins_word Setter front.now }
+{
+    begins(front, b"own") || begins(front, b"admin")
+}
+
+pub(crate) fn is_level(text: &[u8]) -> bool
+    ensures { result ≡ is_some (level_at text.now) }
+{
+    level_requests::Level::of_word(text).is_some()
+}
+
+pub(crate) fn begins_level(front: &[u8]) -> bool
+    ensures { result ≡ forms.begins_word Level front.now }
+{
+    begins(front, b"allow")
+        || begins(front, b"ask")
+        || begins(front, b"deny")
+        || begins(front, b"unset")
 }
 
 #[tactic(auto, using(crate::proofs::WordFronts::type_known))]

@@ -1,7 +1,7 @@
 //! The forms of words.
 
 ghost use Rattle.std.specs.Prelude.{◌≡◌};
-ghost use Rattle.line_reasons.specs.parts.Forms.{may_lack, repeats};
+ghost use Rattle.line_reasons.specs.parts.Forms.{may_lack, repeats, leaves_out};
 
 /// What a word of a line must be. The names are those of docs/FORMATS.md.
 #[derive(Clone, Copy, Debug, PartialEq, Eq)]
@@ -24,6 +24,10 @@ pub(crate) enum Form {
     Scope,
     /// `hybrid` or `plain`.
     PackageKind,
+    /// `own`, which leaves out the word of the form that comes next, or `admin`.
+    Setter,
+    /// `allow`, `ask`, `deny` or `unset`.
+    Level,
     Ident,
     /// `-` or the name of an author.
     Author,
@@ -54,6 +58,16 @@ impl Form {
     {
         match self {
             Form::Names => true,
+            _ => false,
+        }
+    }
+
+    /// Whether behind this word of the form no word of the next form stands.
+    pub(crate) fn leaves_out(self, word: &[u8]) -> bool
+        ensures { result ≡ leaves_out self word.now }
+    {
+        match self {
+            Form::Setter => word == b"own".as_slice(),
             _ => false,
         }
     }

@@ -238,9 +238,9 @@ fn verb_forms(verb: Verb) -> &'static [Form]
             Form::FilterField,
             Form::FilterField,
         ],
-        Verb::Layout | Verb::Status | Verb::Stop => &[],
+        Verb::Layout | Verb::Shares | Verb::Status | Verb::Stop => &[],
         Verb::User => &[Form::Uid, Form::UserType],
-        Verb::NoUser => &[Form::Uid],
+        Verb::NoUser | Verb::Levels => &[Form::Uid],
         Verb::Install | Verb::Hybrid => &[
             Form::Ident,
             Form::Author,
@@ -259,5 +259,15 @@ fn verb_forms(verb: Verb) -> &'static [Form]
             Form::Name,
         ],
         Verb::Access => &[Form::Label, Form::Label, Form::Request],
+        Verb::Level => &[
+            Form::Uid,
+            Form::Setter,
+            Form::Uid,
+            Form::Name,
+            Form::Name,
+            Form::Level,
+        ],
+        Verb::Audit => &[Form::Name],
+        Verb::Share | Verb::Unshare => &[Form::Ident, Form::Ident, Form::Ident],
     }
 }

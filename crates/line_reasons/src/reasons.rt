@@ -46,6 +46,8 @@ pub enum Reason {
     BadUser,
     BadScope,
     BadPackageKind,
+    BadSetter,
+    BadLevel,
     BadModes,
     BadRequest,
     BadPlaceholder,
@@ -105,6 +107,8 @@ impl Reason {
             Reason::BadScope =>
                 "no scope: `*`, or the number of a user from 0 to 4294967295 without a sign or leading zeros",
             Reason::BadPackageKind => "no kind of a package: hybrid or plain",
+            Reason::BadSetter => "no setter of a level: own, or admin and the number of a user",
+            Reason::BadLevel => "no level: allow, ask, deny or unset",
             Reason::BadModes => "no modes: at most 64 of the letters rwxatlb and of -",
             Reason::BadRequest =>
                 "no modes to ask for: at most 64 of the letters rwxatl and of -, a letter among them",

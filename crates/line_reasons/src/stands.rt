@@ -110,8 +110,20 @@ fn behind_word(forms: &'static [Form], word: &[u8]) -> Option<&'static [Form]>
             if form.repeats() {
                 return Some(forms);
             }
+            if form.leaves_out(word) {
+                return Some(without_first(behind));
+            }
             Some(behind)
         }
+    }
+}
+
+fn without_first(forms: &'static [Form]) -> &'static [Form]
+    ensures { result.now ≡ runs.without_first forms.now }
+{
+    match forms {
+        [] => forms,
+        [_, behind @ ..] => behind,
     }
 }
 

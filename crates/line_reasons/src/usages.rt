@@ -8,6 +8,9 @@ pub(crate) fn usage_of(first: &[u8]) -> &'static str {
     if let Some(usage) = usage_of_packages(first) {
         return usage;
     }
+    if let Some(usage) = usage_of_levels(first) {
+        return usage;
+    }
     usage_alone(first)
 }
 
@@ -64,9 +67,33 @@ fn usage_of_packages(first: &[u8]) -> Option<&'static str> {
     None
 }
 
+fn usage_of_levels(first: &[u8]) -> Option<&'static str> {
+    if first == b"level".as_slice() {
+        return Some(
+            "level CALLER own CLIENT PRIVILEGE LEVEL, or level CALLER admin UID CLIENT PRIVILEGE LEVEL",
+        );
+    }
+    if first == b"levels".as_slice() {
+        return Some("levels UID");
+    }
+    if first == b"audit".as_slice() {
+        return Some("audit USER");
+    }
+    if first == b"share".as_slice() {
+        return Some("share OWNER TARGET NAME");
+    }
+    if first == b"unshare".as_slice() {
+        return Some("unshare OWNER TARGET NAME");
+    }
+    None
+}
+
 fn usage_alone(first: &[u8]) -> &'static str {
     if first == b"layout".as_slice() {
         return "layout";
+    }
+    if first == b"shares".as_slice() {
+        return "shares";
     }
     if first == b"status".as_slice() {
         return "status";

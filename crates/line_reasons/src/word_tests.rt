@@ -12,7 +12,8 @@ ghost use Rattle.line_reasons.specs.parts.Forms as forms;
 
 use crate::byte_runs::{is_ident_run, is_label_run, is_mode_run};
 use crate::fixed_words::{
-    begins_depth, begins_package_kind, begins_user_type, is_depth, is_package_kind, is_user_type,
+    begins_depth, begins_level, begins_package_kind, begins_setter, begins_user_type, is_depth,
+    is_level, is_package_kind, is_setter, is_user_type,
 };
 use crate::forms::Form;
 use cynara_keys::{NameRefusal, field_fault, is_bucket_name, is_metadata, name_fault};
@@ -36,6 +37,8 @@ impl Form {
             Form::UserType => is_user_type(text),
             Form::Scope => is_scope(text),
             Form::PackageKind => is_package_kind(text),
+            Form::Setter => is_setter(text),
+            Form::Level => is_level(text),
             Form::Ident => is_ident(text),
             Form::Author => is_author(text),
             Form::Label => is_label(text),
@@ -58,6 +61,8 @@ impl Form {
             Form::UserType => begins_user_type(front),
             Form::Scope => begins(front, b"*") || begins_uid(front),
             Form::PackageKind => begins_package_kind(front),
+            Form::Setter => begins_setter(front),
+            Form::Level => begins_level(front),
             Form::Ident => is_ident_run(front),
             Form::Author => begins(front, b"-") || is_ident_run(front),
             Form::Label => is_label_run(front),

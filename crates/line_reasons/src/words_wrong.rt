@@ -37,6 +37,8 @@ pub(crate) fn word_reason(
         Form::UserType => Ok(Reason::BadUserType),
         Form::Scope => Ok(Reason::BadScope),
         Form::PackageKind => Ok(Reason::BadPackageKind),
+        Form::Setter => Ok(Reason::BadSetter),
+        Form::Level => Ok(Reason::BadLevel),
         Form::Ident | Form::Author => {
             text_reason(
                 alloc,

@@ -3,10 +3,20 @@ use Rattle.std.specs.Prelude.{ℕ, Bool, if◌then◌else◌, ◌==◌, List, []
 use Rattle.cynara_keys.specs.PolicyResult.{Ruling, deny, none, bucket, allow}
 use Rattle.cynara_keys.specs.declared.limits.Counted.{Counted}
 use Rattle.cynara_keys.specs.declared.limits.Counted.TheVariants.{Commits, Users, Packages, Installs, Grants, Buckets, Policies}
+use Rattle.smack_rules.specs.Modes.{spelling}
+use Rattle.smack_rules.specs.declared.modes.Modes.{Modes}
+use Rattle.app_registry.specs.declared.users.UserType.{UserType}
+use Rattle.level_requests.specs.Level.{level_text as level_word}
+use Rattle.level_requests.specs.declared.levels.Level.{Level}
 use Rattle.desk_state.specs.declared.refusals.Refusal.{Refusal}
 use Rattle.desk_state.specs.declared.refusals.Refusal.TheVariants as refusal
+use Rattle.line_script.specs.WordForms.{user_type_text}
+use Rattle.line_script.specs.declared.level_answers.LevelAnswer.{LevelAnswer}
+use Rattle.line_script.specs.declared.level_answers.LevelAnswer.TheVariants as level
+use Rattle.line_script.specs.declared.level_answers.ShareAnswer.{ShareAnswer}
+use Rattle.line_script.specs.declared.level_answers.ShareAnswer.TheVariants as share
 use Rattle.line_script.specs.declared.answers.LineAnswer.{LineAnswer}
-use Rattle.line_script.specs.declared.answers.LineAnswer.TheVariants.{Accepted, Erased, ByPolicy, ByFallback, FromAgent, NotResolved, NoAgent, AgentGone, AgentFull, Row, Rows, Access, Status, Refused, StoreFault, StoreDamaged, AgentQuestion, KindTaken, CommandLineFault, LineFault, Damaged, ReplyFault, FrameTooLong}
+use Rattle.line_script.specs.declared.answers.LineAnswer.TheVariants.{Accepted, Erased, ByPolicy, ByFallback, FromAgent, NotResolved, NoAgent, AgentGone, AgentFull, Row, Rows, Access, Status, OfLevels, OfShares, Refused, StoreFault, StoreDamaged, AgentQuestion, KindTaken, CommandLineFault, LineFault, Damaged, ReplyFault, FrameTooLong}
 
 -- ---- parts of lines
 
@@ -146,6 +156,64 @@ access_text allowed rule = codes "access " ++ (decision_text allowed ++ (codes "
 unfoldable pub status_text : ℕ → List ℕ
 status_text commit = codes "commit " ++ (decimal commit ++ codes "\n")
 
+-- ---- of levels and audits
+
+-- a level that is set
+unfoldable pub level_text : List ℕ → List ℕ → Level → List ℕ
+level_text client privilege level =
+    codes "level " ++ (client ++ (codes " " ++ (privilege ++ (codes " " ++ (level_word level ++ codes "\n")))))
+
+-- the end of a list of so many levels
+unfoldable pub levels_text : ℕ → List ℕ
+levels_text count = codes "levels " ++ (decimal count ++ codes "\n")
+
+-- an application may use a privilege
+unfoldable pub allowed_text : List ℕ → List ℕ → List ℕ
+allowed_text client privilege = codes "allowed " ++ (client ++ (codes " " ++ (privilege ++ codes "\n")))
+
+-- the end of a list of so many of these pairs
+unfoldable pub pairs_text : ℕ → List ℕ
+pairs_text count = codes "pairs " ++ (decimal count ++ codes "\n")
+
+-- a user of this type sets levels for nobody else
+unfoldable pub not_administrator_text : UserType → List ℕ
+not_administrator_text kind = codes "refused 15 not-administrator " ++ (user_type_text kind ++ codes "\n")
+
+-- an audit would ask about so many pairs
+unfoldable pub too_many_text : ℕ → List ℕ
+too_many_text product = codes "refused 16 too-many " ++ (decimal product ++ codes "\n")
+
+-- ---- of shares
+
+-- a share is open so often now
+unfoldable pub shared_text : ℕ → List ℕ
+shared_text count = codes "shared " ++ (decimal count ++ codes "\n")
+
+-- a Smack rule that gives these modes and takes nothing away
+unfoldable pub rule_row_text : List ℕ → List ℕ → Modes → List ℕ
+rule_row_text subject object modes =
+    codes "rule " ++ (subject ++ (codes " " ++ (object ++ (codes " " ++ (spelling modes ++ codes " -\n")))))
+
+-- the end of a list of so many rules
+unfoldable pub rule_rows_text : ℕ → List ℕ
+rule_rows_text count = codes "rules " ++ (decimal count ++ codes "\n")
+
+-- the application is not installed
+unfoldable pub unknown_app_text : List ℕ → List ℕ
+unknown_app_text app = codes "refused 17 unknown-app " ++ (app ++ codes "\n")
+
+-- both applications have this label
+unfoldable pub same_label_text : List ℕ → List ℕ
+same_label_text label = codes "refused 18 same-label " ++ (label ++ codes "\n")
+
+-- there is no such share
+unfoldable pub not_shared_text : List ℕ
+not_shared_text = codes "refused 19 not-shared\n"
+
+-- there are so many shares already, or the share is open so often
+unfoldable pub share_limit_text : ℕ → List ℕ
+share_limit_text most = codes "refused 20 share-limit " ++ (decimal most ++ codes "\n")
+
 -- ---- of a service
 
 -- the store failed while the service kept a command
@@ -191,6 +259,23 @@ too_long_text length = codes "fault too-long " ++ (decimal length ++ codes "\n")
 abbrev pub ruling : ℕ → List ℕ → Ruling
 ruling kind metadata = record { kind = kind; metadata = metadata }
 
+abbrev pub level_answer_text : LevelAnswer → List ℕ
+level_answer_text (level.Set client privilege set) = level_text client.now privilege.now set
+level_answer_text (level.Levels count) = levels_text count
+level_answer_text (level.Allowed client privilege) = allowed_text client.now privilege.now
+level_answer_text (level.Pairs count) = pairs_text count
+level_answer_text (level.NotAdministrator kind) = not_administrator_text kind
+level_answer_text (level.TooMany product) = too_many_text product
+
+abbrev pub share_answer_text : ShareAnswer → List ℕ
+share_answer_text (share.Shared count) = shared_text count
+share_answer_text (share.Rule subject object modes) = rule_row_text subject.now object.now modes
+share_answer_text (share.Rules count) = rule_rows_text count
+share_answer_text (share.UnknownApp app) = unknown_app_text app.now
+share_answer_text (share.SameLabel label) = same_label_text label.now
+share_answer_text share.NotShared = not_shared_text
+share_answer_text (share.ShareLimit most) = share_limit_text most
+
 abbrev pub answer_text : LineAnswer → List ℕ
 answer_text (Accepted commit) = accepted_text commit
 answer_text (Erased commit count) = erased_text commit count
@@ -207,6 +292,8 @@ answer_text (Row client user privilege kind metadata) =
 answer_text (Rows count) = rows_text count
 answer_text (Access allowed rule) = access_text allowed rule
 answer_text (Status commit) = status_text commit
+answer_text (OfLevels answer) = level_answer_text answer
+answer_text (OfShares answer) = share_answer_text answer
 answer_text (Refused broken) = refusal_text broken.refusal.now
 answer_text StoreFault = store_fault_text
 answer_text (StoreDamaged file line) = store_damaged_text file.now line

@@ -13,8 +13,11 @@ use Rattle.app_registry.specs.Rising.{rising}
 use Rattle.rule_templates.specs.Template.{with_one_more}
 use Rattle.rule_templates.specs.declared.lines.TemplateLine.{TemplateLine}
 use Rattle.desk_state.specs.declared.commands.Command.TheVariants as command
+use Rattle.level_requests.specs.Level.{level_at}
+use Rattle.level_requests.specs.declared.requests.Setter.{Setter}
+use Rattle.level_requests.specs.declared.requests.Setter.TheVariants.{Own, Administrator}
 use Rattle.line_script.specs.Words.{words_of, word, end_of, ◌>>=◌}
-use Rattle.line_script.specs.WordForms.{bucket_at, name_at, field_at, filter_field_at, depth_at, result_at, uid_at, user_type_at, scope_at, package_kind_at, ident_at, author_at, label_at, request_at}
+use Rattle.line_script.specs.WordForms.{bucket_at, name_at, field_at, filter_field_at, depth_at, result_at, uid_at, user_type_at, scope_at, package_kind_at, setter_named, ident_at, author_at, label_at, request_at}
 use Rattle.line_script.specs.Verbs.{verb_at, is_known_in}
 use Rattle.line_script.specs.Block.{Block, outside, batch, template, failed}
 use Rattle.line_script.specs.declared.places.Place.{Place}
@@ -48,6 +51,19 @@ filter_at words = do
   user ← word filter_field_at client.1
   privilege ← word filter_field_at user.1
   Some (record { client = client.0; user = user.0; privilege = privilege.0 }, privilege.1)
+
+-- the number of the user for whom an administrator sets a level
+unfoldable pub target_at : Bool → List (List ℕ) → Option (Setter × List (List ℕ))
+target_at false words = Some (Own, words)
+target_at true words = do
+  target ← word uid_at words
+  Some (Administrator target.0, target.1)
+
+-- `own`, or `admin UID`
+unfoldable pub setter_at : List (List ℕ) → Option (Setter × List (List ℕ))
+setter_at words = do
+  named ← word setter_named words
+  target_at named.0 named.1
 
 -- any number of names, to the end of the line
 abbrev pub names_at : List (List ℕ) → Option (List (List ℕ))
@@ -183,6 +199,61 @@ access_at words = do
   ended ← end_of asked.1
   Some (step.Access subject.0 object.0 asked.0)
 
+-- `level CALLER own CLIENT PRIVILEGE LEVEL`, or `level CALLER admin UID CLIENT PRIVILEGE LEVEL`
+unfoldable pub level_line_at : List (List ℕ) → Option Step
+level_line_at words = do
+  caller ← word uid_at words
+  setter ← setter_at caller.1
+  client ← word name_at setter.1
+  privilege ← word name_at client.1
+  level ← word level_at privilege.1
+  ended ← end_of level.1
+  Some (step.Level (record {
+    caller = caller.0;
+    by = setter.0;
+    client = client.0;
+    privilege = privilege.0;
+    level = level.0;
+  }))
+
+-- `levels UID`
+unfoldable pub levels_at : List (List ℕ) → Option Step
+levels_at words = do
+  uid ← word uid_at words
+  ended ← end_of uid.1
+  Some (step.Levels uid.0)
+
+-- `audit USER`, any name
+unfoldable pub audit_at : List (List ℕ) → Option Step
+audit_at words = do
+  user ← word name_at words
+  ended ← end_of user.1
+  Some (step.Audit user.0)
+
+-- `share OWNER TARGET NAME`
+unfoldable pub share_at : List (List ℕ) → Option Step
+share_at words = do
+  owner ← word ident_at words
+  target ← word ident_at owner.1
+  name ← word ident_at target.1
+  ended ← end_of name.1
+  Some (step.Share owner.0 target.0 name.0)
+
+-- `unshare OWNER TARGET NAME`
+unfoldable pub unshare_at : List (List ℕ) → Option Step
+unshare_at words = do
+  owner ← word ident_at words
+  target ← word ident_at owner.1
+  name ← word ident_at target.1
+  ended ← end_of name.1
+  Some (step.Unshare owner.0 target.0 name.0)
+
+-- `shares`
+unfoldable pub shares_at : List (List ℕ) → Option Step
+shares_at words = do
+  ended ← end_of words
+  Some step.Shares
+
 -- `status`
 unfoldable pub status_at : List (List ℕ) → Option Step
 status_at words = do
@@ -224,6 +295,12 @@ line_at verb.List words = list_at words
 line_at verb.Check words = check_at words
 line_at verb.From words = from_at words
 line_at verb.Access words = access_at words
+line_at verb.Level words = level_line_at words
+line_at verb.Levels words = levels_at words
+line_at verb.Audit words = audit_at words
+line_at verb.Share words = share_at words
+line_at verb.Unshare words = unshare_at words
+line_at verb.Shares words = shares_at words
 line_at verb.Status words = status_at words
 line_at verb.Stop words = stop_at words
 

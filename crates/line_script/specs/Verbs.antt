@@ -2,7 +2,7 @@
 use Rattle.std.specs.Prelude.{ℕ, Bool, true, false, List, [], ◌∷◌, Option, find, codes}
 use Rattle.cynara_keys.specs.Text.{same_text}
 use Rattle.line_script.specs.declared.verbs.Verb.{Verb}
-use Rattle.line_script.specs.declared.verbs.Verb.TheVariants.{Set, Check, Unset, Bucket, Drop, Erase, List as ListRows, From, Layout, User, NoUser, Install, Hybrid, Convert, Remove, Access, Status, Stop}
+use Rattle.line_script.specs.declared.verbs.Verb.TheVariants.{Set, Check, Unset, Bucket, Drop, Erase, List as ListRows, From, Layout, User, NoUser, Install, Hybrid, Convert, Remove, Access, Level, Levels, Audit, Share, Unshare, Shares, Status, Stop}
 use Rattle.line_script.specs.declared.places.Place.{Place}
 use Rattle.line_script.specs.declared.places.Place.TheVariants.{Local, Admin}
 
@@ -24,12 +24,18 @@ verb_text Hybrid = codes "hybrid"
 verb_text Convert = codes "convert"
 verb_text Remove = codes "remove"
 verb_text Access = codes "access"
+verb_text Level = codes "level"
+verb_text Levels = codes "levels"
+verb_text Audit = codes "audit"
+verb_text Share = codes "share"
+verb_text Unshare = codes "unshare"
+verb_text Shares = codes "shares"
 verb_text Status = codes "status"
 verb_text Stop = codes "stop"
 
 abbrev pub verbs : List Verb
 verbs =
-    Set ∷ Check ∷ Unset ∷ Bucket ∷ Drop ∷ Erase ∷ ListRows ∷ From ∷ Layout ∷ User ∷ NoUser ∷ Install ∷ Hybrid ∷ Convert ∷ Remove ∷ Access ∷ Status ∷ Stop ∷ []
+    Set ∷ Check ∷ Unset ∷ Bucket ∷ Drop ∷ Erase ∷ ListRows ∷ From ∷ Layout ∷ User ∷ NoUser ∷ Install ∷ Hybrid ∷ Convert ∷ Remove ∷ Access ∷ Level ∷ Levels ∷ Audit ∷ Share ∷ Unshare ∷ Shares ∷ Status ∷ Stop ∷ []
 
 -- what the first word of a line says
 unfoldable pub verb_at : List ℕ → Option Verb
@@ -40,5 +46,11 @@ abbrev pub is_known_in : Place → Verb → Bool
 is_known_in Local Stop = false
 is_known_in Local verb = true
 is_known_in Admin Access = false
+is_known_in Admin Level = false
+is_known_in Admin Levels = false
+is_known_in Admin Audit = false
+is_known_in Admin Share = false
+is_known_in Admin Unshare = false
+is_known_in Admin Shares = false
 is_known_in Admin Status = false
 is_known_in Admin verb = true

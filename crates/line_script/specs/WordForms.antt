@@ -105,6 +105,11 @@ abbrev pub package_kind_at : List ℕ → Option Bool
 package_kind_at text =
     if same_text text (codes "hybrid") then Some true else (if same_text text (codes "plain") then Some false else None)
 
+-- `own`, or `admin`, behind which the number of a user stands: whether it does
+abbrev pub setter_named : List ℕ → Option Bool
+setter_named text =
+    if same_text text (codes "own") then Some false else (if same_text text (codes "admin") then Some true else None)
+
 -- the name of a package, an author or an application
 abbrev pub ident_at : List ℕ → Option (List ℕ)
 ident_at text = if is_none (ident_fault text) then Some text else None

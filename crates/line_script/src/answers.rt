@@ -1,6 +1,7 @@
 ghost use Rattle.std.specs.Prelude.{◌≡◌, ◌++◌, OnOk, OnErr};
 ghost use Rattle.line_script.specs.Answers.{answer_text, command_line_text, reply_fault_text};
 
+use crate::level_answers::{LevelAnswer, ShareAnswer};
 use crate::print_answers::append_answer;
 use crate::rules_broken::RuleBroken;
 use cynara_keys::Kind;
@@ -88,6 +89,10 @@ pub enum LineAnswer<'a> {
     Status {
         commit: u64,
     },
+    /// About levels, or what applications may do.
+    OfLevels(LevelAnswer<'a>),
+    /// About shares.
+    OfShares(ShareAnswer<'a>),
     /// `refused NUMBER NAME` with what the rule is about: a command was refused.
     Refused(RuleBroken<'a>),
     /// `store-fault`: the store of a service failed while a command was kept.

@@ -15,11 +15,13 @@ use crate::commands::{
     user_line,
 };
 use crate::installs::install_line;
+use crate::levels::{audit_line, level_line, levels_line};
 use crate::line_words::Words;
 use crate::places::Place;
 use crate::questions::{
     access_line, check_line, from_line, list_line, status_line, stop_line, whole_question,
 };
+use crate::sharing::{share_line, shares_line, unshare_line};
 use crate::steps::{LineRefusal, Step};
 use crate::verbs::Verb;
 use bucket_store::Change;
@@ -126,6 +128,12 @@ fn line_behind<'a>(
         Verb::Check => check_line(words),
         Verb::From => from_line(alloc, words),
         Verb::Access => access_line(alloc, words),
+        Verb::Level => level_line(alloc, words),
+        Verb::Levels => levels_line(words),
+        Verb::Audit => audit_line(alloc, words),
+        Verb::Share => share_line(alloc, words),
+        Verb::Unshare => unshare_line(alloc, words),
+        Verb::Shares => shares_line(words),
         Verb::Status => status_line(words),
         Verb::Stop => stop_line(words),
     }

@@ -8,7 +8,8 @@ use crate::verbs::Verb;
 pub enum Place {
     /// The program that has the policy state in its own folder: each line but `stop`.
     Local,
-    /// A service, by its door for administrators: each line but `access` and `status`.
+    /// A service, by its door for administrators: each line but `access` and `status`, and those of levels, audits and
+    /// shares.
     Admin,
 }
 
@@ -19,7 +20,17 @@ impl Place {
     {
         match self {
             Place::Local => !matches!(verb, Verb::Stop),
-            Place::Admin => !matches!(verb, Verb::Access | Verb::Status),
+            Place::Admin => !matches!(
+                verb,
+                Verb::Access
+                    | Verb::Level
+                    | Verb::Levels
+                    | Verb::Audit
+                    | Verb::Share
+                    | Verb::Unshare
+                    | Verb::Shares
+                    | Verb::Status
+            ),
         }
     }
 }

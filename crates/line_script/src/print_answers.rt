@@ -11,7 +11,9 @@ use crate::print_agents::{
     append_agent_full, append_agent_gone, append_from_agent, append_no_agent, append_not_resolved,
     append_question, append_store_damaged, append_store_fault, append_taken, append_too_long,
 };
+use crate::print_levels::append_level_answer;
 use crate::print_refusals::append_refusal;
+use crate::print_shares::append_share_answer;
 use cynara_keys::Kind;
 use desk_ports::Bytes;
 use std::alloc::AllocError;
@@ -66,6 +68,8 @@ pub(crate) fn append_answer(answer: &LineAnswer, out: &mut Bytes) -> Result<(), 
         LineAnswer::Rows { count } => append_rows(out, *count),
         LineAnswer::Access { allowed, rule } => append_access(out, *allowed, *rule),
         LineAnswer::Status { commit } => append_status(out, *commit),
+        LineAnswer::OfLevels(answer) => append_level_answer(out, answer),
+        LineAnswer::OfShares(answer) => append_share_answer(out, answer),
         LineAnswer::Refused(broken) => append_refusal(out, broken.refusal),
         LineAnswer::StoreFault => append_store_fault(out),
         LineAnswer::StoreDamaged { file, line } => append_store_damaged(out, file, *line),

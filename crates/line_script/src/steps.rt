@@ -2,9 +2,11 @@ ghost use Rattle.std.specs.Prelude.{Some};
 ghost use Rattle.line_script.specs.declared.steps.Step.TheVariants as step;
 ghost use Rattle.line_script.specs.parts.Reading.{Gives};
 
-use cynara_keys::{BorrowedQuestion, BucketName, Filter};
+use app_registry::Ident;
+use cynara_keys::{BorrowedQuestion, BucketName, Filter, Name};
 use desk_ports::Boxed;
 use desk_state::Command;
+use level_requests::LevelRequest;
 use smack_rules::{Label, Modes};
 use std::alloc::{AllocError, Global};
 use thiserror::Error;
@@ -29,12 +31,36 @@ pub enum Step<'a> {
         deep: bool,
         question: BorrowedQuestion<'a>,
     },
-    /// The decision of Smack under the rules of all packages.
+    /// The decision of Smack under the rules of all packages, and those of the open shares behind them.
     Access {
         subject: Label,
         object: Label,
         asked: Modes,
     },
+    /// That a user sets a level for an application and a privilege, or an administrator sets one for a user.
+    Level(Boxed<LevelRequest>),
+    /// The levels that the user of this number has set.
+    Levels {
+        uid: u32,
+    },
+    /// What the applications of a user may do.
+    Audit {
+        user: Name,
+    },
+    /// That an application shares the place of this name with another one, once more.
+    Share {
+        owner: Ident,
+        target: Ident,
+        name: Ident,
+    },
+    /// The same once less.
+    Unshare {
+        owner: Ident,
+        target: Ident,
+        name: Ident,
+    },
+    /// The Smack rules that the open shares give.
+    Shares,
     /// The number of the last accepted command.
     Status,
     /// The end of the service.

@@ -20,12 +20,18 @@ pub enum Verb {
     Convert,
     Remove,
     Access,
+    Level,
+    Levels,
+    Audit,
+    Share,
+    Unshare,
+    Shares,
     Status,
     Stop,
 }
 
 /// All of them, in that order.
-pub const VERBS: [Verb; 18] = [
+pub const VERBS: [Verb; 24] = [
     Verb::Set,
     Verb::Check,
     Verb::Unset,
@@ -42,6 +48,12 @@ pub const VERBS: [Verb; 18] = [
     Verb::Convert,
     Verb::Remove,
     Verb::Access,
+    Verb::Level,
+    Verb::Levels,
+    Verb::Audit,
+    Verb::Share,
+    Verb::Unshare,
+    Verb::Shares,
     Verb::Status,
     Verb::Stop,
 ];
@@ -68,6 +80,12 @@ impl Verb {
             Verb::Convert => b"convert",
             Verb::Remove => b"remove",
             Verb::Access => b"access",
+            Verb::Level => b"level",
+            Verb::Levels => b"levels",
+            Verb::Audit => b"audit",
+            Verb::Share => b"share",
+            Verb::Unshare => b"unshare",
+            Verb::Shares => b"shares",
             Verb::Status => b"status",
             Verb::Stop => b"stop",
         }

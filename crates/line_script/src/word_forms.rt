@@ -6,7 +6,8 @@ ghost use Rattle.cynara_keys.specs.Field.{field_of, field_fault};
 ghost use Rattle.smack_rules.specs.Modes.{is_request};
 ghost use Rattle.line_script.specs.Words.{word, end_of};
 ghost use Rattle.line_script.specs.WordForms.{bucket_at, name_at, field_at, filter_field_at, depth_at};
-ghost use Rattle.line_script.specs.WordForms.{uid_at, user_type_at, scope_at, package_kind_at, ident_at, author_at, label_at, request_at};
+ghost use Rattle.line_script.specs.WordForms.{uid_at, user_type_at, scope_at, package_kind_at, setter_named, ident_at, author_at, label_at, request_at};
+ghost use Rattle.level_requests.specs.Level.{level_at};
 ghost use Rattle.line_script.specs.parts.Reading.{GivesWord, GivesText};
 
 use crate::line_words::Words;
@@ -14,8 +15,9 @@ use crate::numbers::read_number;
 use crate::steps::LineRefusal;
 use app_registry::{Ident, IdentRefusal, Scope, UserType};
 use cynara_keys::{
-    BucketName, BucketNameRefusal, FilterField, NameRefusal, field_fault, name_fault,
+    BucketName, BucketNameRefusal, FilterField, Name, NameRefusal, field_fault, name_fault,
 };
+use level_requests::Level;
 use smack_rules::{Label, LabelRefusal, Modes};
 use std::alloc::Global;
 
@@ -58,6 +60,20 @@ pub(crate) fn name_text<'a>(words: &mut Words<'a>) -> Result<&'a [u8], LineRefus
     match words.next() {
         Some(text) if name_fault(text).is_none() => Ok(text),
         _ => Err(LineRefusal::Syntax),
+    }
+}
+
+/// A name.
+pub(crate) fn name_word(alloc: Global, words: &mut Words) -> Result<Name, LineRefusal>
+    ensures { GivesWord result words.new (word name_at words.old) }
+{
+    let Some(text) = words.next() else {
+        return Err(LineRefusal::Syntax);
+    };
+    match Name::read(alloc, text) {
+        Ok(name) => Ok(name),
+        Err(NameRefusal::Memory(error)) => Err(LineRefusal::Memory(error)),
+        Err(_) => Err(LineRefusal::Syntax),
     }
 }
 
@@ -167,6 +183,35 @@ pub(crate) fn package_kind_word(words: &mut Words) -> Result<bool, LineRefusal>
         return Ok(false);
     }
     Err(LineRefusal::Syntax)
+}
+
+/// `own` for false, or `admin` for true.
+pub(crate) fn setter_word(words: &mut Words) -> Result<bool, LineRefusal>
+    ensures { GivesWord result words.new (word setter_named words.old) }
+{
+    let Some(text) = words.next() else {
+        return Err(LineRefusal::Syntax);
+    };
+    if text == b"own".as_slice() {
+        return Ok(false);
+    }
+    if text == b"admin".as_slice() {
+        return Ok(true);
+    }
+    Err(LineRefusal::Syntax)
+}
+
+/// `allow`, `ask`, `deny` or `unset`.
+pub(crate) fn level_word(words: &mut Words) -> Result<Level, LineRefusal>
+    ensures { GivesWord result words.new (word level_at words.old) }
+{
+    let Some(text) = words.next() else {
+        return Err(LineRefusal::Syntax);
+    };
+    match Level::of_word(text) {
+        Some(level) => Ok(level),
+        None => Err(LineRefusal::Syntax),
+    }
 }
 
 /// The name of a package or an application.

@@ -96,7 +96,7 @@ module _ (Keeps : Ending → List Step → List Step → Type 0) (start : DeskSt
           }
 
     handed_so_far : {taken_after : Option (List ℕ)} {waiting : List ℕ} (hands : Hands taken_now taken_after now.answers waiting)
-        → replies start p.steps ≡ (p.written ++ hands.handed) ++ waiting
+        → replies start [] p.steps ≡ (p.written ++ hands.handed) ++ waiting
     handed_so_far {waiting = waiting} hands =
         p.answered ∙ ap (λ answers. p.written ++ answers) hands.parts ∙ sym (append_assoc p.written hands.handed waiting)
 
@@ -365,7 +365,7 @@ module _ (Keeps : Ending → List Step → List Step → Type 0) (start : DeskSt
                     right = rw stands refl;
                     steps_are = ap (λ script. script.steps) (sym stands);
                   };
-              are_answered = (fails.command, ap (λ step. p.steps ++ step ∷ []) fails.is, rw p.state fails.accepted);
+              are_answered = (step, fails.command, refl, rw p.state fails.is, rw p.state fails.accepted);
               in_turn = in-turn-more start p.steps p.written now.answers p.in_turn;
               appended = Appended-then taken taken_now taken_after p.written now.answers p.appended fails.appended;
               handed = (sym p.answered, fails.nothing);

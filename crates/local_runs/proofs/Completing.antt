@@ -1,5 +1,5 @@
 -- A run of `local` that no failing call stops.
-use Rattle.std.proofs.Common.{◌≡◌, ◌⊎◌, inl, inr, ℕ, List, Option, Some, None, Ok, refl, sym, ap, ◌∙◌, subst}
+use Rattle.std.proofs.Common.{◌≡◌, [], ◌⊎◌, inl, inr, ℕ, List, Option, Some, None, Ok, refl, sym, ap, ◌∙◌, subst}
 use Rattle.desk_ports.specs.Disk.{DiskState}
 use Rattle.desk_state.specs.DeskState.{DeskState}
 use Rattle.desk_keeper.specs.Kept.{kept}
@@ -15,7 +15,7 @@ use Rattle.local_runs.specs.LocalRun.{read_local, HasRead, AreAnswered, AnswersS
 module _ (said : Said) (source source_after : SourceSeen) (disk disk_after : DiskSeen) (input : List ℕ) (start : DeskState)
     (told : source.left ≡ Some input) (right : wrong_line (read_local input) ≡ None) (stands : StandsFor disk start) where
   abbrev pub answer : List ℕ
-  answer = replies start (read_local input).steps
+  answer = replies start [] (read_local input).steps
 
   -- a folder that stands for a state is mounted
   refused : (ending : Ending) → IsUnfailed ending → RefusesMount disk.state ending → ending ≡ Memory
@@ -37,7 +37,7 @@ module _ (said : Said) (source source_after : SourceSeen) (disk disk_after : Dis
   over Done first same unfailed script =
       let input_is = same-input script.input script.rest script.had in
       let steps = sym script.are_answered ∙ (script.read.2 ∙ ap (λ bytes. (read_local bytes).steps) (sym input_is)) in
-      inl (refl, script.due ∙ (ap (replies first) steps ∙ ap (λ desk. replies desk (read_local input).steps) (sym same)))
+      inl (refl, script.due ∙ (ap (replies first []) steps ∙ ap (λ desk. replies desk [] (read_local input).steps) (sym same)))
   over Memory first same unfailed script = inr refl
   over (Line number) first same unfailed script =
       let input_is = same-input script.input script.rest script.had in

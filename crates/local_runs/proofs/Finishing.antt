@@ -88,7 +88,7 @@ module _ (Keeps : Ending → List Step → List Step → Type 0) (start : DeskSt
       (keeps : Keeps result a.answered a.steps) where
     -- these bytes of the answers were written
     abbrev SaidSo : List ℕ → Said
-    SaidSo written = record { due = replies start a.answered; written = written }
+    SaidSo written = record { due = replies start [] a.answered; written = written }
 
     -- these bytes were written behind the answers that were handed over before
     with_more : (more : List ℕ) → Appended taken_now more taken_after
@@ -150,7 +150,7 @@ module _ (Keeps : Ending → List Step → List Step → Type 0) (start : DeskSt
         | inr part ↦
             inr (
               part.0 ∙ ap next_count sink,
-              IsCut-behind a.written tried.0 waiting (replies start a.answered) a.handed part.1,
+              IsCut-behind a.written tried.0 waiting (replies start [] a.answered) a.handed part.1,
             )
       ]))
   Run-finished (Line number) result a keeps line sink finish =
@@ -165,6 +165,6 @@ module _ (Keeps : Ending → List Step → List Step → Type 0) (start : DeskSt
             (with_more (Line number) Sink a a.read.1 a.are_answered (line number refl)
             (take part.1.0 waiting) part.1.2 (
               part.2 ∙ ap next_count sink,
-              IsCut-behind a.written (take part.1.0 waiting) waiting (replies start a.answered) a.handed cut,
+              IsCut-behind a.written (take part.1.0 waiting) waiting (replies start [] a.answered) a.handed cut,
             ))
       ]

@@ -1,4 +1,5 @@
 pub mod Obeying
+pub mod Stepping
 pub mod Turning
 pub mod Lines
 pub mod Progressing

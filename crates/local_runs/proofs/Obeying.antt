@@ -10,7 +10,8 @@ use Rattle.desk_state.specs.declared.refusals.Refusal.{Refusal}
 use Rattle.line_script.specs.Grammar.{step_at}
 use Rattle.line_script.specs.declared.steps.Step.{Step}
 use Rattle.line_script.specs.declared.steps.Step.TheVariants as step
-use Rattle.script_replies.specs.Reply.{command_text, applied, reply}
+use Rattle.private_sharing.specs.declared.shares.Share.{Share}
+use Rattle.script_replies.specs.Reply.{command_text, applied, settled_by, reply}
 use Rattle.local_runs.specs.parts.Local.{Hands, Flushes, AnswersStep, RefusesStep, AnswersLine, RefusesLine}
 use Rattle.folder_runs.specs.Keeping.{counts_disk}
 use Rattle.run_endings.specs.declared.endings.Ending.{Ending}
@@ -34,29 +35,33 @@ hands-all taken taken_after answers waiting appended none =
     }
 
 -- a command was refused
-pub answers-refusal : (taken : Option (List ℕ)) (answers answers_after : List ℕ) (desk : DeskState) (command : Command)
-    (broken : Refusal) → fault desk command ≡ Some broken → answers_after ≡ answers ++ command_text desk command (Some broken)
-    → AnswersStep taken taken answers answers_after desk desk (step.Command command)
-answers-refusal taken answers answers_after desk command broken breaks text =
+pub answers-refusal : (taken : Option (List ℕ)) (answers answers_after : List ℕ) (desk : DeskState) (shares : List Share)
+    (command : Command) (broken : Refusal) → fault desk command ≡ Some broken
+    → answers_after ≡ answers ++ command_text desk command (Some broken)
+    → AnswersStep taken taken answers answers_after desk desk shares shares (step.Command command)
+answers-refusal taken answers answers_after desk shares command broken breaks text =
     record {
       waiting = answers;
       hands = hands-none taken answers answers refl;
       answer = text ∙ ap (λ fault. answers ++ command_text desk command fault) (sym breaks);
       state = ap (applied desk command) (sym breaks);
+      sharing = ap (settled_by desk shares command) (sym breaks);
       in_turn = inl refl;
     }
 
 -- a command was accepted, when all earlier answers were taken
 pub answers-command : (taken taken_after : Option (List ℕ)) (answers flushed answers_after : List ℕ) (desk desk_after : DeskState)
-    (command : Command) → fault desk command ≡ None → Appended taken answers taken_after → flushed ≡ []
-    → answers_after ≡ flushed ++ command_text desk command None → desk_after ≡ applied desk command None
-    → AnswersStep taken taken_after answers answers_after desk desk_after (step.Command command)
-answers-command taken taken_after answers flushed answers_after desk desk_after command accepted appended none text is =
+    (shares shares_now : List Share) (command : Command) → fault desk command ≡ None → Appended taken answers taken_after
+    → flushed ≡ [] → answers_after ≡ flushed ++ command_text desk command None → desk_after ≡ applied desk command None
+    → shares_now ≡ settled_by desk shares command None
+    → AnswersStep taken taken_after answers answers_after desk desk_after shares shares_now (step.Command command)
+answers-command taken taken_after answers flushed answers_after desk desk_after shares shares_now command accepted appended none text is open_ =
     record {
       waiting = flushed;
       hands = hands-all taken taken_after answers flushed appended none;
       answer = text ∙ ap (λ fault. flushed ++ command_text desk command fault) (sym accepted);
       state = is ∙ ap (applied desk command) (sym accepted);
+      sharing = open_ ∙ ap (settled_by desk shares command) (sym accepted);
       in_turn = inr none;
     }
 
@@ -64,7 +69,7 @@ answers-command taken taken_after answers flushed answers_after desk desk_after 
 pub line-of-step : (taken taken_after : Option (List ℕ)) (old new : LocalScript) (desk desk_after : DeskState) (line : List ℕ)
     (number : ℕ) (asked : Step) → step_at old.reader line ≡ Some (new.reader, asked)
     → (result : Result (Unit {0}) Ending)
-    → MatchResult result (λ value. AnswersStep taken taken_after old.answers new.answers desk desk_after asked)
+    → MatchResult result (λ value. AnswersStep taken taken_after old.answers new.answers desk desk_after old.shares new.shares asked)
     (RefusesStep taken taken_after old.answers new.answers desk desk_after asked)
     → MatchResult result (λ value. AnswersLine taken taken_after old new desk desk_after line)
     (RefusesLine taken taken_after old new desk desk_after line number)
@@ -85,9 +90,9 @@ line-of-step taken taken_after old new desk desk_after line number asked reads (
 
 -- the line asks for a check, whose answer waits
 pub answers-check : (taken : Option (List ℕ)) (old new : LocalScript) (desk : DeskState) (line : List ℕ) (question : Question)
-    → step_at old.reader line ≡ Some (old.reader, step.Check question) → new.reader ≡ old.reader
-    → new.answers ≡ old.answers ++ reply desk (step.Check question) → AnswersLine taken taken old new desk desk line
-answers-check taken old new desk line question reads same text =
+    → step_at old.reader line ≡ Some (old.reader, step.Check question) → new.reader ≡ old.reader → new.shares ≡ old.shares
+    → new.answers ≡ old.answers ++ reply desk old.shares (step.Check question) → AnswersLine taken taken old new desk desk line
+answers-check taken old new desk line question reads same shares text =
     record {
       step = step.Check question;
       reads = reads ∙ ap (λ reader. Some (reader, step.Check question)) (sym same);
@@ -96,6 +101,7 @@ answers-check taken old new desk line question reads same text =
         hands = hands-none taken old.answers old.answers refl;
         answer = text;
         state = refl;
+        sharing = shares;
         in_turn = inl refl;
       };
     }

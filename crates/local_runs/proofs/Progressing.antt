@@ -10,8 +10,9 @@ use Rattle.line_script.specs.Block.{Block, outside}
 use Rattle.line_script.specs.declared.places.Place.TheVariants.{Local}
 use Rattle.line_script.specs.Grammar.{step_at}
 use Rattle.desk_state.specs.DeskState.{DeskState}
-use Rattle.script_replies.specs.Reply.{reply, after}
-use Rattle.script_replies.specs.Script.{read_lines, replies, state_after}
+use Rattle.private_sharing.specs.declared.shares.Share.{Share}
+use Rattle.script_replies.specs.Reply.{reply, after, shares_after}
+use Rattle.script_replies.specs.Script.{read_lines, replies, state_after, shares_behind}
 use Rattle.local_runs.specs.LocalRun.{read_local}
 use Rattle.script_replies.specs.Script.{AreInTurn}
 use Rattle.local_runs.specs.parts.Local.{AnswersNext, Gives}
@@ -20,14 +21,14 @@ use Rattle.script_replies.specs.Limits.{most_line_bytes, most_script_bytes}
 use Rattle.local_runs.specs.declared.local_script.LocalScript.{LocalScript}
 use Rattle.local_runs.proofs.Lines.{pieces_of-piece, line_of-piece, length-piece, read_lines-step, with_steps-step}
 use Rattle.run_endings.proofs.Hads.{ReadToEnd-still}
-use Rattle.script_replies.proofs.Steps.{state_after-then, replies-next, in-turn-none, in-turn-more, in-turn-next}
+use Rattle.script_replies.proofs.Steps.{state_after-then, shares_behind-then, replies-next, in-turn-none, in-turn-more, in-turn-next}
 
 -- nothing was read yet
 pub Goes-start : (Kept : List Step → Type 0) (start : DeskState) (left taken : Option (List ℕ)) (now : LocalScript)
-    → now.reader ≡ outside Local → now.answers ≡ [] → Kept []
+    → now.reader ≡ outside Local → now.answers ≡ [] → now.shares ≡ [] → Kept []
     → Goes Kept start left left taken taken now start
     (record { line = []; number = 0; waiting = []; room = most_script_bytes; longest = most_line_bytes; is_ended = false })
-Goes-start Kept start left taken now reader none kept = (
+Goes-start Kept start left taken now reader none unshared kept = (
   record {
     lines = [];
     written = [];
@@ -38,6 +39,7 @@ Goes-start Kept start left taken now reader none kept = (
     read = λ more may. ap (λ block. read_lines 1 block (lines_within most_script_bytes (pieces_of more))) (sym reader);
     answered = sym none;
     state = refl;
+    sharing = sym unshared;
     in_turn = in-turn-none start [];
     ended = λ ended. absurd (cc);
     longest = refl;
@@ -134,13 +136,19 @@ module _ {start : DeskState} {left left_now taken taken_now : Option (List ℕ)}
         state_after-then start p.steps (n.answers.step ∷ [])
         ∙ ap (λ desk. after desk n.answers.step) p.state ∙ sym n.answers.done.state
 
-    answered_after : replies start (p.steps ++ n.answers.step ∷ []) ≡ (p.written ++ n.answers.done.hands.handed) ++ new.answers
+    -- the shares behind the step
+    sharing_is : shares_behind start [] (p.steps ++ n.answers.step ∷ []) ≡ new.shares
+    sharing_is =
+        shares_behind-then start [] p.steps (n.answers.step ∷ [])
+        ∙ (λ i. shares_after (p.state i) (p.sharing i) n.answers.step) ∙ sym n.answers.done.sharing
+
+    answered_after : replies start [] (p.steps ++ n.answers.step ∷ []) ≡ (p.written ++ n.answers.done.hands.handed) ++ new.answers
     answered_after =
         let done = n.answers.done in
         let handed = done.hands.handed in
-        let text = reply desk n.answers.step in
-        replies-next start p.steps n.answers.step
-        ∙ (ap (λ desk. replies start p.steps ++ reply desk n.answers.step) p.state
+        let text = reply desk now.shares n.answers.step in
+        replies-next start [] p.steps n.answers.step
+        ∙ ((λ i. replies start [] p.steps ++ reply (p.state i) (p.sharing i) n.answers.step)
         ∙ (ap (λ texts. texts ++ text) (p.answered ∙ ap (λ answers. p.written ++ answers) done.hands.parts)
         ∙ (ap (λ texts. texts ++ text) (sym (append_assoc p.written handed done.waiting))
         ∙ (append_assoc (p.written ++ handed) done.waiting text
@@ -148,7 +156,7 @@ module _ {start : DeskState} {left left_now taken taken_now : Option (List ℕ)}
 
     -- the state stays, or all earlier answers are written
     changes : (after (state_after start p.steps) n.answers.step ≡ state_after start p.steps)
-        ⊎ (length (replies start p.steps) ≤ length (p.written ++ n.answers.done.hands.handed))
+        ⊎ (length (replies start [] p.steps) ≤ length (p.written ++ n.answers.done.hands.handed))
     changes =
         let done = n.answers.done in
         elim done.in_turn [
@@ -186,6 +194,7 @@ module _ {start : DeskState} {left left_now taken taken_now : Option (List ℕ)}
             read = read-after step n.line n.ends reads;
             answered = answered_after;
             state = state_is;
+            sharing = sharing_is;
             in_turn = in_turn_after;
             ended = end-after step n.line n.ends reads;
             longest = handed.longest ∙ p.longest;

@@ -9,6 +9,7 @@ use Rattle.text_lines.specs.declared.refusal.ReadRefusal.TheVariants.{PastLimit,
 use Rattle.text_lines.proofs.Newlines.{list_any-none}
 use Rattle.desk_state.specs.DeskState.{DeskState}
 use Rattle.line_script.specs.Grammar.{step_at}
+use Rattle.script_replies.specs.Reply.{reply, shares_after}
 use Rattle.run_endings.specs.Reading.{reading_ending}
 use Rattle.local_runs.specs.parts.Local.{Hands, HandsOver, AnswersLine, RefusesLine, Turns}
 use Rattle.local_runs.specs.declared.local_script.LocalScript.{LocalScript}
@@ -124,8 +125,9 @@ module _ (left left_after taken taken_mid : Option (List ℕ)) (old mid : LocalS
             done = record {
               waiting = done.waiting;
               hands = Hands-then taken taken_mid taken_after old.answers mid.answers done.waiting handed.0 done.hands;
-              answer = done.answer;
+              answer = done.answer ∙ ap (λ shares. done.waiting ++ reply desk shares answers.step) handed.2.shares;
               state = done.state;
+              sharing = done.sharing ∙ ap (λ shares. shares_after desk shares answers.step) handed.2.shares;
               in_turn = done.in_turn;
             };
           };

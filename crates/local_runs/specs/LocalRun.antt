@@ -7,7 +7,7 @@ use Rattle.desk_state.specs.Rules.{fault}
 use Rattle.desk_state.specs.declared.commands.Command.{Command}
 use Rattle.line_script.specs.declared.places.Place.TheVariants.{Local}
 use Rattle.line_script.specs.declared.steps.Step.{Step}
-use Rattle.line_script.specs.declared.steps.Step.TheVariants as step
+use Rattle.script_replies.specs.Reply.{command_in}
 use Rattle.script_replies.specs.Script.{Script, read_script, wrong_line, replies, state_after, AreInTurn}
 use Rattle.run_endings.specs.Outside.{SourceSeen, DiskSeen, HadInput}
 use Rattle.run_endings.specs.Saying.{Said}
@@ -52,15 +52,15 @@ HasRead ending input rest steps = ⊥
 
 -- ---- what was answered
 
--- Each step that was read was answered; but where a call of the disk failed, all up to a last one, a command that was
--- accepted and not committed.
+-- Each step that was read was answered; but where a call of the disk failed, all up to a last one, which is a command, or comes
+-- to one, that was accepted and not committed.
 abbrev pub AreAnswered : Ending → DeskState → List Step → List Step → Type 0
 AreAnswered Disk start answered steps =
-    (command : Command) × (steps ≡ answered ++ step.Command command ∷ [])
-    × (fault (state_after start answered) command ≡ None)
+    (last : Step) × (command : Command) × (steps ≡ answered ++ last ∷ [])
+    × (command_in (state_after start answered) last ≡ Some command) × (fault (state_after start answered) command ≡ None)
 AreAnswered ending start answered steps = steps ≡ answered
 
--- The script of the source was answered from this state on.
+-- The script of the source was answered from this state on. No share is open at first.
 pub record AnswersScript (start : DeskState) (said : Said) (ending : Ending) (before after : SourceSeen) : Type 0 where
   pub input : List ℕ
   pub rest : List ℕ
@@ -70,7 +70,7 @@ pub record AnswersScript (start : DeskState) (said : Said) (ending : Ending) (be
   pub read : HasRead ending input rest steps
   pub are_answered : AreAnswered ending start answered steps
   pub in_turn : AreInTurn start answered said.written
-  pub due : said.due ≡ replies start answered
+  pub due : said.due ≡ replies start [] answered
 
 -- ---- the run
 

@@ -1,5 +1,5 @@
 // `local`: mounts the folder, reads a script from the source, and has the sink take its answers.
-ghost use Rattle.std.specs.Prelude.{◌≡◌, [], None};
+ghost use Rattle.std.specs.Prelude.{◌≡◌, []};
 ghost use Rattle.desk_keeper.specs.Keeper.{disk_of, held_of, IsDecided, IsSameDisk};
 ghost use Rattle.line_script.specs.Block.{outside};
 ghost use Rattle.line_script.specs.declared.places.Place.TheVariants.{Local};
@@ -7,6 +7,7 @@ ghost use Rattle.run_endings.specs.Ending.{source_faults_after, disk_faults_afte
 ghost use Rattle.run_endings.specs.Outside.{source_seen, sink_seen, disk_seen};
 ghost use Rattle.run_endings.specs.Saying.{Said, WritesAnswers};
 ghost use Rattle.folder_runs.specs.Keeping.{counts_disk, KeepsSteps};
+ghost use Rattle.script_replies.specs.Folded.{unasked};
 ghost use Rattle.local_runs.specs.LocalRun.{AnswersScript, RunsLocal};
 ghost use Rattle.local_runs.specs.parts.Local.{counts_source, counts_sink};
 ghost use Rattle.local_runs.specs.parts.Progress.{Answers, ending_of};
@@ -82,7 +83,8 @@ fn answer_script<S: Source, K: Sink, D: Disk>(
     sink: &mut K,
 ) -> Result<(), Ending>
     requires reader { script.old.reader ≡ outside Local }
-    requires rules { script.old.rules ≡ None }
+    requires rules { script.old.rules ≡ unasked }
+    requires shares { script.old.shares ≡ [] }
     requires answers { script.old.answers ≡ [] }
     requires decided { IsDecided keeper.old }
     ensures answered { (answers : Answers keeper.old.desk (ending_of result) script.new.answers

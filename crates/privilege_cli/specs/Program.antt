@@ -1,5 +1,5 @@
 -- What a run of the program reads, says and keeps: one line for each command.
-use Rattle.std.specs.Prelude.{◌≡◌, ◌⊎◌, ℕ, List, Option, Some, None, Ok}
+use Rattle.std.specs.Prelude.{◌≡◌, ◌⊎◌, ℕ, List, [], Option, Some, None, Ok}
 use Rattle.desk_ports.specs.Content.{Appended}
 use Rattle.smack_rules.specs.declared.rule.Rule.{Rule}
 use Rattle.smack_rules.specs.Effective.{effective}
@@ -51,7 +51,7 @@ Gives status before after answer = ((status ≡ 0) × Appended before.sink.taken
 abbrev pub Completes : Option Command → ℕ → Outside → Outside → Type 0
 Completes (Some Local) status before after =
     (input : List ℕ) (start : DeskState) → before.source.left ≡ Some input → wrong_line (read_local input) ≡ None
-    → StandsFor before.disk start → Gives status before after (replies start (read_local input).steps)
+    → StandsFor before.disk start → Gives status before after (replies start [] (read_local input).steps)
 Completes (Some SmackLoad) status before after =
     (start : DeskState) → StandsFor before.disk start → Gives status before after (loads_text start)
 Completes (Some (SmackAccess subject object asked)) status before after =

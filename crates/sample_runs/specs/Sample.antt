@@ -8,8 +8,9 @@ use Rattle.line_script.specs.Block.{Block, outside}
 use Rattle.line_script.specs.Grammar.{step_at}
 use Rattle.line_script.specs.declared.places.Place.TheVariants.{Local}
 use Rattle.line_script.specs.declared.steps.Step.{Step}
-use Rattle.line_script.specs.declared.steps.Step.TheVariants.{Check}
-use Rattle.script_replies.specs.Reply.{after}
+use Rattle.desk_state.specs.declared.commands.Command.{Command}
+use Rattle.line_script.specs.declared.steps.Step.TheVariants.{Command as CommandStep, Check}
+use Rattle.script_replies.specs.Reply.{after_command}
 use Rattle.sample_runs.specs.Lines.{commands, questions}
 use Rattle.sample_runs.specs.declared.tallies.Tally.{Tally}
 
@@ -25,10 +26,17 @@ pub record Stand : Type 0 where
   pub block : Block
   pub desk : DeskState
 
--- one line more, where it is in the grammar
+-- the command that a step is; other steps are none
+abbrev pub command_in : Step → Option Command
+command_in (CommandStep command) = Some command
+command_in other = None
+
+-- one line more, where it is a command
 abbrev pub follow_line : List ℕ → Stand → Option Stand
 follow_line line now =
-    option_map (λ read. record { block = read.0; desk = after now.desk read.1 }) (step_at now.block line)
+    option_and_then
+    (λ read. option_map (λ command. record { block = read.0; desk = after_command now.desk command }) (command_in read.1))
+    (step_at now.block line)
 
 -- ---- questions
 

@@ -1,17 +1,17 @@
 // The generated script, read line by line over a policy state in memory.
-ghost use Rattle.std.specs.Prelude.{◌≡◌, true, [], ◌∷◌, Some, IfOk, IfErr, OnOk, OnErr};
+ghost use Rattle.std.specs.Prelude.{◌≡◌, true, [], ◌∷◌, Some, None, MatchOption, IfOk, IfErr, OnOk, OnErr};
 ghost use Rattle.desk_state.specs.DeskState.{fresh};
 ghost use Rattle.line_script.specs.Block.{outside};
 ghost use Rattle.line_script.specs.Refusals.{names_a_rule};
 ghost use Rattle.line_script.specs.Turn.{AsksRequest};
 ghost use Rattle.line_script.specs.declared.places.Place.TheVariants.{Local};
-ghost use Rattle.script_replies.specs.Reply.{after};
+ghost use Rattle.script_replies.specs.Reply.{after_command};
 ghost use Rattle.sample_runs.specs.Lines.{opening, install_line, denial, installs, denials};
-ghost use Rattle.sample_runs.specs.Sample.{follow_line, prepared};
+ghost use Rattle.sample_runs.specs.Sample.{command_in, follow_line, prepared};
 
 use crate::lines::{put_deny, put_install};
 use desk_ports::Bytes;
-use desk_state::{Desk, Refusal};
+use desk_state::{Command, Desk, Refusal};
 use line_script::{LineRefusal, Place, Reader, Step};
 use run_endings::Ending;
 use std::alloc::{AllocError, Global};
@@ -147,9 +147,12 @@ impl Sample {
     {
         self.number = self.number.saturating_add(1);
         match self.reader.line(self.line.as_slice()) {
-            Ok(step) => match obey(&mut self.desk, &step) {
-                Ok(()) => Ok(()),
-                Err(_) => Err(Ending::Memory),
+            Ok(step) => match command_in(&step) {
+                Some(command) => match obey(&mut self.desk, command) {
+                    Ok(()) => Ok(()),
+                    Err(_) => Err(Ending::Memory),
+                },
+                None => Err(Ending::Line(self.number)),
             },
             Err(LineRefusal::Syntax) => Err(Ending::Line(self.number)),
             Err(LineRefusal::Memory(_)) => Err(Ending::Memory),
@@ -157,14 +160,21 @@ impl Sample {
     }
 }
 
-// Does what a step asks for. A question changes nothing, nor does a command that is refused.
-fn obey(desk: &mut Desk, step: &Step<'_>) -> Result<(), AllocError>
-    ensures { OnOk result (desk.new ≡ after desk.old step.now) }
+// The command that a step is.
+fn command_in<'s>(step: &'s Step<'_>) -> Option<&'s Command>
+    ensures { MatchOption result (command_in step.now ≡ None) (λ command. command_in step.now ≡ Some command.now) }
 {
-    let Step::Command(command) = step else {
-        return Ok(());
-    };
-    match desk.change(command.get()) {
+    match step {
+        Step::Command(command) => Some(command.get()),
+        _ => None,
+    }
+}
+
+// Follows a command. One that is refused changes nothing.
+fn obey(desk: &mut Desk, command: &Command) -> Result<(), AllocError>
+    ensures { OnOk result (desk.new ≡ after_command desk.old command.now) }
+{
+    match desk.change(command) {
         Ok(_) => Ok(()),
         Err(refusal) => passed_over(refusal),
     }

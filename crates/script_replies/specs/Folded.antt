@@ -1,9 +1,21 @@
 -- Rules that are folded.
-use Rattle.std.specs.Prelude.{List, Option, IfSome}
+use Rattle.std.specs.Prelude.{◌≡◌, List, Option, None, IfSome}
 use Rattle.smack_rules.specs.Grants.{GrantsAs}
+use Rattle.smack_rules.specs.declared.rule.Rule.{Rule}
 use Rattle.smack_rules.specs.declared.table.PairModes.{PairModes}
 use Rattle.desk_state.specs.DeskState.{DeskState, smack_rules}
+use Rattle.private_sharing.specs.Rules.{rules}
+use Rattle.private_sharing.specs.declared.shares.Share.{Share}
 
--- rules that are folded are those of this state
-abbrev pub AreFolded : Option (List PairModes) → DeskState → Type 0
-AreFolded folded desk = IfSome folded (λ table. GrantsAs table (smack_rules desk))
+-- the table of the rules of all packages, and the rules of the open shares, once they were asked for
+pub record Folded : Type 0 where
+  pub table : Option (List PairModes)
+  pub given : Option (List Rule)
+
+abbrev pub unasked : Folded
+unasked = record { table = None; given = None }
+
+-- rules that are folded are those of this state and these shares
+pub record AreFolded (folded : Folded) (desk : DeskState) (shares : List Share) : Type 0 where
+  pub table : IfSome folded.table (λ table. GrantsAs table (smack_rules desk))
+  pub given : IfSome folded.given (λ given. given ≡ rules desk.registry shares)

@@ -1,4 +1,5 @@
--- What each step of a script is answered at a policy state, and the state that it leaves.
+-- What each step of a script is answered at a policy state with the shares that are open, and the state and the shares that it
+-- leaves.
 use Rattle.std.specs.Prelude.{ℕ, true, if◌then◌else◌, List, [], ◌++◌, length, Option, Some, None}
 use Rattle.std.specs.List.{flat_map}
 use Rattle.cynara_keys.specs.Field.{field_text}
@@ -19,6 +20,16 @@ use Rattle.desk_state.specs.declared.commands.Command.TheVariants.{Erase}
 use Rattle.desk_state.specs.declared.refusals.Refusal.{Refusal}
 use Rattle.desk_state.specs.declared.refusals.Refusal.TheVariants.{NoBucket}
 use Rattle.line_script.specs.Answers.{accepted_text, erased_text, by_policy_text, by_fallback_text, row_text, rows_text, access_text, status_text, refusal_text}
+use Rattle.level_requests.specs.declared.requests.LevelRequest.{LevelRequest}
+use Rattle.policy_levels.specs.Command.{command_of}
+use Rattle.policy_levels.specs.Levels.{levels_in}
+use Rattle.policy_levels.specs.Refusal.{fault as level_fault}
+use Rattle.policy_levels.specs.declared.refusals.LevelRefusal.{LevelRefusal}
+use Rattle.private_sharing.specs.Rules.{rules}
+use Rattle.private_sharing.specs.Shares.{settled}
+use Rattle.private_sharing.specs.declared.shares.Share.{Share}
+use Rattle.script_replies.specs.Levels.{level_refusal_text, level_rows_text, audit_reply}
+use Rattle.script_replies.specs.Sharing.{share_reply, unshare_reply, shares_reply, shares_opened, shares_closed}
 use Rattle.line_script.specs.declared.steps.Step.{Step}
 use Rattle.line_script.specs.declared.steps.Step.TheVariants as step
 
@@ -37,6 +48,40 @@ command_text desk command (Some refusal) = refusal_text refusal
 abbrev pub applied : DeskState → Command → Option Refusal → DeskState
 applied desk command None = next desk command
 applied desk command (Some refusal) = desk
+
+-- after an accepted command only the shares of installed applications are open
+abbrev pub settled_by : DeskState → List Share → Command → Option Refusal → List Share
+settled_by desk shares command None = settled (next desk command).registry shares
+settled_by desk shares command (Some refusal) = shares
+
+-- what a command is answered, and the state and the shares that it leaves
+abbrev pub command_reply : DeskState → Command → List ℕ
+command_reply desk command = command_text desk command (fault desk command)
+
+abbrev pub after_command : DeskState → Command → DeskState
+after_command desk command = applied desk command (fault desk command)
+
+abbrev pub shares_after_command : DeskState → List Share → Command → List Share
+shares_after_command desk shares command = settled_by desk shares command (fault desk command)
+
+-- ---- levels
+
+-- a request that is right is its command
+abbrev pub level_reply : DeskState → LevelRequest → Option LevelRefusal → List ℕ
+level_reply desk request None = command_reply desk (command_of request)
+level_reply desk request (Some refusal) = level_refusal_text refusal
+
+abbrev pub after_level : DeskState → LevelRequest → Option LevelRefusal → DeskState
+after_level desk request None = after_command desk (command_of request)
+after_level desk request (Some refusal) = desk
+
+abbrev pub shares_after_level : DeskState → List Share → LevelRequest → Option LevelRefusal → List Share
+shares_after_level desk shares request None = shares_after_command desk shares (command_of request)
+shares_after_level desk shares request (Some refusal) = shares
+
+abbrev pub level_command : LevelRequest → Option LevelRefusal → Option Command
+level_command request None = Some (command_of request)
+level_command request (Some refusal) = None
 
 -- ---- questions
 
@@ -66,26 +111,47 @@ about database name text = if has_bucket name database then text else refusal_te
 abbrev pub decided_text : Decision → List ℕ
 decided_text decided = access_text decided.allowed decided.rule
 
--- the decision on a request under the rules of all packages
-abbrev pub access_reply : DeskState → List ℕ → List ℕ → Modes → List ℕ
-access_reply desk subject object asked =
-    decided_text (decision subject object asked (effective (smack_rules desk) subject object))
+-- the decision on a request under the rules of all packages, with those of the open shares behind them
+abbrev pub decided : DeskState → List Share → List ℕ → List ℕ → Modes → Decision
+decided desk shares subject object asked =
+    decision subject object asked (effective (smack_rules desk ++ rules desk.registry shares) subject object)
 
 -- ---- steps
 
 -- the answer to a step
-abbrev pub reply : DeskState → Step → List ℕ
-reply desk step.Nothing = []
-reply desk (step.Command command) = command_text desk command (fault desk command)
-reply desk (step.List name filter) = about desk.database name (list_text (listed name filter desk.database))
-reply desk (step.Check question) = verdict_text desk.commit (answer desk.database root question true)
-reply desk (step.From name deep question) =
+abbrev pub reply : DeskState → List Share → Step → List ℕ
+reply desk shares step.Nothing = []
+reply desk shares (step.Command command) = command_reply desk command
+reply desk shares (step.List name filter) = about desk.database name (list_text (listed name filter desk.database))
+reply desk shares (step.Check question) = verdict_text desk.commit (answer desk.database root question true)
+reply desk shares (step.From name deep question) =
     about desk.database name (verdict_text desk.commit (answer desk.database name question deep))
-reply desk (step.Access subject object asked) = access_reply desk subject object asked
-reply desk step.Status = status_text desk.commit
-reply desk step.Stop = accepted_text desk.commit
+reply desk shares (step.Access subject object asked) = decided_text (decided desk shares subject object asked)
+reply desk shares (step.Level request) = level_reply desk request (level_fault desk request)
+reply desk shares (step.Levels uid) = level_rows_text (levels_in desk.database uid)
+reply desk shares (step.Audit user) = audit_reply desk user
+reply desk shares (step.Share owner target name) = share_reply desk.registry owner target name shares
+reply desk shares (step.Unshare owner target name) = unshare_reply owner target name shares
+reply desk shares step.Shares = shares_reply desk.registry shares
+reply desk shares step.Status = status_text desk.commit
+reply desk shares step.Stop = accepted_text desk.commit
 
 -- the state behind a step
 abbrev pub after : DeskState → Step → DeskState
-after desk (step.Command command) = applied desk command (fault desk command)
+after desk (step.Command command) = after_command desk command
+after desk (step.Level request) = after_level desk request (level_fault desk request)
 after desk other = desk
+
+-- the shares behind a step
+abbrev pub shares_after : DeskState → List Share → Step → List Share
+shares_after desk shares (step.Command command) = shares_after_command desk shares command
+shares_after desk shares (step.Level request) = shares_after_level desk shares request (level_fault desk request)
+shares_after desk shares (step.Share owner target name) = shares_opened desk.registry owner target name shares
+shares_after desk shares (step.Unshare owner target name) = shares_closed owner target name shares
+shares_after desk shares other = shares
+
+-- the command that a step is or comes to; it may be refused
+abbrev pub command_in : DeskState → Step → Option Command
+command_in desk (step.Command command) = Some command
+command_in desk (step.Level request) = level_command request (level_fault desk request)
+command_in desk other = None

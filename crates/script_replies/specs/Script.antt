@@ -8,7 +8,8 @@ use Rattle.line_script.specs.Turn.{is_in_block}
 use Rattle.line_script.specs.declared.places.Place.{Place}
 use Rattle.line_script.specs.declared.steps.Step.{Step}
 use Rattle.desk_state.specs.DeskState.{DeskState}
-use Rattle.script_replies.specs.Reply.{reply, after}
+use Rattle.private_sharing.specs.declared.shares.Share.{Share}
+use Rattle.script_replies.specs.Reply.{reply, after, shares_after}
 use Rattle.script_replies.specs.Limits.{most_line_bytes, most_script_bytes}
 
 -- where the reading of a script stands behind a line: in which block, and the number of the line that comes next
@@ -52,19 +53,24 @@ wrong_at (Ok standing) = if is_in_block standing.block then Some standing.number
 abbrev pub wrong_line : Script → Option ℕ
 wrong_line script = wrong_at script.stands
 
--- the answers to steps, each at the state that those before it leave
-abbrev pub replies : DeskState → List Step → List ℕ
-replies desk [] = []
-replies desk (step ∷ steps) = reply desk step ++ replies (after desk step) steps
+-- the answers to steps, each at the state and with the shares that those before it leave
+abbrev pub replies : DeskState → List Share → List Step → List ℕ
+replies desk shares [] = []
+replies desk shares (step ∷ steps) = reply desk shares step ++ replies (after desk step) (shares_after desk shares step) steps
 
 -- the state behind steps
 abbrev pub state_after : DeskState → List Step → DeskState
 state_after desk [] = desk
 state_after desk (step ∷ steps) = state_after (after desk step) steps
 
+-- the shares behind steps
+abbrev pub shares_behind : DeskState → List Share → List Step → List Share
+shares_behind desk shares [] = shares
+shares_behind desk shares (step ∷ steps) = shares_behind (after desk step) (shares_after desk shares step) steps
+
 -- No command was committed while an answer to a step before it was still to be written: where not all answers to the
--- first few steps were written, the later steps changed nothing.
+-- first few steps were written, the later steps changed no state. At the start no share is open.
 abbrev pub AreInTurn : DeskState → List Step → List ℕ → Type 0
 AreInTurn start answered written =
-    (n : ℕ) → length written < length (replies start (take n answered))
+    (n : ℕ) → length written < length (replies start [] (take n answered))
     → state_after start (take n answered) ≡ state_after start answered

@@ -138,7 +138,15 @@ pub fn ask(alloc: Global, desk: &Desk, step: &Step<'_>, out: &mut Bytes) -> Opti
             let commit = desk.commit();
             print(&LineAnswer::Status { commit }, out).ok()
         }
-        Step::Command(_) | Step::Access { .. } | Step::Stop => None,
+        Step::Command(_)
+        | Step::Access { .. }
+        | Step::Level(_)
+        | Step::Levels { .. }
+        | Step::Audit { .. }
+        | Step::Share { .. }
+        | Step::Unshare { .. }
+        | Step::Shares
+        | Step::Stop => None,
     }
 }
 

@@ -14,10 +14,11 @@ use Rattle.app_registry.specs.Limits.{most_ident_bytes}
 use Rattle.app_registry.specs.Ident.{is_ident_byte, begins_with_mark}
 use Rattle.rule_templates.specs.Placeholder.{begins_with_tilde}
 use Rattle.rule_templates.specs.TemplateLine.{word_of}
+use Rattle.level_requests.specs.Level.{level_at}
 use Rattle.line_script.specs.Numbers.{number_that}
-use Rattle.line_script.specs.WordForms.{bucket_at, name_at, field_at, filter_field_at, depth_at, result_at, uid_at, user_type_at, scope_at, package_kind_at, ident_at, author_at, label_at, request_at}
+use Rattle.line_script.specs.WordForms.{bucket_at, name_at, field_at, filter_field_at, depth_at, result_at, uid_at, user_type_at, scope_at, package_kind_at, setter_named, ident_at, author_at, label_at, request_at}
 use Rattle.line_reasons.specs.declared.forms.Form.{Form}
-use Rattle.line_reasons.specs.declared.forms.Form.TheVariants.{Bucket, Field, Name, Names, FilterField, Depth, Result, Uid, UserType, Scope, PackageKind, Ident, Author, Label, Request, TemplateLabel, Modes, MoreModes}
+use Rattle.line_reasons.specs.declared.forms.Form.TheVariants.{Bucket, Field, Name, Names, FilterField, Depth, Result, Uid, UserType, Scope, PackageKind, Setter, Level, Ident, Author, Label, Request, TemplateLabel, Modes, MoreModes}
 use Rattle.line_reasons.specs.parts.Texts.{begins, begins_one, is_behind, begins_behind, is_run, cut_at, by_cut}
 
 -- ---- which words have a form
@@ -34,6 +35,8 @@ is_word Uid text = is_some (uid_at text)
 is_word UserType text = is_some (user_type_at text)
 is_word Scope text = is_some (scope_at text)
 is_word PackageKind text = is_some (package_kind_at text)
+is_word Setter text = is_some (setter_named text)
+is_word Level text = is_some (level_at text)
 is_word Ident text = is_some (ident_at text)
 is_word Author text = is_some (author_at text)
 is_word Label text = is_some (label_at text)
@@ -148,6 +151,8 @@ begins_word Uid front = begins_uid front
 begins_word UserType front = begins_one (codes "system" ∷ codes "admin" ∷ codes "normal" ∷ codes "guest" ∷ []) front
 begins_word Scope front = begins front (codes "*") || begins_uid front
 begins_word PackageKind front = begins_one (codes "hybrid" ∷ codes "plain" ∷ []) front
+begins_word Setter front = begins_one (codes "own" ∷ codes "admin" ∷ []) front
+begins_word Level front = begins_one (codes "allow" ∷ codes "ask" ∷ codes "deny" ∷ codes "unset" ∷ []) front
 begins_word Ident front = begins_ident front
 begins_word Author front = begins front (codes "-") || begins_ident front
 begins_word Label front = begins_label front
@@ -168,3 +173,8 @@ may_lack form = false
 abbrev pub repeats : Form → Bool
 repeats Names = true
 repeats form = false
+
+-- behind `own` the number of no user stands
+abbrev pub leaves_out : Form → List ℕ → Bool
+leaves_out Setter word = same_text word (codes "own")
+leaves_out form word = false

@@ -11,7 +11,7 @@ use Rattle.line_script.specs.declared.verbs.Verb.TheVariants as verb
 use Rattle.line_script.specs.declared.spots.Spot.{Spot}
 use Rattle.line_script.specs.declared.spots.Spot.TheVariants as spot
 use Rattle.line_reasons.specs.declared.forms.Form.{Form}
-use Rattle.line_reasons.specs.declared.forms.Form.TheVariants.{Bucket, Field, Name, Names, FilterField, Depth, Result, Uid, UserType, Scope, PackageKind, Ident, Author, Label, Request, TemplateLabel, Modes, MoreModes}
+use Rattle.line_reasons.specs.declared.forms.Form.TheVariants.{Bucket, Field, Name, Names, FilterField, Depth, Result, Uid, UserType, Scope, PackageKind, Setter, Level, Ident, Author, Label, Request, TemplateLabel, Modes, MoreModes}
 use Rattle.line_reasons.specs.declared.grounds.Ground.{Ground}
 use Rattle.line_reasons.specs.declared.grounds.Ground.TheVariants.{Outside, Batch, Template, Rules}
 use Rattle.line_reasons.specs.parts.Texts.{begins, cut_at, by_cut}
@@ -37,6 +37,12 @@ verb_forms verb.List = Bucket ∷ FilterField ∷ FilterField ∷ FilterField �
 verb_forms verb.Check = Name ∷ Name ∷ Name ∷ []
 verb_forms verb.From = Bucket ∷ Depth ∷ Name ∷ Name ∷ Name ∷ []
 verb_forms verb.Access = Label ∷ Label ∷ Request ∷ []
+verb_forms verb.Level = Uid ∷ Setter ∷ Uid ∷ Name ∷ Name ∷ Level ∷ []
+verb_forms verb.Levels = Uid ∷ []
+verb_forms verb.Audit = Name ∷ []
+verb_forms verb.Share = Ident ∷ Ident ∷ Ident ∷ []
+verb_forms verb.Unshare = Ident ∷ Ident ∷ Ident ∷ []
+verb_forms verb.Shares = []
 verb_forms verb.Status = []
 verb_forms verb.Stop = []
 
@@ -58,6 +64,12 @@ changes_policies verb.List = false
 changes_policies verb.Check = false
 changes_policies verb.From = false
 changes_policies verb.Access = false
+changes_policies verb.Level = false
+changes_policies verb.Levels = false
+changes_policies verb.Audit = false
+changes_policies verb.Share = false
+changes_policies verb.Unshare = false
+changes_policies verb.Shares = false
 changes_policies verb.Status = false
 changes_policies verb.Stop = false
 

@@ -1,7 +1,7 @@
 -- How far the forms of a line go along its bytes.
 use Rattle.std.specs.Prelude.{ℕ, Bool, true, false, ◌||◌, ◌==◌, if◌then◌else◌, List, [], ◌∷◌, ◌++◌, Option, Some, None, option_and_then}
 use Rattle.line_reasons.specs.declared.forms.Form.{Form}
-use Rattle.line_reasons.specs.parts.Forms.{is_word, begins_word, may_lack, repeats}
+use Rattle.line_reasons.specs.parts.Forms.{is_word, begins_word, may_lack, repeats, leaves_out}
 
 -- The words of a line are parted by blanks, spaces and tabs in any number, or each by one space.
 abbrev pub parts_words : Bool → ℕ → Bool
@@ -14,14 +14,19 @@ is_gap true [] = true
 is_gap true (byte ∷ bytes) = false
 is_gap false part = false
 
--- the forms of the words behind a word of the first form
-abbrev pub behind_form : Form → List Form → List Form
-behind_form form forms = if repeats form then form ∷ forms else forms
+abbrev pub without_first : List Form → List Form
+without_first [] = []
+without_first (form ∷ forms) = forms
+
+-- the forms of the words behind this word of the first form
+abbrev pub behind_form : Form → List Form → List ℕ → List Form
+behind_form form forms word =
+    if repeats form then form ∷ forms else (if leaves_out form word then without_first forms else forms)
 
 -- the forms of the words behind this part, if it has the first form
 abbrev pub behind_word : List Form → List ℕ → Option (List Form)
 behind_word [] word = None
-behind_word (form ∷ forms) word = if is_word form word then Some (behind_form form forms) else None
+behind_word (form ∷ forms) word = if is_word form word then Some (behind_form form forms word) else None
 
 abbrev pub behind_part : Bool → List Form → List ℕ → Option (List Form)
 behind_part blanks forms part = if is_gap blanks part then Some forms else behind_word forms part

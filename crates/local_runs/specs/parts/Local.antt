@@ -9,8 +9,9 @@ use Rattle.desk_state.specs.declared.commands.Command.{Command}
 use Rattle.line_script.specs.Block.{Block}
 use Rattle.line_script.specs.Grammar.{step_at}
 use Rattle.line_script.specs.declared.steps.Step.{Step}
-use Rattle.line_script.specs.declared.steps.Step.TheVariants.{Nothing, Command as CommandStep}
-use Rattle.script_replies.specs.Reply.{reply, after}
+use Rattle.line_script.specs.declared.steps.Step.TheVariants.{Nothing, Command as CommandStep, Level, Share as ShareStep, Unshare}
+use Rattle.private_sharing.specs.declared.shares.Share.{Share}
+use Rattle.script_replies.specs.Reply.{reply, after, shares_after, command_in}
 use Rattle.run_endings.specs.Ending.{source_faults_after}
 use Rattle.run_endings.specs.declared.endings.Ending.{Ending}
 use Rattle.run_endings.specs.declared.endings.Ending.TheVariants.{Done, Memory, Words, Line, Source, Sink, Disk, Net, Damaged, Reply, TooLong}
@@ -26,9 +27,12 @@ counts_sink (Err Sink) count = next_count count
 counts_sink outcome count = count
 
 -- a step that changes nothing
-abbrev pub IsQuestion : Step → Type 0
-IsQuestion (CommandStep command) = ⊥
-IsQuestion question = Unit {0}
+abbrev pub is_question : Step → Bool
+is_question (CommandStep command) = false
+is_question (Level request) = false
+is_question (ShareStep owner target name) = false
+is_question (Unshare owner target name) = false
+is_question question = true
 
 -- the step of a line; a line without one does nothing
 abbrev pub step_of : Option (Block × Step) → Step
@@ -39,6 +43,7 @@ step_of (Some read) = read.1
 pub record IsSameScript (old new : LocalScript) : Type 0 where
   pub reader : new.reader ≡ old.reader
   pub rules : new.rules ≡ old.rules
+  pub shares : new.shares ≡ old.shares
 
 -- the answers that waited are taken, or a part of them where the sink failed
 abbrev pub Flushes : Option (List ℕ) → Option (List ℕ) → LocalScript → LocalScript → Result (Unit {0}) Ending → Type 0
@@ -61,18 +66,20 @@ HandsOver taken taken_after old new reading (Err Sink) = AppendedPart taken old.
 HandsOver taken taken_after old new reading (Err ending) = ⊥
 
 module _ (taken taken_after : Option (List ℕ)) (answers answers_after : List ℕ) (desk desk_after : DeskState) where
-  -- The step was done, and its answer waits. All earlier answers were taken before the state changed.
-  pub record AnswersStep (step : Step) : Type 0 where
-    pub waiting : List ℕ
-    pub hands : Hands taken taken_after answers waiting
-    pub answer : answers_after ≡ waiting ++ reply desk step
-    pub state : desk_after ≡ after desk step
-    pub in_turn : (desk_after ≡ desk) ⊎ (waiting ≡ [])
+  module _ (shares shares_now : List Share) where
+    -- The step was done, and its answer waits. All earlier answers were taken before the state changed.
+    pub record AnswersStep (step : Step) : Type 0 where
+      pub waiting : List ℕ
+      pub hands : Hands taken taken_after answers waiting
+      pub answer : answers_after ≡ waiting ++ reply desk shares step
+      pub state : desk_after ≡ after desk step
+      pub sharing : shares_now ≡ shares_after desk shares step
+      pub in_turn : (desk_after ≡ desk) ⊎ (waiting ≡ [])
 
   -- a command was accepted, and its commit failed; all earlier answers were taken
   pub record FailsToKeep (step : Step) : Type 0 where
     pub command : Command
-    pub is : step ≡ CommandStep command
+    pub is : command_in desk step ≡ Some command
     pub accepted : fault desk command ≡ None
     pub appended : Appended taken answers taken_after
     pub nothing : answers_after ≡ []
@@ -90,9 +97,9 @@ module _ (taken taken_after : Option (List ℕ)) (old new : LocalScript) (desk d
   pub record AnswersLine : Type 0 where
     pub step : Step
     pub reads : step_at old.reader line ≡ Some (new.reader, step)
-    pub done : AnswersStep taken taken_after old.answers new.answers desk desk_after step
+    pub done : AnswersStep taken taken_after old.answers new.answers desk desk_after old.shares new.shares step
 
-  -- the line's step is a command whose commit failed
+  -- the line's step is a command, or comes to one, whose commit failed
   pub record FailsAtLine : Type 0 where
     pub step : Step
     pub reads : step_at old.reader line ≡ Some (new.reader, step)
@@ -160,7 +167,7 @@ module _ (left left_after taken taken_after : Option (List ℕ)) (old new : Loca
     pub gives : Gives left left_after reading
     pub state : desk_after ≡ desk
 
-  -- a line was handed out whose step is a command, and the disk failed in its commit
+  -- a line was handed out whose step is a command or comes to one, and the disk failed in its commit
   pub record FailsNext : Type 0 where
     pub line : HandsOut left left_after reading reading_after
     pub ends : EndsReading left left_after reading reading_after

@@ -5,7 +5,7 @@ use Rattle.text_lines.specs.Lines.{pieces_of, lines_within, AreWholeLines}
 use Rattle.text_lines.specs.LineReader.{LineReading}
 use Rattle.line_script.specs.declared.steps.Step.{Step}
 use Rattle.desk_state.specs.DeskState.{DeskState}
-use Rattle.script_replies.specs.Script.{Script, read_lines, replies, state_after, AreInTurn}
+use Rattle.script_replies.specs.Script.{Script, read_lines, replies, state_after, shares_behind, AreInTurn}
 use Rattle.run_endings.specs.Outside.{HadInput}
 use Rattle.run_endings.specs.Saying.{IsCut}
 use Rattle.local_runs.specs.LocalRun.{read_local, ReadsLines, HasRead, AreAnswered}
@@ -34,8 +34,9 @@ pub record Progress (start : DeskState) (left left_now taken taken_now : Option 
   pub read : (more : List ℕ) → (IsOver reading → more ≡ [])
       → read_local (lines ++ more)
       ≡ with_steps steps (read_lines (reading.number + 1) now.reader (lines_within reading.room (pieces_of more)))
-  pub answered : replies start steps ≡ written ++ now.answers
+  pub answered : replies start [] steps ≡ written ++ now.answers
   pub state : state_after start steps ≡ desk
+  pub sharing : shares_behind start [] steps ≡ now.shares
   pub in_turn : AreInTurn start steps written
   pub ended : reading.is_ended ≡ true → ReadToEnd left left_now
   pub longest : reading.longest ≡ most_line_bytes
@@ -77,4 +78,4 @@ pub record Answers (start : DeskState) (ending : Ending) (waiting : List ℕ) (l
   pub are_answered : AreAnswered ending start answered steps
   pub in_turn : AreInTurn start answered written
   pub appended : Appended taken written taken_after
-  pub handed : AreHanded ending (replies start answered) written waiting
+  pub handed : AreHanded ending (replies start [] answered) written waiting

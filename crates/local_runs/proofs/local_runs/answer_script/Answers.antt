@@ -33,14 +33,14 @@ lines-init g c =
     let Kept = KeepsSoFar g.D.Disk.state g.D.Disk.moment g.D.Disk.left_since disk disk desk held desk held in
     record {
       goes = subst (λ lines. Goes Kept desk left left taken taken c.args.script.now desk lines) (sym c.in_ok-lines.ensures)
-          (Goes-start Kept desk left taken c.args.script.now c.requires.reader c.requires.answers
+          (Goes-start Kept desk left taken c.args.script.now c.requires.reader c.requires.answers c.requires.shares
           (λ begins. (
             begins,
             (keeps-none g.D.Disk.state g.D.Disk.moment g.D.Disk.left_since g.D.Disk.faults disk disk desk held
                 (λ left. g.met.D.Disk.only_now disk left) begins).1,
           )));
       decided = c.requires.decided;
-      folded = subst (λ folded. AreFolded folded desk) (sym c.requires.rules) tt;
+      folded = subst (λ folded. AreFolded folded desk c.args.script.now.shares) (sym c.requires.rules) (record { table = tt; given = tt });
       source = refl;
       sink = refl;
       disk = refl;

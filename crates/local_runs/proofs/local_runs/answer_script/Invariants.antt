@@ -12,7 +12,7 @@ invariant-lines g l =
           l.fn.keeper.desk (g.S.Source.left l.fn.source) (g.S.Source.left l.source) (g.K.Sink.taken l.fn.sink) (g.K.Sink.taken l.sink)
           l.script l.keeper.desk l.lines;
       decided : (l.keeper.read && l.keeper.vault.decided) ≡ true;
-      folded : AreFolded l.script.rules l.keeper.desk;
+      folded : AreFolded l.script.rules l.keeper.desk l.script.shares;
       source : g.S.Source.faults l.source ≡ g.S.Source.faults l.fn.source;
       sink : g.K.Sink.faults l.sink ≡ g.K.Sink.faults l.fn.sink;
       disk : g.D.Disk.faults l.keeper.vault.disk.now ≡ g.D.Disk.faults l.fn.keeper.vault.disk.now;

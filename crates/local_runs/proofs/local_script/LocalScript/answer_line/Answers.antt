@@ -13,5 +13,6 @@ returns-in-Some-clause-line g c =
     let desk = c.args.keeper.now.desk in
     let reads : step_at old.reader c.args.line.now ≡ Some (old.reader, Check c.in-Some.question) = search rules in
     let same : new.reader ≡ old.reader = ap (λ (script : LocalScript). script.reader) c.answer_check.ensures.same in
-    let text : new.answers ≡ old.answers ++ reply desk (Check c.in-Some.question) = search rules in
-    answers-check (g.K.Sink.taken c.args.sink.now) old new desk c.args.line.now c.in-Some.question reads same text
+    let shares : new.shares ≡ old.shares = ap (λ (script : LocalScript). script.shares) c.answer_check.ensures.same in
+    let text : new.answers ≡ old.answers ++ reply desk old.shares (Check c.in-Some.question) = search rules in
+    answers-check (g.K.Sink.taken c.args.sink.now) old new desk c.args.line.now c.in-Some.question reads same shares text
