@@ -1,5 +1,5 @@
 -- What an administrator's client makes of the replies to a message.
-use Rattle.std.specs.Prelude.{ℕ, suc, ◌==◌, nat_lt, Bool, true, false, if◌then◌else◌, List, [], ◌∷◌}
+use Rattle.std.specs.Prelude.{◌≡◌, ℕ, suc, ◌==◌, nat_lt, Bool, true, false, if◌then◌else◌, List, [], ◌∷◌}
 use Rattle.wire_messages.specs.Operation.{number_of}
 use Rattle.wire_messages.specs.Message.{operation}
 use Rattle.wire_messages.specs.declared.messages.Framed.{Framed}
@@ -41,7 +41,8 @@ is_last Command rows message.StoreFault = true
 is_last Command rows (message.StoreDamaged file line) = true
 is_last wanted rows other = false
 
--- what follows from a reply behind so many rows
+-- What follows from a reply behind so many rows: another sequence number is found first, and then an operation that is no
+-- answer here.
 abbrev pub next_of : Wanted → ℕ → ℕ → Framed → Next
 next_of wanted sequence rows framed =
     if framed.sequence == sequence then
@@ -50,12 +51,8 @@ next_of wanted sequence rows framed =
     else Wrong (Operation (number_of (operation framed.message)))))
     else Wrong (Sequence sequence framed.sequence)
 
--- what follows from all replies so far, behind so many rows
-abbrev pub next_behind : (ℕ → Next) → Next → ℕ → Next
-next_behind rest More rows = rest (suc rows)
-next_behind rest other rows = other
-
-abbrev pub following : Wanted → ℕ → ℕ → List Framed → Next
-following wanted sequence rows [] = More
-following wanted sequence rows (framed ∷ framings) =
-    next_behind (λ more. following wanted sequence more framings) (next_of wanted sequence rows framed) rows
+-- behind so many rows these are further ones
+abbrev pub AreRows : Wanted → ℕ → ℕ → List Framed → Type 0
+AreRows wanted sequence before [] = Unit {0}
+AreRows wanted sequence before (framed ∷ rows) =
+    (next_of wanted sequence before framed ≡ More) × AreRows wanted sequence (suc before) rows

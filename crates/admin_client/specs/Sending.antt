@@ -1,17 +1,20 @@
 -- An administrator's client, and what sending a message does.
-use Rattle.std.specs.Prelude.{◌≡◌, ◌⊎◌, ◌+◌, ◌%◌, ◌^◌, ℕ, List, [], Option, Some, None, Result, Ok, Err}
+use Rattle.std.specs.Prelude.{◌≡◌, ◌⊎◌, ◌+◌, ◌%◌, ◌^◌, ◌≤◌, ℕ, if◌then◌else◌, List, [], length, Option, Some, None, is_some, Result, Ok, Err}
 use Rattle.std.specs.declared.alloc.AllocError.{AllocError}
 use Rattle.desk_ports.specs.Faults.{next_count}
 use Rattle.link_ports.specs.Told.{IfTold}
 use Rattle.link_ports.specs.Traffic.{Traffic, with_received, with_sent}
-use Rattle.link_ports.specs.LinkMarks.{LinkMarks, fresh_marks}
-use Rattle.wire_messages.specs.Frame.{spelling, with_sequence, IsTooLong}
+use Rattle.link_ports.specs.LinkMarks.{LinkMarks}
+use Rattle.wire_messages.specs.Limits.{most_length}
+use Rattle.wire_messages.specs.Frame.{body, spelling, with_sequence, IsTooLong}
 use Rattle.wire_messages.specs.declared.messages.Message.{Message}
 use Rattle.wire_messages.specs.declared.refusals.EncodeRefusal.TheVariants.{TooLong as TooLongFor}
+use Rattle.client_connection.specs.Giving.{GivesBack, GivesBackAny}
+use Rattle.client_connection.specs.Asking.{IsBase}
 use Rattle.admin_client.specs.Replies.{wanted_of}
-use Rattle.admin_client.specs.Answers.{IsWhole, IsRefused}
+use Rattle.admin_client.specs.Answers.{IsWhole, IsRefused, IfUnavailable}
 use Rattle.admin_client.specs.declared.refusals.AdminRefusal.{AdminRefusal}
-use Rattle.admin_client.specs.declared.refusals.AdminRefusal.TheVariants.{Unavailable, BadReply, TooLong, Memory}
+use Rattle.admin_client.specs.declared.refusals.AdminRefusal.TheVariants.{Unavailable, TooLong, Memory}
 
 -- its dialler, its link, and the number of its next frame
 pub record State (N L : Type 0) : Type 0 where
@@ -26,6 +29,10 @@ next_number sequence = (sequence + 1) % 2 ^ 16
 -- the frame of the message
 abbrev pub frame_of : ℕ → Message → List ℕ
 frame_of sequence message = spelling (with_sequence sequence message)
+
+-- it is no longer than a frame may be
+abbrev pub Fits : ℕ → Message → Type 0
+Fits sequence message = length (body (with_sequence sequence message)) ≤ most_length
 
 -- an answer, seen by the list of its messages
 abbrev pub listed : {V : Type 0} → (V → List Message) → Result V AdminRefusal → Result (List Message) AdminRefusal
@@ -47,24 +54,24 @@ Exchanges sequence message result old new = IfTold old (λ before.
     (sent : List ℕ) × (bytes : List ℕ) × Exchanged sequence message result sent bytes
     × (new ≡ Some (with_received bytes (with_sent sent before))))
 
-module _ {N L : Type 0} (dial_faults dials : N → ℕ) (marks : L → LinkMarks) (traffic : L → Option Traffic) where
-  -- what giving a link back may do to the dialler
-  pub record GivesBack (old new : N) : Type 0 where
-    pub counted : (dial_faults new ≡ dial_faults old) ⊎ (dial_faults new ≡ next_count (dial_faults old))
-    pub dialled : dials new ≡ dials old
-
+module _ {N L : Type 0} (link_faults : L → ℕ) (marks : L → LinkMarks) (traffic : L → Option Traffic)
+    (faults dials : N → ℕ) (given_back : N → Option (List L)) where
   -- the link that the frame is to go out on: the one that was there, or one that was dialled, which is no failure
   pub record Begins (old : State N L) (base : L) (dial : N) : Type 0 where
-    pub is_base : ((old.link ≡ Some base) × (dial ≡ old.dial))
-        ⊎ ((old.link ≡ None) × ((marks base ≡ fresh_marks) × ((dial_faults dial ≡ dial_faults old.dial)
-        × (dials dial ≡ next_count (dials old.dial)))))
+    pub is_base : IsBase link_faults marks old.link base
+    pub dialled : dials dial ≡ (if is_some old.link then dials old.dial else next_count (dials old.dial))
+    pub counted : faults dial ≡ faults old.dial
+    pub given : given_back dial ≡ given_back old.dial
 
-  -- a whole answer leaves the link; a refusal takes it, and a link that failed counts for the dialler
+  -- the link is given back; one that failed or ended counts for the dialler
+  pub record Refuses (refusal : AdminRefusal) (link : L) (old new : N) : Type 0 where
+    pub gives : GivesBack faults dials given_back link_faults marks link old new
+    pub counted : IfUnavailable refusal (faults new ≡ next_count (faults old))
+
+  -- a whole answer leaves the link, and a refusal takes it
   abbrev pub Ends : Result (List Message) AdminRefusal → N → L → N → Option L → Type 0
   Ends (Ok replies) dial link after left = (left ≡ Some link) × (after ≡ dial)
-  Ends (Err Unavailable) dial link after left =
-      (left ≡ None) × ((dial_faults after ≡ next_count (dial_faults dial)) × (dials after ≡ dials dial))
-  Ends (Err other) dial link after left = (left ≡ None) × GivesBack dial after
+  Ends (Err refusal) dial link after left = (left ≡ None) × Refuses refusal link dial after
 
   -- the frame was to go out on a link
   pub record Talks (message : Message) (result : Result (List Message) AdminRefusal) (old new : State N L) : Type 0 where
@@ -76,6 +83,33 @@ module _ {N L : Type 0} (dial_faults dials : N → ℕ) (marks : L → LinkMarks
     pub ends : Ends result dial link new.dial new.link
     pub sequence : new.sequence ≡ next_number old.sequence
 
+  -- no link was there, and the dial failed
+  pub record FailsToDial (result : Result (List Message) AdminRefusal) (old new : State N L) : Type 0 where
+    pub was : old.link ≡ None
+    pub is : result ≡ Err Unavailable
+    pub counted : faults new.dial ≡ next_count (faults old.dial)
+    pub dialled : dials new.dial ≡ next_count (dials old.dial)
+    pub given : given_back new.dial ≡ given_back old.dial
+    pub same : new ≡ record old { dial = new.dial }
+
+  -- no link was there, and no memory was found to dial
+  pub record FindsNoRoomToDial (result : Result (List Message) AdminRefusal) (old new : State N L) : Type 0 where
+    pub error : AllocError
+    pub was : old.link ≡ None
+    pub is : result ≡ Err (Memory error)
+    pub counted : faults new.dial ≡ faults old.dial
+    pub dialled : dials new.dial ≡ next_count (dials old.dial)
+    pub given : given_back new.dial ≡ given_back old.dial
+    pub same : new ≡ record old { dial = new.dial }
+
+  -- no memory was found to spell the message; the link is given back, if there is one
+  pub record FindsNoRoom (result : Result (List Message) AdminRefusal) (old new : State N L) : Type 0 where
+    pub error : AllocError
+    pub is : result ≡ Err (Memory error)
+    pub link : new.link ≡ None
+    pub gives : GivesBackAny faults dials given_back link_faults marks old.link old.dial new.dial
+    pub sequence : new.sequence ≡ old.sequence
+
   -- the frame would be too long: nothing was sent, and all stays
   pub record IsRefusedLong (message : Message) (result : Result (List Message) AdminRefusal) (old new : State N L) : Type 0 where
     pub size : ℕ
@@ -83,22 +117,10 @@ module _ {N L : Type 0} (dial_faults dials : N → ℕ) (marks : L → LinkMarks
     pub is : result ≡ Err (TooLong size)
     pub same : new ≡ old
 
-  -- no link was there, and the dial failed
-  pub record FailsToDial (result : Result (List Message) AdminRefusal) (old new : State N L) : Type 0 where
-    pub was : old.link ≡ None
-    pub is : result ≡ Err Unavailable
-    pub counted : dial_faults new.dial ≡ next_count (dial_faults old.dial)
-    pub dialled : dials new.dial ≡ next_count (dials old.dial)
-    pub same : new ≡ record old { dial = new.dial }
-
-  -- no memory was found before anything was sent
-  pub record FindsNoRoom (result : Result (List Message) AdminRefusal) (old new : State N L) : Type 0 where
-    pub error : AllocError
-    pub is : result ≡ Err (Memory error)
-    pub link : new.link ≡ None
-    pub sequence : new.sequence ≡ old.sequence
-
-  abbrev pub Sends : Message → Result (List Message) AdminRefusal → State N L → State N L → Type 0
-  Sends message result old new =
-      Talks message result old new ⊎ (IsRefusedLong message result old new
-      ⊎ (FailsToDial result old new ⊎ FindsNoRoom result old new))
+  -- A message is sent once at most, on one link.
+  pub data Sends (message : Message) (result : Result (List Message) AdminRefusal) (old new : State N L) : Type 0 where
+    too_long : IsRefusedLong message result old new → Sends message result old new
+    no_room : FindsNoRoom result old new → Sends message result old new
+    no_dial : Fits old.sequence message → FailsToDial result old new → Sends message result old new
+    no_room_to_dial : Fits old.sequence message → FindsNoRoomToDial result old new → Sends message result old new
+    talks : Fits old.sequence message → Talks message result old new → Sends message result old new

@@ -1,5 +1,6 @@
 ghost use Rattle.std.specs.Prelude.{◌≡◌, None, IfErr};
 ghost use Rattle.admin_client.specs.Sending.{Sends, Exchanges, listed, frame_of};
+ghost use Rattle.client_connection.specs.Giving.{GivesBackAny};
 ghost use Rattle.admin_client.specs.Answers.{IfUnavailable};
 ghost use Rattle.client_connection.specs.Reading.{IsTrouble};
 
@@ -54,7 +55,7 @@ impl<N: Dial> AdminClient<N> {
     /// where the dial failed, or the link before the answer was whole; and `BadReply` where what came is no answer to the
     /// message. After `Unavailable` nothing is known of whether a command was accepted. It may wait.
     pub fn send(&mut self, message: &Message) -> Result<Vec<Message>, AdminRefusal>
-        ensures { Sends N.faults N.dials N.Link.marks N.Link.traffic message.now
+        ensures { Sends N.Link.faults N.Link.marks N.Link.traffic N.faults N.dials N.given_back message.now
             (listed (λ replies. replies.items) result) self.old self.new }
     {
         let sequence = self.sequence;
@@ -89,10 +90,16 @@ impl<N: Dial> AdminClient<N> {
     }
 
     // Gives the link back, if there is one.
-    fn leave(&mut self) {
-        if let Some(link) = self.link.take() {
-            self.dial.give_back(link);
-        }
+    fn leave(&mut self)
+        ensures link { self.new.link ≡ None }
+        ensures sequence { self.new.sequence ≡ self.old.sequence }
+        ensures gives { GivesBackAny N.faults N.dials N.given_back N.Link.faults N.Link.marks
+            self.old.link self.old.dial self.new.dial }
+    {
+        let Some(link) = self.link.take() else {
+            return;
+        };
+        self.dial.give_back(link);
     }
 }
 

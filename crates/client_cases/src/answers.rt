@@ -15,7 +15,8 @@ fn frame_fault(alloc: Global, fault: &WireRefusal) -> Result<String, AllocError>
     }
 }
 
-fn fault(alloc: Global, fault: &ReplyFault) -> Result<String, AllocError> {
+/// What is wrong with a reply, as a text.
+pub fn fault_text(alloc: Global, fault: &ReplyFault) -> Result<String, AllocError> {
     match fault {
         ReplyFault::Frame(fault) => frame_fault(alloc, fault),
         ReplyFault::Sequence { sent, got } => format!(in alloc; "bad:sequence:{sent}:{got}"),
@@ -40,7 +41,7 @@ fn refusal(alloc: Global, refusal: &ClientRefusal) -> Result<String, AllocError>
         }
         ClientRefusal::Unavailable => format!(in alloc; "unavailable"),
         ClientRefusal::Older { told, got } => format!(in alloc; "older:{told}:{got}"),
-        ClientRefusal::BadReply(wrong) => fault(alloc, wrong),
+        ClientRefusal::BadReply(wrong) => fault_text(alloc, wrong),
         ClientRefusal::Memory(_) => format!(in alloc; "memory"),
     }
 }

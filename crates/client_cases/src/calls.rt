@@ -1,6 +1,5 @@
 // The calls of a case.
 use crate::answers::answer_text;
-use crate::links::{dial, put_dial};
 use case_words::Failure;
 use cynara_client::Client;
 use cynara_keys::{Name, Question};
@@ -11,16 +10,13 @@ fn name(alloc: Global, letter: u8) -> Result<Name, Failure> {
     Ok(Name::read(alloc, &[letter])?)
 }
 
-// The question of a letter: a client of that name uses `p` for `u`.
+// The question of a letter: whether the client of that name may use `p` for `u`.
 fn question(alloc: Global, letter: u8) -> Result<Question, Failure> {
-    if name_letter(letter) {
-        return Ok(Question::of(alloc, &[letter], b"u", b"p")?);
-    }
-    Err(Failure::Words)
-}
-
-fn name_letter(letter: u8) -> bool {
-    letter.is_ascii_lowercase()
+    let client = name(alloc, letter)?;
+    let user = name(alloc, b'u')?;
+    let privilege = name(alloc, b'p')?;
+    let (client, user, privilege) = (client.as_slice(), user.as_slice(), privilege.as_slice());
+    Ok(Question::of(alloc, client, user, privilege)?)
 }
 
 fn call(
@@ -65,15 +61,6 @@ fn tell(client: &mut Client<&mut MemDial>, word: &str) -> Result<(), Failure> {
     }
 }
 
-fn make(alloc: Global, dial: &mut MemDial, entries: u32, calls: &str) -> Result<String, Failure> {
-    let mut text = String::new(alloc);
-    let mut client = made(alloc, dial, entries)?;
-    for word in calls.split(',') {
-        call(alloc, &mut client, &mut text, word)?;
-    }
-    Ok(text)
-}
-
 fn made(alloc: Global, dial: &mut MemDial, entries: u32) -> Result<Client<&mut MemDial>, Failure> {
     if entries == 0 || entries > 4096 {
         return Err(Failure::Words);
@@ -81,16 +68,17 @@ fn made(alloc: Global, dial: &mut MemDial, entries: u32) -> Result<Client<&mut M
     Ok(Client::new(alloc, dial, entries)?)
 }
 
-/// What the calls of a client answer, and what then stands.
-pub fn client(
+/// What the calls answer.
+pub fn answers(
     alloc: Global,
+    dial: &mut MemDial,
     entries: u32,
-    fails: &str,
-    links: &str,
     calls: &str,
 ) -> Result<String, Failure> {
-    let mut dial = dial(alloc, links, fails)?;
-    let mut text = make(alloc, &mut dial, entries, calls)?;
-    put_dial(alloc, &mut text, &dial)?;
+    let mut text = String::new(alloc);
+    let mut client = made(alloc, dial, entries)?;
+    for word in calls.split(',') {
+        call(alloc, &mut client, &mut text, word)?;
+    }
     Ok(text)
 }

@@ -5,7 +5,7 @@ use Rattle.wire_messages.specs.declared.messages.Framed.{Framed}
 use Rattle.wire_messages.specs.declared.operations.Heard.{Heard}
 use Rattle.wire_messages.specs.declared.refusals.WireRefusal.{WireRefusal}
 use Rattle.wire_messages.specs.declared.refusals.WireRefusal.TheVariants.{TooShort, TooLong, BadOperation, BadField, Trailing, Memory}
-use Rattle.client_connection.specs.Reading.{HearsPiece}
+use Rattle.client_connection.specs.parts.Pieces.{HearsPiece}
 use Rattle.client_connection.specs.declared.reading.Piece.TheVariants as piece
 
 -- what is known of pieces: one message at most

@@ -7,7 +7,8 @@ use Rattle.wire_messages.specs.Stream.{Feeding, Hears, BeginsWrong, IsOpen}
 use Rattle.wire_messages.specs.declared.messages.Framed.{Framed}
 use Rattle.wire_messages.specs.declared.operations.Heard.{Heard}
 use Rattle.wire_messages.specs.declared.refusals.WireRefusal.{WireRefusal}
-use Rattle.client_connection.specs.Reading.{Came, HearsPiece, TakesPiece, IsRead, Receives}
+use Rattle.client_connection.specs.Reading.{IsRead, Receives}
+use Rattle.client_connection.specs.parts.Pieces.{Came, HearsPiece, TakesPiece}
 use Rattle.client_connection.specs.declared.faults.Broken.{Broken}
 use Rattle.client_connection.specs.declared.reading.Piece.{Piece}
 use Rattle.client_connection.specs.declared.reading.Piece.TheVariants as piece

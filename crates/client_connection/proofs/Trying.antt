@@ -1,149 +1,317 @@
 -- One try behind another.
-use Rattle.std.proofs.Common.{◌≡◌, ◌⊎◌, ◌<◌, ◌≤◌, ◌-◌, ℕ, zero, suc, Bool, true, false, ◌||◌, cond, List, Option, Some, None, Result, Ok, Err, is_some, refl, sym, ap, ◌∙◌, subst, inl, inr, arith}
-use Rattle.std.proofs.lemmas.Bool.{false≢true}
+use Rattle.std.proofs.Common.{◌≡◌, ◌<◌, ◌∙◌, ℕ, zero, suc, ◌-◌, ◌+◌, Bool, true, false, ◌||◌, not, List, [], ◌∷◌, ◌++◌, length, Option, Some, None, Result, Ok, Err, is_some, refl, sym, ap, subst, arith, append_assoc, append-nil, length-append}
 use Rattle.desk_ports.specs.Faults.{next_count}
 use Rattle.link_ports.specs.Traffic.{Traffic}
-use Rattle.link_ports.specs.LinkMarks.{LinkMarks, fresh_marks}
+use Rattle.link_ports.specs.LinkMarks.{LinkMarks}
+use Rattle.link_ports.specs.NetCounts.{count_after_give_back}
 use Rattle.std.specs.declared.alloc.AllocError.{AllocError}
 use Rattle.wire_messages.specs.declared.messages.Framed.{Framed}
 use Rattle.wire_messages.specs.declared.refusals.WireRefusal.{WireRefusal}
 use Rattle.client_connection.specs.declared.faults.Broken.{Broken}
-use Rattle.client_connection.specs.declared.faults.Broken.TheVariants.{Wrong}
-use Rattle.client_connection.specs.Asking.{counted, Spends, IsSpent, IsTried, IsSentOn, IsBase, CameOver, IsAsked, IsAttempted, IsOver, FaultsAfter, Attempts}
+use Rattle.client_connection.specs.declared.faults.Broken.TheVariants.{Lost, Wrong}
+use Rattle.client_connection.specs.Giving.{Appends}
+use Rattle.client_connection.specs.Asking.{counted, links_of, has_link, link_behind, tries_made, dials_in, IsBase, CameOver, AreLost, Loses, Replies, RepliesWrong, ComesOf, Asks}
+use Rattle.client_connection.specs.parts.Over.{Goes, Fails, GoesOver}
 use Rattle.client_connection.specs.declared.asking.Outcome.{Outcome}
 use Rattle.client_connection.specs.declared.asking.Outcome.TheVariants as outcome
-use Rattle.client_connection.specs.declared.asking.Attempt.{Attempt}
-use Rattle.client_connection.specs.declared.asking.Attempt.TheVariants as attempt
 
--- the dials of a first try
-first_dials : (had : Bool) (dials after : ℕ) → after ≡ cond had dials (next_count dials)
-    → after ≡ counted (cond had 0 1) dials
-first_dials true dials after is = is
-first_dials false dials after is = is
+-- ---- tries that were lost, behind others
 
--- the first try had an end
-pub first : {L : Type 0} (tries : ℕ) (had : Bool) (result : Outcome L) (rise f f' d d' : ℕ) → 0 < tries
-    → f' ≡ counted rise f → d' ≡ cond had d (next_count d) → IsSpent tries result 0 rise
-    → Spends tries had result f f' d d'
-first tries had result rise f f' d d' some faults dials spent = record {
-  lost = 0;
-  rise = rise;
-  fewer = some;
-  least = omega arith;
-  faults = faults;
-  dials = first_dials had d d' dials;
-  spent = spent;
-}
+links_of-append : {L : Type 0} → (first rest : List (Option L)) → links_of (first ++ rest) ≡ links_of first ++ links_of rest
+links_of-append [] rest = refl
+links_of-append (None ∷ first) rest = links_of-append first rest
+links_of-append (Some link ∷ first) rest = ap (λ links. link ∷ links) (links_of-append first rest)
 
--- a failing try rises the dialler's count by one at most
-pub risen : (before after : ℕ) → (after ≡ before) ⊎ (after ≡ next_count before)
-    → (rise : ℕ) × (after ≡ counted rise before)
-risen before after h = elim h [
-  | inl same ↦ (0, same)
-  | inr next ↦ (1, next)
-]
+has_link-append : {L : Type 0} → (first rest : List (Option L)) → has_link (first ++ rest) ≡ (has_link first || has_link rest)
+has_link-append [] rest = refl
+has_link-append (None ∷ first) rest = has_link-append first rest
+has_link-append (Some link ∷ first) rest = refl
 
--- the reply came at the first try
-spent_first : {L : Type 0} (tries : ℕ) (link : L) (is_new : Bool) (framed : Framed)
-    → IsSpent tries (outcome.Replied link is_new framed) 0 0
-spent_first tries link true framed = refl
-spent_first tries link false framed = (refl, refl)
+counted-append : {L : Type 0} → (first rest : List (Option L)) (count : ℕ)
+    → counted (length (first ++ rest)) count ≡ counted (length rest) (counted (length first) count)
+counted-append [] rest count = refl
+counted-append (try ∷ first) rest count = counted-append first rest (next_count count)
 
-pub first_replied : {L : Type 0} (tries : ℕ) (had : Bool) (link : L) (is_new : Bool) (framed : Framed) (f f' d d' : ℕ)
-    → 0 < tries → Attempts had (attempt.Replied link is_new framed) f f' d d'
-    → Spends tries had (outcome.Replied link is_new framed) f f' d d'
-first_replied tries had link is_new framed f f' d d' some counts =
-    first tries had (outcome.Replied link is_new framed) 0 f f' d d' some counts.0 counts.1.0
-    (spent_first tries link is_new framed)
+or_assoc : (a b c : Bool) → (a || (b || c)) ≡ ((a || b) || c)
+or_assoc true b c = refl
+or_assoc false b c = refl
 
-pub first_wrong : {L : Type 0} (tries : ℕ) (had : Bool) (refusal : WireRefusal) (f f' d d' : ℕ) → 0 < tries
-    → Attempts {L = L} had (attempt.Wrong refusal) f f' d d' → Spends {L = L} tries had (outcome.Wrong refusal) f f' d d'
-first_wrong tries had refusal f f' d d' some counts =
-    let rise = risen f f' counts.0 in
-    first tries had (outcome.Wrong refusal) rise.0 f f' d d' some rise.1 counts.1.0 tt
+pub or_true : (a : Bool) → true ≡ (a || true)
+or_true true = refl
+or_true false = refl
 
-pub first_memory : {L : Type 0} (tries : ℕ) (had : Bool) (error : AllocError) (is_tried : Bool) (f f' d d' : ℕ) → 0 < tries
-    → Attempts {L = L} had (attempt.Memory error) f f' d d'
-    → Spends {L = L} tries had (outcome.Memory error is_tried) f f' d d'
-first_memory tries had error is_tried f f' d d' some counts =
-    first tries had (outcome.Memory error is_tried) 0 f f' d d' some counts.0 counts.1.0 tt
+pub or_false : (a : Bool) → a ≡ (a || false)
+or_false true = refl
+or_false false = refl
 
--- the only try was lost
-pub only_lost : {L : Type 0} (tries : ℕ) (had is_sent is_tried : Bool) (f f' d d' : ℕ) → tries ≡ 1
-    → Attempts {L = L} had (attempt.Lost is_sent) f f' d d'
-    → Spends {L = L} tries had (outcome.Unavailable is_tried) f f' d d'
-only_lost tries had is_sent is_tried f f' d d' one counts =
-    first tries had (outcome.Unavailable is_tried) 1 f f' d d' (omega (arith, one)) counts.0 counts.1.0 (sym one)
+-- none is there behind a try that was lost
+behind_none : {L : Type 0} → (rest : List (Option L)) → link_behind None rest ≡ None
+behind_none [] = refl
+behind_none (try ∷ rest) = refl
 
-later_dials : (had : Bool) (lost d d1 d' : ℕ) → d1 ≡ cond had d (next_count d) → d' ≡ counted (suc lost) d1
-    → d' ≡ counted (cond had (suc lost) (suc (suc lost))) d
-later_dials true lost d d1 d' one more = more ∙ ap (λ n. counted (suc lost) n) one
-later_dials false lost d d1 d' one more = more ∙ ap (λ n. counted (suc lost) n) one
+behind : {L : Type 0} → (entry : Option L) (first rest : List (Option L)) → length first ≡ 1
+    → link_behind None rest ≡ link_behind entry (first ++ rest)
+behind entry [] rest one = absurd (omega (arith, one))
+behind entry (try ∷ first) rest one = behind_none rest
 
--- An outcome of later tries, of which none had a link to begin with, is one of all tries.
-later_spent : {L : Type 0} (tries : ℕ) (result : Outcome L) (lost rise : ℕ) → 0 < tries
-    → (link_was_new : (link : L) (framed : Framed) → result ≡ outcome.Replied link false framed → ⊥)
-    → IsSpent (tries - 1) result lost rise → IsSpent tries result (suc lost) (suc rise)
-later_spent tries (outcome.Replied link true framed) lost rise some new spent = ap suc spent
-later_spent tries (outcome.Replied link false framed) lost rise some new spent = absurd (new link framed refl)
-later_spent tries (outcome.Wrong refusal) lost rise some new spent = tt
-later_spent tries (outcome.Unavailable is_tried) lost rise some new spent = omega (arith, some, spent)
-later_spent tries (outcome.Memory error is_tried) lost rise some new spent = tt
+dials_later : (had : Bool) (m d between after : ℕ) → between ≡ counted (dials_in had 1) d
+    → after ≡ counted (dials_in false m) between → after ≡ counted (dials_in had (suc m)) d
+dials_later true zero d between after one more = more ∙ one
+dials_later true (suc m) d between after one more = more ∙ ap (λ n. counted (suc m) n) one
+dials_later false zero d between after one more = more ∙ one
+dials_later false (suc m) d between after one more = more ∙ ap (λ n. counted (suc m) n) one
 
-module _ {L : Type 0} (traffic : L → Option Traffic) (marks : L → LinkMarks) (frame : List ℕ) where
-  -- without a link to begin with, the link that replied is a new one
-  not_old : (result : Outcome L) → IsAsked traffic marks frame None result → (link : L) (framed : Framed)
-      → result ≡ outcome.Replied link false framed → ⊥
-  not_old result asked link framed is =
-      let came = subst (IsAsked traffic marks frame None) is asked in
-      let base = came.is_base in cc
+made_later : {L : Type 0} → (result : Outcome L) (first rest : List (Option L)) → length first ≡ 1
+    → tries_made result (first ++ rest) ≡ suc (tries_made result rest)
+made_later (outcome.Replied link is_new framed) first rest one = omega (arith, length-append first rest, one)
+made_later (outcome.Wrong refusal) first rest one = omega (arith, length-append first rest, one)
+made_later (outcome.Unavailable is_tried) first rest one = omega (arith, length-append first rest, one)
+made_later (outcome.Memory error is_tried) first rest one = omega (arith, length-append first rest, one)
 
-  over_new : (entry : Option L) (is_new : Bool) (result : Result Framed Broken) (link : L)
-      → CameOver traffic marks frame None is_new result link → CameOver traffic marks frame entry is_new result link
-  over_new entry true result link came =
-      record { base = came.base; is_base = came.is_base; exchanged = came.exchanged; ends = came.ends }
-  over_new entry false result link came = let base = came.is_base in cc
+-- ---- what was given back
 
-  -- what came of later tries
-  pub later_asked : (entry : Option L) (result : Outcome L) → IsAsked traffic marks frame None result
-      → IsAsked traffic marks frame entry result
-  later_asked entry (outcome.Replied link is_new framed) asked = over_new entry is_new (Ok framed) link asked
-  later_asked entry (outcome.Wrong refusal) asked = (asked.0, (asked.1.0, over_new entry asked.1.0 (Err (Wrong refusal)) asked.0 asked.1.1))
-  later_asked entry (outcome.Unavailable is_tried) asked = tt
-  later_asked entry (outcome.Memory error is_tried) asked = tt
+appends_nothing : {A : Type 0} → (old new : Option (List A)) → new ≡ old → Appends [] old new
+appends_nothing old new same after told = (after, (sym same ∙ told, sym (append-nil after)))
 
-  -- the first try was lost, and this came of those behind it
-  pub later : (tries : ℕ) (had : Bool) (result : Outcome L) (f f1 f' d d1 d' : ℕ) → 0 < tries
-      → f1 ≡ next_count f → d1 ≡ cond had d (next_count d) → IsAsked traffic marks frame None result
-      → Spends (tries - 1) false result f1 f' d1 d' → Spends tries had result f f' d d'
-  later tries had result f f1 f' d d1 d' some lost dials asked rest = record {
-    lost = suc rest.lost;
-    rise = suc rest.rise;
-    fewer = let fewer = rest.fewer in omega (arith, fewer);
-    least = let least = rest.least in omega (arith, least);
-    faults = rest.faults ∙ ap (λ n. counted rest.rise n) lost;
-    dials = later_dials had rest.lost d d1 d' dials rest.dials;
-    spent = later_spent tries result rest.lost rest.rise some (not_old result asked) rest.spent;
-  }
+appends_more : {A : Type 0} → (first more : List A) (old between new : Option (List A))
+    → Appends first old between → Appends more between new → Appends (first ++ more) old new
+appends_more first more old between new one two after told =
+    let late = two after told in
+    let early = one late.0 late.1.0 in
+    (early.0, (early.1.0, late.1.1 ∙ (ap (λ links. links ++ more) early.1.1 ∙ append_assoc early.0 first more)))
 
-  -- a frame over the link that was there, or over one that was dialled
-  pub attempted : (entry : Option L) (is_new : Bool) (base : L) (result : Attempt L) → IsBase traffic marks frame is_new entry base
-      → IsOver traffic marks frame is_new base result → IsAttempted traffic marks frame entry result
-  attempted entry is_new base (attempt.Replied link kept framed) from over =
-      record {
-        base = base;
-        is_base = subst (λ b. IsBase traffic marks frame b entry base) (sym over.0) from;
-        exchanged = over.1.0;
-        ends = over.1.1;
-      }
-  attempted entry is_new base (attempt.Wrong refusal) from over =
-      (over.0, (is_new, record { base = base; is_base = from; exchanged = over.1.0; ends = over.1.1 }))
-  attempted entry is_new base (attempt.Lost is_sent) from over = tt
-  attempted entry is_new base (attempt.Memory error) from over = tt
+appends_from : {A : Type 0} → (values : List A) (start old new : Option (List A)) → old ≡ start → Appends values old new
+    → Appends values start new
+appends_from values start old new same given after told =
+    let there = given after told in
+    (there.0, (sym same ∙ there.1.0, there.1.1))
 
--- nothing is said of a link that was not there
-pub sent_new : {L : Type 0} (result : Attempt L) → IsSentOn false result
-sent_new (attempt.Replied link is_new framed) = tt
-sent_new (attempt.Lost is_sent) = λ had. absurd (false≢true had)
-sent_new (attempt.Wrong refusal) = tt
-sent_new (attempt.Memory error) = refl
+module _ {L : Type 0} (link_faults : L → ℕ) (marks : L → LinkMarks) (traffic : L → Option Traffic) (frame : List ℕ) where
+  lost_after : (first rest : List (Option L)) → AreLost link_faults marks traffic frame None first
+      → AreLost link_faults marks traffic frame None rest → AreLost link_faults marks traffic frame None (first ++ rest)
+  lost_after [] rest early late = late
+  lost_after (None ∷ first) rest early late = (early.0, lost_after first rest early.1 late)
+  lost_after (Some link ∷ first) rest early late = (early.0, lost_after first rest early.1 late)
+
+  lost_more : (entry : Option L) (first rest : List (Option L)) → length first ≡ 1
+      → AreLost link_faults marks traffic frame entry first → AreLost link_faults marks traffic frame None rest
+      → AreLost link_faults marks traffic frame entry (first ++ rest)
+  lost_more entry [] rest one early late = absurd (omega (arith, one))
+  lost_more entry (None ∷ first) rest one early late = (early.0, lost_after first rest early.1 late)
+  lost_more entry (Some link ∷ first) rest one early late = (early.0, lost_after first rest early.1 late)
+
+  came_behind : (entry : Option L) (first rest : List (Option L)) (result : Result Framed Broken) (link : L) → length first ≡ 1
+      → CameOver link_faults marks traffic frame (link_behind None rest) result link
+      → CameOver link_faults marks traffic frame (link_behind entry (first ++ rest)) result link
+  came_behind entry first rest result link one came =
+      subst (λ (there : Option L). CameOver link_faults marks traffic frame there result link) (behind entry first rest one) came
+
+  module _ {N : Type 0} (faults dials : N → ℕ) (given_back : N → Option (List L)) where
+    loses_more : (first rest : List (Option L)) (old between new : N)
+        → Loses link_faults marks traffic frame faults dials given_back first old between
+        → Loses link_faults marks traffic frame faults dials given_back rest between new
+        → Loses link_faults marks traffic frame faults dials given_back (first ++ rest) old new
+    loses_more first rest old between new one two = record {
+      counted_each =
+          two.counted_each ∙ (ap (λ n. counted (length rest) n) one.counted_each ∙ sym (counted-append first rest (faults old)));
+      given =
+          subst (λ links. Appends links (given_back old) (given_back new)) (sym (links_of-append first rest))
+          (appends_more (links_of first) (links_of rest) (given_back old) (given_back between) (given_back new) one.given two.given);
+    }
+
+    tried_more : (before is_tried : Bool) (first rest : List (Option L)) (after : Bool) → is_tried ≡ (before || has_link first)
+        → after ≡ (is_tried || has_link rest) → after ≡ (before || has_link (first ++ rest))
+    tried_more before is_tried first rest after one two =
+        two ∙ (ap (λ b. b || has_link rest) one ∙ (sym (or_assoc before (has_link first) (has_link rest))
+        ∙ ap (λ b. before || b) (sym (has_link-append first rest))))
+
+    comes_of_more : (tries : ℕ) (before is_tried : Bool) (entry : Option L) (first rest : List (Option L)) (result : Outcome L)
+        (old between new : N) → 1 < tries → length first ≡ 1 → is_tried ≡ (before || has_link first)
+        → Loses link_faults marks traffic frame faults dials given_back first old between
+        → ComesOf link_faults marks traffic frame faults dials given_back (tries - 1) is_tried None rest result between new
+        → ComesOf link_faults marks traffic frame faults dials given_back tries before entry (first ++ rest) result old new
+    comes_of_more tries before is_tried entry first rest (outcome.Replied link is_new framed) old between new some one tried loses late =
+        let fewer : length rest < tries - 1 = late.0 in
+        let replies = late.1 in (
+          omega (arith, length-append first rest, one, fewer, some),
+          record {
+            came = came_behind entry first rest (Ok framed) link one replies.came;
+            new_link = replies.new_link ∙ ap (λ there. not (is_some there)) (behind entry first rest one);
+            loses = loses_more first rest old between new loses replies.loses;
+          },
+        )
+    comes_of_more tries before is_tried entry first rest (outcome.Wrong refusal) old between new some one tried loses late =
+        let fewer : length rest < tries - 1 = late.0 in
+        let replies = late.1 in (
+          omega (arith, length-append first rest, one, fewer, some),
+          record {
+            link = replies.link;
+            came = came_behind entry first rest (Err (Wrong refusal)) replies.link one replies.came;
+            counted_each =
+                replies.counted_each
+                ∙ ap (λ n. count_after_give_back (marks replies.link) (link_faults replies.link) n)
+                (ap (λ n. counted (length rest) n) loses.counted_each ∙ sym (counted-append first rest (faults old)));
+            given =
+                subst (λ links. Appends links (given_back old) (given_back new))
+                (sym (append_assoc (links_of first) (links_of rest) (replies.link ∷ []))
+                ∙ ap (λ links. links ++ replies.link ∷ []) (sym (links_of-append first rest)))
+                (appends_more (links_of first) (links_of rest ++ replies.link ∷ []) (given_back old) (given_back between) (given_back new)
+                loses.given replies.given);
+          },
+        )
+    comes_of_more tries before is_tried entry first rest (outcome.Unavailable after) old between new some one tried loses late =
+        let all : length rest ≡ tries - 1 = late.0 in (
+          omega (arith, length-append first rest, one, all, some),
+          (tried_more before is_tried first rest after tried late.1.0, loses_more first rest old between new loses late.1.1),
+        )
+    comes_of_more tries before is_tried entry first rest (outcome.Memory error after) old between new some one tried loses late =
+        let fewer : length rest < tries - 1 = late.0 in (
+          omega (arith, length-append first rest, one, fewer, some),
+          (tried_more before is_tried first rest after tried late.1.0, loses_more first rest old between new loses late.1.1),
+        )
+
+    -- the first try was lost, and this came of those behind it
+    pub later : (tries : ℕ) (before is_tried : Bool) (entry : Option L) (result : Outcome L) (old between new : N) → 1 < tries
+        → Asks link_faults marks traffic frame faults dials given_back 1 before entry (outcome.Unavailable is_tried) old between
+        → Asks link_faults marks traffic frame faults dials given_back (tries - 1) is_tried None result between new
+        → Asks link_faults marks traffic frame faults dials given_back tries before entry result old new
+    later tries before is_tried entry result old between new some first rest =
+        let one : length first.lost ≡ 1 = first.came.0 in
+        record {
+          lost = first.lost ++ rest.lost;
+          each = lost_more entry first.lost rest.lost one first.each rest.each;
+          came =
+              comes_of_more tries before is_tried entry first.lost rest.lost result old between new some one first.came.1.0
+              first.came.1.1 rest.came;
+          dialled =
+              subst (λ n. dials new ≡ counted (dials_in (is_some entry) n) (dials old)) (sym (made_later result first.lost rest.lost one))
+              (dials_later (is_some entry) (tries_made result rest.lost) (dials old) (dials between) (dials new)
+              (subst (λ n. dials between ≡ counted (dials_in (is_some entry) n) (dials old)) one first.dialled) rest.dialled);
+        }
+
+    -- the only try was lost
+    pub only : (tries : ℕ) (before is_tried : Bool) (entry : Option L) (old new : N) → tries ≡ 1
+        → Asks link_faults marks traffic frame faults dials given_back 1 before entry (outcome.Unavailable is_tried) old new
+        → Asks link_faults marks traffic frame faults dials given_back tries before entry (outcome.Unavailable is_tried) old new
+    only tries before is_tried entry old new one first =
+        subst (λ n. Asks link_faults marks traffic frame faults dials given_back n before entry (outcome.Unavailable is_tried) old new)
+        (sym one) first
+
+    -- the first try was the end
+    pub ended_replied : (tries : ℕ) (before : Bool) (entry : Option L) (link : L) (is_new : Bool) (framed : Framed) (old new : N)
+        → 0 < tries
+        → Asks link_faults marks traffic frame faults dials given_back 1 before entry (outcome.Replied link is_new framed) old new
+        → Asks link_faults marks traffic frame faults dials given_back tries before entry (outcome.Replied link is_new framed) old new
+    ended_replied tries before entry link is_new framed old new some first =
+        let fewer : length first.lost < 1 = first.came.0 in
+        record { lost = first.lost; each = first.each; came = (omega (arith, fewer, some), first.came.1); dialled = first.dialled }
+
+    pub ended_wrong : (tries : ℕ) (before : Bool) (entry : Option L) (refusal : WireRefusal) (old new : N) → 0 < tries
+        → Asks link_faults marks traffic frame faults dials given_back 1 before entry (outcome.Wrong refusal) old new
+        → Asks link_faults marks traffic frame faults dials given_back tries before entry (outcome.Wrong refusal) old new
+    ended_wrong tries before entry refusal old new some first =
+        let fewer : length first.lost < 1 = first.came.0 in
+        record { lost = first.lost; each = first.each; came = (omega (arith, fewer, some), first.came.1); dialled = first.dialled }
+
+    pub ended_memory : (tries : ℕ) (before : Bool) (entry : Option L) (error : AllocError) (is_tried : Bool) (old new : N) → 0 < tries
+        → Asks link_faults marks traffic frame faults dials given_back 1 before entry (outcome.Memory error is_tried) old new
+        → Asks link_faults marks traffic frame faults dials given_back tries before entry (outcome.Memory error is_tried) old new
+    ended_memory tries before entry error is_tried old new some first =
+        let fewer : length first.lost < 1 = first.came.0 in
+        record { lost = first.lost; each = first.each; came = (omega (arith, fewer, some), first.came.1); dialled = first.dialled }
+
+    -- the frame went over the link that was there, or over one that was dialled
+    pub over : (before : Bool) (entry : Option L) (base : L) (result : Outcome L) (start old new : N)
+        → IsBase link_faults marks entry base
+        → faults old ≡ faults start → given_back old ≡ given_back start → dials old ≡ counted (dials_in (is_some entry) 1) (dials start)
+        → GoesOver link_faults marks traffic frame faults dials given_back (not (is_some entry)) base result old new
+        → Asks link_faults marks traffic frame faults dials given_back 1 before entry result start new
+    over before entry base (outcome.Replied link is_new framed) start old new from count given dialled goes = record {
+      lost = [];
+      each = tt;
+      came = (
+        omega arith,
+        record {
+          came = record { base = base; is_base = from; exchanged = goes.1.0.exchanged; ends = goes.1.0.ends };
+          new_link = goes.0;
+          loses = record {
+            counted_each = ap faults goes.1.1 ∙ count;
+            given = appends_nothing (given_back start) (given_back new) (ap given_back goes.1.1 ∙ given);
+          };
+        },
+      );
+      dialled = ap dials goes.1.1 ∙ dialled;
+    }
+    over before entry base (outcome.Wrong refusal) start old new from count given dialled fails = record {
+      lost = [];
+      each = tt;
+      came = (
+        omega arith,
+        record {
+          link = fails.link;
+          came = record { base = base; is_base = from; exchanged = fails.goes.exchanged; ends = fails.goes.ends };
+          counted_each =
+              fails.gives.counted ∙ ap (λ n. count_after_give_back (marks fails.link) (link_faults fails.link) n) count;
+          given = appends_from (fails.link ∷ []) (given_back start) (given_back old) (given_back new) given fails.gives.given;
+        },
+      );
+      dialled = fails.gives.dialled ∙ dialled;
+    }
+    over before entry base (outcome.Unavailable is_tried) start old new from count given dialled goes =
+        let fails = goes.1.1 in
+        record {
+          lost = Some fails.link ∷ [];
+          each = (record { base = base; is_base = from; exchanged = fails.goes.exchanged; ends = fails.goes.ends }, tt);
+          came = (
+            refl,
+            (
+              goes.0 ∙ or_true before,
+              record {
+                counted_each = goes.1.0 ∙ ap next_count count;
+                given = appends_from (fails.link ∷ []) (given_back start) (given_back old) (given_back new) given fails.gives.given;
+              },
+            ),
+          );
+          dialled = fails.gives.dialled ∙ dialled;
+        }
+    over before entry base (outcome.Memory error is_tried) start old new from count given dialled goes = absurd goes
+
+    -- the dial failed
+    pub no_dial : (before : Bool) (start new : N) → faults new ≡ next_count (faults start) → given_back new ≡ given_back start
+        → dials new ≡ next_count (dials start)
+        → Asks link_faults marks traffic frame faults dials given_back 1 before None (outcome.Unavailable before) start new
+    no_dial before start new count given dialled = record {
+      lost = None ∷ [];
+      each = (refl, tt);
+      came = (
+        refl,
+        (
+          or_false before,
+          record {
+            counted_each = count;
+            given = appends_nothing (given_back start) (given_back new) given;
+          },
+        ),
+      );
+      dialled = dialled;
+    }
+
+    -- or found no memory
+    pub no_room : (before : Bool) (error : AllocError) (start new : N) → faults new ≡ faults start → given_back new ≡ given_back start
+        → dials new ≡ next_count (dials start)
+        → Asks link_faults marks traffic frame faults dials given_back 1 before None (outcome.Memory error before) start new
+    no_room before error start new count given dialled = record {
+      lost = [];
+      each = tt;
+      came = (
+        omega arith,
+        (
+          or_false before,
+          record {
+            counted_each = count;
+            given = appends_nothing (given_back start) (given_back new) given;
+          },
+        ),
+      );
+      dialled = dialled;
+    }

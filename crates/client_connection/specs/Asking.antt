@@ -1,99 +1,107 @@
 -- A frame is sent and answered over a link, or over a new one where that fails.
-use Rattle.std.specs.Prelude.{◌≡◌, ◌⊎◌, ◌<◌, ◌≤◌, ℕ, zero, suc, Bool, true, false, if◌then◌else◌, List, Option, Some, None, Result, Ok, Err}
+use Rattle.std.specs.Prelude.{◌≡◌, ◌<◌, ℕ, zero, suc, Bool, true, false, ◌||◌, List, [], ◌∷◌, ◌++◌, length, Option, Some, None, is_some, not, Result, Ok, Err}
 use Rattle.desk_ports.specs.Faults.{next_count}
 use Rattle.link_ports.specs.Traffic.{Traffic}
 use Rattle.link_ports.specs.LinkMarks.{LinkMarks, fresh_marks}
+use Rattle.link_ports.specs.NetCounts.{count_after_give_back}
 use Rattle.wire_messages.specs.declared.messages.Framed.{Framed}
 use Rattle.client_connection.specs.Exchange.{Exchanges}
+use Rattle.client_connection.specs.Giving.{Appends}
 use Rattle.client_connection.specs.declared.faults.Broken.{Broken}
-use Rattle.client_connection.specs.declared.faults.Broken.TheVariants.{Wrong}
+use Rattle.client_connection.specs.declared.faults.Broken.TheVariants.{Lost, Wrong}
 use Rattle.client_connection.specs.declared.asking.Outcome.{Outcome}
 use Rattle.client_connection.specs.declared.asking.Outcome.TheVariants as outcome
-use Rattle.client_connection.specs.declared.asking.Attempt.{Attempt}
-use Rattle.client_connection.specs.declared.asking.Attempt.TheVariants as attempt
 
 -- a count that rose so many times, and stands still at the last value
 abbrev pub counted : ℕ → ℕ → ℕ
 counted zero count = count
 counted (suc n) count = counted n (next_count count)
 
--- ---- what it costs
+-- ---- tries that were lost: on each a dial failed, `None`, or a link, which was given back
 
--- Of so many dials and links that failed, and the rise of the dialler's count, which may also count a link that was given
--- back for its reply: how many there are, where this came of it.
-abbrev pub IsSpent : {L : Type 0} → ℕ → Outcome L → ℕ → ℕ → Type 0
-IsSpent tries (outcome.Replied link true framed) lost rise = rise ≡ lost
-IsSpent tries (outcome.Replied link false framed) lost rise = (rise ≡ lost) × (lost ≡ 0)
-IsSpent tries (outcome.Unavailable is_tried) lost rise = rise ≡ tries
-IsSpent tries other lost rise = Unit {0}
+-- the links among them
+abbrev pub links_of : {L : Type 0} → List (Option L) → List L
+links_of [] = []
+links_of (None ∷ lost) = links_of lost
+links_of (Some link ∷ lost) = link ∷ links_of lost
 
--- The dials and the rise of the dialler's count: the dials are as many as the dials and links that failed, and one more
--- where no link was there.
-pub record Spends {L : Type 0} (tries : ℕ) (had : Bool) (result : Outcome L) (count count_after made made_after : ℕ) : Type 0 where
-  pub lost : ℕ
-  pub rise : ℕ
-  pub fewer : lost < tries
-  pub least : lost ≤ rise
-  pub faults : count_after ≡ counted rise count
-  pub dials : made_after ≡ counted (if had then lost else suc lost) made
-  pub spent : IsSpent tries result lost rise
+-- whether there is one: then the frame was tried to be sent
+abbrev pub has_link : {L : Type 0} → List (Option L) → Bool
+has_link [] = false
+has_link (None ∷ lost) = has_link lost
+has_link (Some link ∷ lost) = true
 
--- what one try does to the dialler's count
-abbrev pub FaultsAfter : {L : Type 0} → Attempt L → ℕ → ℕ → Type 0
-FaultsAfter (attempt.Replied link is_new framed) before after = after ≡ before
-FaultsAfter (attempt.Lost is_sent) before after = after ≡ next_count before
-FaultsAfter (attempt.Wrong refusal) before after = (after ≡ before) ⊎ (after ≡ next_count before)
-FaultsAfter (attempt.Memory error) before after = after ≡ before
+-- The link that is there behind them. After a try that was lost none is.
+abbrev pub link_behind : {L : Type 0} → Option L → List (Option L) → Option L
+link_behind entry [] = entry
+link_behind entry (try ∷ lost) = None
 
--- on a link that was there the frame was tried to be sent, and nothing was dialled
-abbrev pub IsSentOn : {L : Type 0} → Bool → Attempt L → Type 0
-IsSentOn had (attempt.Lost is_sent) = had ≡ true → is_sent ≡ true
-IsSentOn had (attempt.Memory error) = had ≡ false
-IsSentOn had other = Unit {0}
+-- how many tries were made: those that were lost, and one more where that was not the end
+abbrev pub tries_made : {L : Type 0} → Outcome L → List (Option L) → ℕ
+tries_made (outcome.Unavailable is_tried) lost = length lost
+tries_made other lost = suc (length lost)
 
-abbrev pub Attempts : {L : Type 0} → Bool → Attempt L → ℕ → ℕ → ℕ → ℕ → Type 0
-Attempts had result faults faults_after dials dials_after =
-    FaultsAfter result faults faults_after
-    × ((dials_after ≡ (if had then dials else next_count dials)) × IsSentOn had result)
+-- how often so many tries dial: each but the first, and the first too where no link was there
+abbrev pub dials_in : Bool → ℕ → ℕ
+dials_in had zero = zero
+dials_in true (suc n) = n
+dials_in false (suc n) = suc n
 
--- where the frame was to be sent on a link, it says that it was tried
-abbrev pub IsTried : {L : Type 0} → Bool → Outcome L → Type 0
-IsTried had (outcome.Unavailable is_tried) = had ≡ true → is_tried ≡ true
-IsTried had (outcome.Memory error is_tried) = had ≡ true → is_tried ≡ true
-IsTried had other = Unit {0}
+-- The link as it was before the frame: the one that was there, or else one that was dialled. Of the latter all is said that a
+-- dialler promises: no call of it has failed, and it bears no mark.
+abbrev pub IsBase : {L : Type 0} → (L → ℕ) → (L → LinkMarks) → Option L → L → Type 0
+IsBase link_faults marks (Some link) base = base ≡ link
+IsBase link_faults marks None base = (marks base ≡ fresh_marks) × (link_faults base ≡ 0)
 
--- ---- what comes over the link
-
-module _ {L : Type 0} (traffic : L → Option Traffic) (marks : L → LinkMarks) (frame : List ℕ) where
-  -- the link as it was before: that which was there, or one that was dialled
-  abbrev pub IsBase : Bool → Option L → L → Type 0
-  IsBase true entry base = marks base ≡ fresh_marks
-  IsBase false entry base = entry ≡ Some base
-
+module _ {L : Type 0} (link_faults : L → ℕ) (marks : L → LinkMarks) (traffic : L → Option Traffic) (frame : List ℕ) where
   -- the frame went out on a link, and this came over it
-  pub record CameOver (entry : Option L) (is_new : Bool) (result : Result Framed Broken) (link : L) : Type 0 where
+  pub record CameOver (entry : Option L) (result : Result Framed Broken) (link : L) : Type 0 where
     pub base : L
-    pub is_base : IsBase is_new entry base
+    pub is_base : IsBase link_faults marks entry base
     pub exchanged : Exchanges frame result (traffic base) (traffic link)
     pub ends : (marks link).ends ≡ 0
 
-  -- over which link the reply came, with which this ended
-  abbrev pub IsAsked : Option L → Outcome L → Type 0
-  IsAsked entry (outcome.Replied link is_new framed) = CameOver entry is_new (Ok framed) link
-  IsAsked entry (outcome.Wrong refusal) =
-      (link : L) × (is_new : Bool) × CameOver entry is_new (Err (Wrong refusal)) link
-  IsAsked entry other = Unit {0}
+  -- Tries that were lost, one after the other: over the link that was there no whole reply came, nor over those that were
+  -- dialled then.
+  abbrev pub AreLost : Option L → List (Option L) → Type 0
+  AreLost entry [] = Unit {0}
+  AreLost entry (None ∷ lost) = (entry ≡ None) × AreLost None lost
+  AreLost entry (Some link ∷ lost) = CameOver entry (Err Lost) link × AreLost None lost
 
-  abbrev pub IsAttempted : Option L → Attempt L → Type 0
-  IsAttempted entry (attempt.Replied link is_new framed) = CameOver entry is_new (Ok framed) link
-  IsAttempted entry (attempt.Wrong refusal) =
-      (link : L) × (is_new : Bool) × CameOver entry is_new (Err (Wrong refusal)) link
-  IsAttempted entry other = Unit {0}
+  module _ {N : Type 0} (faults dials : N → ℕ) (given_back : N → Option (List L)) where
+    -- the dialler counted each try that was lost, and has the links back
+    pub record Loses (lost : List (Option L)) (old new : N) : Type 0 where
+      pub counted_each : faults new ≡ counted (length lost) (faults old)
+      pub given : Appends (links_of lost) (given_back old) (given_back new)
 
-  -- the same of a link that is there, or was dialled just now
-  abbrev pub IsOver : Bool → L → Attempt L → Type 0
-  IsOver is_new base (attempt.Replied link kept framed) =
-      (kept ≡ is_new) × Exchanges frame (Ok framed) (traffic base) (traffic link) × ((marks link).ends ≡ 0)
-  IsOver is_new base (attempt.Wrong refusal) =
-      (link : L) × Exchanges frame (Err (Wrong refusal)) (traffic base) (traffic link) × ((marks link).ends ≡ 0)
-  IsOver is_new base other = Unit {0}
+    -- the reply came over this link, which stays out
+    pub record Replies (entry : Option L) (lost : List (Option L)) (link : L) (is_new : Bool) (framed : Framed) (old new : N) : Type 0 where
+      pub came : CameOver (link_behind entry lost) (Ok framed) link
+      pub new_link : is_new ≡ not (is_some (link_behind entry lost))
+      pub loses : Loses lost old new
+
+    -- what came over the link is no frame, and the link was given back too
+    pub record RepliesWrong (entry : Option L) (lost : List (Option L)) (wrong : Broken) (old new : N) : Type 0 where
+      pub link : L
+      pub came : CameOver (link_behind entry lost) (Err wrong) link
+      pub counted_each : faults new ≡ count_after_give_back (marks link) (link_faults link) (counted (length lost) (faults old))
+      pub given : Appends (links_of lost ++ link ∷ []) (given_back old) (given_back new)
+
+    -- what came of it behind the tries that were lost, which are fewer than there were, or as many
+    abbrev pub ComesOf : ℕ → Bool → Option L → List (Option L) → Outcome L → N → N → Type 0
+    ComesOf tries before entry lost (outcome.Replied link is_new framed) old new =
+        (length lost < tries) × Replies entry lost link is_new framed old new
+    ComesOf tries before entry lost (outcome.Wrong refusal) old new =
+        (length lost < tries) × RepliesWrong entry lost (Wrong refusal) old new
+    ComesOf tries before entry lost (outcome.Unavailable is_tried) old new =
+        (length lost ≡ tries) × (is_tried ≡ (before || has_link lost)) × Loses lost old new
+    ComesOf tries before entry lost (outcome.Memory error is_tried) old new =
+        (length lost < tries) × (is_tried ≡ (before || has_link lost)) × Loses lost old new
+
+    -- The frame was to be sent with so many tries, on the link that was there, if one was, and this came of it. Whether it was
+    -- tried to be sent before.
+    pub record Asks (tries : ℕ) (before : Bool) (entry : Option L) (result : Outcome L) (old new : N) : Type 0 where
+      pub lost : List (Option L)
+      pub each : AreLost entry lost
+      pub came : ComesOf tries before entry lost result old new
+      pub dialled : dials new ≡ counted (dials_in (is_some entry) (tries_made result lost)) (dials old)

@@ -1,6 +1,7 @@
-ghost use Rattle.std.specs.Prelude.{◌≡◌, ◌<◌, true, is_some, ◌||◌};
+ghost use Rattle.std.specs.Prelude.{◌≡◌, ◌<◌, false, is_some, not};
 ghost use Rattle.std.specs.Option.{ForSome};
-ghost use Rattle.client_connection.specs.Asking.{Spends, IsAsked, IsTried, IsSentOn, Attempts, FaultsAfter, IsAttempted, IsOver};
+ghost use Rattle.client_connection.specs.Asking.{Asks};
+ghost use Rattle.client_connection.specs.parts.Over.{GoesOver};
 
 use crate::{Broken, exchange};
 use desk_ports::PortFault;
@@ -43,15 +44,13 @@ pub fn ask<N: Dial>(
 ) -> Outcome<N::Link>
     requires some { 0 < tries }
     requires unshared { ForSome link (λ link. (N.Link.marks link).ends ≡ 0) }
-    ensures spends { Spends tries (is_some link) result (N.faults dial.old) (N.faults dial.new)
-        (N.dials dial.old) (N.dials dial.new) }
-    ensures asked { IsAsked N.Link.traffic N.Link.marks frame.now link result }
-    ensures tried { IsTried (is_some link) result }
+    ensures { Asks N.Link.faults N.Link.marks N.Link.traffic frame.now N.faults N.dials N.given_back
+        tries false link result dial.old dial.new }
 {
     ask_on(alloc, dial, link, door, frame, tries, false)
 }
 
-// The same, where the frame may have been sent before.
+// The same, where the frame may have been tried to be sent before.
 fn ask_on<N: Dial>(
     alloc: Global,
     dial: &mut N,
@@ -63,13 +62,11 @@ fn ask_on<N: Dial>(
 ) -> Outcome<N::Link>
     requires some { 0 < tries }
     requires unshared { ForSome link (λ link. (N.Link.marks link).ends ≡ 0) }
-    ensures spends { Spends tries (is_some link) result (N.faults dial.old) (N.faults dial.new)
-        (N.dials dial.old) (N.dials dial.new) }
-    ensures asked { IsAsked N.Link.traffic N.Link.marks frame.now link result }
-    ensures tried { IsTried (is_tried || is_some link) result }
+    ensures { Asks N.Link.faults N.Link.marks N.Link.traffic frame.now N.faults N.dials N.given_back
+        tries is_tried link result dial.old dial.new }
 {
-    match try_once(alloc, dial, link, door, frame) {
-        Attempt::Replied {
+    match try_once(alloc, dial, link, door, frame, is_tried) {
+        Outcome::Replied {
             link,
             is_new,
             framed,
@@ -78,10 +75,9 @@ fn ask_on<N: Dial>(
             is_new,
             framed,
         },
-        Attempt::Wrong(refusal) => Outcome::Wrong(refusal),
-        Attempt::Memory(error) => Outcome::Memory { error, is_tried },
-        Attempt::Lost { is_sent } => {
-            let is_tried = is_tried || is_sent;
+        Outcome::Wrong(refusal) => Outcome::Wrong(refusal),
+        Outcome::Memory { error, is_tried } => Outcome::Memory { error, is_tried },
+        Outcome::Unavailable { is_tried } => {
             if tries == 1 {
                 return Outcome::Unavailable { is_tried };
             }
@@ -90,71 +86,55 @@ fn ask_on<N: Dial>(
     }
 }
 
-// What became of one try.
-#[derive(Drop)]
-pub(crate) enum Attempt<L: Link> {
-    Replied {
-        link: L,
-        is_new: bool,
-        framed: Framed,
-    },
-    // The dial failed, or the link, which was given back. Whether the frame was tried to be sent.
-    Lost {
-        is_sent: bool,
-    },
-    Wrong(WireRefusal),
-    Memory(AllocError),
-}
-
+// One try.
 fn try_once<N: Dial>(
     alloc: Global,
     dial: &mut N,
     link: Option<N::Link>,
     door: DoorKind,
     frame: &[u8],
-) -> Attempt<N::Link>
-    requires unshared { ForSome link (λ link. (N.Link.marks link).ends ≡ 0) }
-    ensures counts { Attempts (is_some link) result (N.faults dial.old) (N.faults dial.new)
-        (N.dials dial.old) (N.dials dial.new) }
-    ensures asked { IsAttempted N.Link.traffic N.Link.marks frame.now link result }
+    is_tried: bool,
+) -> Outcome<N::Link>
+    requires { ForSome link (λ link. (N.Link.marks link).ends ≡ 0) }
+    ensures { Asks N.Link.faults N.Link.marks N.Link.traffic frame.now N.faults N.dials N.given_back
+        1 is_tried link result dial.old dial.new }
 {
     match link {
         Some(link) => ask_over(alloc, dial, link, false, frame),
         None => match dial.dial(door) {
             Ok(link) => ask_over(alloc, dial, link, true, frame),
-            Err(PortFault::Failed) => Attempt::Lost { is_sent: false },
-            Err(PortFault::Memory(error)) => Attempt::Memory(error),
+            Err(PortFault::Failed) => Outcome::Unavailable { is_tried },
+            Err(PortFault::Memory(error)) => Outcome::Memory { error, is_tried },
         },
     }
 }
 
+// One try, over a link that is there or was dialled.
 fn ask_over<N: Dial>(
     alloc: Global,
     dial: &mut N,
     link: N::Link,
     is_new: bool,
     frame: &[u8],
-) -> Attempt<N::Link>
-    requires unshared { (N.Link.marks link).ends ≡ 0 }
-    ensures faults { FaultsAfter result (N.faults dial.old) (N.faults dial.new) }
-    ensures dials { N.dials dial.new ≡ N.dials dial.old }
-    ensures sent { IsSentOn true result }
-    ensures asked { IsOver N.Link.traffic N.Link.marks frame.now is_new link result }
+) -> Outcome<N::Link>
+    requires { (N.Link.marks link).ends ≡ 0 }
+    ensures { GoesOver N.Link.faults N.Link.marks N.Link.traffic frame.now N.faults N.dials N.given_back
+        is_new link result dial.old dial.new }
 {
     let mut link = link;
     match exchange(alloc, &mut link, frame) {
-        Ok(framed) => Attempt::Replied {
+        Ok(framed) => Outcome::Replied {
             link,
             is_new,
             framed,
         },
         Err(Broken::Lost) => {
             dial.give_back(link);
-            Attempt::Lost { is_sent: true }
+            Outcome::Unavailable { is_tried: true }
         }
         Err(Broken::Wrong(refusal)) => {
             dial.give_back(link);
-            Attempt::Wrong(refusal)
+            Outcome::Wrong(refusal)
         }
     }
 }

@@ -1,7 +1,6 @@
 -- What a check does and answers.
-use Rattle.std.specs.Prelude.{◌≡◌, ◌⊎◌, ◌≤◌, ℕ, zero, suc, Bool, true, false, if◌then◌else◌, List, Option, Some, None, Result, Ok, Err, is_some, MatchBool}
+use Rattle.std.specs.Prelude.{◌≡◌, ◌⊎◌, ℕ, Bool, true, false, if◌then◌else◌, List, Option, Some, None, Result, Ok, Err, MatchBool}
 use Rattle.std.specs.declared.alloc.AllocError.{AllocError}
-use Rattle.desk_ports.specs.Faults.{next_count}
 use Rattle.link_ports.specs.Traffic.{Traffic}
 use Rattle.link_ports.specs.LinkMarks.{LinkMarks}
 use Rattle.link_ports.specs.LinkContent.{LinkContent}
@@ -9,15 +8,15 @@ use Rattle.bucket_eval.specs.declared.answers.Verdict.{Verdict}
 use Rattle.cynara_keys.specs.PolicyResult.{is_agent}
 use Rattle.wire_messages.specs.Frame.{spelling, with_sequence}
 use Rattle.wire_messages.specs.Lent.{asks}
-use Rattle.wire_messages.specs.declared.messages.Framed.{Framed}
 use Rattle.answer_cache.specs.Cache.{Asked, Cache, answer_in, used, kept, without}
-use Rattle.client_connection.specs.Asking.{Spends, IsAsked, IsTried}
+use Rattle.client_connection.specs.Giving.{GivesBackAny}
+use Rattle.client_connection.specs.Asking.{Asks}
 use Rattle.client_connection.specs.declared.asking.Outcome.{Outcome}
 use Rattle.client_connection.specs.declared.asking.Outcome.TheVariants as outcome
 use Rattle.cynara_client.specs.State.{State, IsBare, emptied, next_number, number_after}
 use Rattle.cynara_client.specs.Refusing.{keeps_link}
 use Rattle.cynara_client.specs.Reply.{reply_of, refusal_of}
-use Rattle.cynara_client.specs.Looking.{FindsUp, FindsDown, IsLooked}
+use Rattle.cynara_client.specs.Looking.{FindsUp, FindsDown}
 use Rattle.cynara_client.specs.declared.refusals.Checked.{Checked}
 use Rattle.cynara_client.specs.declared.refusals.Checked.TheVariants.{Judged, FromAgent}
 use Rattle.cynara_client.specs.declared.refusals.ClientRefusal.{ClientRefusal}
@@ -58,73 +57,75 @@ closed is_tried old = record old {
   sequence = number_after is_tried old.sequence;
 }
 
-module _ {N L : Type 0} (dial_faults dials : N → ℕ) where
-  -- The client is left without a link and without an entry. Giving a link back may count for the dialler, and dials none.
-  pub record Leaves (old new : State N L) : Type 0 where
-    pub bare : IsBare old new
-    pub counted : (dial_faults new.dial ≡ dial_faults old.dial) ⊎ (dial_faults new.dial ≡ next_count (dial_faults old.dial))
-    pub dialled : dials new.dial ≡ dials old.dial
-    pub sequence : new.sequence ≡ old.sequence
+module _ {L : Type 0} (link_faults : L → ℕ) (marks : L → LinkMarks) where
+  module _ {N : Type 0} (faults dials : N → ℕ) (given_back : N → Option (List L)) where
+    -- The link is given back, if there is one, and no entry is left.
+    pub record Leaves (old new : State N L) : Type 0 where
+      pub bare : IsBare old new
+      pub gives : GivesBackAny faults dials given_back link_faults marks old.link old.dial new.dial
+      pub sequence : new.sequence ≡ old.sequence
 
-  -- What comes of what a reply says: a verdict is kept, and a refusal by the service changes nothing. A reply that is wrong
-  -- or too old takes the link.
-  abbrev pub Ends : Asked → Result Checked ClientRefusal → State N L → State N L → Type 0
-  Ends asked (Ok answer) old new = (new ≡ record old { cache = new.cache }) × IsKeptOf asked answer old.cache new.cache
-  Ends asked (Err refused) old new = MatchBool (keeps_link refused) (new ≡ old) (Leaves old new)
+    -- What comes of what a reply says: a verdict is kept, and a refusal by the service changes nothing. A reply that is
+    -- wrong or too old takes the link.
+    abbrev pub Ends : Asked → Result Checked ClientRefusal → State N L → State N L → Type 0
+    Ends asked (Ok answer) old new = (new ≡ record old { cache = new.cache }) × IsKeptOf asked answer old.cache new.cache
+    Ends asked (Err refused) old new = MatchBool (keeps_link refused) (new ≡ old) (Leaves old new)
 
-  -- What comes of a frame that was to be sent and answered.
-  abbrev pub Concludes : Asked → Outcome L → Result Checked ClientRefusal → State N L → State N L → Type 0
-  Concludes asked (outcome.Replied link is_new framed) result old new =
-      (result ≡ reply_of old.sequence old.cache.told framed) × Ends asked result (replied link is_new old) new
-  Concludes asked (outcome.Wrong fault) result old new = (result ≡ Err (refusal_of fault)) × (new ≡ closed true old)
-  Concludes asked (outcome.Unavailable is_tried) result old new =
-      (result ≡ Err refusal.Unavailable) × (new ≡ closed is_tried old)
-  Concludes asked (outcome.Memory error is_tried) result old new =
-      (result ≡ Err (refusal.Memory error)) × (new ≡ closed is_tried old)
+    -- what comes of a frame that was to be sent and answered
+    abbrev pub Concludes : Asked → Outcome L → Result Checked ClientRefusal → State N L → State N L → Type 0
+    Concludes asked (outcome.Replied link is_new framed) result old new =
+        (result ≡ reply_of old.sequence old.cache.told framed) × Ends asked result (replied link is_new old) new
+    Concludes asked (outcome.Wrong fault) result old new = (result ≡ Err (refusal_of fault)) × (new ≡ closed true old)
+    Concludes asked (outcome.Unavailable is_tried) result old new =
+        (result ≡ Err refusal.Unavailable) × (new ≡ closed is_tried old)
+    Concludes asked (outcome.Memory error is_tried) result old new =
+        (result ≡ Err (refusal.Memory error)) × (new ≡ closed is_tried old)
 
-  module _ (marks : L → LinkMarks) (traffic : L → Option Traffic) where
-    -- the question was to be sent, with so many tries
-    pub record Sends (asked : Asked) (simple : Bool) (tries : ℕ) (result : Result Checked ClientRefusal) (old new : State N L) : Type 0 where
-      pub came_of : Outcome L
-      pub dial : N
-      pub spends : Spends tries (is_some old.link) came_of (dial_faults old.dial) (dial_faults dial) (dials old.dial) (dials dial)
-      pub came : IsAsked traffic marks (frame_of old.sequence simple asked) old.link came_of
-      pub tried : IsTried (is_some old.link) came_of
-      pub concluded : Concludes asked came_of result (record old { dial = dial }) new
+  module _ (traffic : L → Option Traffic) where
+    module _ {N : Type 0} (faults dials : N → ℕ) (given_back : N → Option (List L)) where
+      -- the question was to be sent, with so many tries
+      pub record Sends (asked : Asked) (simple : Bool) (tries : ℕ) (result : Result Checked ClientRefusal) (old new : State N L) : Type 0 where
+        pub came_of : Outcome L
+        pub dial : N
+        pub asks : Asks link_faults marks traffic (frame_of old.sequence simple asked) faults dials given_back
+            tries false old.link came_of old.dial dial
+        pub concluded : Concludes faults dials given_back asked came_of result (record old { dial = dial }) new
 
-    -- no memory was found to spell the question, and nothing was sent
-    pub record FindsNoRoom (result : Result Checked ClientRefusal) (old new : State N L) : Type 0 where
-      pub error : AllocError
-      pub is : result ≡ Err (refusal.Memory error)
-      pub left : Leaves old new
+      -- no memory was found to spell the question, and nothing was sent
+      pub record FindsNoRoom (result : Result Checked ClientRefusal) (old new : State N L) : Type 0 where
+        pub error : AllocError
+        pub is : result ≡ Err (refusal.Memory error)
+        pub left : Leaves faults dials given_back old new
 
-    abbrev pub Serves : Asked → Bool → ℕ → Result Checked ClientRefusal → State N L → State N L → Type 0
-    Serves asked simple tries result old new = Sends asked simple tries result old new ⊎ FindsNoRoom result old new
+      abbrev pub Serves : Asked → Bool → ℕ → Result Checked ClientRefusal → State N L → State N L → Type 0
+      Serves asked simple tries result old new = Sends asked simple tries result old new ⊎ FindsNoRoom result old new
 
-    module _ (faults : L → ℕ) (content : L → Option LinkContent) where
+    module _ (content : L → Option LinkContent) where
       -- The link is up, and there is an entry that is not older than the commit that the client was told of: it is the answer,
       -- nothing is sent, and it is the first entry from now on.
-      pub record Hits (asked : Asked) (result : Result Checked ClientRefusal) (old new : State N L) : Type 0 where
+      pub record Hits {N : Type 0} (asked : Asked) (result : Result Checked ClientRefusal) (old new : State N L) : Type 0 where
         pub between : State N L
         pub verdict : Verdict
-        pub up : FindsUp faults marks traffic content dial_faults dials old between
+        pub up : FindsUp link_faults marks traffic content old between
         pub found : answer_in asked old.cache ≡ Some verdict
         pub is : result ≡ Ok (Judged verdict)
         pub now : new ≡ record between { cache = used asked between.cache }
 
-      -- there is no link, so it is to be dialled; or it is up, and there is no entry; or it is down, and has cost one try
-      pub data Approaches (asked : Asked) (old between : State N L) (tries : ℕ) : Type 0 where
-        without_link : old.link ≡ None → between ≡ old → tries ≡ 3 → Approaches asked old between tries
-        over_link : FindsUp faults marks traffic content dial_faults dials old between → answer_in asked old.cache ≡ None
-            → tries ≡ 3 → Approaches asked old between tries
-        past_link : FindsDown faults marks traffic content dial_faults dials old between → tries ≡ 2
-            → Approaches asked old between tries
+      module _ {N : Type 0} (faults dials : N → ℕ) (given_back : N → Option (List L)) where
+        -- There is no link, so one is to be dialled; or it is up, and there is no entry; or it is down, and has cost one try.
+        pub data Approaches (asked : Asked) (old between : State N L) (tries : ℕ) : Type 0 where
+          without_link : old.link ≡ None → between ≡ old → tries ≡ 3 → Approaches asked old between tries
+          over_link : FindsUp link_faults marks traffic content old between → answer_in asked old.cache ≡ None → tries ≡ 3
+              → Approaches asked old between tries
+          past_link : FindsDown link_faults marks traffic content faults dials given_back old between → tries ≡ 2
+              → Approaches asked old between tries
 
-      pub record Asks (asked : Asked) (simple : Bool) (result : Result Checked ClientRefusal) (old new : State N L) : Type 0 where
-        pub between : State N L
-        pub tries : ℕ
-        pub approached : Approaches asked old between tries
-        pub served : Serves asked simple tries result between new
+        -- no entry answers, and the service is asked
+        pub record AsksService (asked : Asked) (simple : Bool) (result : Result Checked ClientRefusal) (old new : State N L) : Type 0 where
+          pub between : State N L
+          pub tries : ℕ
+          pub approached : Approaches asked old between tries
+          pub served : Serves faults dials given_back asked simple tries result between new
 
-      abbrev pub Checks : Asked → Bool → Result Checked ClientRefusal → State N L → State N L → Type 0
-      Checks asked simple result old new = Hits asked result old new ⊎ Asks asked simple result old new
+        abbrev pub Checks : Asked → Bool → Result Checked ClientRefusal → State N L → State N L → Type 0
+        Checks asked simple result old new = Hits asked result old new ⊎ AsksService asked simple result old new

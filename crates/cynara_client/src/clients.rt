@@ -91,7 +91,7 @@ impl<N: Dial> Client<N> {
 
     /// Asks whether the use of a privilege is granted; an agent may be asked. It may wait.
     pub fn check(&mut self, session: &Name, question: &Question) -> Result<Checked, ClientRefusal>
-        ensures { Checks N.faults N.dials N.Link.marks N.Link.traffic N.Link.faults N.Link.content
+        ensures { Checks N.Link.faults N.Link.marks N.Link.traffic N.Link.content N.faults N.dials N.given_back
             (asked_in session.now question.now) false result self.old self.new }
     {
         self.ask(session, question, false)
@@ -103,7 +103,7 @@ impl<N: Dial> Client<N> {
         session: &Name,
         question: &Question,
     ) -> Result<Checked, ClientRefusal>
-        ensures { Checks N.faults N.dials N.Link.marks N.Link.traffic N.Link.faults N.Link.content
+        ensures { Checks N.Link.faults N.Link.marks N.Link.traffic N.Link.content N.faults N.dials N.given_back
             (asked_in session.now question.now) true result self.old self.new }
     {
         self.ask(session, question, true)
@@ -115,7 +115,7 @@ impl<N: Dial> Client<N> {
         question: &Question,
         simple: bool,
     ) -> Result<Checked, ClientRefusal>
-        ensures { Checks N.faults N.dials N.Link.marks N.Link.traffic N.Link.faults N.Link.content
+        ensures { Checks N.Link.faults N.Link.marks N.Link.traffic N.Link.content N.faults N.dials N.given_back
             (asked_in session.now question.now) simple result self.old self.new }
     {
         match self.look_at_link() {
@@ -130,7 +130,7 @@ impl<N: Dial> Client<N> {
 
     // Asks a link that is there whether it is up. One that is down is given back, with all that came over it.
     fn look_at_link(&mut self) -> Look
-        ensures { Looks N.Link.faults N.Link.marks N.Link.traffic N.Link.content N.faults N.dials
+        ensures { Looks N.Link.faults N.Link.marks N.Link.traffic N.Link.content N.faults N.dials N.given_back
             result self.old self.new }
     {
         let Some(link) = self.link.take() else {
@@ -155,7 +155,7 @@ impl<N: Dial> Client<N> {
         tries: u32,
     ) -> Result<Checked, ClientRefusal>
         requires { 0 < tries }
-        ensures { Serves N.faults N.dials N.Link.marks N.Link.traffic
+        ensures { Serves N.Link.faults N.Link.marks N.Link.traffic N.faults N.dials N.given_back
             (asked_in session.now question.now) simple tries result self.old self.new }
     {
         let sequence = self.sequence;
@@ -205,7 +205,7 @@ impl<N: Dial> Client<N> {
 
     // Gives the link back, if there is one. No entry is kept.
     fn leave(&mut self)
-        ensures { Leaves N.faults N.dials self.old self.new }
+        ensures { Leaves N.Link.faults N.Link.marks N.faults N.dials N.given_back self.old self.new }
     {
         self.cache.clear();
         let Some(link) = self.link.take() else {
@@ -225,7 +225,7 @@ impl<N: Dial> Client<N> {
     ) -> Result<Checked, ClientRefusal>
         requires { (N.Link.marks link).ends ≡ 0 }
         ensures reply { result ≡ words.reply_of self.old.sequence self.old.cache.told framed.now }
-        ensures ends { Ends N.faults N.dials (asked_in session.now question.now) result
+        ensures ends { Ends N.Link.faults N.Link.marks N.faults N.dials N.given_back (asked_in session.now question.now) result
             (replied link is_new self.old) self.new }
     {
         let sequence = self.sequence;
@@ -254,7 +254,8 @@ impl<N: Dial> Client<N> {
         reply: Result<Checked, ClientRefusal>,
     ) -> Result<Checked, ClientRefusal>
         ensures same { result ≡ reply }
-        ensures ends { Ends N.faults N.dials (asked_in session.now question.now) result self.old self.new }
+        ensures ends { Ends N.Link.faults N.Link.marks N.faults N.dials N.given_back (asked_in session.now question.now)
+            result self.old self.new }
     {
         match reply {
             Ok(Checked::Judged(verdict)) => {
