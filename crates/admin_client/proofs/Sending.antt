@@ -18,12 +18,11 @@ pub sent : (sequence : ℕ) (message : Message) (result : Result (List Message) 
     → Exchanges sequence message result old new
 sent sequence message result old between new sent read before told =
     let came = read (with_sent (frame_of sequence message) before) (sent before told) in
-    (frame_of sequence message, (came.0, (record { went = inl refl; said = came.1.0 }, came.1.1)))
+    (frame_of sequence message, came.0, record { went = inl refl; said = came.1 }, came.2)
 
 -- no bytes are less than a frame
-unfolding first_of
-
 nothing_open : IsOpen Replies []
+unfolding first_of
 nothing_open = refl
 
 nothing_more : (before : Traffic) → with_received [] (with_sent [] before) ≡ before
@@ -34,14 +33,7 @@ pub unsent : (sequence : ℕ) (message : Message) (old new : Option Traffic) →
     → Exchanges sequence message (Err Unavailable) old new
 unsent sequence message old new kept before told = (
   [],
-  (
-    [],
-    (
-      record {
-        went = inr (refl, refl);
-        said = ([], (record { rows = []; heard = refl; are_rows = tt }, nothing_open));
-      },
-      kept before told ∙ ap Some (sym (nothing_more before)),
-    ),
-  ),
+  [],
+  record { went = inr (refl, refl); said = ([], record { rows = []; heard = refl; are_rows = tt }, nothing_open) },
+  kept before told ∙ ap Some (sym (nothing_more before)),
 )

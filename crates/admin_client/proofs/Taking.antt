@@ -33,7 +33,7 @@ one_more wanted sequence before n (row ∷ rows) framed place are more =
 -- nothing was taken yet
 pub took_nothing : (start : Option Traffic) → TookBytes (λ bytes. Hears Replies bytes [] []) start start
 took_nothing start before told =
-    ([], (refl, told ∙ ap Some (λ i. record before { received = sym (append-nil before.received) i })))
+    ([], refl, told ∙ ap Some (λ i. record before { received = sym (append-nil before.received) i }))
 
 -- one more reply was taken
 pub took_more : (rows : List Framed) (framed : Framed) (start between end : Option Traffic)
@@ -41,13 +41,11 @@ pub took_more : (rows : List Framed) (framed : Framed) (start between end : Opti
     → TookBytes (λ bytes. Hears Replies bytes (rows ++ framed ∷ []) []) start end
 took_more rows framed start between end one two before told =
     let first = one before told in
-    let then = two (with_received first.0 before) first.1.1 in (
+    let then = two (with_received first.0 before) first.2 in (
       first.0 ++ then.0,
-      (
-        hears_then Replies (first.0 ++ then.0) rows then.0 (framed ∷ []) []
-            (hears_more Replies first.0 then.0 rows [] first.1.0) then.1.0,
-        then.1.1 ∙ ap (λ bytes. Some (record before { received = bytes })) (append_assoc before.received first.0 then.0),
-      ),
+      hears_then Replies (first.0 ++ then.0) rows then.0 (framed ∷ []) []
+          (hears_more Replies first.0 then.0 rows [] first.1) then.1,
+      then.2 ∙ ap (λ bytes. Some (record before { received = bytes })) (append_assoc before.received first.0 then.0),
     )
 
 -- the bytes behind rows are no reply
@@ -55,7 +53,7 @@ refused_behind : (wanted : Wanted) (sequence : ℕ) (rows : List Framed) (bytes 
     → AreRows wanted sequence 0 rows → Hears Replies bytes rows behind → IsRead Replies (Err broken) behind
     → IsRefused wanted sequence (refusal_of broken) bytes
 refused_behind wanted sequence rows bytes behind Lost are heard read =
-    (behind, (record { rows = rows; heard = heard; are_rows = are }, read))
+    (behind, record { rows = rows; heard = heard; are_rows = are }, read)
 refused_behind wanted sequence rows bytes behind (Wrong (TooShort n)) are heard read =
     IsBad.no_frame (TooShort n) behind refl (record { rows = rows; heard = heard; are_rows = are }) read
 refused_behind wanted sequence rows bytes behind (Wrong (TooLong n)) are heard read =
@@ -74,13 +72,11 @@ pub refused_read : (wanted : Wanted) (sequence : ℕ) (rows : List Framed) (brok
     → TookBytes (IsRefused wanted sequence (refusal_of broken)) start end
 refused_read wanted sequence rows broken start between end are one two before told =
     let first = one before told in
-    let then = two (with_received first.0 before) first.1.1 in (
+    let then = two (with_received first.0 before) first.2 in (
       first.0 ++ then.0,
-      (
-        refused_behind wanted sequence rows (first.0 ++ then.0) then.0 broken are
-            (hears_more Replies first.0 then.0 rows [] first.1.0) then.1.0,
-        then.1.1 ∙ ap (λ bytes. Some (record before { received = bytes })) (append_assoc before.received first.0 then.0),
-      ),
+      refused_behind wanted sequence rows (first.0 ++ then.0) then.0 broken are
+          (hears_more Replies first.0 then.0 rows [] first.1) then.1,
+      then.2 ∙ ap (λ bytes. Some (record before { received = bytes })) (append_assoc before.received first.0 then.0),
     )
 
 -- the reply is a wrong one
@@ -91,7 +87,7 @@ pub refused_reply : (wanted : Wanted) (sequence n : ℕ) (rows : List Framed) (f
 refused_reply wanted sequence n rows framed fault start end place are wrong took before told =
     let all = took before told in
     let here = subst (λ (n : ℕ). next_of wanted sequence n framed ≡ next.Wrong fault) place wrong in
-    (all.0, (IsBad.no_answer rows framed all.1.0 are here, all.1.1))
+    (all.0, IsBad.no_answer rows framed all.1 are here, all.2)
 
 -- it is the last one
 pub whole_reply : (wanted : Wanted) (sequence n : ℕ) (rows : List Framed) (framed : Framed) (replies : List Message)
@@ -102,24 +98,22 @@ pub whole_reply : (wanted : Wanted) (sequence n : ℕ) (rows : List Framed) (fra
 whole_reply wanted sequence n rows framed replies start end place are whole all took before told =
     let bytes = took before told in (
       bytes.0,
-      (
-        record {
-          rows = rows;
-          last = framed;
-          heard = bytes.1.0;
-          are_rows = are;
-          whole = subst (λ (n : ℕ). next_of wanted sequence n framed ≡ next.Whole) place whole;
-          are_all = all;
-        },
-        bytes.1.1,
-      ),
+      record {
+        rows = rows;
+        last = framed;
+        heard = bytes.1;
+        are_rows = are;
+        whole = subst (λ (n : ℕ). next_of wanted sequence n framed ≡ next.Whole) place whole;
+        are_all = all;
+      },
+      bytes.2,
     )
 
 -- no memory was found for it
 pub refused_memory : (wanted : Wanted) (sequence : ℕ) (P : List ℕ → Type 0) (error : AllocError) (start end : Option Traffic)
     → TookBytes P start end → TookBytes (IsRefused wanted sequence (refusal.Memory error)) start end
 refused_memory wanted sequence P error start end took before told =
-    let all = took before told in (all.0, (tt, all.1.1))
+    let all = took before told in (all.0, tt, all.2)
 
 -- what is known where no frame was read
 pub if_lost : (broken : Broken) (fact : Type 0) → IfLost broken fact → IfUnavailable (refusal_of broken) fact

@@ -21,12 +21,11 @@ pub replied : (frame : List ℕ) (result : Result Framed Broken) (old between ne
     → ChangesTold old (with_sent frame) between → Receives Replies result between new → Exchanges frame result old new
 replied frame result old between new sent received before told =
     let came = received (with_sent frame before) (sent before told) in
-    (frame, (came.0, (sent_whole frame result, (came.1.0, came.1.1))))
+    (frame, came.0, sent_whole frame result, came.1, came.2)
 
 -- no bytes are less than a frame
-unfolding first_of
-
 pub nothing_open : (heard : Heard) → IsOpen heard []
+unfolding first_of
 nothing_open heard = refl
 
 nothing_more : (before : Traffic) → with_received [] (with_sent [] before) ≡ before
@@ -35,4 +34,4 @@ nothing_more before = λ i. record { received = append-nil before.received i; se
 -- nothing was sent
 pub unsent : (frame : List ℕ) (old new : Option Traffic) → KeepsTold old new → Exchanges frame (Err Lost) old new
 unsent frame old new kept before told =
-    ([], ([], (inr refl, (nothing_open Replies, kept before told ∙ ap Some (sym (nothing_more before))))))
+    ([], [], inr refl, nothing_open Replies, kept before told ∙ ap Some (sym (nothing_more before)))

@@ -47,15 +47,15 @@ more law old fed new bytes empty sound open_frame up h none same =
       | HearsOne.none messages behind ↦
           let side = h.side in
           let failed = h.failed in
+          let parts : fed ≡ record fed { waiting = fed.waiting } = refl in
           let after : new ≡ record old { partial = old.partial ++ bytes } = cc in
           (after, subst (λ (feeder : Feeding). IsOpen old.heard feeder.partial) (sym same) h.unfinished)
       | HearsOne.one other messages behind ↦ cc
     ]
 
 -- nothing is wrong with no bytes
-unfolding first_of
-
 nothing_wrong : (heard : Heard) (bytes : List ℕ) (refusal : WireRefusal) → BeginsWrong heard [] refusal → BeginsWrong heard bytes refusal
+unfolding first_of
 nothing_wrong heard bytes (TooShort n) wrong = cc
 nothing_wrong heard bytes (TooLong n) wrong = cc
 nothing_wrong heard bytes (BadOperation n) wrong = cc

@@ -1,9 +1,9 @@
 -- Bytes that were received piece by piece, and heard.
-use Rattle.std.proofs.Common.{◌≡◌, ◌<◌, ◌∙◌, ℕ, List, [], ◌∷◌, ◌++◌, length, Option, Some, Result, Ok, Err, refl, sym, ap, subst, append_assoc, append-nil}
-use Rattle.link_ports.specs.Told.{IfTold, KeepsTold}
+use Rattle.std.proofs.Common.{◌≡◌, ◌<◌, ◌∙◌, ℕ, List, [], ◌∷◌, ◌++◌, length, take, Option, Some, Result, Ok, Err, refl, sym, ap, subst, append_assoc, append-nil}
+use Rattle.link_ports.specs.Told.{IfTold, KeepsTold, ChangesTold}
 use Rattle.link_ports.specs.Traffic.{Traffic, with_received}
 use Rattle.link_ports.specs.LinkMarks.{LinkMarks}
-use Rattle.wire_messages.specs.Stream.{Feeding, Hears, BeginsWrong, IsOpen}
+use Rattle.wire_messages.specs.Stream.{Feeding, Hears, BeginsWrong, IsOpen, unfed}
 use Rattle.wire_messages.specs.declared.messages.Framed.{Framed}
 use Rattle.wire_messages.specs.declared.operations.Heard.{Heard}
 use Rattle.wire_messages.specs.declared.refusals.WireRefusal.{WireRefusal}
@@ -35,18 +35,47 @@ received_more first more start between end one two before told =
     two (with_received first before) (one before told)
     ∙ ap (λ bytes. Some (record before { received = bytes })) (append_assoc before.received first more)
 
--- all that was received is what was read
-pub all_read : (heard : Heard) (result : Result Framed Broken) (bytes : List ℕ) (start end : Option Traffic)
-    → IsRead heard result bytes → IfTold start (λ before. end ≡ Some (with_received bytes before)) → Receives heard result start end
-all_read heard result bytes start end read received before told = (bytes, (read, received before told))
+-- what the feeder had of the frame and what came then is what was read
+pub all_read : (heard : Heard) (feeder : Feeding) (result : Result Framed Broken) (more : List ℕ) (start between end : Option Traffic)
+    → feeder ≡ record (unfed heard) { partial = feeder.partial } → IsRead feeder.heard result (feeder.partial ++ more)
+    → IfTold start (λ before. between ≡ Some (with_received feeder.partial before))
+    → IfTold between (λ before. end ≡ Some (with_received more before))
+    → Receives heard result start end
+all_read heard feeder result more start between end was read one two before told = (
+  feeder.partial ++ more,
+  subst (λ (side : Heard). IsRead side result (feeder.partial ++ more)) (ap (λ (feeder : Feeding). feeder.heard) was) read,
+  received_more feeder.partial more start between end one two before told,
+)
 
 -- nothing was received
 pub received_nothing : (start : Option Traffic) → IfTold start (λ before. start ≡ Some (with_received [] before))
 received_nothing start before told =
     told ∙ ap Some (λ i. record before { received = sym (append-nil before.received) i })
 
+-- a call that gave no bytes leaves what is told
+pub nothing_came : (count : ℕ) (room : List ℕ) (start end : Option Traffic) → count ≡ 0
+    → ChangesTold start (with_received (take count room)) end → KeepsTold start end
+nothing_came count room start end zero changes before told =
+    subst (λ (n : ℕ). ChangesTold start (with_received (take n room)) end) zero changes before told
+    ∙ ap Some (λ i. record before { received = append-nil before.received i })
+
 -- a call that keeps what is told leaves what was received
 pub received_still : (bytes : List ℕ) (start between end : Option Traffic)
     → IfTold start (λ before. between ≡ Some (with_received bytes before)) → KeepsTold between end
     → IfTold start (λ before. end ≡ Some (with_received bytes before))
 received_still bytes start between end one kept before told = kept (with_received bytes before) (one before told)
+
+-- ---- the feeder
+
+-- one that holds nothing
+pub started : (feeder : Feeding) → feeder ≡ unfed feeder.heard → feeder ≡ record (unfed feeder.heard) { partial = feeder.partial }
+started feeder unused =
+    unused ∙ ap (λ partial. record (unfed feeder.heard) { partial = partial }) (sym (ap (λ (feeder : Feeding). feeder.partial) unused))
+
+-- one that went on with the frame
+pub went_on : (heard : Heard) (old new : Feeding) (bytes : List ℕ) → old ≡ record (unfed heard) { partial = old.partial }
+    → new ≡ record old { partial = old.partial ++ bytes } → new ≡ record (unfed heard) { partial = new.partial }
+went_on heard old new bytes was now =
+    now
+    ∙ (ap (λ (feeder : Feeding). record feeder { partial = old.partial ++ bytes }) was
+    ∙ ap (λ partial. record (unfed heard) { partial = partial }) (sym (ap (λ (feeder : Feeding). feeder.partial) now)))

@@ -1,5 +1,5 @@
 -- A link that failed or was at its end counts for the dialler when it is given back.
-use Rattle.std.proofs.Common.{◌≡◌, ◌⊎◌, ◌<◌, ℕ, Bool, true, false, ◌&&◌, ◌||◌, cond, ltb, eqb, Ok, refl, ap, ◌∙◌, inl, inr, arith}
+use Rattle.std.proofs.Common.{◌≡◌, ◌⊎◌, ◌<◌, ℕ, Bool, true, false, ◌&&◌, ◌||◌, cond, ltb, eqb, Ok, refl, sym, ap, subst, ◌∙◌, inl, inr, arith}
 use Rattle.std.proofs.lemmas.Bool.Decides.{nat_tests}
 use Rattle.desk_ports.specs.Faults.{next_count}
 use Rattle.link_ports.specs.LinkMarks.{LinkMarks, marks_after_receive}
@@ -26,10 +26,16 @@ trouble-failed marks faults none =
     no_end marks.ends _ none (front_true (ltb 0 (next_count faults)) _ (above (next_count faults) (omega arith)))
 
 -- its input had ended
-pub trouble-ended : (marks : LinkMarks) (faults room : ℕ) → 0 < room → IsTrouble (marks_after_receive (Ok 0) room marks) faults
-trouble-ended marks faults room some none =
+ended : (marks : LinkMarks) (faults room : ℕ) → 0 < room → IsTrouble (marks_after_receive (Ok 0) room marks) faults
+ended marks faults room some none =
     no_end marks.ends _ none
     (or_true (ltb 0 faults) _ (front_true (marks.has_ended || (true && ltb 0 room)) _ (or_true marks.has_ended _ (above room some))))
+
+pub trouble-ended : (marks after : LinkMarks) (faults room count : ℕ) → 0 < room → count ≡ 0
+    → after ≡ marks_after_receive (Ok count) room marks → IsTrouble after faults
+trouble-ended marks after faults room count some zero is =
+    subst (λ (marks : LinkMarks). IsTrouble marks faults)
+    (sym (is ∙ ap (λ (n : ℕ). marks_after_receive (Ok n) room marks) zero)) (ended marks faults room some)
 
 -- giving it back counts
 pub trouble-counts : (marks : LinkMarks) (faults count : ℕ) → IsTrouble marks faults → marks.ends ≡ 0

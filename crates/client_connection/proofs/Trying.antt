@@ -4,7 +4,6 @@ use Rattle.desk_ports.specs.Faults.{next_count}
 use Rattle.link_ports.specs.Traffic.{Traffic}
 use Rattle.link_ports.specs.LinkMarks.{LinkMarks}
 use Rattle.link_ports.specs.NetCounts.{count_after_give_back}
-use Rattle.std.specs.declared.alloc.AllocError.{AllocError}
 use Rattle.wire_messages.specs.declared.messages.Framed.{Framed}
 use Rattle.wire_messages.specs.declared.refusals.WireRefusal.{WireRefusal}
 use Rattle.client_connection.specs.declared.faults.Broken.{Broken}
@@ -71,20 +70,20 @@ made_later (outcome.Memory error is_tried) first rest one = omega (arith, length
 -- ---- what was given back
 
 appends_nothing : {A : Type 0} → (old new : Option (List A)) → new ≡ old → Appends [] old new
-appends_nothing old new same after told = (after, (sym same ∙ told, sym (append-nil after)))
+appends_nothing old new same after told = (after, sym same ∙ told, sym (append-nil after))
 
 appends_more : {A : Type 0} → (first more : List A) (old between new : Option (List A))
     → Appends first old between → Appends more between new → Appends (first ++ more) old new
 appends_more first more old between new one two after told =
     let late = two after told in
-    let early = one late.0 late.1.0 in
-    (early.0, (early.1.0, late.1.1 ∙ (ap (λ links. links ++ more) early.1.1 ∙ append_assoc early.0 first more)))
+    let early = one late.0 late.1 in
+    (early.0, early.1, late.2 ∙ (ap (λ links. links ++ more) early.2 ∙ append_assoc early.0 first more))
 
 appends_from : {A : Type 0} → (values : List A) (start old new : Option (List A)) → old ≡ start → Appends values old new
     → Appends values start new
 appends_from values start old new same given after told =
     let there = given after told in
-    (there.0, (sym same ∙ there.1.0, there.1.1))
+    (there.0, sym same ∙ there.1, there.2)
 
 module _ {L : Type 0} (link_faults : L → ℕ) (marks : L → LinkMarks) (traffic : L → Option Traffic) (frame : List ℕ) where
   lost_after : (first rest : List (Option L)) → AreLost link_faults marks traffic frame None first
@@ -162,12 +161,14 @@ module _ {L : Type 0} (link_faults : L → ℕ) (marks : L → LinkMarks) (traff
     comes_of_more tries before is_tried entry first rest (outcome.Unavailable after) old between new some one tried loses late =
         let all : length rest ≡ tries - 1 = late.0 in (
           omega (arith, length-append first rest, one, all, some),
-          (tried_more before is_tried first rest after tried late.1.0, loses_more first rest old between new loses late.1.1),
+          tried_more before is_tried first rest after tried late.1,
+          loses_more first rest old between new loses late.2,
         )
     comes_of_more tries before is_tried entry first rest (outcome.Memory error after) old between new some one tried loses late =
         let fewer : length rest < tries - 1 = late.0 in (
           omega (arith, length-append first rest, one, fewer, some),
-          (tried_more before is_tried first rest after tried late.1.0, loses_more first rest old between new loses late.1.1),
+          tried_more before is_tried first rest after tried late.1,
+          loses_more first rest old between new loses late.2,
         )
 
     -- the first try was lost, and this came of those behind it
@@ -181,44 +182,13 @@ module _ {L : Type 0} (link_faults : L → ℕ) (marks : L → LinkMarks) (traff
           lost = first.lost ++ rest.lost;
           each = lost_more entry first.lost rest.lost one first.each rest.each;
           came =
-              comes_of_more tries before is_tried entry first.lost rest.lost result old between new some one first.came.1.0
-              first.came.1.1 rest.came;
+              comes_of_more tries before is_tried entry first.lost rest.lost result old between new some one first.came.1
+              first.came.2 rest.came;
           dialled =
               subst (λ n. dials new ≡ counted (dials_in (is_some entry) n) (dials old)) (sym (made_later result first.lost rest.lost one))
               (dials_later (is_some entry) (tries_made result rest.lost) (dials old) (dials between) (dials new)
               (subst (λ n. dials between ≡ counted (dials_in (is_some entry) n) (dials old)) one first.dialled) rest.dialled);
         }
-
-    -- the only try was lost
-    pub only : (tries : ℕ) (before is_tried : Bool) (entry : Option L) (old new : N) → tries ≡ 1
-        → Asks link_faults marks traffic frame faults dials given_back 1 before entry (outcome.Unavailable is_tried) old new
-        → Asks link_faults marks traffic frame faults dials given_back tries before entry (outcome.Unavailable is_tried) old new
-    only tries before is_tried entry old new one first =
-        subst (λ n. Asks link_faults marks traffic frame faults dials given_back n before entry (outcome.Unavailable is_tried) old new)
-        (sym one) first
-
-    -- the first try was the end
-    pub ended_replied : (tries : ℕ) (before : Bool) (entry : Option L) (link : L) (is_new : Bool) (framed : Framed) (old new : N)
-        → 0 < tries
-        → Asks link_faults marks traffic frame faults dials given_back 1 before entry (outcome.Replied link is_new framed) old new
-        → Asks link_faults marks traffic frame faults dials given_back tries before entry (outcome.Replied link is_new framed) old new
-    ended_replied tries before entry link is_new framed old new some first =
-        let fewer : length first.lost < 1 = first.came.0 in
-        record { lost = first.lost; each = first.each; came = (omega (arith, fewer, some), first.came.1); dialled = first.dialled }
-
-    pub ended_wrong : (tries : ℕ) (before : Bool) (entry : Option L) (refusal : WireRefusal) (old new : N) → 0 < tries
-        → Asks link_faults marks traffic frame faults dials given_back 1 before entry (outcome.Wrong refusal) old new
-        → Asks link_faults marks traffic frame faults dials given_back tries before entry (outcome.Wrong refusal) old new
-    ended_wrong tries before entry refusal old new some first =
-        let fewer : length first.lost < 1 = first.came.0 in
-        record { lost = first.lost; each = first.each; came = (omega (arith, fewer, some), first.came.1); dialled = first.dialled }
-
-    pub ended_memory : (tries : ℕ) (before : Bool) (entry : Option L) (error : AllocError) (is_tried : Bool) (old new : N) → 0 < tries
-        → Asks link_faults marks traffic frame faults dials given_back 1 before entry (outcome.Memory error is_tried) old new
-        → Asks link_faults marks traffic frame faults dials given_back tries before entry (outcome.Memory error is_tried) old new
-    ended_memory tries before entry error is_tried old new some first =
-        let fewer : length first.lost < 1 = first.came.0 in
-        record { lost = first.lost; each = first.each; came = (omega (arith, fewer, some), first.came.1); dialled = first.dialled }
 
     -- the frame went over the link that was there, or over one that was dialled
     pub over : (before : Bool) (entry : Option L) (base : L) (result : Outcome L) (start old new : N)
@@ -232,15 +202,15 @@ module _ {L : Type 0} (link_faults : L → ℕ) (marks : L → LinkMarks) (traff
       came = (
         omega arith,
         record {
-          came = record { base = base; is_base = from; exchanged = goes.1.0.exchanged; ends = goes.1.0.ends };
+          came = record { base = base; is_base = from; exchanged = goes.1.exchanged; ends = goes.1.ends };
           new_link = goes.0;
           loses = record {
-            counted_each = ap faults goes.1.1 ∙ count;
-            given = appends_nothing (given_back start) (given_back new) (ap given_back goes.1.1 ∙ given);
+            counted_each = ap faults goes.2 ∙ count;
+            given = appends_nothing (given_back start) (given_back new) (ap given_back goes.2 ∙ given);
           };
         },
       );
-      dialled = ap dials goes.1.1 ∙ dialled;
+      dialled = ap dials goes.2 ∙ dialled;
     }
     over before entry base (outcome.Wrong refusal) start old new from count given dialled fails = record {
       lost = [];
@@ -258,19 +228,17 @@ module _ {L : Type 0} (link_faults : L → ℕ) (marks : L → LinkMarks) (traff
       dialled = fails.gives.dialled ∙ dialled;
     }
     over before entry base (outcome.Unavailable is_tried) start old new from count given dialled goes =
-        let fails = goes.1.1 in
+        let fails = goes.2 in
         record {
           lost = Some fails.link ∷ [];
           each = (record { base = base; is_base = from; exchanged = fails.goes.exchanged; ends = fails.goes.ends }, tt);
           came = (
             refl,
-            (
-              goes.0 ∙ or_true before,
-              record {
-                counted_each = goes.1.0 ∙ ap next_count count;
-                given = appends_from (fails.link ∷ []) (given_back start) (given_back old) (given_back new) given fails.gives.given;
-              },
-            ),
+            goes.0 ∙ or_true before,
+            record {
+              counted_each = goes.1 ∙ ap next_count count;
+              given = appends_from (fails.link ∷ []) (given_back start) (given_back old) (given_back new) given fails.gives.given;
+            },
           );
           dialled = fails.gives.dialled ∙ dialled;
         }
@@ -285,33 +253,11 @@ module _ {L : Type 0} (link_faults : L → ℕ) (marks : L → LinkMarks) (traff
       each = (refl, tt);
       came = (
         refl,
-        (
-          or_false before,
-          record {
-            counted_each = count;
-            given = appends_nothing (given_back start) (given_back new) given;
-          },
-        ),
-      );
-      dialled = dialled;
-    }
-
-    -- or found no memory
-    pub no_room : (before : Bool) (error : AllocError) (start new : N) → faults new ≡ faults start → given_back new ≡ given_back start
-        → dials new ≡ next_count (dials start)
-        → Asks link_faults marks traffic frame faults dials given_back 1 before None (outcome.Memory error before) start new
-    no_room before error start new count given dialled = record {
-      lost = [];
-      each = tt;
-      came = (
-        omega arith,
-        (
-          or_false before,
-          record {
-            counted_each = count;
-            given = appends_nothing (given_back start) (given_back new) given;
-          },
-        ),
+        or_false before,
+        record {
+          counted_each = count;
+          given = appends_nothing (given_back start) (given_back new) given;
+        },
       );
       dialled = dialled;
     }

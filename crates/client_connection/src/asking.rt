@@ -5,13 +5,13 @@ ghost use Rattle.client_connection.specs.parts.Over.{GoesOver};
 
 use crate::{Broken, exchange};
 use desk_ports::PortFault;
-use link_ports::{Dial, DoorKind, Link};
+use link_ports::{Dial, DoorKind};
 use std::alloc::{AllocError, Global};
 use wire_messages::{Framed, WireRefusal};
 
 /// What became of a frame that was to be sent and answered.
 #[derive(Drop)]
-pub enum Outcome<L: Link> {
+pub enum Outcome<L: Drop> {
     /// This reply came over this link, which may be a new one.
     Replied {
         link: L,
