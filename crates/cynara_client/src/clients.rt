@@ -1,4 +1,4 @@
-ghost use Rattle.std.specs.Prelude.{◌≡◌, ◌<◌, ◌≤◌, max, IfOk, None};
+ghost use Rattle.std.specs.Prelude.{◌≡◌, ◌<◌, ◌≤◌, true, false, max, IfOk, None};
 ghost use Rattle.answer_cache.specs.Limits.{most_entries};
 ghost use Rattle.answer_cache.specs.Cache.{asked_in, empty_cache};
 ghost use Rattle.cynara_client.specs.Reply as words;
@@ -6,7 +6,7 @@ ghost use Rattle.cynara_client.specs.Looking.{Looks};
 ghost use Rattle.cynara_client.specs.Checking.{Checks, Serves, Leaves, Ends, IsKept, replied, closed};
 
 use crate::looking::Look;
-use crate::replies::{refusal_of, reply_of};
+use crate::replies::{refusal_of, reply_by};
 use crate::{Checked, ClientRefusal};
 use answer_cache::AnswerCache;
 use bucket_eval::Verdict;
@@ -176,7 +176,7 @@ impl<N: Dial> Client<N> {
                 link,
                 is_new,
                 framed,
-            } => self.hear(session, question, link, is_new, &framed),
+            } => self.hear(session, question, link, is_new, framed),
             Outcome::Wrong(refusal) => {
                 self.close(true);
                 Err(refusal_of(refusal))
@@ -221,16 +221,16 @@ impl<N: Dial> Client<N> {
         question: &Question,
         link: N::Link,
         is_new: bool,
-        framed: &Framed,
+        framed: Framed,
     ) -> Result<Checked, ClientRefusal>
         requires { (N.Link.marks link).ends ≡ 0 }
-        ensures reply { result ≡ words.reply_of self.old.sequence self.old.cache.told framed.now }
+        ensures reply { result ≡ words.reply_of self.old.sequence self.old.cache.told framed }
         ensures ends { Ends N.Link.faults N.Link.marks N.faults N.dials N.given_back (asked_in session.now question.now) result
             (replied link is_new self.old) self.new }
     {
         let sequence = self.sequence;
         self.put_link(link, is_new);
-        let reply = reply_of(sequence, self.cache.told(), framed);
+        let reply = reply_by(sequence, self.cache.told(), framed);
         self.conclude(session, question, reply)
     }
 

@@ -92,6 +92,13 @@ pub(crate) fn reply_of(sequence: u16, told: u64, framed: &Framed) -> Result<Chec
     said.answer
 }
 
+// The same of a frame that is not needed any more.
+pub(crate) fn reply_by(sequence: u16, told: u64, framed: Framed) -> Result<Checked, ClientRefusal>
+    ensures { result ≡ words.reply_of sequence told framed }
+{
+    reply_of(sequence, told, &framed)
+}
+
 // What bytes that are no frame come to.
 pub(crate) fn refusal_of(refusal: WireRefusal) -> ClientRefusal
     ensures { result ≡ words.refusal_of refusal }
