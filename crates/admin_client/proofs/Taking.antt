@@ -1,24 +1,68 @@
 -- Replies that are taken one after the other.
-use Rattle.std.proofs.Common.{◌≡◌, ◌∙◌, ◌+◌, ◌<◌, ℕ, suc, List, [], ◌∷◌, ◌++◌, length, map, Option, Some, Result, Ok, Err, refl, sym, ap, subst, append_assoc, append-nil, arith}
+use Rattle.std.proofs.Common.{◌≡◌, ◌∙◌, ◌+◌, ◌<◌, ℕ, suc, Bool, true, false, ◌&&◌, cond, ltb, eqb, List, [], ◌∷◌, ◌++◌, length, map, Option, Some, Result, Ok, Err, refl, sym, ap, subst, append_assoc, append-nil, arith}
+use Rattle.std.proofs.lemmas.Bool.Decides.{nat_tests}
 use Rattle.link_ports.specs.Told.{IfTold}
 use Rattle.link_ports.specs.Traffic.{Traffic, with_received}
 use Rattle.std.specs.declared.alloc.AllocError.{AllocError}
 use Rattle.wire_messages.proofs.Streams.{hears_more, hears_then}
-use Rattle.wire_messages.specs.Stream.{Hears, BeginsWrong, IsOpen}
+use Rattle.wire_messages.specs.Stream.{Feeding, Hears, unfed}
 use Rattle.wire_messages.specs.declared.messages.Framed.{Framed}
 use Rattle.wire_messages.specs.declared.messages.Message.{Message}
+use Rattle.wire_messages.specs.declared.operations.Heard.{Heard}
 use Rattle.wire_messages.specs.declared.operations.Heard.TheVariants.{Replies}
-use Rattle.wire_messages.specs.declared.refusals.WireRefusal.{WireRefusal}
 use Rattle.wire_messages.specs.declared.refusals.WireRefusal.TheVariants.{TooShort, TooLong, BadOperation, BadField, Trailing, Memory}
-use Rattle.client_connection.specs.Reading.{IsRead, Receives, IfLost}
+use Rattle.client_connection.specs.Reading.{IsRead, Receives}
 use Rattle.client_connection.specs.declared.faults.Broken.{Broken}
 use Rattle.client_connection.specs.declared.faults.Broken.TheVariants.{Lost, Wrong}
 use Rattle.client_connection.specs.declared.faults.ReplyFault.{ReplyFault}
-use Rattle.admin_client.specs.Replies.{next_of, AreRows}
-use Rattle.admin_client.specs.Answers.{TookBytes, BeginsWithRows, IsWhole, IsBad, IsRefused, IfUnavailable, refusal_of}
+use Rattle.admin_client.specs.Replies.{is_list_row, is_row, is_last, next_of, AreRows}
+use Rattle.admin_client.specs.Answers.{TookBytes, IsWhole, IsBad, IsRefused, refusal_of}
 use Rattle.admin_client.specs.declared.wanted.Wanted.{Wanted}
+use Rattle.admin_client.specs.declared.wanted.Wanted.TheVariants as wanted
 use Rattle.admin_client.specs.declared.wanted.Next.TheVariants as next
 use Rattle.admin_client.specs.declared.refusals.AdminRefusal.TheVariants as refusal
+
+-- ---- rows
+
+and_right : (a b : Bool) → (a && b) ≡ true → b ≡ true
+and_right true b is = is
+and_right false b is = cc
+
+by_tests : (a b c : Bool) (w v : ReplyFault) → cond a (cond b next.More (cond c next.Whole (next.Wrong w))) (next.Wrong v) ≡ next.More
+    → b ≡ true
+by_tests true true c w v is = refl
+by_tests true false true w v is = cc
+by_tests true false false w v is = cc
+by_tests false b c w v is = cc
+
+below : (n : ℕ) → ltb n 65536 ≡ true → n < 65536
+below n is = grind (arith, nat_tests)
+
+row_below : (wanted : Wanted) (n : ℕ) (reply : Message) → is_row wanted n reply ≡ true → n < 65536
+row_below wanted.Rows n reply is = below n (and_right (is_list_row reply) (ltb n 65536) is)
+row_below wanted.Command n reply is = cc
+row_below wanted.Verdict n reply is = cc
+row_below wanted.Stop n reply is = cc
+
+-- a further row is not beyond the last one
+pub more_rows : (wanted : Wanted) (sequence n : ℕ) (framed : Framed) → next_of wanted sequence n framed ≡ next.More → n < 65536
+more_rows wanted sequence n framed is =
+    row_below wanted n framed.message
+    (by_tests (eqb framed.sequence sequence) (is_row wanted n framed.message) (is_last wanted n framed.message) _ _ is)
+
+pub mapped_more : (rows : List Framed) (framed : Framed)
+    → map (λ (framed : Framed). framed.message) (rows ++ framed ∷ []) ≡ map (λ (framed : Framed). framed.message) rows ++ framed.message ∷ []
+mapped_more [] framed = refl
+mapped_more (row ∷ rows) framed = ap (λ messages. row.message ∷ messages) (mapped_more rows framed)
+
+rows_length : (rows : List Framed) → length (map (λ (framed : Framed). framed.message) rows) ≡ length rows
+rows_length [] = refl
+rows_length (row ∷ rows) = ap suc (rows_length rows)
+
+-- as many rows as messages
+pub rows_count : (n : ℕ) (items : List Message) (rows : List Framed) → n ≡ length items
+    → items ≡ map (λ (framed : Framed). framed.message) rows → n ≡ length rows
+rows_count n items rows count are = count ∙ (ap length are ∙ rows_length rows)
 
 -- one more row
 pub one_more : (wanted : Wanted) (sequence before n : ℕ) (rows : List Framed) (framed : Framed) → n ≡ before + length rows
@@ -30,10 +74,13 @@ one_more wanted sequence before n [] framed place rows more =
 one_more wanted sequence before n (row ∷ rows) framed place are more =
     (are.0, one_more wanted sequence (suc before) n rows framed (omega (arith, place)) are.1 more)
 
--- nothing was taken yet
-pub took_nothing : (start : Option Traffic) → TookBytes (λ bytes. Hears Replies bytes [] []) start start
-took_nothing start before told =
-    ([], refl, told ∙ ap Some (λ i. record before { received = sym (append-nil before.received) i }))
+-- ---- what was taken
+
+-- a feeder that hears replies
+pub as_replies : (feeder : Feeding) (result : Result Framed Broken) (start end : Option Traffic) → feeder ≡ unfed Replies
+    → Receives feeder.heard result start end → Receives Replies result start end
+as_replies feeder result start end is =
+    subst (λ (heard : Heard). Receives heard result start end) (ap (λ (feeder : Feeding). feeder.heard) is)
 
 -- one more reply was taken
 pub took_more : (rows : List Framed) (framed : Framed) (start between end : Option Traffic)
@@ -114,13 +161,3 @@ pub refused_memory : (wanted : Wanted) (sequence : ℕ) (P : List ℕ → Type 0
     → TookBytes P start end → TookBytes (IsRefused wanted sequence (refusal.Memory error)) start end
 refused_memory wanted sequence P error start end took before told =
     let all = took before told in (all.0, tt, all.2)
-
--- what is known where no frame was read
-pub if_lost : (broken : Broken) (fact : Type 0) → IfLost broken fact → IfUnavailable (refusal_of broken) fact
-if_lost Lost fact known = known
-if_lost (Wrong (TooShort n)) fact known = tt
-if_lost (Wrong (TooLong n)) fact known = tt
-if_lost (Wrong (BadOperation n)) fact known = tt
-if_lost (Wrong (BadField n)) fact known = tt
-if_lost (Wrong (Trailing n)) fact known = tt
-if_lost (Wrong (Memory error)) fact known = tt

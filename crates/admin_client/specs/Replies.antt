@@ -1,5 +1,5 @@
 -- What an administrator's client makes of the replies to a message.
-use Rattle.std.specs.Prelude.{◌≡◌, ℕ, suc, ◌==◌, nat_lt, Bool, true, false, if◌then◌else◌, List, [], ◌∷◌}
+use Rattle.std.specs.Prelude.{◌≡◌, ℕ, suc, ◌==◌, nat_lt, Bool, true, false, ◌&&◌, if◌then◌else◌, List, [], ◌∷◌}
 use Rattle.wire_messages.specs.Operation.{number_of}
 use Rattle.wire_messages.specs.Message.{operation}
 use Rattle.wire_messages.specs.declared.messages.Framed.{Framed}
@@ -23,10 +23,15 @@ wanted_of (message.AdminCheck bucket recursive question) = Verdict
 wanted_of message.Stop = Stop
 wanted_of other = Command
 
+-- one policy of those that were asked for
+abbrev pub is_list_row : Message → Bool
+is_list_row (message.ListRow policy) = true
+is_list_row other = false
+
 -- a further row, where there may be one
 abbrev pub is_row : Wanted → ℕ → Message → Bool
-is_row Rows rows (message.ListRow policy) = nat_lt rows most_rows
-is_row wanted rows other = false
+is_row Rows rows reply = is_list_row reply && nat_lt rows most_rows
+is_row wanted rows reply = false
 
 -- The reply ends the answer: rows end with their count, and else there is one reply.
 abbrev pub is_last : Wanted → ℕ → Message → Bool

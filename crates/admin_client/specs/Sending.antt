@@ -2,6 +2,9 @@
 use Rattle.std.specs.Prelude.{◌≡◌, ◌⊎◌, ◌+◌, ◌%◌, ◌^◌, ◌≤◌, ℕ, if◌then◌else◌, List, [], length, Option, Some, None, is_some, Result, Ok, Err}
 use Rattle.std.specs.declared.alloc.AllocError.{AllocError}
 use Rattle.desk_ports.specs.Faults.{next_count}
+use Rattle.desk_ports.specs.PortFault.{count_after_refusal}
+use Rattle.desk_ports.specs.declared.port_faults.PortFault.{PortFault}
+use Rattle.desk_ports.specs.declared.port_faults.PortFault.TheVariants as fault
 use Rattle.link_ports.specs.Told.{IfTold}
 use Rattle.link_ports.specs.Traffic.{Traffic, with_received, with_sent}
 use Rattle.link_ports.specs.LinkMarks.{LinkMarks}
@@ -34,6 +37,11 @@ frame_of sequence message = spelling (with_sequence sequence message)
 abbrev pub Fits : ℕ → Message → Type 0
 Fits sequence message = length (body (with_sequence sequence message)) ≤ most_length
 
+-- what it comes to that a dial gave no link
+abbrev pub refusal_by : PortFault → AdminRefusal
+refusal_by (fault.Memory error) = Memory error
+refusal_by fault.Failed = Unavailable
+
 -- an answer, seen by the list of its messages
 abbrev pub listed : {V : Type 0} → (V → List Message) → Result V AdminRefusal → Result (List Message) AdminRefusal
 listed items (Ok replies) = Ok (items replies)
@@ -57,11 +65,18 @@ Exchanges sequence message result old new = IfTold old (λ before.
 module _ {N L : Type 0} (link_faults : L → ℕ) (marks : L → LinkMarks) (traffic : L → Option Traffic)
     (faults dials : N → ℕ) (given_back : N → Option (List L)) where
   -- the link that the frame is to go out on: the one that was there, or one that was dialled, which is no failure
-  pub record Begins (old : State N L) (base : L) (dial : N) : Type 0 where
-    pub is_base : IsBase link_faults marks old.link base
-    pub dialled : dials dial ≡ (if is_some old.link then dials old.dial else next_count (dials old.dial))
-    pub counted : faults dial ≡ faults old.dial
-    pub given : given_back dial ≡ given_back old.dial
+  pub record Begins (entry : Option L) (base : L) (old new : N) : Type 0 where
+    pub is_base : IsBase link_faults marks entry base
+    pub dialled : dials new ≡ (if is_some entry then dials old else next_count (dials old))
+    pub counted : faults new ≡ faults old
+    pub given : given_back new ≡ given_back old
+
+  -- no link was there, and the dial failed, or found no memory
+  pub record IsRefusedDial (fault : PortFault) (entry : Option L) (old new : N) : Type 0 where
+    pub was : entry ≡ None
+    pub counted : faults new ≡ count_after_refusal fault (faults old)
+    pub dialled : dials new ≡ next_count (dials old)
+    pub given : given_back new ≡ given_back old
 
   -- the link is given back; one that failed or ended counts for the dialler
   pub record Refuses (refusal : AdminRefusal) (link : L) (old new : N) : Type 0 where
@@ -78,28 +93,15 @@ module _ {N L : Type 0} (link_faults : L → ℕ) (marks : L → LinkMarks) (tra
     pub base : L
     pub link : L
     pub dial : N
-    pub begins : Begins old base dial
+    pub begins : Begins old.link base old.dial dial
     pub exchanged : Exchanges old.sequence message result (traffic base) (traffic link)
     pub ends : Ends result dial link new.dial new.link
     pub sequence : new.sequence ≡ next_number old.sequence
 
-  -- no link was there, and the dial failed
   pub record FailsToDial (result : Result (List Message) AdminRefusal) (old new : State N L) : Type 0 where
-    pub was : old.link ≡ None
-    pub is : result ≡ Err Unavailable
-    pub counted : faults new.dial ≡ next_count (faults old.dial)
-    pub dialled : dials new.dial ≡ next_count (dials old.dial)
-    pub given : given_back new.dial ≡ given_back old.dial
-    pub same : new ≡ record old { dial = new.dial }
-
-  -- no link was there, and no memory was found to dial
-  pub record FindsNoRoomToDial (result : Result (List Message) AdminRefusal) (old new : State N L) : Type 0 where
-    pub error : AllocError
-    pub was : old.link ≡ None
-    pub is : result ≡ Err (Memory error)
-    pub counted : faults new.dial ≡ faults old.dial
-    pub dialled : dials new.dial ≡ next_count (dials old.dial)
-    pub given : given_back new.dial ≡ given_back old.dial
+    pub fault : PortFault
+    pub is : result ≡ Err (refusal_by fault)
+    pub refused : IsRefusedDial fault old.link old.dial new.dial
     pub same : new ≡ record old { dial = new.dial }
 
   -- no memory was found to spell the message; the link is given back, if there is one
@@ -122,5 +124,4 @@ module _ {N L : Type 0} (link_faults : L → ℕ) (marks : L → LinkMarks) (tra
     too_long : IsRefusedLong message result old new → Sends message result old new
     no_room : FindsNoRoom result old new → Sends message result old new
     no_dial : Fits old.sequence message → FailsToDial result old new → Sends message result old new
-    no_room_to_dial : Fits old.sequence message → FindsNoRoomToDial result old new → Sends message result old new
     talks : Fits old.sequence message → Talks message result old new → Sends message result old new

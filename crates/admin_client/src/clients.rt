@@ -1,5 +1,6 @@
-ghost use Rattle.std.specs.Prelude.{◌≡◌, None, IfErr};
-ghost use Rattle.admin_client.specs.Sending.{Sends, Exchanges, listed, frame_of};
+ghost use Rattle.std.specs.Prelude.{◌≡◌, None, IfOk, IfErr};
+ghost use Rattle.std.specs.Option.{ForSome};
+ghost use Rattle.admin_client.specs.Sending.{Sends, Exchanges, Begins, IsRefusedDial, listed, frame_of};
 ghost use Rattle.client_connection.specs.Giving.{GivesBackAny};
 ghost use Rattle.admin_client.specs.Answers.{IfUnavailable};
 ghost use Rattle.client_connection.specs.Reading.{IsTrouble};
@@ -67,13 +68,10 @@ impl<N: Dial> AdminClient<N> {
                 return Err(AdminRefusal::Memory(error));
             }
         }
-        let mut link = match self.link.take() {
-            Some(link) => link,
-            None => match self.dial.dial(DoorKind::Admin) {
-                Ok(link) => link,
-                Err(PortFault::Failed) => return Err(AdminRefusal::Unavailable),
-                Err(PortFault::Memory(error)) => return Err(AdminRefusal::Memory(error)),
-            },
+        let mut link = match link_of(&mut self.dial, self.link.take()) {
+            Ok(link) => link,
+            Err(PortFault::Failed) => return Err(AdminRefusal::Unavailable),
+            Err(PortFault::Memory(error)) => return Err(AdminRefusal::Memory(error)),
         };
         self.sequence = sequence.wrapping_add(1);
         let frame = self.frame.as_slice();
@@ -100,6 +98,21 @@ impl<N: Dial> AdminClient<N> {
             return;
         };
         self.dial.give_back(link);
+    }
+}
+
+// The link, or one that is dialled where there is none.
+fn link_of<N: Dial>(dial: &mut N, link: Option<N::Link>) -> Result<N::Link, PortFault>
+    requires { ForSome link (λ link. (N.Link.marks link).ends ≡ 0) }
+    ensures begins { IfOk result (λ base. Begins N.Link.faults N.Link.marks N.Link.traffic N.faults N.dials N.given_back
+        link base dial.old dial.new) }
+    ensures ends { IfOk result (λ base. (N.Link.marks base).ends ≡ 0) }
+    ensures refused { IfErr result (λ fault. IsRefusedDial N.Link.faults N.Link.marks N.Link.traffic N.faults N.dials N.given_back
+        fault link dial.old dial.new) }
+{
+    match link {
+        Some(link) => Ok(link),
+        None => dial.dial(DoorKind::Admin),
     }
 }
 

@@ -7,8 +7,8 @@ use Rattle.admin_client.specs.Answers.{TookBytes}
 use Rattle.admin_client.proofs.replies.read_replies.Given as goal
 
 -- the replies so far are rows, and no byte behind them was taken
-abbrev pub invariant-loop : goal.invariant-loop
-invariant-loop g l =
+abbrev pub invariant-loop-framed : goal.invariant-loop-framed
+invariant-loop-framed g l =
     (rows : List Framed)
     × (l.replies.items ≡ map (λ (framed : Framed). framed.message) rows)
     × AreRows l.wanted l.sequence 0 rows
@@ -16,5 +16,5 @@ invariant-loop g l =
     × (l.feeder ≡ unfed Replies)
     × ((g.L.Link.marks l.link).ends ≡ (g.L.Link.marks l.fn.link).ends)
 
-abbrev pub decreases-loop : goal.decreases-loop
-decreases-loop g l = 65537 - length l.replies.items
+abbrev pub decreases-loop-framed : goal.decreases-loop-framed
+decreases-loop-framed g l = 65537 - length l.replies.items
