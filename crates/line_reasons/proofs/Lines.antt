@@ -12,7 +12,7 @@ use Rattle.line_script.specs.Words.{word, end_of, ◌>>=◌}
 use Rattle.level_requests.specs.Level.{level_at}
 use Rattle.level_requests.specs.declared.requests.Setter.{Setter}
 use Rattle.level_requests.specs.declared.requests.Setter.TheVariants.{Own, Administrator}
-use Rattle.line_script.specs.WordForms.{bucket_at, name_at, field_at, filter_field_at, depth_at, result_at, uid_at, user_type_at, scope_at, package_kind_at, setter_named, ident_at, author_at, label_at, request_at}
+use Rattle.line_script.specs.WordForms.{bucket_at, name_at, field_at, filter_field_at, depth_at, result_at, uid_at, user_type_at, scope_at, package_kind_at, ident_at, author_at, label_at, request_at}
 use Rattle.line_script.specs.Grammar.{key_at, question_at, filter_at, names_at, set_at, unset_at, set_bucket_at, drop_at, erase_at, layout_at, user_at, nouser_at, install_at, convert_at, remove_at, list_at, check_at, from_at, access_at, target_at, setter_at, level_line_at, levels_at, audit_at, share_at, unshare_at, shares_at, status_at, stop_at, change_at, change_step, line_at}
 use Rattle.line_script.specs.declared.verbs.Verb.{Verb}
 use Rattle.line_script.specs.declared.verbs.Verb.TheVariants as verb

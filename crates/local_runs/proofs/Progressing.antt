@@ -10,7 +10,6 @@ use Rattle.line_script.specs.Block.{Block, outside}
 use Rattle.line_script.specs.declared.places.Place.TheVariants.{Local}
 use Rattle.line_script.specs.Grammar.{step_at}
 use Rattle.desk_state.specs.DeskState.{DeskState}
-use Rattle.private_sharing.specs.declared.shares.Share.{Share}
 use Rattle.script_replies.specs.Reply.{reply, after, shares_after}
 use Rattle.script_replies.specs.Script.{read_lines, replies, state_after, shares_behind}
 use Rattle.local_runs.specs.LocalRun.{read_local}

@@ -1,5 +1,5 @@
 -- Steps that leave the policy state, and requests for levels as the commands that they come to.
-use Rattle.std.proofs.Common.{◌≡◌, ◌++◌, ℕ, Bool, true, false, List, Option, None, Some, Result, Ok, Err, MatchResult, inl, refl, sym, ap, subst, ◌∙◌}
+use Rattle.std.proofs.Common.{◌≡◌, ◌++◌, ℕ, true, List, Option, None, Some, Result, Ok, Err, MatchResult, inl, refl, sym, ap, subst, ◌∙◌}
 use Rattle.desk_state.specs.DeskState.{DeskState}
 use Rattle.desk_state.specs.declared.commands.Command.{Command}
 use Rattle.level_requests.specs.declared.requests.LevelRequest.{LevelRequest}
@@ -12,11 +12,11 @@ use Rattle.line_script.specs.declared.steps.Step.{Step}
 use Rattle.line_script.specs.declared.steps.Step.TheVariants as step
 use Rattle.script_replies.specs.Reply.{reply, after, shares_after, level_reply, after_level, shares_after_level, level_command}
 use Rattle.script_replies.specs.Levels.{level_refusal_text, names_level_rule}
-use Rattle.script_replies.specs.Sharing.{share_refusal_text, names_share_rule, shared_reply, shares_if, share_reply, shares_opened, unshare_reply, shares_closed}
-use Rattle.private_sharing.specs.Refusal.{open_fault, close_fault, Refuses, RefusesLast}
+use Rattle.script_replies.specs.Sharing.{names_share_rule}
+use Rattle.private_sharing.specs.Refusal.{Refuses, RefusesLast}
 use Rattle.private_sharing.specs.declared.refusals.ShareRefusal.{ShareRefusal}
 use Rattle.private_sharing.specs.declared.refusals.ShareRefusal.TheVariants as share
-use Rattle.local_runs.specs.parts.Local.{is_question, AnswersStep, FailsToKeep, RefusesStep}
+use Rattle.local_runs.specs.parts.Local.{is_question, AnswersStep, RefusesStep}
 use Rattle.run_endings.specs.declared.endings.Ending.{Ending}
 use Rattle.run_endings.specs.declared.endings.Ending.TheVariants.{Done, Memory, Words, Line, Source, Sink, Disk, Net, Damaged, Reply, TooLong}
 use Rattle.local_runs.proofs.Obeying.{hands-none}

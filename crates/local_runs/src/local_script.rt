@@ -1,6 +1,5 @@
 // A script that is being answered over a folder, line by line.
-ghost use Rattle.std.specs.Prelude.{◌≡◌, ◌++◌, [], true, false, IsTrue, OnOk, OnErr, MatchResult};
-ghost use Rattle.smack_rules.specs.Modes.{is_request};
+ghost use Rattle.std.specs.Prelude.{◌≡◌, [], false, MatchResult};
 ghost use Rattle.desk_state.specs.Next.{next};
 ghost use Rattle.desk_keeper.specs.Keeper.{disk_of, held_of, IsDecided, IsSameDisk};
 ghost use Rattle.line_script.specs.Block.{outside};
@@ -10,24 +9,24 @@ ghost use Rattle.line_script.specs.Turn.{AsksRequest};
 ghost use Rattle.line_script.specs.declared.steps.Step.TheVariants as step;
 ghost use Rattle.local_runs.specs.parts.Local.{is_question};
 ghost use Rattle.script_replies.specs.Folded.{unasked};
-ghost use Rattle.script_replies.specs.Reply.{reply, after, shares_after};
+ghost use Rattle.script_replies.specs.Reply.{after};
 
-use app_registry::Ident;
-use cynara_keys::{BorrowedQuestion, BucketName};
+mod questions;
+mod sharing;
+
+use crate::local_script::questions::is_question;
 use desk_keeper::Keeper;
 use desk_ports::{Bytes, Disk, Sink, Source, write_all};
-use desk_state::{Command, Desk};
+use desk_state::Command;
 use level_requests::LevelRequest;
-use line_script::{LineAnswer, LineRefusal, Place, Reader, Step, print};
+use line_script::{LineRefusal, Place, Reader, Step};
 use policy_levels::level_command;
 use private_sharing::Shares;
 use run_endings::Ending;
 use script_replies::{
-    FoldedRules, note_past_limit, note_script_line, print_audit, print_decision, print_done,
-    print_from, print_level_refusal, print_levels, print_list, print_refusal, print_share_refusal,
-    print_shared, print_shares,
+    FoldedRules, note_past_limit, note_script_line, print_done, print_level_refusal, print_refusal,
 };
-use std::alloc::{AllocError, Global};
+use std::alloc::Global;
 use text_lines::LineReader;
 
 /// Where the reading of a script stands, the answers that the sink hasn't taken yet, the shares that are open, and the rules of
@@ -358,137 +357,6 @@ impl LocalScript {
         }
     }
 
-    // Opens a share once more, and adds how often it is open to the answers that wait, or why it is not opened.
-    fn share(
-        &mut self,
-        desk: &Desk,
-        owner: &Ident,
-        target: &Ident,
-        name: &Ident,
-    ) -> Result<(), AllocError>
-        requires folded { AreFolded self.old.rules desk.now self.old.shares }
-        ensures answer { OnOk result (self.new.answers ≡
-            self.old.answers ++ reply desk.now self.old.shares (step.Share owner.now target.now name.now)) }
-        ensures shares { OnOk result (self.new.shares ≡
-            shares_after desk.now self.old.shares (step.Share owner.now target.now name.now)) }
-        ensures err { OnErr result (self.new.answers ≡ self.old.answers) }
-        ensures reader { self.new.reader ≡ self.old.reader }
-        ensures folded { AreFolded self.new.rules desk.now self.new.shares }
-    {
-        let shares = match self.shares.open(desk.registry(), owner, target, name) {
-            Ok(shares) => shares,
-            Err(refusal) => {
-                print_share_refusal(&refusal, &mut self.answers)?;
-                return Ok(());
-            }
-        };
-        print_shared(shares.count(owner, target, name), &mut self.answers)?;
-        self.shares = shares;
-        self.rules.forget_given();
-        Ok(())
-    }
-
-    // The same once less.
-    fn unshare(
-        &mut self,
-        desk: &Desk,
-        owner: &Ident,
-        target: &Ident,
-        name: &Ident,
-    ) -> Result<(), AllocError>
-        requires folded { AreFolded self.old.rules desk.now self.old.shares }
-        ensures answer { OnOk result (self.new.answers ≡
-            self.old.answers ++ reply desk.now self.old.shares (step.Unshare owner.now target.now name.now)) }
-        ensures shares { OnOk result (self.new.shares ≡
-            shares_after desk.now self.old.shares (step.Unshare owner.now target.now name.now)) }
-        ensures err { OnErr result (self.new.answers ≡ self.old.answers) }
-        ensures reader { self.new.reader ≡ self.old.reader }
-        ensures folded { AreFolded self.new.rules desk.now self.new.shares }
-    {
-        let shares = match self.shares.close(owner, target, name) {
-            Ok(shares) => shares,
-            Err(refusal) => {
-                print_share_refusal(&refusal, &mut self.answers)?;
-                return Ok(());
-            }
-        };
-        print_shared(shares.count(owner, target, name), &mut self.answers)?;
-        self.shares = shares;
-        self.rules.forget_given();
-        Ok(())
-    }
-
-    // Adds the verdict on a question from the root bucket to the answers that wait.
-    fn answer_check(
-        &mut self,
-        desk: &Desk,
-        question: &BorrowedQuestion<'_>,
-    ) -> Result<(), AllocError>
-        ensures answer { OnOk result (self.new.answers ≡
-            self.old.answers ++ reply desk.now self.old.shares (step.Check question.now)) }
-        ensures same { self.new ≡ record self.old { answers = self.new.answers } }
-        ensures err { OnErr result (self.new.answers ≡ self.old.answers) }
-    {
-        let root = BucketName::root(self.alloc);
-        print_from(desk, &root, true, question, &mut self.answers)
-    }
-
-    // Adds the answer to a question about the policy state to those that wait.
-    fn ask(&mut self, desk: &Desk, question: &Step<'_>) -> Result<(), AllocError>
-        requires asked { AsksRequest question.now }
-        requires question { is_question question.now ≡ true }
-        requires folded { AreFolded self.old.rules desk.now self.old.shares }
-        ensures answer { OnOk result (self.new.answers ≡ self.old.answers ++ reply desk.now self.old.shares question.now) }
-        ensures err { OnErr result (self.new.answers ≡ self.old.answers) }
-        ensures reader { self.new.reader ≡ self.old.reader }
-        ensures shares { self.new.shares ≡ self.old.shares }
-        ensures folded { AreFolded self.new.rules desk.now self.new.shares }
-    {
-        match question {
-            Step::Nothing => Ok(()),
-            Step::Command(_) | Step::Level(_) | Step::Share { .. } | Step::Unshare { .. } => {
-                unreachable!()
-            }
-            Step::List { bucket, filter } => print_list(
-                desk,
-                bucket,
-                filter.get(),
-                &mut self.answers,
-            ),
-            Step::Check(question) => self.answer_check(desk, question),
-            Step::From {
-                bucket,
-                deep,
-                question,
-            } => print_from(desk, bucket, *deep, question, &mut self.answers),
-            Step::Access {
-                subject,
-                object,
-                asked,
-            } => {
-                let decision = self
-                    .rules
-                    .decide(desk, &self.shares, subject, object, *asked)?;
-                print_decision(&decision, &mut self.answers)
-            }
-            Step::Levels { uid } => print_levels(self.alloc, desk, *uid, &mut self.answers),
-            Step::Audit { user } => print_audit(self.alloc, desk, user, &mut self.answers),
-            Step::Shares => print_shares(desk, &self.shares, &mut self.answers),
-            Step::Status => print(
-                &LineAnswer::Status {
-                    commit: desk.commit(),
-                },
-                &mut self.answers,
-            ),
-            Step::Stop => print(
-                &LineAnswer::Accepted {
-                    commit: desk.commit(),
-                },
-                &mut self.answers,
-            ),
-        }
-    }
-
     /// Has the sink take the answers that wait.
     pub fn flush<K: Sink>(&mut self, sink: &mut K) -> Result<(), Ending>
         ensures flush { Flushes (K.taken sink.old) (K.taken sink.new) self.old self.new result }
@@ -499,15 +367,5 @@ impl LocalScript {
         }
         self.answers.clear();
         Ok(())
-    }
-}
-
-// Whether the step changes neither the policy state nor the open shares.
-fn is_question(step: &Step<'_>) -> bool
-    ensures { result ≡ is_question step.now }
-{
-    match step {
-        Step::Command(_) | Step::Level(_) | Step::Share { .. } | Step::Unshare { .. } => false,
-        _ => true,
     }
 }

@@ -1,10 +1,9 @@
 // The Smack rules of a policy state and of the open shares, folded when they are first asked for.
 ghost use Rattle.std.specs.Prelude.{◌≡◌, ◌++◌, true, None, IsTrue, IfOk, IfSome};
-ghost use Rattle.smack_rules.specs.Modes.{is_request, union};
+ghost use Rattle.smack_rules.specs.Modes.{is_request};
 ghost use Rattle.smack_rules.specs.Effective.{effective};
 ghost use Rattle.smack_rules.specs.Decision as word;
 ghost use Rattle.smack_rules.specs.Grants.{GrantsAs};
-ghost use Rattle.smack_rules.specs.Table.{granted};
 ghost use Rattle.smack_rules.specs.declared.rule.Rule.{Rule};
 ghost use Rattle.std.specs.Prelude.{List};
 ghost use Rattle.private_sharing.specs.Rules.{rules};

@@ -1,6 +1,6 @@
-use Rattle.std.proofs.Common.{◌≡◌, ◌++◌, ap, sym, ◌∙◌}
+use Rattle.std.proofs.Common.{ap, sym, ◌∙◌}
 use Rattle.smack_rules.specs.Modes.{union, no_access}
-use Rattle.smack_rules.specs.Effective.{effective, effective_from}
+use Rattle.smack_rules.specs.Effective.{effective}
 use Rattle.smack_rules.specs.Decision.{decision}
 use Rattle.smack_rules.proofs.RuleLists.{effective_from-append}
 use Rattle.script_replies.proofs.Plain.{effective-plain, hat-plain, floor-plain}
