@@ -10,7 +10,7 @@ import tempfile
 
 from trial_crate import built
 
-USES = ["desk_ports", "link_ports", "cynara_keys", "cynara_client", "anyhow"]
+USES = ["desk_ports", "link_ports", "cynara_keys", "bucket_eval", "client_connection", "cynara_client", "anyhow"]
 
 
 def main():
