@@ -49,43 +49,44 @@ impl Watch {
 pub fn four_seats<R: Wait + Threads + Sync>(rt: &R, alloc: Global) -> Result<String, AllocError> {
     let mut desk = Desk::fresh(alloc)?;
     make_next(alloc, &mut desk).ok_or(AllocError)?;
-    let (mut publisher, mut seats, roll) = start(rt, alloc, &desk, 4)?;
+    let (mut publisher, seats, roll) = start(rt, alloc, &desk, 4)?;
     let roll = Mutex::new(roll);
-    let told = by_four(rt, alloc, &mut desk, &mut publisher, &mut seats, &roll);
+    let told = by_four(rt, alloc, &mut desk, &mut publisher, seats, &roll);
     publisher.end(rt);
     told.ok_or(AllocError)
 }
 
-fn by_four<R: Wait + Threads + Sync>(
+// What a thread is given to watch by.
+trait Watcher {
+    // Checks until an answer is at the last commit. How many answers were wrong.
+    fn watch<R: Wait>(self, rt: &R, alloc: Global, roll: &Mutex<Roll<MemEnd>>) -> Option<u64>;
+}
+
+impl Watcher for Seat {
+    fn watch<R: Wait>(self, rt: &R, alloc: Global, roll: &Mutex<Roll<MemEnd>>) -> Option<u64> {
+        check_until_last(rt, alloc, self, roll)
+    }
+}
+
+// The threads know a seat by its type's parameter alone: what it is made of is too much for the proof of each that it may go
+// to another thread.
+fn by_four<W: Watcher + Send + Drop, R: Wait + Threads + Sync>(
     rt: &R,
     alloc: Global,
     desk: &mut Desk,
     publisher: &mut Publisher,
-    seats: &mut Vec<Seat>,
+    watchers: Vec<W>,
     roll: &Mutex<Roll<MemEnd>>,
 ) -> Option<String> {
-    let fourth = seats.pop()?;
-    let third = seats.pop()?;
-    let second = seats.pop()?;
-    let first = seats.pop()?;
-    let (published, ((one, two), (three, four))) = join(
+    let mut watchers = watchers;
+    let fourth = watchers.pop()?;
+    let third = watchers.pop()?;
+    let second = watchers.pop()?;
+    let first = watchers.pop()?;
+    let (((one, two), (three, four)), published) = join(
         rt,
+        || watch_by_pairs(rt, alloc, first, second, third, fourth, roll),
         || publish_all(rt, alloc, desk, publisher, roll),
-        || {
-            join(
-                rt,
-                || join(
-                    rt,
-                    || check_until_last(rt, alloc, first, roll),
-                    || check_until_last(rt, alloc, second, roll),
-                ),
-                || join(
-                    rt,
-                    || check_until_last(rt, alloc, third, roll),
-                    || check_until_last(rt, alloc, fourth, roll),
-                ),
-            )
-        },
     );
     let wrong = [one?, two?, three?, four?];
     format!(in alloc;
@@ -93,6 +94,37 @@ fn by_four<R: Wait + Threads + Sync>(
         wrong[0], wrong[1], wrong[2], wrong[3]
     )
     .ok()
+}
+
+// What four watchers met side by side, two and two.
+fn watch_by_pairs<W: Watcher + Send + Drop, R: Wait + Threads + Sync>(
+    rt: &R,
+    alloc: Global,
+    first: W,
+    second: W,
+    third: W,
+    fourth: W,
+    roll: &Mutex<Roll<MemEnd>>,
+) -> ((Option<u64>, Option<u64>), (Option<u64>, Option<u64>)) {
+    join(
+        rt,
+        || watch_by_two(rt, alloc, first, second, roll),
+        || watch_by_two(rt, alloc, third, fourth, roll),
+    )
+}
+
+fn watch_by_two<W: Watcher + Send + Drop, R: Wait + Threads + Sync>(
+    rt: &R,
+    alloc: Global,
+    first: W,
+    second: W,
+    roll: &Mutex<Roll<MemEnd>>,
+) -> (Option<u64>, Option<u64>) {
+    join(
+        rt,
+        || first.watch(rt, alloc, roll),
+        || second.watch(rt, alloc, roll),
+    )
 }
 
 // Publishes the states. How many were; where one can't be, the roll is stopped, so that nobody waits for it.
