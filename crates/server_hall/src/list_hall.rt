@@ -1,4 +1,4 @@
-ghost use Rattle.std.specs.Prelude.{◌≡◌, ◌∷◌, [], IfOk, IfErr, OnErr};
+ghost use Rattle.std.specs.Prelude.{◌≡◌, ◌<◌, ◌∷◌, [], false, IfOk, IfErr, OnErr};
 ghost use Rattle.live_roll.specs.Roll.{with_entry, without_entry, hung_to, stopped};
 ghost use Rattle.live_desk.specs.History.{last_commit};
 ghost use Rattle.live_desk.specs.Seat.{with_note};
@@ -217,6 +217,7 @@ impl<H: HangEnd> Hall for ListHall<H> {
     ghost calls = { λ hall. hall.calls };
 
     fn enter(&mut self, end: H, seat: &mut Seat) -> Result<u64, Stopped>
+        requires { H.used end ≡ false }
         ensures tally { self.new.tally ≡ after_enter result self.old.tally }
         ensures calls { self.new.calls ≡ self.old.calls }
         ensures told { IfOk result (λ note. seat.new ≡ with_note note seat.old) }
@@ -233,6 +234,7 @@ impl<H: HangEnd> Hall for ListHall<H> {
     }
 
     fn leave(&mut self, seat: u32, entered: u64) -> Left
+        requires { seat < 64 }
         ensures tally { self.new.tally ≡ after_leave result self.old.tally }
         ensures calls { self.new.calls ≡ self.old.calls }
         ensures raised { IsRaised entered result }
