@@ -1,10 +1,10 @@
 -- Pieces that are fed one after the other.
-use Rattle.std.proofs.Common.{◌≡◌, ◌∙◌, ℕ, List, [], ◌∷◌, ◌++◌, Option, Some, None, refl, sym, ap, subst, append_assoc, append-nil}
+use Rattle.std.proofs.Common.{◌≡◌, ◌∙◌, ℕ, List, [], ◌∷◌, ◌++◌, ◌⊎◌, Option, Some, None, Result, Ok, Err, inl, inr, refl, sym, ap, subst, append_assoc, append-nil}
 use Rattle.wire_messages.specs.Stream.{Feeding, Fed, Failed, Hears, BeginsWrong, IsOpen, unfed, first_of, Whole, Partial}
 use Rattle.wire_messages.specs.declared.messages.Framed.{Framed}
 use Rattle.wire_messages.specs.declared.operations.Heard.{Heard}
 use Rattle.wire_messages.specs.declared.refusals.WireRefusal.{WireRefusal}
-use Rattle.door_frames.specs.Hearing.{HasHeard, IsSound, HearsMore, HandsOut}
+use Rattle.door_frames.specs.Hearing.{HasHeard, IsSound, IsRefused, HearsMore, HandsOut}
 
 -- what is heard of the rest comes behind what was heard before
 abbrev pub Law : Type 0
@@ -89,10 +89,61 @@ unfed_still old new sound none fed =
     let failed : new.failed ≡ old.failed = fed.failed ∙ sym none in
     λ i. record { heard = side i; waiting = waiting i; partial = partial i; failed = failed i }
 
--- before the first byte
-unfolding first_of
+-- no bytes are heard
+pub hears_nothing : (feeder : Feeding) → HearsMore [] feeder feeder
+hears_nothing feeder bytes frames before = subst (λ bs. HasHeard bs frames feeder) (sym (append-nil bytes)) before
 
+-- ---- a feeder that is asked whether it has failed
+
+either : {X : Type 0} (told : Option X) → (told ≡ None) ⊎ ((x : X) × (told ≡ Some x))
+either None = inl refl
+either (Some x) = inr (x, refl)
+
+abbrev pub AnswersAgain : Feeding → Feeding → Result (Unit {0}) WireRefusal → Type 0
+AnswersAgain old new result = (refusal : WireRefusal) → old.failed ≡ Some refusal → (result ≡ Err refusal) × (new ≡ old)
+
+ok_is_err : (done : Unit {0}) (refusal : WireRefusal) → Ok done ≡ Err {A = Unit {0}} refusal → ⊥
+ok_is_err done refusal is = cc
+
+pub fed_nothing : (old new : Feeding) (result : Result (Unit {0}) WireRefusal) (done : Unit {0}) → result ≡ Ok done → IsSound old
+    → Fed old new [] → AnswersAgain old new result → (old.failed ≡ None) × (new ≡ old)
+fed_nothing old new result done ok sound fed again =
+    elim (either old.failed) [
+      | inl none ↦ (none, unfed_still old new sound none fed)
+      | inr (refusal, some) ↦ absurd (ok_is_err done refusal (sym ok ∙ (again refusal some).0))
+    ]
+
+pub refused_nothing : Law → (old new : Feeding) (result : Result (Unit {0}) WireRefusal) (refusal : WireRefusal) → result ≡ Err refusal
+    → IsSound old → old.waiting ≡ [] → (old.failed ≡ None → Failed old new [] refusal) → AnswersAgain old new result
+    → IsRefused old new refusal
+refused_nothing law old new result refusal is sound empty failed again =
+    elim (either old.failed) [
+      | inl none ↦
+          let f = failed none in
+          let still = nothing_more old.heard old.partial f.behind f.messages (sound none) f.heard in
+          record {
+            failed = f.failed;
+            empty = f.waiting ∙ (ap (λ ms. ms ++ f.messages) empty ∙ still.0);
+            side = f.side;
+            heard = hears_failed law old new [] refusal none f;
+          }
+      | inr (other, some) ↦
+          let stands = again other some in
+          let same : other ≡ refusal = same_refusal other refusal (sym stands.0 ∙ is) in
+          record {
+            failed = ap (λ (feeder : Feeding). feeder.failed) stands.1 ∙ (some ∙ ap Some same);
+            empty = ap (λ (feeder : Feeding). feeder.waiting) stands.1 ∙ empty;
+            side = ap (λ (feeder : Feeding). feeder.heard) stands.1;
+            heard = subst (λ (feeder : Feeding). HearsMore [] old feeder) (sym stands.1) (hears_nothing old);
+          }
+    ]
+  where
+    same_refusal : (other refusal : WireRefusal) → Err {A = Unit {0}} other ≡ Err refusal → other ≡ refusal
+    same_refusal other refusal is = cc
+
+-- before the first byte
 pub unfed_sound : (heard : Heard) → IsSound (unfed heard)
+unfolding first_of
 unfed_sound heard none = refl
 
 pub unfed_heard : (heard : Heard) → HasHeard [] [] (unfed heard)
@@ -139,6 +190,3 @@ pub hears_more : (first more : List ℕ) (start between end : Feeding)
     → HearsMore first start between → HearsMore more between end → HearsMore (first ++ more) start end
 hears_more first more start between end one two bytes frames before =
     subst (λ bs. HasHeard bs frames end) (append_assoc bytes first more) (two (bytes ++ first) frames (one bytes frames before))
-
-pub hears_nothing : (feeder : Feeding) → HearsMore [] feeder feeder
-hears_nothing feeder bytes frames before = subst (λ bs. HasHeard bs frames feeder) (sym (append-nil bytes)) before

@@ -39,6 +39,12 @@ EndsReading (BadFrame refusal) feeder marks before after =
 EndsReading Memory feeder marks before after = after ≡ before
 EndsReading other feeder marks before after = ⊥
 
+-- Why a frame was not sent: memory was wanting, or the call of the link failed.
+abbrev pub EndsSending : Ended → ℕ → ℕ → Type 0
+EndsSending Memory before after = after ≡ before
+EndsSending LinkFault before after = after ≡ next_count before
+EndsSending other before after = ⊥
+
 -- The bytes that were received, of which these frames were answered, are such where a connection ended so: between frames,
 -- within a frame and at a wrong frame each whole frame before was answered; else some may not be.
 abbrev pub EndsBytes : Heard → List ℕ → List Framed → Ended → Type 0

@@ -3,6 +3,8 @@
 
 mod endings;
 mod receiving;
+mod sending;
 
 pub use endings::Ended;
 pub use receiving::{MOST_PIECE, next_frame, receive_more};
+pub use sending::send_message;

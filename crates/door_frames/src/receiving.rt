@@ -1,7 +1,7 @@
 ghost use Rattle.std.specs.Prelude.{◌≡◌, ◌<◌, ◌++◌, ℕ, List, [], length, None, IfOk, IfErr, OnOk, OnErr};
 ghost use Rattle.wire_messages.specs.Hearing.{IsHeard};
 ghost use Rattle.door_frames.specs.Carried.{Carried};
-ghost use Rattle.door_frames.specs.Hearing.{IsSound, HearsMore, HandsOut};
+ghost use Rattle.door_frames.specs.Hearing.{IsSound, IsRefused, HearsMore, HandsOut};
 ghost use Rattle.door_frames.specs.Ending.{EndsReading, EndsInput, ended_by};
 
 use crate::Ended;
@@ -24,20 +24,18 @@ pub fn receive_more<L: Link>(
     requires some { 0 < length room.old }
     requires taken { feeder.old.waiting ≡ [] }
     requires sound { IsSound feeder.old }
-    ensures heard { OnOk result ((bytes : List ℕ)
+    ensures heard { (bytes : List ℕ)
         × Carried (L.traffic link.old) (L.traffic link.new) bytes []
-        × HearsMore bytes feeder.old feeder.new) }
+        × HearsMore bytes feeder.old feeder.new }
     ensures sound { IsSound feeder.new }
     ensures side { feeder.new.heard ≡ feeder.old.heard }
     ensures faults { OnOk result (L.faults link.new ≡ L.faults link.old) }
     ensures ended { IfErr result
         (λ ended. EndsReading ended feeder.new (L.marks link.new) (L.faults link.old) (L.faults link.new)) }
-    ensures unheard { OnErr result (feeder.new ≡ feeder.old) }
-    ensures kept { OnErr result (Carried (L.traffic link.old) (L.traffic link.new) [] []) }
+    ensures empty { OnErr result (feeder.new.waiting ≡ []) }
     ensures ends { (L.marks link.new).ends ≡ (L.marks link.old).ends }
 {
-    // A feeder that has failed answers its refusal to any piece.
-    if let Err(refusal) = feeder.feed(&[]) {
+    if let Err(refusal) = still_sound(feeder) {
         return Err(ended_by(refusal));
     }
     match link.receive(room) {
@@ -63,7 +61,6 @@ pub fn next_frame<R: Wait, L: Link>(
         × Carried (L.traffic link.old) (L.traffic link.new) bytes []
         × HandsOut bytes framed feeder.old feeder.new) }
     ensures right { IfOk result (IsHeard feeder.old.heard) }
-    ensures sound { IsSound feeder.new }
     ensures side { feeder.new.heard ≡ feeder.old.heard }
     ensures faults { OnOk result (L.faults link.new ≡ L.faults link.old) }
     ensures ended { IfErr result
@@ -71,6 +68,7 @@ pub fn next_frame<R: Wait, L: Link>(
     ensures heard { OnErr result ((bytes : List ℕ)
         × Carried (L.traffic link.old) (L.traffic link.new) bytes []
         × HearsMore bytes feeder.old feeder.new) }
+    ensures sound { IsSound feeder.new }
     ensures empty { OnErr result (feeder.new.waiting ≡ []) }
     ensures ends { (L.marks link.new).ends ≡ (L.marks link.old).ends }
 {
@@ -83,6 +81,17 @@ pub fn next_frame<R: Wait, L: Link>(
         }
     }
     unreachable!()
+}
+
+// Whether the feeder has not failed. One that has answers its refusal to any piece.
+fn still_sound(feeder: &mut Feeder) -> Result<(), WireRefusal>
+    requires taken { feeder.old.waiting ≡ [] }
+    requires sound { IsSound feeder.old }
+    ensures sound { OnOk result ((feeder.old.failed ≡ None) × (feeder.new ≡ feeder.old)) }
+    ensures refused { IfErr result (IsRefused feeder.old feeder.new) }
+{
+    pieces_do_not_matter();
+    feeder.feed(&[])
 }
 
 // Hears a piece. What is wrong with it the feeder keeps.

@@ -1,5 +1,5 @@
 -- What a hall counts of the calls that are made on it, and the last of each kind.
-use Rattle.std.specs.Prelude.{◌≡◌, ◌<◌, ℕ, Option, Some, None, Result, Ok, Err}
+use Rattle.std.specs.Prelude.{◌≡◌, ◌<◌, ℕ, List, [], ◌∷◌, Option, Some, None, Result, Ok, Err}
 use Rattle.desk_ports.specs.Faults.{next_count}
 use Rattle.live_roll.specs.declared.answers.Left.{Left}
 use Rattle.live_roll.specs.declared.answers.Left.TheVariants.{Still, Hung, Stopped as LeftStopped}
@@ -15,6 +15,8 @@ use Rattle.server_hall.specs.declared.refusals.NextRefusal.{NextRefusal}
 use Rattle.server_hall.specs.declared.refusals.NextRefusal.TheVariants.{Stopped as NextStopped}
 use Rattle.server_hall.specs.Call.{AskResult, AskMade, JoinMade, NextMade, AnswerMade}
 use Rattle.server_hall.specs.declared.calls.PartCall.{PartCall}
+use Rattle.server_hall.specs.declared.calls.HallCall.{HallCall}
+use Rattle.server_hall.specs.declared.calls.HallCall.TheVariants.{Ask, Join, Next, Answer}
 
 -- The counts never fall, and stand still at the last value of a count.
 pub record Tally : Type 0 where
@@ -145,3 +147,15 @@ after_part kind tally = record tally {
 
 abbrev pub after_stop : Tally → Tally
 after_stop tally = record tally { stop_calls = next_count tally.stop_calls }
+
+-- ---- calls in turn
+
+abbrev pub after_call : HallCall → Tally → Tally
+after_call (Ask call) tally = after_ask call tally
+after_call (Join call) tally = after_join call tally
+after_call (Next call) tally = after_next call tally
+after_call (Answer call) tally = after_answer call tally
+
+abbrev pub after_calls : List HallCall → Tally → Tally
+after_calls [] tally = tally
+after_calls (call ∷ calls) tally = after_calls calls (after_call call tally)

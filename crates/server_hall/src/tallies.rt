@@ -112,6 +112,41 @@ impl HallTally {
         self.asks
     }
 
+    /// How many agents came.
+    pub fn joins(&self) -> u64
+        ensures { result ≡ self.now.joins }
+    {
+        self.joins
+    }
+
+    /// How often an agent asked for its next question.
+    pub fn nexts(&self) -> u64
+        ensures { result ≡ self.now.nexts }
+    {
+        self.nexts
+    }
+
+    /// How often an agent answered.
+    pub fn answers(&self) -> u64
+        ensures { result ≡ self.now.answers }
+    {
+        self.answers
+    }
+
+    /// How many agents left.
+    pub fn parts(&self) -> u64
+        ensures { result ≡ self.now.parts }
+    {
+        self.parts
+    }
+
+    /// How often the service was stopped.
+    pub fn stop_calls(&self) -> u64
+        ensures { result ≡ self.now.stop_calls }
+    {
+        self.stop_calls
+    }
+
     /// The commit for which all older connections were hung up last.
     pub fn cleared(&self) -> u64
         ensures { result ≡ self.now.cleared }
