@@ -1,8 +1,12 @@
 -- What went over a link, call after call.
-use Rattle.std.proofs.Common.{◌≡◌, ◌∙◌, ℕ, List, [], ◌++◌, Option, Some, refl, sym, ap, append_assoc, append-nil}
+use Rattle.std.proofs.Common.{◌≡◌, ◌∙◌, ℕ, List, [], ◌∷◌, ◌++◌, take, Option, Some, refl, sym, ap, subst, append_assoc, append-nil}
 use Rattle.link_ports.specs.Told.{KeepsTold, ChangesTold}
 use Rattle.link_ports.specs.Traffic.{Traffic, with_received, with_sent}
 use Rattle.door_frames.specs.Carried.{Carried}
+
+pub take_none : (xs : List ℕ) → take 0 xs ≡ []
+take_none [] = refl
+take_none (x ∷ xs) = refl
 
 -- nothing went over it
 pub carried_nothing : (old new : Option Traffic) → KeepsTold old new → Carried old new [] []
@@ -20,6 +24,11 @@ pub carried_received : (bytes : List ℕ) (old new : Option Traffic) → Changes
 carried_received bytes old new changed before told =
     let sent = append-nil before.sent in
     changed before told ∙ ap Some (λ i. record { received = before.received ++ bytes; sent = sym sent i })
+
+-- a call received none
+pub carried_none : (bytes : List ℕ) (old new : Option Traffic) → bytes ≡ [] → ChangesTold old (with_received bytes) new → Carried old new [] []
+carried_none bytes old new is changed =
+    subst (λ list. Carried old new list []) is (carried_received bytes old new changed)
 
 -- a call sent these bytes
 pub carried_sent : (bytes : List ℕ) (old new : Option Traffic) → ChangesTold old (with_sent bytes) new → Carried old new [] bytes

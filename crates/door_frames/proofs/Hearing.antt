@@ -102,15 +102,15 @@ either (Some x) = inr (x, refl)
 abbrev pub AnswersAgain : Feeding → Feeding → Result (Unit {0}) WireRefusal → Type 0
 AnswersAgain old new result = (refusal : WireRefusal) → old.failed ≡ Some refusal → (result ≡ Err refusal) × (new ≡ old)
 
-ok_is_err : (done : Unit {0}) (refusal : WireRefusal) → Ok done ≡ Err {A = Unit {0}} refusal → ⊥
-ok_is_err done refusal is = cc
+ok_is_err : (result : Result (Unit {0}) WireRefusal) (done : Unit {0}) (refusal : WireRefusal) → result ≡ Ok done → result ≡ Err refusal → ⊥
+ok_is_err result done refusal ok err = cc
 
 pub fed_nothing : (old new : Feeding) (result : Result (Unit {0}) WireRefusal) (done : Unit {0}) → result ≡ Ok done → IsSound old
     → Fed old new [] → AnswersAgain old new result → (old.failed ≡ None) × (new ≡ old)
 fed_nothing old new result done ok sound fed again =
     elim (either old.failed) [
       | inl none ↦ (none, unfed_still old new sound none fed)
-      | inr (refusal, some) ↦ absurd (ok_is_err done refusal (sym ok ∙ (again refusal some).0))
+      | inr (refusal, some) ↦ absurd (ok_is_err result done refusal ok (again refusal some).0)
     ]
 
 pub refused_nothing : Law → (old new : Feeding) (result : Result (Unit {0}) WireRefusal) (refusal : WireRefusal) → result ≡ Err refusal
@@ -129,7 +129,7 @@ refused_nothing law old new result refusal is sound empty failed again =
           }
       | inr (other, some) ↦
           let stands = again other some in
-          let same : other ≡ refusal = same_refusal other refusal (sym stands.0 ∙ is) in
+          let same : other ≡ refusal = same_refusal result other refusal stands.0 is in
           record {
             failed = ap (λ (feeder : Feeding). feeder.failed) stands.1 ∙ (some ∙ ap Some same);
             empty = ap (λ (feeder : Feeding). feeder.waiting) stands.1 ∙ empty;
@@ -138,8 +138,8 @@ refused_nothing law old new result refusal is sound empty failed again =
           }
     ]
   where
-    same_refusal : (other refusal : WireRefusal) → Err {A = Unit {0}} other ≡ Err refusal → other ≡ refusal
-    same_refusal other refusal is = cc
+    same_refusal : (result : Result (Unit {0}) WireRefusal) (other refusal : WireRefusal) → result ≡ Err other → result ≡ Err refusal → other ≡ refusal
+    same_refusal result other refusal is so = cc
 
 -- before the first byte
 pub unfed_sound : (heard : Heard) → IsSound (unfed heard)

@@ -91,7 +91,10 @@ fn still_sound(feeder: &mut Feeder) -> Result<(), WireRefusal>
     ensures refused { IfErr result (IsRefused feeder.old feeder.new) }
 {
     pieces_do_not_matter();
-    feeder.feed(&[])
+    match feeder.feed(&[]) {
+        Ok(()) => Ok(()),
+        Err(refusal) => Err(refusal),
+    }
 }
 
 // Hears a piece. What is wrong with it the feeder keeps.

@@ -1,0 +1,4 @@
+pub mod Side
+pub mod Reply
+pub mod Settling
+pub mod Answering

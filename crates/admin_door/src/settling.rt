@@ -1,0 +1,90 @@
+// What an earlier command left undone: a folder of which it is not known what it keeps, and a state that is not published.
+ghost use Rattle.std.specs.Prelude.{◌≡◌, ◌≤◌, false, List, Option, MatchResult};
+ghost use Rattle.desk_state.specs.DeskState.{DeskState};
+ghost use Rattle.desk_keeper.specs.Keeper.{disk_of, IsSameDisk};
+ghost use Rattle.live_desk.specs.History.{last_commit};
+ghost use Rattle.server_hall.specs.Tally.{Tally};
+ghost use Rattle.server_hall.specs.declared.calls.HallCall.{HallCall};
+ghost use Rattle.admin_door.specs.Side.{admin_side, decided_of};
+ghost use Rattle.admin_door.specs.Settling.{IsFound, Settles, Unsettles, with_newer, hung_for};
+ghost use Rattle.admin_door.specs.declared.settling.Unsettled.TheVariants.{Memory};
+
+use desk_keeper::{Keeper, KeeperRefusal};
+use desk_ports::{Disk, FileName};
+use live_desk::Publisher;
+use server_hall::Hall;
+use std::sync::Wait;
+
+/// Why it is not settled what an earlier command left undone.
+#[derive(Debug, Drop)]
+pub(crate) enum Unsettled {
+    /// A call of the disk failed.
+    StoreFault,
+    /// The folder stands for no policy state, or for an older one.
+    StoreDamaged { file: FileName, line: u32 },
+    Memory,
+}
+
+/// Remounts a keeper that is undecided; and publishes its state, and hangs up all older connections, where its commit is above
+/// that of the publisher.
+pub(crate) fn settle<R: Wait, D: Disk, A: Hall>(
+    rt: &R,
+    keeper: &mut Keeper<'_, D>,
+    publisher: &mut Publisher,
+    hall: &mut A,
+) -> Result<(), Unsettled>
+    requires { last_commit 0 publisher.old ≤ keeper.old.desk.commit }
+    ensures settled { MatchResult result
+        (λ _. Settles (D.state (disk_of keeper.old))
+        (admin_side keeper.old.desk (decided_of keeper.old) publisher.old (A.tally hall.old) (A.calls hall.old) (D.faults (disk_of keeper.old)))
+        (admin_side keeper.new.desk (decided_of keeper.new) publisher.new (A.tally hall.new) (A.calls hall.new) (D.faults (disk_of keeper.new))))
+        (Unsettles (D.state (disk_of keeper.old))
+        (admin_side keeper.old.desk (decided_of keeper.old) publisher.old (A.tally hall.old) (A.calls hall.old) (D.faults (disk_of keeper.old)))
+        (admin_side keeper.new.desk (decided_of keeper.new) publisher.new (A.tally hall.new) (A.calls hall.new) (D.faults (disk_of keeper.new)))) }
+    ensures same_disk { IsSameDisk keeper.old keeper.new }
+{
+    if !keeper.is_decided() {
+        remount(keeper)?;
+    }
+    publish_kept(rt, keeper, publisher, hall)
+}
+
+// Settles what the folder keeps.
+fn remount<D: Disk>(keeper: &mut Keeper<'_, D>) -> Result<(), Unsettled>
+    requires { decided_of keeper.old ≡ false }
+    ensures remounted { (published : List DeskState) (tally : Tally) (calls : Option (List HallCall)) → MatchResult result
+        (λ _. IsFound (D.state (disk_of keeper.old))
+        (admin_side keeper.old.desk (decided_of keeper.old) published tally calls (D.faults (disk_of keeper.old)))
+        (admin_side keeper.new.desk (decided_of keeper.new) published tally calls (D.faults (disk_of keeper.new))))
+        (Unsettles (D.state (disk_of keeper.old))
+        (admin_side keeper.old.desk (decided_of keeper.old) published tally calls (D.faults (disk_of keeper.old)))
+        (admin_side keeper.new.desk (decided_of keeper.new) published tally calls (D.faults (disk_of keeper.new)))) }
+    ensures same_disk { IsSameDisk keeper.old keeper.new }
+{
+    match keeper.remount() {
+        Ok(()) => Ok(()),
+        Err(KeeperRefusal::StoreFault) => Err(Unsettled::StoreFault),
+        Err(KeeperRefusal::Damaged { file, line }) => Err(Unsettled::StoreDamaged { file, line }),
+        Err(KeeperRefusal::Memory(_)) => Err(Unsettled::Memory),
+    }
+}
+
+// Publishes the state that the folder keeps, where it is newer than what was published.
+fn publish_kept<R: Wait, D: Disk, A: Hall>(
+    rt: &R,
+    keeper: &Keeper<'_, D>,
+    publisher: &mut Publisher,
+    hall: &mut A,
+) -> Result<(), Unsettled> {
+    if publisher.commit() >= keeper.desk().commit() {
+        return Ok(());
+    }
+    let Ok(ready) = publisher.prepare(keeper.desk()) else {
+        return Err(Unsettled::Memory);
+    };
+    let Ok(_) = publisher.publish(rt, ready) else {
+        return Err(Unsettled::Memory);
+    };
+    hall.hang(publisher);
+    Ok(())
+}
