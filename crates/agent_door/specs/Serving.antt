@@ -18,7 +18,8 @@ use Rattle.server_hall.specs.Tally.{Tally, after_join, after_part, after_calls}
 use Rattle.server_hall.specs.Told.{AppendsCalls}
 use Rattle.server_hall.specs.declared.calls.HallCall.{HallCall}
 use Rattle.server_hall.specs.declared.calls.HallCall.TheVariants.{Join, Next}
-use Rattle.server_hall.specs.declared.refusals.NextRefusal.TheVariants.{Stopped as NoneIsGiven, Memory as NoRoomToGive}
+use Rattle.server_hall.specs.declared.refusals.NextRefusal.{NextRefusal}
+use Rattle.server_hall.specs.declared.refusals.NextRefusal.TheVariants.{Stopped as NoneIsGiven}
 use Rattle.door_frames.specs.Carried.{Carried}
 use Rattle.door_frames.specs.Ending.{EndsBytes, IsAtEnd, faults_after}
 use Rattle.door_frames.specs.declared.endings.Ended.{Ended}
@@ -55,38 +56,93 @@ MayMiss LinkFault missing = length missing ≤ 1
 MayMiss Memory missing = length missing ≤ 1
 MayMiss ended missing = missing ≡ []
 
+-- the calls on the hall, from the one by which the agent joined
+abbrev pub joined_calls : Kind → List Round → List HallCall → List HallCall
+joined_calls kind rounds last = Join (record { kind = kind; result = Ok tt }) ∷ (rounds_calls kind rounds ++ last)
+
 -- ---- an agent that has joined
 
--- the call of `next` behind the rounds that gave no question, where the connection ended for that
+-- a round in which no answer to the question has come, if there is one
+abbrev pub IsRound : List Round → Type 0
+IsRound open_round = (round : Round) × (open_round ≡ round ∷ [])
+
+-- Which question was not answered, and which call of `next` gave none, where the connection ended so.
 abbrev pub EndsAsking : Kind → Ended → List Round → List HallCall → Type 0
-EndsAsking kind Closed open_round last = ((round : Round) × (open_round ≡ round ∷ [])) × (last ≡ [])
-EndsAsking kind (Cut count) open_round last = ((round : Round) × (open_round ≡ round ∷ [])) × (last ≡ [])
+EndsAsking kind Closed open_round last = IsRound open_round × (last ≡ [])
+EndsAsking kind (Cut count) open_round last = IsRound open_round × (last ≡ [])
+EndsAsking kind (BadFrame refusal) open_round last = IsRound open_round × (last ≡ [])
 EndsAsking kind Stopped open_round last =
     (open_round ≡ []) × (last ≡ Next (record { kind = kind; result = Err NoneIsGiven }) ∷ [])
-EndsAsking kind (BadFrame refusal) open_round last = ((round : Round) × (open_round ≡ round ∷ [])) × (last ≡ [])
-EndsAsking kind LinkFault open_round last = (length open_round ≤ 1) × (last ≡ [])
-EndsAsking kind Memory open_round last = length open_round + length last ≤ 1
+EndsAsking kind LinkFault open_round last = last ≡ []
+EndsAsking kind Memory open_round last =
+    (last ≡ []) ⊎ ((refusal : NextRefusal) × (last ≡ Next (record { kind = kind; result = Err refusal }) ∷ []))
 EndsAsking kind (Hung entered now) open_round last = ⊥
 EndsAsking kind (Strayed number found) open_round last = ⊥
 
--- The questions that were given in turn, each answered before the next was asked for, but for the last; the frames that
--- were received in this time, behind the registration; and the calls on the hall.
-pub record Asks (registration : Registration) (start now : AgentSide) (ended : Ended) : Type 0 where
+-- The agent registered and joined; it was asked one question after the other, each of which was answered before the next but
+-- for the last; and each answer was handed to the hall.
+pub record Asks (start now : AgentSide) (ended : Ended) : Type 0 where
+  pub registration : Registration
   pub received : List ℕ
   pub rounds : List Round
   -- the round that has no answer to its question, if there is one
   pub open_round : List Round
   pub last : List HallCall
-  pub missing : List Framed
   pub sent : List Framed
+  pub missing : List Framed
   pub whole : AllByRecursion IsWhole rounds
   pub unanswered : AllByRecursion IsOpen open_round
+  pub one : length open_round ≤ 1
   pub asking : EndsAsking registration.kind ended open_round last
+  pub bytes : EndsHeeding received (register_frame registration ∷ rounds_frames (rounds ++ open_round)) ended
   pub due : registered_frame registration ∷ rounds_told registration.kind (rounds ++ open_round) ≡ sent ++ missing
   pub missed : MayMiss ended missing
   pub carried : Carried start.traffic now.traffic received (flat_map spelling sent)
-  pub tally : now.tally ≡ after_calls (rounds_calls registration.kind (rounds ++ open_round) ++ last) start.tally
-  pub calls : AppendsCalls start.calls (rounds_calls registration.kind (rounds ++ open_round) ++ last) now.calls
+  pub tally : now.tally ≡ after_calls (joined_calls registration.kind (rounds ++ open_round) last) start.tally
+  pub calls : AppendsCalls start.calls (joined_calls registration.kind (rounds ++ open_round) last) now.calls
   pub faults : now.faults ≡ faults_after ended start.faults
   pub at_end : IsAtEnd ended now.marks
   pub ends : now.marks.ends ≡ start.marks.ends
+
+-- ---- a whole connection
+
+-- no agent registered
+pub record IsUnregistered (result : Ended) (start now : AgentSide) : Type 0 where
+  pub received : List ℕ
+  pub bytes : EndsHeeding received [] result
+  pub carried : Carried start.traffic now.traffic received []
+  pub tally : now.tally ≡ start.tally
+  pub calls : now.calls ≡ start.calls
+  pub faults : now.faults ≡ faults_after result start.faults
+  pub at_end : IsAtEnd result now.marks
+  pub ends : now.marks.ends ≡ start.marks.ends
+
+-- what an agent is told that was not taken in, and how its connection ends
+abbrev pub TellsRefusal : Registration → RegisterRefusal → Ended → List Framed → Type 0
+TellsRefusal registration (KindTaken kind) Closed sent = sent ≡ taken_frame registration ∷ []
+TellsRefusal registration (KindTaken kind) LinkFault sent = sent ≡ []
+TellsRefusal registration (KindTaken kind) Memory sent = sent ≡ []
+TellsRefusal registration NoneComes Stopped sent = sent ≡ []
+TellsRefusal registration (NoRoom error) Memory sent = sent ≡ []
+TellsRefusal registration refusal ended sent = ⊥
+
+-- the hall did not take the agent in
+pub record IsUnjoined (result : Ended) (start now : AgentSide) : Type 0 where
+  pub registration : Registration
+  pub received : List ℕ
+  pub refusal : RegisterRefusal
+  pub sent : List Framed
+  pub told : TellsRefusal registration refusal result sent
+  pub bytes : (more : List Framed) × (rest : List ℕ) × Hears AtAgent received (register_frame registration ∷ more) rest
+  pub carried : Carried start.traffic now.traffic received (flat_map spelling sent)
+  pub tally : now.tally ≡ after_join (record { kind = registration.kind; result = Err refusal }) start.tally
+  pub calls : AppendsCalls start.calls (Join (record { kind = registration.kind; result = Err refusal }) ∷ []) now.calls
+  pub faults : now.faults ≡ faults_after result start.faults
+  pub ends : now.marks.ends ≡ start.marks.ends
+
+-- A connection of an agent: none registered; or the hall did not take it in; or it was asked, and left at the end, once.
+pub data Serves (result : Ended) (start now : AgentSide) : Type 0 where
+  unregistered : IsUnregistered result start now → Serves result start now
+  unjoined : IsUnjoined result start now → Serves result start now
+  joined : (last : AgentSide) → (asks : Asks start last result)
+      → now ≡ record last { tally = after_part asks.registration.kind last.tally } → Serves result start now

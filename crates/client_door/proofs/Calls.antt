@@ -21,8 +21,8 @@ pub calls_more : (first more : List HallCall) (start between end : Option (List 
     → AppendsCalls start first between → AppendsCalls between more end → AppendsCalls start (first ++ more) end
 calls_more first more start between end one two after is =
     let then = two after is in
-    let before = one then.0 then.1.0 in
-    (before.0, before.1.0, then.1.1 ∙ (ap (λ list. list ++ more) before.1.1 ∙ append_assoc before.0 first more))
+    let before = one then.0 then.1 in
+    (before.0, before.1, then.2 ∙ (ap (λ list. list ++ more) before.2 ∙ append_assoc before.0 first more))
 
 -- ---- of checks that were answered
 

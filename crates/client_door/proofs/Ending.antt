@@ -51,14 +51,13 @@ pub unanswered : (start now : ClientSide) (feeder : Feeding) (waiting : List ℕ
 unanswered start now feeder waiting taken side s =
     let others : List Framed = frames_of s.unsent ++ (map framed_of taken ++ feeder.waiting) in
     let frames : (frames_of (s.sent ++ s.unsent) ++ map framed_of taken) ++ feeder.waiting ≡ frames_of s.sent ++ others =
-        append_assoc (frames_of (s.sent ++ s.unsent)) (map framed_of taken) feeder.waiting
-        ∙ (ap (λ list. list ++ (map framed_of taken ++ feeder.waiting)) (map-append (λ (one : Answered). framed_of one.check) s.sent s.unsent)
-        ∙ append_assoc (frames_of s.sent) (frames_of s.unsent) (map framed_of taken ++ feeder.waiting)) in
-    (
+    append_assoc (frames_of (s.sent ++ s.unsent)) (map framed_of taken) feeder.waiting
+    ∙ (ap (λ list. list ++ (map framed_of taken ++ feeder.waiting)) (map-append (λ (one : Answered). framed_of one.check) s.sent s.unsent)
+    ∙ append_assoc (frames_of s.sent) (frames_of s.unsent) (map framed_of taken ++ feeder.waiting)) in (
       others,
       s.heard.behind,
       subst (λ (heard : Heard). Hears heard s.received (frames_of s.sent ++ others) s.heard.behind) side
-      (subst (λ list. Hears feeder.heard s.received list s.heard.behind) frames s.heard.heard),
+          (subst (λ list. Hears feeder.heard s.received list s.heard.behind) frames s.heard.heard),
     )
 
 -- the answering ends, after these calls of `ask` more
@@ -70,7 +69,7 @@ pub ends_with : (start now after : ClientSide) (feeder : Feeding) (waiting : Lis
     → EndsBytes AtClient s.received (frames_of s.sent) ended → Talks start after ended
 ends_with start now after feeder waiting taken ended extra s seat tally told carried faults at_end ends asking bytes =
     let made : calls_for (s.sent ++ s.unsent) ++ extra ≡ calls_for s.sent ++ (calls_for s.unsent ++ extra) =
-        ap (λ list. list ++ extra) (calls_for_more s.sent s.unsent) ∙ append_assoc (calls_for s.sent) (calls_for s.unsent) extra in
+    ap (λ list. list ++ extra) (calls_for_more s.sent s.unsent) ∙ append_assoc (calls_for s.sent) (calls_for s.unsent) extra in
     record {
       received = s.received;
       answered = s.sent;
@@ -124,10 +123,10 @@ all_answered : (start now : ClientSide) (feeder : Feeding) (waiting : List ℕ) 
     → (s : Stands start now feeder waiting []) → s.unsent ≡ [] → Hears AtClient s.received (frames_of s.sent) s.heard.behind
 all_answered start now feeder waiting side none s sent =
     let frames : (frames_of (s.sent ++ s.unsent) ++ []) ++ feeder.waiting ≡ frames_of s.sent =
-        ap (λ list. (frames_of (s.sent ++ s.unsent) ++ []) ++ list) none
-        ∙ (append-nil (frames_of (s.sent ++ s.unsent) ++ [])
-        ∙ (append-nil (frames_of (s.sent ++ s.unsent))
-        ∙ ap frames_of (ap (λ list. s.sent ++ list) sent ∙ append-nil s.sent))) in
+    ap (λ list. (frames_of (s.sent ++ s.unsent) ++ []) ++ list) none
+    ∙ (append-nil (frames_of (s.sent ++ s.unsent) ++ [])
+    ∙ (append-nil (frames_of (s.sent ++ s.unsent))
+    ∙ ap frames_of (ap (λ list. s.sent ++ list) sent ∙ append-nil s.sent))) in
     subst (λ (heard : Heard). Hears heard s.received (frames_of s.sent) s.heard.behind) side
     (subst (λ list. Hears feeder.heard s.received list s.heard.behind) frames s.heard.heard)
 
@@ -147,16 +146,23 @@ ends_reading start now traffic marks faults feeder waiting Closed side none carr
 ends_reading start now traffic marks faults feeder waiting (Cut count) side none carried same (sound, is, some, mark, still) s sent =
     let at = s.heard.sound sound in
     ends_with start now (with_link now traffic marks faults) feeder waiting [] (Cut count) [] s refl refl (calls_same now.calls) carried still mark same
-    (no_calls start now feeder waiting s sent)
-    (s.heard.behind, all_answered start now feeder waiting side none s sent,
-    subst (λ (heard : Heard). IsOpen heard s.heard.behind) side at.1, ap length at.0 ∙ sym is, some)
+    (no_calls start now feeder waiting s sent) (
+      s.heard.behind,
+      all_answered start now feeder waiting side none s sent,
+      subst (λ (heard : Heard). IsOpen heard s.heard.behind) side at.1,
+      ap length at.0 ∙ sym is,
+      some,
+    )
 ends_reading start now traffic marks faults feeder waiting LinkFault side none carried same rose s sent =
     ends_for_fault start now traffic marks faults feeder waiting [] LinkFault refl side carried same rose s
 ends_reading start now traffic marks faults feeder waiting (BadFrame refusal) side none carried same (failed, of_bytes, still) s sent =
     ends_with start now (with_link now traffic marks faults) feeder waiting [] (BadFrame refusal) [] s refl refl (calls_same now.calls)
-    carried still tt same (no_calls start now feeder waiting s sent)
-    (s.heard.behind, all_answered start now feeder waiting side none s sent,
-    subst (λ (heard : Heard). BeginsWrong heard s.heard.behind refusal) side (s.heard.wrong refusal failed), of_bytes)
+    carried still tt same (no_calls start now feeder waiting s sent) (
+      s.heard.behind,
+      all_answered start now feeder waiting side none s sent,
+      subst (λ (heard : Heard). BeginsWrong heard s.heard.behind refusal) side (s.heard.wrong refusal failed),
+      of_bytes,
+    )
 ends_reading start now traffic marks faults feeder waiting Memory side none carried same still s sent =
     ends_with start now (with_link now traffic marks faults) feeder waiting [] Memory [] s refl refl (calls_same now.calls)
     carried still tt same

@@ -48,7 +48,7 @@ pub not_above : (one last : DeskState) (seen : List DeskState) → Rises seen �
 not_above one last seen rises (front, is_last) (before, behind, is) =
     let up : RisesFrom one.commit behind = rises_within before one behind (subst (λ (list : List DeskState). Rises list) is rises) in
     let same : last_or one behind ≡ last =
-        sym (last_behind one before one behind) ∙ (ap (λ list. last_or one list) (sym is ∙ is_last) ∙ last_of_snoc one front last) in
+    sym (last_behind one before one behind) ∙ (ap (λ list. last_or one list) (sym is ∙ is_last) ∙ last_of_snoc one front last) in
     subst (λ (desk : DeskState). one.commit ≤ desk.commit) same (last_is_above one behind up)
 
 -- ---- checks that were read there

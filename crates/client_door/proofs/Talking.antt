@@ -60,10 +60,10 @@ pub takes_check : (start now : ClientSide) (old new : Feeding) (waiting : List �
     → Stands start now old waiting [] → Stands start now new waiting (check ∷ [])
 takes_check start now old new waiting check handed s =
     let before : HasHeard s.received (frames_of (s.sent ++ s.unsent)) old =
-        subst (λ frames. HasHeard s.received frames old) (append-nil (frames_of (s.sent ++ s.unsent))) s.heard in
+    subst (λ frames. HasHeard s.received frames old) (append-nil (frames_of (s.sent ++ s.unsent))) s.heard in
     let after : HasHeard s.received (frames_of (s.sent ++ s.unsent) ++ framed_of check ∷ []) new =
-        subst (λ bytes. HasHeard bytes (frames_of (s.sent ++ s.unsent) ++ framed_of check ∷ []) new) (append-nil s.received)
-        (handed s.received (frames_of (s.sent ++ s.unsent)) before) in
+    subst (λ bytes. HasHeard bytes (frames_of (s.sent ++ s.unsent) ++ framed_of check ∷ []) new) (append-nil s.received)
+    (handed s.received (frames_of (s.sent ++ s.unsent)) before) in
     record {
       received = s.received;
       sent = s.sent;
@@ -125,10 +125,10 @@ answered_with start now tally calls feeder waiting after check desk call reply s
     let next : Answered = record { check = check; desk = desk; call = call; reply = reply } in
     let all : (s.sent ++ s.unsent) ++ next ∷ [] ≡ s.sent ++ (s.unsent ++ next ∷ []) = append_assoc s.sent s.unsent (next ∷ []) in
     let made : calls_for (s.sent ++ (s.unsent ++ next ∷ [])) ≡ calls_for (s.sent ++ s.unsent) ++ call_list call =
-        ap calls_for (sym all) ∙ calls_for_snoc (s.sent ++ s.unsent) next in
+    ap calls_for (sym all) ∙ calls_for_snoc (s.sent ++ s.unsent) next in
     let frames : frames_of (s.sent ++ s.unsent) ++ framed_of check ∷ [] ≡ frames_of (s.sent ++ (s.unsent ++ next ∷ [])) ++ [] =
-        sym (map-append (λ (one : Answered). framed_of one.check) (s.sent ++ s.unsent) (next ∷ []))
-        ∙ (ap frames_of all ∙ sym (append-nil (frames_of (s.sent ++ (s.unsent ++ next ∷ []))))) in
+    sym (map-append (λ (one : Answered). framed_of one.check) (s.sent ++ s.unsent) (next ∷ []))
+    ∙ (ap frames_of all ∙ sym (append-nil (frames_of (s.sent ++ (s.unsent ++ next ∷ []))))) in
     let right : IsRight next = answers in
     record {
       received = s.received;
@@ -177,8 +177,7 @@ pub flushed : (start now : ClientSide) (traffic : Option Traffic) (marks : LinkM
 flushed start now traffic marks faults feeder waiting taken sent_now same still s =
     let all : s.sent ++ s.unsent ≡ (s.sent ++ s.unsent) ++ [] = sym (append-nil (s.sent ++ s.unsent)) in
     let bytes : replies_bytes s.sent ++ waiting ≡ replies_bytes (s.sent ++ s.unsent) =
-        ap (λ list. replies_bytes s.sent ++ list) s.waits ∙ sym (replies_more s.sent s.unsent) in
-    (
+    ap (λ list. replies_bytes s.sent ++ list) s.waits ∙ sym (replies_more s.sent s.unsent) in (
       record {
         received = s.received;
         sent = s.sent ++ s.unsent;

@@ -1,0 +1,156 @@
+//! Seats that check on threads of their own while a publisher publishes.
+
+use crate::states::{make_next, named_commit, publish_next, question, quiet_link};
+use cynara_keys::Question;
+use desk_state::Desk;
+use link_ports::{Link, MemEnd};
+use live_desk::{BorrowedVerdict, Publisher, Roll, Seat, start};
+use std::alloc::{AllocError, Global};
+use std::sync::{Mutex, Wait};
+use std::thread::{Threads, join};
+
+/// So many states are published behind the first one, whose commit is 1.
+const PUBLICATIONS: u64 = 200;
+
+/// The commit of the last one.
+const LAST: u64 = 201;
+
+// What a seat met: the commit of its last answer, and how many answers were wrong.
+#[derive(Clone, Copy)]
+struct Watch {
+    last: u64,
+    wrong: u64,
+}
+
+impl Watch {
+    // An answer to a connection that entered at this commit is wrong where it doesn't say its own commit, or that one is
+    // below the one entered at or below that of an earlier answer.
+    fn note(&mut self, entered: u64, answer: Option<u64>) {
+        let Some(commit) = answer else {
+            self.wrong = self.wrong.saturating_add(1);
+            return;
+        };
+        if commit < entered || commit < self.last {
+            self.wrong = self.wrong.saturating_add(1);
+        }
+        self.last = commit;
+    }
+
+    // A link that reads as up once its seat has left is wrong too.
+    fn note_left(&mut self, is_up: bool) {
+        if is_up {
+            self.wrong = self.wrong.saturating_add(1);
+        }
+    }
+}
+
+/// Four seats check on threads of their own, each over a connection after the other, until they are answered at the last
+/// commit, while a publisher publishes 200 states and hangs the connections up.
+pub fn four_seats<R: Wait + Threads + Sync>(rt: &R, alloc: Global) -> Result<String, AllocError> {
+    let mut desk = Desk::fresh(alloc)?;
+    make_next(alloc, &mut desk).ok_or(AllocError)?;
+    let (mut publisher, mut seats, roll) = start(rt, alloc, &desk, 4)?;
+    let roll = Mutex::new(roll);
+    let told = by_four(rt, alloc, &mut desk, &mut publisher, &mut seats, &roll);
+    publisher.end(rt);
+    told.ok_or(AllocError)
+}
+
+fn by_four<R: Wait + Threads + Sync>(
+    rt: &R,
+    alloc: Global,
+    desk: &mut Desk,
+    publisher: &mut Publisher,
+    seats: &mut Vec<Seat>,
+    roll: &Mutex<Roll<MemEnd>>,
+) -> Option<String> {
+    let fourth = seats.pop()?;
+    let third = seats.pop()?;
+    let second = seats.pop()?;
+    let first = seats.pop()?;
+    let (published, ((one, two), (three, four))) = join(
+        rt,
+        || publish_all(rt, alloc, desk, publisher, roll),
+        || {
+            join(
+                rt,
+                || join(
+                    rt,
+                    || check_until_last(rt, alloc, first, roll),
+                    || check_until_last(rt, alloc, second, roll),
+                ),
+                || join(
+                    rt,
+                    || check_until_last(rt, alloc, third, roll),
+                    || check_until_last(rt, alloc, fourth, roll),
+                ),
+            )
+        },
+    );
+    let wrong = [one?, two?, three?, four?];
+    format!(in alloc;
+        "four seats: {published} published; wrong answers {}, {}, {} and {}",
+        wrong[0], wrong[1], wrong[2], wrong[3]
+    )
+    .ok()
+}
+
+// Publishes the states. How many were; where one can't be, the roll is stopped, so that nobody waits for it.
+fn publish_all<R: Wait>(
+    rt: &R,
+    alloc: Global,
+    desk: &mut Desk,
+    publisher: &mut Publisher,
+    roll: &Mutex<Roll<MemEnd>>,
+) -> u64 {
+    for published in 0..PUBLICATIONS {
+        let Some(commit) = publish_next(rt, alloc, desk, publisher) else {
+            roll.lock(rt).stop();
+            return published;
+        };
+        roll.lock(rt).hang_all(commit);
+    }
+    PUBLICATIONS
+}
+
+// Checks until an answer is at the last commit. How many answers were wrong.
+fn check_until_last<R: Wait>(
+    rt: &R,
+    alloc: Global,
+    seat: Seat,
+    roll: &Mutex<Roll<MemEnd>>,
+) -> Option<u64> {
+    let question = question(alloc)?;
+    let mut seat = seat;
+    let mut watch = Watch { last: 0, wrong: 0 };
+    for _ in rt.forever() {
+        visit(rt, alloc, &mut seat, roll, &question, &mut watch)?;
+        if watch.last >= LAST {
+            return Some(watch.wrong);
+        }
+    }
+    unreachable!()
+}
+
+// One connection: it enters, asks once and leaves.
+fn visit<R: Wait>(
+    rt: &R,
+    alloc: Global,
+    seat: &mut Seat,
+    roll: &Mutex<Roll<MemEnd>>,
+    question: &Question,
+    watch: &mut Watch,
+) -> Option<()> {
+    let mut link = quiet_link(alloc).ok()?;
+    let end = link.hang_end().ok()?;
+    let entered = roll.lock(rt).enter(end, seat).ok()?;
+    let answer = seat.check_with(
+        rt,
+        &question.borrowed(),
+        |verdict: BorrowedVerdict<'_>| named_commit(verdict),
+    );
+    watch.note(entered, answer);
+    roll.lock(rt).leave(seat.number(), entered);
+    watch.note_left(link.is_up());
+    Some(())
+}

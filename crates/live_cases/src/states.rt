@@ -1,0 +1,68 @@
+//! States of which each answers its commit.
+
+use cynara_keys::{BucketName, Kind, Name, PolicyResult, Question};
+use desk_ports::{Bytes, FailList};
+use desk_state::{Command, Desk};
+use link_ports::MemLink;
+use live_desk::{BorrowedVerdict, Publisher};
+use std::alloc::{AllocError, Global};
+use std::sync::Wait;
+
+/// The kind that a state with commit 0 answers. That with commit 1 answers the next one, and so on.
+const FIRST_KIND: u16 = 1000;
+
+/// Makes the state the next one: the fallback of its root bucket says its commit.
+pub fn make_next(alloc: Global, desk: &mut Desk) -> Option<()> {
+    let next = (desk.commit() % 10000) as u16 + 1;
+    let command = Command::SetBucket {
+        bucket: BucketName::root(alloc),
+        fallback: PolicyResult::without_metadata(alloc, Kind(FIRST_KIND + next)),
+    };
+    desk.change(&command).ok()?;
+    Some(())
+}
+
+/// Makes the state the next one, and publishes it. Its commit.
+pub fn publish_next<R: Wait>(
+    rt: &R,
+    alloc: Global,
+    desk: &mut Desk,
+    publisher: &mut Publisher,
+) -> Option<u64> {
+    make_next(alloc, desk)?;
+    let ready = publisher.prepare(desk).ok()?;
+    if ready.commit() <= publisher.commit() {
+        return None;
+    }
+    publisher.publish(rt, ready).ok()
+}
+
+/// The commit of a verdict, where its answer says this commit.
+pub fn named_commit(verdict: BorrowedVerdict<'_>) -> Option<u64> {
+    let Kind(kind) = verdict.answer.result.kind();
+    if u64::from(kind) == verdict.commit.saturating_add(u64::from(FIRST_KIND)) {
+        Some(verdict.commit)
+    } else {
+        None
+    }
+}
+
+/// What all seats ask.
+pub fn question(alloc: Global) -> Option<Question> {
+    let client = Name::read(alloc, b"app").ok()?;
+    let user = Name::read(alloc, b"user").ok()?;
+    let privilege = Name::read(alloc, b"camera").ok()?;
+    Question::of(
+        alloc,
+        client.as_slice(),
+        user.as_slice(),
+        privilege.as_slice(),
+    )
+    .ok()
+}
+
+/// A link over which nothing comes.
+pub fn quiet_link(alloc: Global) -> Result<MemLink, AllocError> {
+    let fails = FailList::of(Vec::new(alloc));
+    MemLink::new(alloc, Bytes::new(alloc), u64::MAX, fails)
+}
