@@ -2,3 +2,4 @@ pub mod Side
 pub mod Reply
 pub mod Settling
 pub mod Answering
+pub mod parts

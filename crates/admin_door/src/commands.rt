@@ -1,19 +1,23 @@
-// Commands of an administrator.
-ghost use Rattle.std.specs.Prelude.{◌≡◌, ◌≤◌, true, Some, IsSome, MatchResult};
-ghost use Rattle.desk_keeper.specs.Keeper.{disk_of, IsSameDisk};
+// Messages of an administrator: commands, and what else may be asked.
+ghost use Rattle.std.specs.Prelude.{◌≡◌, ◌≤◌, ◌<◌, ◌∷◌, [], true, List, Some, MatchResult};
+ghost use Rattle.guard_files.specs.Settled.{gone_names};
+ghost use Rattle.desk_state.specs.DeskState.{DeskState};
+ghost use Rattle.desk_keeper.specs.Keeper.{disk_of, held_of, IsSameDisk};
 ghost use Rattle.live_desk.specs.History.{last_commit};
 ghost use Rattle.wire_messages.specs.Operation.{number_of, operation_of};
 ghost use Rattle.wire_messages.specs.Message.{operation};
+ghost use Rattle.wire_messages.specs.Commands.{IsByRule};
+ghost use Rattle.server_hall.specs.Tally.{after_stop};
 ghost use Rattle.wire_messages.specs.declared.operations.Heard.TheVariants.{AtAdmin};
 ghost use Rattle.door_frames.specs.declared.endings.Ended.TheVariants.{Memory};
-ghost use Rattle.admin_door.specs.Side.{admin_side, decided_of};
-ghost use Rattle.admin_door.specs.Reply.{stop_replies};
-ghost use Rattle.admin_door.specs.Answering.{Answers, Refuses, Obeys, LacksMemory, Commits, IsUncommitted};
-ghost use Rattle.server_hall.specs.Tally.{after_stop};
+ghost use Rattle.admin_door.specs.Side.{side_of, decided_of};
+ghost use Rattle.admin_door.specs.Answering.{Answers, Refuses, AnswersQuestion, Obeys, IsUnanswered, Commits, LacksMemory, AnswersUnsettled};
+ghost use Rattle.admin_door.specs.parts.Asking.{IsNoCommand};
+ghost use Rattle.admin_door.specs.parts.Showing.{Shows, IsUnshown};
 
 use crate::questions::{check_replies, list_replies, one};
 use crate::settling::{Unsettled, settle};
-use desk_keeper::Keeper;
+use desk_keeper::{Keeper, PreparedCommit};
 use desk_ports::Disk;
 use desk_state::{Command, Refusal};
 use door_frames::Ended;
@@ -38,13 +42,35 @@ pub fn answer_command<R: Wait, D: Disk, A: Hall>(
     requires behind { last_commit 0 publisher.old ≤ keeper.old.desk.commit }
     ensures answered { MatchResult result
         (λ replies. Answers (D.state (disk_of keeper.old)) message.now
-        (admin_side keeper.old.desk (decided_of keeper.old) publisher.old (A.tally hall.old) (A.calls hall.old) (D.faults (disk_of keeper.old)))
-        (admin_side keeper.new.desk (decided_of keeper.new) publisher.new (A.tally hall.new) (A.calls hall.new) (D.faults (disk_of keeper.new))) replies.items)
-        (λ ended. Refuses (D.state (disk_of keeper.old)) message.now
-        (admin_side keeper.old.desk (decided_of keeper.old) publisher.old (A.tally hall.old) (A.calls hall.old) (D.faults (disk_of keeper.old)))
-        (admin_side keeper.new.desk (decided_of keeper.new) publisher.new (A.tally hall.new) (A.calls hall.new) (D.faults (disk_of keeper.new))) ended) }
+        (side_of D.faults keeper.old publisher.old (A.tally hall.old) (A.calls hall.old))
+        (side_of D.faults keeper.new publisher.new (A.tally hall.new) (A.calls hall.new)) replies.items)
+        (Refuses (D.state (disk_of keeper.old)) message.now
+        (side_of D.faults keeper.old publisher.old (A.tally hall.old) (A.calls hall.old))
+        (side_of D.faults keeper.new publisher.new (A.tally hall.new) (A.calls hall.new))) }
     ensures behind { last_commit 0 publisher.new ≤ keeper.new.desk.commit }
     ensures same_disk { IsSameDisk keeper.old keeper.new }
+{
+    match command_of(message) {
+        Ok(Some(command)) => obey(rt, alloc, keeper, publisher, hall, &command),
+        Ok(None) => answer_question(alloc, keeper, hall, message),
+        Err(_) => Err(Ended::Memory),
+    }
+}
+
+// Answers what is no command.
+fn answer_question<D: Disk, A: Hall>(
+    alloc: Global,
+    keeper: &Keeper<'_, D>,
+    hall: &mut A,
+    message: &Message,
+) -> Result<Vec<Message>, Ended>
+    requires { IsNoCommand message.now }
+    ensures answered { (published : List DeskState) → MatchResult result
+        (λ replies. AnswersQuestion message.now
+        (side_of D.faults keeper.now published (A.tally hall.old) (A.calls hall.old))
+        (side_of D.faults keeper.now published (A.tally hall.new) (A.calls hall.new)) replies.items)
+        (λ ended. (ended ≡ Memory) × (side_of D.faults keeper.now published (A.tally hall.new) (A.calls hall.new)
+        ≡ side_of D.faults keeper.now published (A.tally hall.old) (A.calls hall.old))) }
 {
     match message {
         Message::Listing { bucket, filter } => list_replies(alloc, keeper.desk(), bucket, filter),
@@ -53,30 +79,25 @@ pub fn answer_command<R: Wait, D: Disk, A: Hall>(
             recursive,
             question,
         } => check_replies(alloc, keeper.desk(), bucket, *recursive, question),
-        Message::Stop => stop(alloc, keeper, hall),
-        _ => match command_of(message) {
-            Ok(Some(command)) => obey(rt, alloc, keeper, publisher, hall, &command),
-            Ok(None) => Err(Ended::Memory),
-            Err(_) => Err(Ended::Memory),
-        },
+        Message::Stop => stop(alloc, keeper.desk().commit(), hall),
+        _ => unreachable!(),
     }
 }
 
-// Stops the hall. The reply tells the last commit.
-fn stop<D: Disk, A: Hall>(
-    alloc: Global,
-    keeper: &Keeper<'_, D>,
-    hall: &mut A,
-) -> Result<Vec<Message>, Ended>
+// Stops the hall. The reply tells this commit.
+fn stop<A: Hall>(alloc: Global, commit: u64, hall: &mut A) -> Result<Vec<Message>, Ended>
     ensures stopped { MatchResult result
-        (λ replies. (replies.items ≡ stop_replies keeper.now.desk) × (A.tally hall.new ≡ after_stop (A.tally hall.old)))
+        (λ replies. (replies.items ≡ Message.Done commit 0 ∷ []) × (A.tally hall.new ≡ after_stop (A.tally hall.old)))
         (λ ended. (ended ≡ Memory) × (A.tally hall.new ≡ A.tally hall.old)) }
     ensures calls { A.calls hall.new ≡ A.calls hall.old }
 {
-    let commit = keeper.desk().commit();
-    let replies = one(alloc, Message::Done { commit, erased: 0 })?;
-    hall.stop();
-    Ok(replies)
+    match one(alloc, Message::Done { commit, erased: 0 }) {
+        Ok(replies) => {
+            hall.stop();
+            Ok(replies)
+        }
+        Err(ended) => Err(ended),
+    }
 }
 
 // Settles what is left undone, and then does what the command says.
@@ -91,26 +112,32 @@ fn obey<R: Wait, D: Disk, A: Hall>(
     requires { last_commit 0 publisher.old ≤ keeper.old.desk.commit }
     ensures obeyed { MatchResult result
         (λ replies. Obeys (D.state (disk_of keeper.old)) command.now
-        (admin_side keeper.old.desk (decided_of keeper.old) publisher.old (A.tally hall.old) (A.calls hall.old) (D.faults (disk_of keeper.old)))
-        (admin_side keeper.new.desk (decided_of keeper.new) publisher.new (A.tally hall.new) (A.calls hall.new) (D.faults (disk_of keeper.new))) replies.items)
-        (λ ended. (ended ≡ Memory) × LacksMemory (D.state (disk_of keeper.old)) command.now
-        (admin_side keeper.old.desk (decided_of keeper.old) publisher.old (A.tally hall.old) (A.calls hall.old) (D.faults (disk_of keeper.old)))
-        (admin_side keeper.new.desk (decided_of keeper.new) publisher.new (A.tally hall.new) (A.calls hall.new) (D.faults (disk_of keeper.new)))) }
+        (side_of D.faults keeper.old publisher.old (A.tally hall.old) (A.calls hall.old))
+        (side_of D.faults keeper.new publisher.new (A.tally hall.new) (A.calls hall.new)) replies.items)
+        (λ ended. (ended ≡ Memory) × IsUnanswered (D.state (disk_of keeper.old)) command.now
+        (side_of D.faults keeper.old publisher.old (A.tally hall.old) (A.calls hall.old))
+        (side_of D.faults keeper.new publisher.new (A.tally hall.new) (A.calls hall.new))) }
     ensures behind { last_commit 0 publisher.new ≤ keeper.new.desk.commit }
     ensures same_disk { IsSameDisk keeper.old keeper.new }
 {
     match settle(rt, keeper, publisher, hall) {
         Ok(()) => commit(rt, alloc, keeper, publisher, hall, command),
-        Err(Unsettled::StoreFault) => one(alloc, Message::StoreFault),
-        Err(Unsettled::StoreDamaged { file, line }) => {
-            one(alloc, Message::StoreDamaged { file, line })
-        }
-        Err(Unsettled::Memory) => Err(Ended::Memory),
+        Err(reason) => tell_unsettled(alloc, reason),
     }
 }
 
-// Does what the command says, from a state that is kept and published. All memory that the reply takes is taken before the
-// commit.
+// What a command is answered that could not be settled.
+fn tell_unsettled(alloc: Global, reason: Unsettled) -> Result<Vec<Message>, Ended>
+    ensures { MatchResult result (λ replies. AnswersUnsettled reason replies.items) (λ ended. ended ≡ Memory) }
+{
+    match reason {
+        Unsettled::StoreFault => one(alloc, Message::StoreFault),
+        Unsettled::StoreDamaged { file, line } => one(alloc, Message::StoreDamaged { file, line }),
+        Unsettled::Memory => Err(Ended::Memory),
+    }
+}
+
+// Does what the command says, from a state that is kept and shown to all.
 fn commit<R: Wait, D: Disk, A: Hall>(
     rt: &R,
     alloc: Global,
@@ -120,26 +147,66 @@ fn commit<R: Wait, D: Disk, A: Hall>(
     command: &Command,
 ) -> Result<Vec<Message>, Ended>
     requires decided { decided_of keeper.old ≡ true }
-    requires published { last_commit 0 publisher.old ≡ keeper.old.desk.commit }
+    requires even { last_commit 0 publisher.old ≡ keeper.old.desk.commit }
     ensures committed { MatchResult result
         (λ replies. Commits command.now
-        (admin_side keeper.old.desk (decided_of keeper.old) publisher.old (A.tally hall.old) (A.calls hall.old) (D.faults (disk_of keeper.old)))
-        (admin_side keeper.new.desk (decided_of keeper.new) publisher.new (A.tally hall.new) (A.calls hall.new) (D.faults (disk_of keeper.new))) replies.items)
-        (λ ended. (ended ≡ Memory) × IsUncommitted command.now
-        (admin_side keeper.old.desk (decided_of keeper.old) publisher.old (A.tally hall.old) (A.calls hall.old) (D.faults (disk_of keeper.old)))
-        (admin_side keeper.new.desk (decided_of keeper.new) publisher.new (A.tally hall.new) (A.calls hall.new) (D.faults (disk_of keeper.new)))) }
+        (side_of D.faults keeper.old publisher.old (A.tally hall.old) (A.calls hall.old))
+        (side_of D.faults keeper.new publisher.new (A.tally hall.new) (A.calls hall.new)) replies.items)
+        (λ ended. (ended ≡ Memory) × LacksMemory command.now
+        (side_of D.faults keeper.old publisher.old (A.tally hall.old) (A.calls hall.old))
+        (side_of D.faults keeper.new publisher.new (A.tally hall.new) (A.calls hall.new))) }
     ensures behind { last_commit 0 publisher.new ≤ keeper.new.desk.commit }
     ensures same_disk { IsSameDisk keeper.old keeper.new }
 {
-    let prepared = match keeper.prepare(command) {
-        Ok(prepared) => prepared,
-        Err(Refusal::Memory(_)) => return Err(Ended::Memory),
-        Err(refusal) => return one(alloc, Message::Refused { refusal }),
-    };
+    match keeper.prepare(command) {
+        Ok(prepared) => commit_prepared(rt, alloc, keeper, publisher, hall, prepared),
+        Err(refusal) => tell_refusal(alloc, refusal),
+    }
+}
+
+// What a command is answered that a rule refuses.
+fn tell_refusal(alloc: Global, refusal: Refusal) -> Result<Vec<Message>, Ended>
+    ensures { MatchResult result
+        (λ replies. IsByRule refusal × (replies.items ≡ Message.Refused refusal ∷ [])) (λ ended. ended ≡ Memory) }
+{
+    match refusal {
+        Refusal::Memory(_) => Err(Ended::Memory),
+        refusal => one(alloc, Message::Refused { refusal }),
+    }
+}
+
+// Commits what was prepared, publishes it, and then hangs up all older connections. All memory but that of the publication is
+// taken before the commit.
+fn commit_prepared<R: Wait, D: Disk, A: Hall>(
+    rt: &R,
+    alloc: Global,
+    keeper: &mut Keeper<'_, D>,
+    publisher: &mut Publisher,
+    hall: &mut A,
+    prepared: PreparedCommit,
+) -> Result<Vec<Message>, Ended>
+    requires decided { decided_of keeper.old ≡ true }
+    requires prepared { prepared.save.gone ≡ gone_names (held_of keeper.old) prepared.save.set }
+    requires newer { last_commit 0 publisher.old < prepared.desk.commit }
+    requires behind { last_commit 0 publisher.old ≤ keeper.old.desk.commit }
+    ensures shown { MatchResult result
+        (λ replies. Shows prepared.desk prepared.erased
+        (side_of D.faults keeper.old publisher.old (A.tally hall.old) (A.calls hall.old))
+        (side_of D.faults keeper.new publisher.new (A.tally hall.new) (A.calls hall.new)) replies.items)
+        (λ ended. (ended ≡ Memory) × IsUnshown prepared.desk
+        (side_of D.faults keeper.old publisher.old (A.tally hall.old) (A.calls hall.old))
+        (side_of D.faults keeper.new publisher.new (A.tally hall.new) (A.calls hall.new))) }
+    ensures behind { last_commit 0 publisher.new ≤ keeper.new.desk.commit }
+    ensures same_disk { IsSameDisk keeper.old keeper.new }
+{
     let commit = prepared.desk().commit();
     let erased = prepared.erased();
-    let replies = one(alloc, Message::Done { commit, erased })?;
-    let fault = one(alloc, Message::StoreFault)?;
+    let Ok(done) = one(alloc, Message::Done { commit, erased }) else {
+        return Err(Ended::Memory);
+    };
+    let Ok(fault) = one(alloc, Message::StoreFault) else {
+        return Err(Ended::Memory);
+    };
     let Ok(ready) = publisher.prepare(prepared.desk()) else {
         return Err(Ended::Memory);
     };
@@ -150,5 +217,5 @@ fn commit<R: Wait, D: Disk, A: Hall>(
         return Err(Ended::Memory);
     };
     hall.hang(publisher);
-    Ok(replies)
+    Ok(done)
 }

@@ -1,14 +1,17 @@
 // What an administrator asks, answered at a policy state.
-ghost use Rattle.std.specs.Prelude.{◌≡◌, MatchResult};
+ghost use Rattle.std.specs.Prelude.{◌≡◌, ◌≤◌, ◌++◌, ◌∷◌, [], length, map, IsSome, IfSome, MatchResult};
+ghost use Rattle.bucket_eval.specs.Found.{outcome_at, answer_of};
+ghost use Rattle.desk_state.specs.declared.refusals.Refusal.TheVariants.{NoBucket};
+ghost use Rattle.wire_messages.specs.declared.messages.Message.TheVariants.{Refused, ListRow, ListEnd, Judged};
 ghost use Rattle.door_frames.specs.declared.endings.Ended.TheVariants.{Memory};
 ghost use Rattle.admin_door.specs.Reply.{list_replies, check_replies};
 
-use bucket_eval::{Verdict, describe, plain};
-use bucket_store::StoreRefusal;
-use cynara_keys::{BucketName, Filter, Question};
+use bucket_eval::{Found, Verdict, describe, plain};
+use bucket_store::Database;
+use cynara_keys::{BucketName, Filter, Policy, Question};
 use desk_state::{Desk, Refusal};
 use door_frames::Ended;
-use std::alloc::{AllocError, Global};
+use std::alloc::Global;
 use wire_messages::{Message, PackedVerdict};
 
 /// The policies of a bucket that a filter admits, a row each, and how many there are; or that the bucket is not there.
@@ -21,24 +24,35 @@ pub(crate) fn list_replies(
     ensures { MatchResult result (λ replies. replies.items ≡ list_replies desk.now bucket.now filter.now)
         (λ ended. ended ≡ Memory) }
 {
-    let policies = match desk.database().list(bucket, filter) {
-        Ok(policies) => policies,
-        Err(StoreRefusal::NoBucket(_)) => return no_bucket(alloc, bucket),
-        Err(_) => return Err(Ended::Memory),
-    };
-    let count = policies.len();
-    let mut replies = Vec::new(alloc);
-    for policy in policies {
-        if replies.push(Message::ListRow { policy }).is_err() {
-            return Err(Ended::Memory);
-        }
+    let database = desk.database();
+    match database.place(bucket) {
+        Some(_) => match database.list(bucket, filter) {
+            Ok(policies) => rows(alloc, policies),
+            Err(_) => Err(Ended::Memory),
+        },
+        None => no_bucket(alloc, bucket),
     }
-    let end = Message::ListEnd {
-        count: count as u32,
-    };
-    if replies.push(end).is_err() {
+}
+
+// The policies, a row each, and how many they are.
+fn rows(alloc: Global, policies: Vec<Policy>) -> Result<Vec<Message>, Ended>
+    requires { length policies.items ≤ 65536 }
+    ensures { MatchResult result
+        (λ replies. replies.items ≡ map ListRow policies.items ++ ListEnd (length policies.items) ∷ [])
+        (λ ended. ended ≡ Memory) }
+{
+    let count = policies.len() as u32;
+    let Ok(mut replies) = Vec::with_capacity(alloc, policies.len() + 1) else {
         return Err(Ended::Memory);
+    };
+    for policy in policies {
+        let Ok(()) = replies.push(Message::ListRow { policy }) else {
+            return Err(Ended::Memory);
+        };
     }
+    let Ok(()) = replies.push(Message::ListEnd { count }) else {
+        return Err(Ended::Memory);
+    };
     Ok(replies)
 }
 
@@ -54,12 +68,30 @@ pub(crate) fn check_replies(
         (λ ended. ended ≡ Memory) }
 {
     let database = desk.database();
-    let Some(start) = database.place(bucket) else {
-        return no_bucket(alloc, bucket);
-    };
-    let found = plain(database, start, question, recursive);
+    match database.place(bucket) {
+        Some(start) => {
+            let found = plain(database, start, question, recursive);
+            judged(alloc, desk.commit(), database, found)
+        }
+        None => no_bucket(alloc, bucket),
+    }
+}
+
+// The answer that was found, with the commit of the state.
+fn judged(
+    alloc: Global,
+    commit: u64,
+    database: &Database,
+    found: Found,
+) -> Result<Vec<Message>, Ended>
+    requires { IsSome (outcome_at database.now found) }
+    ensures { MatchResult result
+        (λ replies. IfSome (outcome_at database.now found)
+        (λ outcome. replies.items ≡ Judged (record { commit = commit; answer = answer_of outcome }) ∷ []))
+        (λ ended. ended ≡ Memory) }
+{
     let verdict = Verdict {
-        commit: desk.commit(),
+        commit,
         answer: describe(database, found),
     };
     match PackedVerdict::pack(alloc, &verdict) {
@@ -69,7 +101,9 @@ pub(crate) fn check_replies(
 }
 
 // The reply that a bucket is not there.
-fn no_bucket(alloc: Global, bucket: &BucketName) -> Result<Vec<Message>, Ended> {
+fn no_bucket(alloc: Global, bucket: &BucketName) -> Result<Vec<Message>, Ended>
+    ensures { MatchResult result (λ replies. replies.items ≡ Refused (NoBucket bucket.now) ∷ []) (λ ended. ended ≡ Memory) }
+{
     match bucket.copy() {
         Ok(name) => {
             let refusal = Refusal::NoBucket(name);
@@ -80,7 +114,9 @@ fn no_bucket(alloc: Global, bucket: &BucketName) -> Result<Vec<Message>, Ended> 
 }
 
 /// One reply.
-pub(crate) fn one(alloc: Global, message: Message) -> Result<Vec<Message>, Ended> {
+pub(crate) fn one(alloc: Global, message: Message) -> Result<Vec<Message>, Ended>
+    ensures { MatchResult result (λ replies. replies.items ≡ message ∷ []) (λ ended. ended ≡ Memory) }
+{
     let mut replies = Vec::new(alloc);
     match replies.push(message) {
         Ok(()) => Ok(replies),
