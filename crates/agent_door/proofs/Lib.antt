@@ -1,3 +1,3 @@
-pub mod Rounds
+pub mod Growing
 pub mod Calls
 pub mod Serving

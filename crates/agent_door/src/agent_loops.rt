@@ -1,10 +1,9 @@
 ghost use Rattle.std.specs.Prelude.{◌≡◌, ◌<◌, IsTrue, length};
 ghost use Rattle.cynara_keys.specs.PolicyResult.{is_agent};
 ghost use Rattle.wire_messages.specs.declared.operations.Heard.TheVariants.{AtAgent};
-ghost use Rattle.door_frames.specs.Carried.{Carried};
 ghost use Rattle.door_frames.specs.Hearing.{IsSound};
 ghost use Rattle.agent_door.specs.Serving.{AgentSide, agent_side, Asks, Serves};
-ghost use Rattle.agent_door.specs.parts.Talk.{HasJoined};
+ghost use Rattle.agent_door.specs.parts.Talk.{HasJoined, TellsTaken};
 
 use crate::messages::{Registration, read_registration};
 use crate::rounds::round;
@@ -61,7 +60,10 @@ pub fn agent_loop<R: Wait, A: Hall, L: Link>(
 }
 
 // Tells an agent that its kind is taken.
-fn tell_taken<L: Link>(link: &mut L, frame: &mut Bytes, registered: Registration) -> Ended {
+fn tell_taken<L: Link>(link: &mut L, frame: &mut Bytes, registered: Registration) -> Ended
+    ensures told { TellsTaken registered result (L.traffic link.old) (L.traffic link.new) (L.faults link.old) (L.faults link.new) }
+    ensures marks { L.marks link.new ≡ L.marks link.old }
+{
     let message = Message::KindTaken {
         kind: registered.kind,
     };

@@ -1,4 +1,4 @@
 pub mod Published
 pub mod Calls
-pub mod Talking
+pub mod Steps
 pub mod Ending

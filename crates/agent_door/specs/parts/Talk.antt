@@ -14,9 +14,10 @@ use Rattle.server_hall.specs.Told.{AppendsCalls}
 use Rattle.server_hall.specs.declared.calls.HallCall.{HallCall}
 use Rattle.door_frames.specs.Carried.{Carried}
 use Rattle.door_frames.specs.Hearing.{HasHeard, HearsMore, HandsOut}
-use Rattle.door_frames.specs.Ending.{EndsReading}
+use Rattle.door_frames.specs.Ending.{EndsReading, EndsSending}
 use Rattle.door_frames.specs.declared.endings.Ended.{Ended}
-use Rattle.agent_door.specs.Frame.{register_frame, registered_frame, IsOutOfPlace}
+use Rattle.door_frames.specs.declared.endings.Ended.TheVariants.{Closed}
+use Rattle.agent_door.specs.Frame.{register_frame, registered_frame, taken_frame, IsOutOfPlace}
 use Rattle.agent_door.specs.Round.{Given, Round, IsWhole, IsOther, answer_call, rounds_frames, rounds_told}
 use Rattle.agent_door.specs.Serving.{AgentSide, Asks, joined_calls}
 use Rattle.agent_door.specs.declared.messages.Answer.{Answer}
@@ -82,3 +83,10 @@ pub record HasJoined (registration : Registration) (start now : AgentSide) (feed
   pub calls : AppendsCalls start.calls (joined_calls registration.kind [] []) now.calls
   pub faults : now.faults ≡ start.faults
   pub ends : now.marks.ends ≡ start.marks.ends
+
+-- an agent was told that its kind is taken, or the frame was not sent
+abbrev pub TellsTaken : Registration → Ended → Option Traffic → Option Traffic → ℕ → ℕ → Type 0
+TellsTaken registration Closed before after faults faults_now =
+    Carried before after [] (spelling (taken_frame registration)) × (faults_now ≡ faults)
+TellsTaken registration ended before after faults faults_now =
+    Carried before after [] [] × EndsSending ended faults faults_now
