@@ -1,3 +1,10 @@
+ghost use Rattle.std.specs.Prelude.{◌≡◌, ◌<◌, IsTrue, length};
+ghost use Rattle.cynara_keys.specs.PolicyResult.{is_agent};
+ghost use Rattle.wire_messages.specs.declared.operations.Heard.TheVariants.{AtAgent};
+ghost use Rattle.door_frames.specs.Hearing.{IsSound};
+ghost use Rattle.agent_door.specs.Serving.{AgentSide, agent_side, Asks, Serves};
+ghost use Rattle.agent_door.specs.parts.Talk.{HasJoined, TellsTaken};
+
 use crate::messages::{Registration, read_registration};
 use crate::rounds::round;
 use agent_table::RegisterRefusal;
@@ -17,7 +24,11 @@ pub fn agent_loop<R: Wait, A: Hall, L: Link>(
     alloc: Global,
     hall: &mut A,
     link: &mut L,
-) -> Ended {
+) -> Ended
+    ensures { Serves result
+        (agent_side (A.tally hall.old) (A.calls hall.old) (L.traffic link.old) (L.marks link.old) (L.faults link.old))
+        (agent_side (A.tally hall.new) (A.calls hall.new) (L.traffic link.new) (L.marks link.new) (L.faults link.new)) }
+{
     let mut feeder = Feeder::new(alloc, Heard::AtAgent);
     let mut frame = Bytes::new(alloc);
     let mut room = [0u8; MOST_PIECE];
@@ -49,7 +60,10 @@ pub fn agent_loop<R: Wait, A: Hall, L: Link>(
 }
 
 // Tells an agent that its kind is taken.
-fn tell_taken<L: Link>(link: &mut L, frame: &mut Bytes, registered: Registration) -> Ended {
+fn tell_taken<L: Link>(link: &mut L, frame: &mut Bytes, registered: Registration) -> Ended
+    ensures told { TellsTaken registered result (L.traffic link.old) (L.traffic link.new) (L.faults link.old) (L.faults link.new) }
+    ensures marks { L.marks link.new ≡ L.marks link.old }
+{
     let message = Message::KindTaken {
         kind: registered.kind,
     };
@@ -68,14 +82,24 @@ fn serve<R: Wait, A: Hall, L: Link>(
     room: &mut [u8],
     frame: &mut Bytes,
     registered: Registration,
-) -> Ended {
+) -> Ended
+    requires agent { IsTrue (is_agent registered.kind.0) }
+    requires some { 0 < length room.old }
+    requires side { feeder.old.heard ≡ AtAgent }
+    requires sound { IsSound feeder.old }
+    ensures { (start : AgentSide) → HasJoined registered start
+        (agent_side (A.tally hall.old) (A.calls hall.old) (L.traffic link.old) (L.marks link.old) (L.faults link.old))
+        feeder.old → Asks start
+        (agent_side (A.tally hall.new) (A.calls hall.new) (L.traffic link.new) (L.marks link.new) (L.faults link.new))
+        result }
+{
     let kind = registered.kind;
     let message = Message::Registered { kind };
     if let Err(ended) = send_message(link, frame, registered.sequence, &message) {
         return ended;
     }
     for _ in rt.forever() {
-        if let Err(ended) = round(rt, hall, link, feeder, room, frame, kind) {
+        if let Err(ended) = round(rt, hall, link, feeder, room, frame, registered) {
             return ended;
         }
     }

@@ -36,7 +36,7 @@ use Rattle.client_door.specs.parts.Talk.{Stands, IsReadNow}
 use Rattle.client_door.specs.declared.checks.Check.{Check}
 use Rattle.client_door.specs.declared.agent_replies.AgentReply.{AgentReply}
 use Rattle.client_door.proofs.Calls.{after_asks_more, calls_same, calls_more, calls_for_more, front_right}
-use Rattle.client_door.proofs.Talking.{answered_with}
+use Rattle.client_door.proofs.Steps.{answered_with}
 
 -- the first of some checks were read as all of them
 front_read : (seen : List DeskState) (low : ℕ) (answered more : List Answered) → AreReadIn seen low (answered ++ more) → AreReadIn seen low answered

@@ -2,6 +2,7 @@
 use Rattle.std.specs.Prelude.{◌≡◌, ℕ, List, [], ◌∷◌, Option, Some, None, Result, Ok, Err}
 use Rattle.cynara_keys.specs.Key.{Question}
 use Rattle.cynara_keys.specs.declared.results.Kind.{Kind}
+use Rattle.agent_table.specs.declared.refusals.PutRefusal.{PutRefusal}
 use Rattle.agent_table.specs.declared.refusals.PutRefusal.TheVariants.{NoAgent as NoneThere, Full, Spent}
 use Rattle.desk_world.specs.Links.{settled}
 use Rattle.desk_world.specs.Limits.{most_waiting, most_entries}
@@ -19,15 +20,20 @@ use Rattle.door_frames.specs.declared.endings.Ended.TheVariants.{Stopped, Memory
 use Rattle.client_door.specs.Check.{reply_of}
 use Rattle.client_door.specs.declared.agent_replies.AgentReply.{AgentReply}
 
+-- The question was not put, which leads to this reply.
+abbrev pub LeadsToReply : ℕ → Kind → PutRefusal → Reply → Type 0
+LeadsToReply commit kind (NoneThere other) reply = reply ≡ NoAgent commit kind
+LeadsToReply commit kind Full reply = reply ≡ AgentFull commit kind most_waiting
+LeadsToReply commit kind Spent reply = reply ≡ AgentFull commit kind most_entries
+LeadsToReply commit kind refusal reply = ⊥
+
 -- The call of `ask` for the question gave what leads to this reply. An answer and an agent that left lead to what the world
 -- of events replies for an entry of its log that is answered or gone; and an answer is one to this very question.
 abbrev pub LeadsTo : ℕ → Kind → Question → AskResult → Reply → Type 0
 LeadsTo commit kind question (Ok answered) reply =
     (answered.1.question ≡ question) × (settled commit kind answered.0 (IsAnswered answered.1.allowed) ≡ Some reply)
 LeadsTo commit kind question (Err (Gone number)) reply = settled commit kind number HasGone ≡ Some reply
-LeadsTo commit kind question (Err (Put (NoneThere other))) reply = reply ≡ NoAgent commit kind
-LeadsTo commit kind question (Err (Put Full)) reply = reply ≡ AgentFull commit kind most_waiting
-LeadsTo commit kind question (Err (Put Spent)) reply = reply ≡ AgentFull commit kind most_entries
+LeadsTo commit kind question (Err (Put refusal)) reply = LeadsToReply commit kind refusal reply
 LeadsTo commit kind question (Err other) reply = ⊥
 
 -- the call found the hall stopped

@@ -1,6 +1,8 @@
 ghost use Rattle.std.specs.Prelude.{◌≡◌, IsTrue, MatchResult};
+ghost use Rattle.door_frames.specs.declared.endings.Ended.TheVariants.{Memory};
+ghost use Rattle.client_door.specs.Check.{reply_of};
 ghost use Rattle.cynara_keys.specs.PolicyResult.{is_agent};
-ghost use Rattle.client_door.specs.Asking.{AsksOnce, AsksInVain};
+ghost use Rattle.client_door.specs.Asking.{AsksOnce, AsksInVain, LeadsToReply};
 
 use crate::AgentReply;
 use agent_table::{MOST_NUMBERS, MOST_OPEN, PutRefusal};
@@ -42,7 +44,10 @@ pub(crate) fn ask_agent<A: Hall>(
                 })
             }
         }
-        Err(AskRefusal::Put(refusal)) => refused(commit, kind, refusal),
+        Err(AskRefusal::Put(refusal)) => match refused(commit, kind, refusal) {
+            Ok(reply) => Ok(reply),
+            Err(ended) => Err(ended),
+        },
         Err(AskRefusal::Gone(number)) => Ok(AgentReply::AgentGone { commit, number }),
         Err(AskRefusal::Stopped) => Err(Ended::Stopped),
         Err(AskRefusal::Lost(number)) => Err(Ended::Strayed {
@@ -53,7 +58,9 @@ pub(crate) fn ask_agent<A: Hall>(
 }
 
 // What a check is answered whose question was not put.
-fn refused(commit: u64, kind: Kind, refusal: PutRefusal) -> Result<AgentReply, Ended> {
+fn refused(commit: u64, kind: Kind, refusal: PutRefusal) -> Result<AgentReply, Ended>
+    ensures { MatchResult result (λ reply. LeadsToReply commit kind refusal (reply_of reply)) (λ ended. ended ≡ Memory) }
+{
     match refusal {
         PutRefusal::NoAgent(_) => Ok(AgentReply::NoAgent { commit, kind }),
         PutRefusal::Full => Ok(AgentReply::AgentFull {
@@ -66,8 +73,7 @@ fn refused(commit: u64, kind: Kind, refusal: PutRefusal) -> Result<AgentReply, E
             kind,
             most: MOST_NUMBERS,
         }),
-        PutRefusal::Memory(_) => Err(Ended::Memory),
-        // No hall names it so.
-        PutRefusal::Stopped => Err(Ended::Stopped),
+        // A hall names a stop for itself, and never so.
+        PutRefusal::Memory(_) | PutRefusal::Stopped => Err(Ended::Memory),
     }
 }

@@ -12,6 +12,7 @@ mod checks;
 mod client_loops;
 mod outboxes;
 mod readings;
+mod spelling;
 mod talking;
 
 pub use agent_replies::AgentReply;

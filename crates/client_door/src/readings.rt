@@ -3,8 +3,10 @@ ghost use Rattle.std.specs.Prelude.{◌≡◌};
 ghost use Rattle.bucket_eval.specs.Lent.{outcome_lent};
 ghost use Rattle.live_desk.specs.History.{GoesOn};
 ghost use Rattle.client_door.specs.Reading.{Reads, ReadsAtLast};
+ghost use Rattle.client_door.specs.declared.readings.Found.TheVariants.{Ready, Memory};
 
-use crate::Check;
+use crate::spelling::spell;
+use crate::{Check, Check};
 use bucket_eval::BorrowedAnswer;
 use cynara_keys::{Kind, Metadata};
 use desk_ports::Bytes;
@@ -64,27 +66,45 @@ fn read_answer(
     let kind = answer.result.kind();
     let mut frame = frame;
     if !kind.is_agent() {
-        let found = match encode_judged_into(&mut frame, sequence, commit, answer) {
-            Ok(()) => Found::Ready,
-            Err(_) => Found::Memory,
+        return match encode_judged_into(&mut frame, sequence, commit, answer) {
+            Ok(()) => ready(frame),
+            Err(_) => out_of_memory(frame),
         };
-        return Read { frame, found };
     }
     if simple {
         let message = Message::NotResolved { commit, kind };
-        let found = match encode_message_into(&mut frame, sequence, &message) {
-            Ok(()) => Found::Ready,
-            Err(_) => Found::Memory,
+        return match spell(&mut frame, sequence, message) {
+            Ok(()) => ready(frame),
+            Err(_) => out_of_memory(frame),
         };
-        return Read { frame, found };
     }
-    let found = match answer.result.metadata().copy() {
-        Ok(metadata) => Found::Due {
-            commit,
-            kind,
-            metadata,
+    match answer.result.metadata().copy() {
+        Ok(metadata) => Read {
+            frame,
+            found: Found::Due {
+                commit,
+                kind,
+                metadata,
+            },
         },
-        Err(_) => Found::Memory,
-    };
-    Read { frame, found }
+        Err(_) => out_of_memory(frame),
+    }
+}
+
+fn ready(frame: Bytes) -> Read
+    ensures { result ≡ record { frame = frame; found = Ready } }
+{
+    Read {
+        frame,
+        found: Found::Ready,
+    }
+}
+
+fn out_of_memory(frame: Bytes) -> Read
+    ensures { result ≡ record { frame = frame; found = Memory } }
+{
+    Read {
+        frame,
+        found: Found::Memory,
+    }
 }

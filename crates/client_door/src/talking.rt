@@ -6,17 +6,21 @@ ghost use Rattle.desk_world.specs.declared.links.Reading.TheVariants.{Due as IsD
 ghost use Rattle.live_desk.specs.History.{GoesOn};
 ghost use Rattle.live_desk.specs.Seat.{SeatState};
 ghost use Rattle.wire_messages.specs.declared.operations.Heard.TheVariants.{AtClient};
+ghost use Rattle.wire_messages.specs.Frame.{spelling, with_sequence};
 ghost use Rattle.wire_messages.specs.Stream.{unfed};
 ghost use Rattle.door_frames.specs.Hearing.{IsSound};
 ghost use Rattle.door_frames.specs.declared.endings.Ended.TheVariants.{Memory};
+ghost use Rattle.client_door.specs.Check.{message_of, reply_of};
 ghost use Rattle.client_door.specs.Reading.{reading, Finds};
 ghost use Rattle.client_door.specs.Serving.{ClientSide, client_side, with_link};
 ghost use Rattle.client_door.specs.parts.Talk.{Goes, Ends, IsReadNow};
 
+use crate::AgentReply;
 use crate::asking::ask_agent;
 use crate::checks::{Check, take_check};
 use crate::outboxes::Outbox;
 use crate::readings::{Found, Read, read_check};
+use crate::spelling::spell;
 use core::mem::replace;
 use cynara_keys::{Kind, Metadata};
 use desk_ports::Bytes;
@@ -26,7 +30,7 @@ use live_desk::Seat;
 use server_hall::Hall;
 use std::alloc::Global;
 use std::sync::Wait;
-use wire_messages::{Feeder, Heard, encode_message_into};
+use wire_messages::{Feeder, Heard};
 
 /// What a connection has heard and not answered yet, and the replies that are not sent yet.
 #[derive(Drop)]
@@ -78,8 +82,13 @@ impl Talk {
             (record { feeder = self.old.feeder; waiting = self.old.outbox; taken = [] })
             (client_side seat.new (A.tally hall.new) (A.calls hall.new) (L.traffic link.new) (L.marks link.new) (L.faults link.new))) }
     {
-        self.answer_waiting(rt, seat, hall, link, gate)?;
-        self.send_and_receive(link, seat.number(), gate, room)
+        if let Err(ended) = self.answer_waiting(rt, seat, hall, link, gate) {
+            return Err(ended);
+        }
+        match self.send_and_receive(link, seat.number(), gate, room) {
+            Ok(()) => Ok(()),
+            Err(ended) => Err(ended),
+        }
     }
 
     // Sends the replies that wait, and receives more.
@@ -105,8 +114,13 @@ impl Talk {
             (record { feeder = self.old.feeder; waiting = self.old.outbox; taken = [] })
             (with_link side (L.traffic link.new) (L.marks link.new) (L.faults link.new))) }
     {
-        self.outbox.flush(link, seat, gate)?;
-        receive_more(link, &mut self.feeder, room)
+        if let Err(ended) = self.outbox.flush(link, seat, gate) {
+            return Err(ended);
+        }
+        match receive_more(link, &mut self.feeder, room) {
+            Ok(()) => Ok(()),
+            Err(ended) => Err(ended),
+        }
     }
 
     // Answers all checks that were heard. Some replies may not be sent yet.
@@ -135,7 +149,9 @@ impl Talk {
             (client_side seat.new (A.tally hall.new) (A.calls hall.new) (L.traffic link.new) (L.marks link.new) (L.faults link.new))) }
     {
         while let Some(check) = take_check(&mut self.feeder) {
-            self.answer_check(rt, seat, hall, link, gate, &check)?;
+            if let Err(ended) = self.answer_check(rt, seat, hall, link, gate, &check) {
+                return Err(ended);
+            }
         }
         Ok(())
     }
@@ -163,14 +179,22 @@ impl Talk {
             (client_side seat.new (A.tally hall.new) (A.calls hall.new) (L.traffic link.new) (L.marks link.new) (L.faults link.new))) }
     {
         match self.read(rt, seat, check) {
-            Found::Ready => self.put_reply(),
+            Found::Ready => match self.put_reply() {
+                Ok(()) => Ok(()),
+                Err(ended) => Err(ended),
+            },
             Found::Due {
                 commit,
                 kind,
                 metadata,
             } => {
                 let number = seat.number();
-                self.answer_by_agent(hall, link, gate, number, check, commit, kind, metadata)
+                match self.answer_by_agent(
+                    hall, link, gate, number, check, commit, kind, metadata,
+                ) {
+                    Ok(()) => Ok(()),
+                    Err(ended) => Err(ended),
+                }
             }
             Found::Memory => Err(Ended::Memory),
         }
@@ -217,11 +241,25 @@ impl Talk {
             (record { feeder = self.old.feeder; waiting = self.old.outbox; taken = check.now ∷ [] })
             (client_side reader (A.tally hall.new) (A.calls hall.new) (L.traffic link.new) (L.marks link.new) (L.faults link.new))) }
     {
-        self.outbox.flush(link, seat, gate)?;
-        let reply = ask_agent(hall, commit, kind, &check.question, metadata)?;
-        match encode_message_into(&mut self.frame, check.sequence, &reply.message()) {
+        if let Err(ended) = self.outbox.flush(link, seat, gate) {
+            return Err(ended);
+        }
+        match ask_agent(hall, commit, kind, &check.question, metadata) {
+            Ok(reply) => self.tell(check.sequence, reply),
+            Err(ended) => Err(ended),
+        }
+    }
+
+    // Spells the reply that an agent led to, and puts it behind those that wait.
+    fn tell(&mut self, sequence: u16, reply: AgentReply) -> Result<(), Ended>
+        ensures feeder { self.new.feeder ≡ self.old.feeder }
+        ensures put { MatchResult result
+            (λ _. self.new.outbox ≡ self.old.outbox ++ spelling (with_sequence sequence (message_of (reply_of reply))))
+            (λ ended. (ended ≡ Memory) × (self.new.outbox ≡ self.old.outbox)) }
+    {
+        match spell(&mut self.frame, sequence, reply.message()) {
             Ok(()) => self.put_reply(),
-            Err(_) => Err(Ended::Memory),
+            Err(ended) => Err(ended),
         }
     }
 

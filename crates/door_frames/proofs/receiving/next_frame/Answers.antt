@@ -10,12 +10,13 @@ use Rattle.door_frames.proofs.receiving.next_frame.Goals as goal
 pub loop-init : goal.loop-init
 loop-init g c = (
   tt,
-  tt,
-  ([], carried_same (g.L.Link.traffic c.args.link.now), hears_nothing c.args.feeder.now),
-  c.requires.sound,
-  refl,
-  refl,
-  refl,
+  (
+    tt,
+    (
+      ([], carried_same (g.L.Link.traffic c.args.link.now), hears_nothing c.args.feeder.now),
+      (c.requires.sound, (refl, (refl, refl))),
+    ),
+  ),
 )
 
 pub returns-in-Some-take-clause-framed : goal.returns-in-Some-take-clause-framed
@@ -50,15 +51,25 @@ loop-preserved g c =
     subst (λ (feeder : Feeding). HearsMore now.0 feeder c.receive_more.new.feeder) still now.2 in
     let rest = c.loop.invariant.1.1.1 in (
       tt,
-      tt,
       (
-        so_far.0 ++ now.0,
-        carried_more so_far.0 now.0 [] [] (g.L.Link.traffic c.args.link.now) (g.L.Link.traffic c.loop.link) (g.L.Link.traffic c.receive_more.new.link)
-            so_far.1 now.1,
-        hears_more so_far.0 now.0 c.args.feeder.now c.loop.feeder c.receive_more.new.feeder so_far.2 heard,
+        tt,
+        (
+          (
+            so_far.0 ++ now.0,
+            carried_more so_far.0 now.0 [] [] (g.L.Link.traffic c.args.link.now) (g.L.Link.traffic c.loop.link) (g.L.Link.traffic c.receive_more.new.link)
+                so_far.1 now.1,
+            hears_more so_far.0 now.0 c.args.feeder.now c.loop.feeder c.receive_more.new.feeder so_far.2 heard,
+          ),
+          (
+            c.receive_more.ensures.sound,
+            (
+              c.receive_more.ensures.side ∙ (ap (λ (feeder : Feeding). feeder.heard) still ∙ rest.1.0),
+              (
+                c.in_default-receive_more.ensures.faults ∙ rest.1.1.0,
+                c.receive_more.ensures.ends ∙ rest.1.1.1,
+              ),
+            ),
+          ),
+        ),
       ),
-      c.receive_more.ensures.sound,
-      c.receive_more.ensures.side ∙ (ap (λ (feeder : Feeding). feeder.heard) still ∙ rest.1.0),
-      c.in_default-receive_more.ensures.faults ∙ rest.1.1.0,
-      c.receive_more.ensures.ends ∙ rest.1.1.1,
     )

@@ -1,4 +1,4 @@
-use Rattle.std.proofs.Common.{◌≡◌, ◌∙◌, ℕ, List, [], take, ap, sym, subst, refl}
+use Rattle.std.proofs.Common.{rules, ◌≡◌, ◌∙◌, ℕ, List, [], take, ap, sym, subst, refl}
 use Rattle.wire_messages.specs.Stream.{Feeding}
 use Rattle.door_frames.specs.Hearing.{HearsMore}
 use Rattle.door_frames.proofs.Carrying.{take_none, carried_nothing, carried_none, carried_received}
@@ -8,8 +8,8 @@ use Rattle.door_frames.proofs.receiving.receive_more.Goals as goal
 pub returns-in-Ok-eq0-clause-heard : goal.returns-in-Ok-eq0-clause-heard
 returns-in-Ok-eq0-clause-heard g c =
     let still = c.in_default.ensures.sound.1 in
-    let zero : take c.in-Ok-eq0.field-0 c.receive.new.into ≡ take 0 c.receive.new.into =
-    ap (λ n. take n c.receive.new.into) c.in-Ok-eq0.field-0-is in
+    let is : c.in-Ok-eq0.field-0 ≡ 0 = search rules in
+    let zero : take c.in-Ok-eq0.field-0 c.receive.new.into ≡ take 0 c.receive.new.into = ap (λ n. take n c.receive.new.into) is in
     let none : take 0 c.receive.new.into ≡ [] = take_none c.receive.new.into in (
       [],
       carried_none (take c.in-Ok-eq0.field-0 c.receive.new.into) (g.L.Link.traffic c.args.link.now) (g.L.Link.traffic c.receive.new.self)

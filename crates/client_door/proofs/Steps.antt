@@ -199,3 +199,31 @@ flushed start now traffic marks faults feeder waiting taken sent_now same still 
       },
       refl,
     )
+
+-- ---- bytes are received and heard
+
+pub heard_more : (start now : ClientSide) (traffic : Option Traffic) (marks : LinkMarks) (faults : ℕ) (feeder fed : Feeding) (waiting bytes : List ℕ)
+    → Carried now.traffic traffic bytes [] → HearsMore bytes feeder fed → marks.ends ≡ now.marks.ends → faults ≡ now.faults
+    → (s : Stands start now feeder waiting [])
+    → (after : Stands start (with_link now traffic marks faults) fed waiting []) × (after.unsent ≡ s.unsent)
+heard_more start now traffic marks faults feeder fed waiting bytes carried heard same still s = (
+  record {
+    received = s.received ++ bytes;
+    sent = s.sent;
+    unsent = s.unsent;
+    right = s.right;
+    heard = heard s.received (frames_of (s.sent ++ s.unsent) ++ []) s.heard;
+    carried = subst (λ list. Carried start.traffic traffic (s.received ++ bytes) list) (append-nil (replies_bytes s.sent))
+        (carried_more s.received bytes (replies_bytes s.sent) [] start.traffic now.traffic traffic s.carried carried);
+    waits = s.waits;
+    read = s.read;
+    seen = s.seen;
+    same_seat = s.same_seat;
+    tally = s.tally;
+    calls = s.calls;
+    few = s.few;
+    faults = still ∙ s.faults;
+    ends = same ∙ s.ends;
+  },
+  refl,
+)
