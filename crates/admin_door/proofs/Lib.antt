@@ -1,0 +1,6 @@
+pub mod Finding
+pub mod Showing
+pub mod Answering
+pub mod Stopping
+pub mod Sending
+pub mod Serving

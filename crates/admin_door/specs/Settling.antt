@@ -1,0 +1,39 @@
+-- What an earlier command left undone is settled.
+use Rattle.std.specs.Prelude.{◌≡◌, ◌⊎◌, ◌≤◌, ℕ, true, false, nat_lt, if◌then◌else◌, List, [], ◌∷◌, ◌++◌, Option, Ok, Err}
+use Rattle.desk_ports.specs.Disk.{DiskState, WhereTold}
+use Rattle.desk_state.specs.DeskState.{DeskState}
+use Rattle.desk_keeper.specs.Kept.{kept}
+use Rattle.desk_keeper.specs.Keeping.{IsOlder}
+use Rattle.live_desk.specs.History.{last_commit}
+use Rattle.admin_door.specs.Side.{AdminSide, with_shown, with_fault}
+use Rattle.admin_door.specs.declared.settling.Unsettled.{Unsettled}
+use Rattle.admin_door.specs.declared.settling.Unsettled.TheVariants.{StoreFault, StoreDamaged, Memory}
+
+-- It is known what the folder keeps: the same as before, or what was found in it, which is no older.
+pub record IsFound (told : Option DiskState) (old now : AdminSide) : Type 0 where
+  pub decided : now.decided ≡ true
+  pub last : old.decided ≡ true → now.desk ≡ old.desk
+  pub found : old.decided ≡ false → WhereTold told (λ before. kept before.current ≡ Ok now.desk)
+  pub no_older : old.desk.commit ≤ now.desk.commit
+  -- and nothing else was done
+  pub rest : now ≡ record old { desk = now.desk; decided = now.decided }
+
+-- A state that is kept is shown to all: it is published, and all older connections are hung up, where it is newer than what
+-- was published.
+abbrev pub with_last_shown : AdminSide → AdminSide
+with_last_shown side = if nat_lt (last_commit 0 side.published) side.desk.commit then with_shown side.desk side else side
+
+-- It is known what the folder keeps, and that is shown to all.
+pub record Settles (told : Option DiskState) (old now : AdminSide) : Type 0 where
+  pub found : AdminSide
+  pub is_found : IsFound told old found
+  pub shown : now ≡ with_last_shown found
+
+-- Why it is not settled: a call of the disk failed; the folder stands for no policy state, or for an older one; or for want of
+-- memory, before or after it was found what the folder keeps.
+abbrev pub Unsettles : Option DiskState → AdminSide → AdminSide → Unsettled → Type 0
+Unsettles told old now StoreFault = (old.decided ≡ false) × (now ≡ with_fault old)
+Unsettles told old now (StoreDamaged file line) = (old.decided ≡ false) × (now ≡ old)
+    × WhereTold told (λ before. (kept before.current ≡ Err (record { file = file; line = line }))
+    ⊎ IsOlder old.desk before.current (record { file = file; line = line }))
+Unsettles told old now Memory = (now ≡ old) ⊎ IsFound told old now

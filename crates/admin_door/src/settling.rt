@@ -1,0 +1,119 @@
+// What an earlier command left undone: a folder of which it is not known what it keeps, and a state that is not published.
+ghost use Rattle.std.specs.Prelude.{◌≡◌, ◌≤◌, true, false, List, Option, MatchResult, OnOk, OnErr};
+ghost use Rattle.desk_state.specs.DeskState.{DeskState};
+ghost use Rattle.desk_ports.specs.Disk.{WhereTold};
+ghost use Rattle.desk_ports.specs.Moments.{LeavesOnly};
+ghost use Rattle.desk_keeper.specs.Keeper.{disk_of, held_of, IsSameDisk};
+ghost use Rattle.desk_keeper.specs.Keeping.{EndsKept};
+ghost use Rattle.admin_door.specs.Stops.{KeepsKnown, StandsAsAt, Allows};
+ghost use Rattle.live_desk.specs.History.{last_commit};
+ghost use Rattle.server_hall.specs.Tally.{Tally};
+ghost use Rattle.server_hall.specs.declared.calls.HallCall.{HallCall};
+ghost use Rattle.admin_door.specs.Side.{side_of, decided_of};
+ghost use Rattle.admin_door.specs.Settling.{IsFound, Settles, Unsettles, with_last_shown};
+ghost use Rattle.admin_door.specs.declared.settling.Unsettled.TheVariants.{Memory};
+
+use desk_keeper::{Keeper, KeeperRefusal};
+use desk_ports::{Disk, FileName};
+use live_desk::Publisher;
+use server_hall::Hall;
+use std::sync::Wait;
+
+/// Why it is not settled what an earlier command left undone.
+#[derive(Debug, Drop)]
+pub(crate) enum Unsettled {
+    /// A call of the disk failed.
+    StoreFault,
+    /// The folder stands for no policy state, or for an older one.
+    StoreDamaged { file: FileName, line: u32 },
+    Memory,
+}
+
+/// Remounts a keeper that is undecided; and publishes its state, and hangs up all older connections, where its commit is above
+/// that of the publisher. It may wait.
+pub(crate) fn settle<R: Wait, D: Disk, A: Hall>(
+    rt: &R,
+    keeper: &mut Keeper<'_, D>,
+    publisher: &mut Publisher,
+    hall: &mut A,
+) -> Result<(), Unsettled>
+    requires { last_commit 0 publisher.old ≤ keeper.old.desk.commit }
+    ensures settled { MatchResult result
+        (λ _. Settles (D.state (disk_of keeper.old))
+        (side_of D.faults keeper.old publisher.old (A.tally hall.old) (A.calls hall.old))
+        (side_of D.faults keeper.new publisher.new (A.tally hall.new) (A.calls hall.new)))
+        (Unsettles (D.state (disk_of keeper.old))
+        (side_of D.faults keeper.old publisher.old (A.tally hall.old) (A.calls hall.old))
+        (side_of D.faults keeper.new publisher.new (A.tally hall.new) (A.calls hall.new))) }
+    ensures stops { WhereTold (D.state (disk_of keeper.old)) (λ before.
+        LeavesOnly D.moment D.left_since (disk_of keeper.old) (disk_of keeper.new) (StandsAsAt before)) }
+    ensures kept { WhereTold (D.state (disk_of keeper.old)) (λ before.
+        KeepsKnown (decided_of keeper.old) keeper.old.desk (held_of keeper.old) before → decided_of keeper.new ≡ true
+        → EndsKept keeper.new.desk (held_of keeper.new) (D.state (disk_of keeper.new)) × Allows before keeper.new.desk) }
+    ensures decided { OnOk result (decided_of keeper.new ≡ true) }
+    ensures even { OnOk result (last_commit 0 publisher.new ≡ keeper.new.desk.commit) }
+    ensures behind { OnErr result (last_commit 0 publisher.new ≤ keeper.new.desk.commit) }
+    ensures same_disk { IsSameDisk keeper.old keeper.new }
+{
+    if keeper.is_decided() {
+        return publish_kept(rt, keeper, publisher, hall);
+    }
+    match remount(keeper) {
+        Ok(()) => publish_kept(rt, keeper, publisher, hall),
+        Err(reason) => Err(reason),
+    }
+}
+
+// Settles what the folder keeps.
+fn remount<D: Disk>(keeper: &mut Keeper<'_, D>) -> Result<(), Unsettled>
+    requires { decided_of keeper.old ≡ false }
+    ensures remounted { (published : List DeskState) (tally : Tally) (calls : Option (List HallCall)) → MatchResult result
+        (λ _. IsFound (D.state (disk_of keeper.old))
+        (side_of D.faults keeper.old published tally calls) (side_of D.faults keeper.new published tally calls))
+        (Unsettles (D.state (disk_of keeper.old))
+        (side_of D.faults keeper.old published tally calls) (side_of D.faults keeper.new published tally calls)) }
+    ensures stops { WhereTold (D.state (disk_of keeper.old)) (λ before.
+        LeavesOnly D.moment D.left_since (disk_of keeper.old) (disk_of keeper.new) (StandsAsAt before)) }
+    ensures kept { WhereTold (D.state (disk_of keeper.old)) (λ before. decided_of keeper.new ≡ true
+        → EndsKept keeper.new.desk (held_of keeper.new) (D.state (disk_of keeper.new)) × Allows before keeper.new.desk) }
+    ensures decided { OnOk result (decided_of keeper.new ≡ true) }
+    ensures no_older { keeper.old.desk.commit ≤ keeper.new.desk.commit }
+    ensures same_disk { IsSameDisk keeper.old keeper.new }
+{
+    match keeper.remount() {
+        Ok(()) => Ok(()),
+        Err(KeeperRefusal::StoreFault) => Err(Unsettled::StoreFault),
+        Err(KeeperRefusal::Damaged { file, line }) => Err(Unsettled::StoreDamaged { file, line }),
+        Err(KeeperRefusal::Memory(_)) => Err(Unsettled::Memory),
+    }
+}
+
+// Publishes the state that the folder keeps, where it is newer than what was published, and then hangs up all older
+// connections.
+fn publish_kept<R: Wait, D: Disk, A: Hall>(
+    rt: &R,
+    keeper: &Keeper<'_, D>,
+    publisher: &mut Publisher,
+    hall: &mut A,
+) -> Result<(), Unsettled>
+    requires { last_commit 0 publisher.old ≤ keeper.now.desk.commit }
+    ensures shown { MatchResult result
+        (λ _. side_of D.faults keeper.now publisher.new (A.tally hall.new) (A.calls hall.new)
+        ≡ with_last_shown (side_of D.faults keeper.now publisher.old (A.tally hall.old) (A.calls hall.old)))
+        (λ reason. (reason ≡ Memory) × (side_of D.faults keeper.now publisher.new (A.tally hall.new) (A.calls hall.new)
+        ≡ side_of D.faults keeper.now publisher.old (A.tally hall.old) (A.calls hall.old))) }
+    ensures even { OnOk result (last_commit 0 publisher.new ≡ keeper.now.desk.commit) }
+    ensures behind { last_commit 0 publisher.new ≤ keeper.now.desk.commit }
+{
+    if publisher.commit() >= keeper.desk().commit() {
+        return Ok(());
+    }
+    let Ok(ready) = publisher.prepare(keeper.desk()) else {
+        return Err(Unsettled::Memory);
+    };
+    let Ok(_) = publisher.publish(rt, ready) else {
+        return Err(Unsettled::Memory);
+    };
+    hall.hang(publisher);
+    Ok(())
+}

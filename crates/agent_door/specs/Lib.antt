@@ -1,0 +1,4 @@
+pub mod Frame
+pub mod Round
+pub mod Serving
+pub mod parts

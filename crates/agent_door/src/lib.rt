@@ -1,0 +1,9 @@
+//! The door for agents: an agent registers for a kind, is given one question after the other, and answers each under its
+//! number.
+#![tactic(auto)]
+
+mod agent_loops;
+mod messages;
+mod rounds;
+
+pub use agent_loops::agent_loop;

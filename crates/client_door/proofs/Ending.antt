@@ -1,0 +1,257 @@
+-- How the answering of checks ends.
+use Rattle.std.proofs.Common.{◌≡◌, ◌∙◌, ◌<◌, ◌≤◌, ℕ, List, [], ◌∷◌, ◌++◌, map, length, Option, Some, None, Result, Ok, Err, refl, sym, ap, subst, append_assoc, append-nil, arith}
+use Rattle.std.proofs.lemmas.List.{map-append}
+use Rattle.std.specs.List.{AllByRecursion}
+use Rattle.desk_ports.specs.Faults.{next_count}
+use Rattle.link_ports.specs.Traffic.{Traffic}
+use Rattle.link_ports.specs.LinkMarks.{LinkMarks}
+use Rattle.cynara_keys.specs.Key.{Question}
+use Rattle.cynara_keys.specs.declared.results.Kind.{Kind}
+use Rattle.desk_state.specs.DeskState.{DeskState}
+use Rattle.live_desk.specs.Seat.{SeatState}
+use Rattle.desk_world.specs.declared.links.Reading.{Reading}
+use Rattle.desk_world.specs.declared.links.Reading.TheVariants.{Due as IsDue}
+use Rattle.wire_messages.specs.Frame.{spelling, with_sequence}
+use Rattle.wire_messages.specs.Stream.{Feeding, Hears, BeginsWrong, IsOpen}
+use Rattle.wire_messages.specs.declared.messages.Framed.{Framed}
+use Rattle.wire_messages.specs.declared.operations.Heard.{Heard}
+use Rattle.wire_messages.specs.declared.operations.Heard.TheVariants.{AtClient}
+use Rattle.server_hall.specs.Call.{AskMade, AskResult}
+use Rattle.server_hall.specs.Tally.{Tally, after_ask}
+use Rattle.server_hall.specs.Told.{AppendsCalls}
+use Rattle.server_hall.specs.declared.calls.HallCall.{HallCall}
+use Rattle.server_hall.specs.declared.calls.HallCall.TheVariants.{Ask}
+use Rattle.door_frames.specs.Carried.{Carried}
+use Rattle.door_frames.specs.Hearing.{HasHeard}
+use Rattle.door_frames.specs.Ending.{EndsReading, EndsBytes, IsAtEnd, faults_after}
+use Rattle.door_frames.specs.declared.endings.Ended.{Ended}
+use Rattle.door_frames.specs.declared.endings.Ended.TheVariants.{Closed, Cut, Hung, LinkFault, BadFrame, Stopped, Memory, Strayed}
+use Rattle.door_frames.proofs.Carrying.{carried_more, carried_same}
+use Rattle.client_door.specs.Check.{framed_of, message_of, reply_of}
+use Rattle.client_door.specs.Asking.{AsksOnce, AsksInVain, Asked, IsInVain, LeadsTo, FindsStop, Strays, ask_made}
+use Rattle.client_door.specs.Reading.{reading}
+use Rattle.client_door.specs.Answered.{Answered, Answers, IsRight, call_list, calls_for, after_asks, replies_bytes, frames_of, AreReadIn}
+use Rattle.client_door.specs.Serving.{ClientSide, client_side, with_link, EndsAsking, Talks}
+use Rattle.client_door.specs.parts.Talk.{Stands, IsReadNow}
+use Rattle.client_door.specs.declared.checks.Check.{Check}
+use Rattle.client_door.specs.declared.agent_replies.AgentReply.{AgentReply}
+use Rattle.client_door.proofs.Calls.{after_asks_more, calls_same, calls_more, calls_for_more, front_right}
+use Rattle.client_door.proofs.Steps.{answered_with}
+
+-- the first of some checks were read as all of them
+front_read : (seen : List DeskState) (low : ℕ) (answered more : List Answered) → AreReadIn seen low (answered ++ more) → AreReadIn seen low answered
+front_read seen low [] more read = tt
+front_read seen low (one ∷ answered) more (there, fresh, others) =
+    (there, fresh, front_read seen one.desk.commit answered more others)
+
+-- some frames may not be answered
+pub unanswered : (start now : ClientSide) (feeder : Feeding) (waiting : List ℕ) (taken : List Check) → feeder.heard ≡ AtClient
+    → (s : Stands start now feeder waiting taken)
+    → (more : List Framed) × (rest : List ℕ) × Hears AtClient s.received (frames_of s.sent ++ more) rest
+unanswered start now feeder waiting taken side s =
+    let others : List Framed = frames_of s.unsent ++ (map framed_of taken ++ feeder.waiting) in
+    let frames : (frames_of (s.sent ++ s.unsent) ++ map framed_of taken) ++ feeder.waiting ≡ frames_of s.sent ++ others =
+    append_assoc (frames_of (s.sent ++ s.unsent)) (map framed_of taken) feeder.waiting
+    ∙ (ap (λ list. list ++ (map framed_of taken ++ feeder.waiting)) (map-append (λ (one : Answered). framed_of one.check) s.sent s.unsent)
+    ∙ append_assoc (frames_of s.sent) (frames_of s.unsent) (map framed_of taken ++ feeder.waiting)) in (
+      others,
+      s.heard.behind,
+      subst (λ (heard : Heard). Hears heard s.received (frames_of s.sent ++ others) s.heard.behind) side
+          (subst (λ list. Hears feeder.heard s.received list s.heard.behind) frames s.heard.heard),
+    )
+
+-- the answering ends, after these calls of `ask` more
+pub ends_with : (start now after : ClientSide) (feeder : Feeding) (waiting : List ℕ) (taken : List Check) (ended : Ended) (extra : List AskMade)
+    → (s : Stands start now feeder waiting taken)
+    → after.seat ≡ now.seat → after.tally ≡ after_asks extra now.tally → AppendsCalls now.calls (map Ask extra) after.calls
+    → Carried now.traffic after.traffic [] [] → after.faults ≡ faults_after ended now.faults → IsAtEnd ended after.marks
+    → after.marks.ends ≡ now.marks.ends → EndsAsking ended (calls_for s.unsent ++ extra)
+    → EndsBytes AtClient s.received (frames_of s.sent) ended → Talks start after ended
+ends_with start now after feeder waiting taken ended extra s seat tally told carried faults at_end ends asking bytes =
+    let made : calls_for (s.sent ++ s.unsent) ++ extra ≡ calls_for s.sent ++ (calls_for s.unsent ++ extra) =
+    ap (λ list. list ++ extra) (calls_for_more s.sent s.unsent) ∙ append_assoc (calls_for s.sent) (calls_for s.unsent) extra in
+    record {
+      received = s.received;
+      answered = s.sent;
+      last = calls_for s.unsent ++ extra;
+      right = front_right s.sent s.unsent s.right;
+      bytes = bytes;
+      carried = subst (λ list. Carried start.traffic after.traffic list (replies_bytes s.sent)) (append-nil s.received)
+          (subst (λ list. Carried start.traffic after.traffic (s.received ++ []) list) (append-nil (replies_bytes s.sent))
+          (carried_more s.received [] (replies_bytes s.sent) [] start.traffic now.traffic after.traffic s.carried carried));
+      read = subst (λ (x : SeatState). AreReadIn x.seen x.note s.sent) (sym seat)
+          (front_read now.seat.seen now.seat.note s.sent s.unsent s.read);
+      seen = subst (λ (x : SeatState). (more : List DeskState) × (x.seen ≡ start.seat.seen ++ more)) (sym seat) s.seen;
+      same_seat = seat ∙ (s.same_seat ∙ ap (λ (x : SeatState). record start.seat { seen = x.seen }) (sym seat));
+      tally = tally ∙ (ap (after_asks extra) s.tally
+          ∙ (sym (after_asks_more (calls_for (s.sent ++ s.unsent)) extra start.tally) ∙ ap (λ list. after_asks list start.tally) made));
+      calls = subst (λ (list : List AskMade). AppendsCalls start.calls (map Ask list) after.calls) made
+          (subst (λ (list : List HallCall). AppendsCalls start.calls list after.calls)
+          (sym (map-append Ask (calls_for (s.sent ++ s.unsent)) extra))
+          (calls_more (map Ask (calls_for (s.sent ++ s.unsent))) (map Ask extra) start.calls now.calls after.calls s.calls told));
+      asking = asking;
+      faults = faults ∙ ap (λ count. faults_after ended count) s.faults;
+      at_end = at_end;
+      ends = ends ∙ s.ends;
+    }
+
+-- for want of memory
+pub ends_for_memory : (start now : ClientSide) (feeder : Feeding) (waiting : List ℕ) (taken : List Check) (ended : Ended) → ended ≡ Memory
+    → feeder.heard ≡ AtClient → Stands start now feeder waiting taken → Talks start now ended
+ends_for_memory start now feeder waiting taken ended is side s =
+    subst (λ (e : Ended). Talks start now e) (sym is)
+    (ends_with start now now feeder waiting taken Memory [] s refl refl (calls_same now.calls) (carried_same now.traffic) refl tt refl
+    (subst (λ (list : List AskMade). length list ≤ 1) (sym (append-nil (calls_for s.unsent))) s.few)
+    (unanswered start now feeder waiting taken side s))
+
+-- for a fault of the link
+pub ends_for_fault : (start now : ClientSide) (traffic : Option Traffic) (marks : LinkMarks) (faults : ℕ) (feeder : Feeding) (waiting : List ℕ)
+    (taken : List Check) (ended : Ended) → ended ≡ LinkFault → feeder.heard ≡ AtClient → Carried now.traffic traffic [] []
+    → marks.ends ≡ now.marks.ends → faults ≡ next_count now.faults
+    → Stands start now feeder waiting taken → Talks start (with_link now traffic marks faults) ended
+ends_for_fault start now traffic marks faults feeder waiting taken ended is side carried same rose s =
+    subst (λ (e : Ended). Talks start (with_link now traffic marks faults) e) (sym is)
+    (ends_with start now (with_link now traffic marks faults) feeder waiting taken LinkFault [] s refl refl (calls_same now.calls)
+    carried rose tt same
+    (subst (λ (list : List AskMade). length list ≤ 1) (sym (append-nil (calls_for s.unsent))) s.few)
+    (unanswered start now feeder waiting taken side s))
+
+-- ---- no further frame comes
+
+-- all frames were answered, up to what is behind them
+all_answered : (start now : ClientSide) (feeder : Feeding) (waiting : List ℕ) → feeder.heard ≡ AtClient → feeder.waiting ≡ []
+    → (s : Stands start now feeder waiting []) → s.unsent ≡ [] → Hears AtClient s.received (frames_of s.sent) s.heard.behind
+all_answered start now feeder waiting side none s sent =
+    let frames : (frames_of (s.sent ++ s.unsent) ++ []) ++ feeder.waiting ≡ frames_of s.sent =
+    ap (λ list. (frames_of (s.sent ++ s.unsent) ++ []) ++ list) none
+    ∙ (append-nil (frames_of (s.sent ++ s.unsent) ++ [])
+    ∙ (append-nil (frames_of (s.sent ++ s.unsent))
+    ∙ ap frames_of (ap (λ list. s.sent ++ list) sent ∙ append-nil s.sent))) in
+    subst (λ (heard : Heard). Hears heard s.received (frames_of s.sent) s.heard.behind) side
+    (subst (λ list. Hears feeder.heard s.received list s.heard.behind) frames s.heard.heard)
+
+no_calls : (start now : ClientSide) (feeder : Feeding) (waiting : List ℕ) (s : Stands start now feeder waiting []) → s.unsent ≡ []
+    → calls_for s.unsent ++ [] ≡ []
+no_calls start now feeder waiting s sent = append-nil (calls_for s.unsent) ∙ ap calls_for sent
+
+pub ends_reading : (start now : ClientSide) (traffic : Option Traffic) (marks : LinkMarks) (faults : ℕ) (feeder : Feeding) (waiting : List ℕ)
+    (ended : Ended) → feeder.heard ≡ AtClient → feeder.waiting ≡ [] → Carried now.traffic traffic [] [] → marks.ends ≡ now.marks.ends
+    → EndsReading ended feeder marks now.faults faults
+    → (s : Stands start now feeder waiting []) → s.unsent ≡ [] → Talks start (with_link now traffic marks faults) ended
+ends_reading start now traffic marks faults feeder waiting Closed side none carried same (sound, empty, mark, still) s sent =
+    let behind : s.heard.behind ≡ [] = (s.heard.sound sound).0 ∙ empty in
+    ends_with start now (with_link now traffic marks faults) feeder waiting [] Closed [] s refl refl (calls_same now.calls) carried still mark same
+    (no_calls start now feeder waiting s sent)
+    (subst (λ rest. Hears AtClient s.received (frames_of s.sent) rest) behind (all_answered start now feeder waiting side none s sent))
+ends_reading start now traffic marks faults feeder waiting (Cut count) side none carried same (sound, is, some, mark, still) s sent =
+    let at = s.heard.sound sound in
+    ends_with start now (with_link now traffic marks faults) feeder waiting [] (Cut count) [] s refl refl (calls_same now.calls) carried still mark same
+    (no_calls start now feeder waiting s sent) (
+      s.heard.behind,
+      all_answered start now feeder waiting side none s sent,
+      subst (λ (heard : Heard). IsOpen heard s.heard.behind) side at.1,
+      ap length at.0 ∙ sym is,
+      some,
+    )
+ends_reading start now traffic marks faults feeder waiting LinkFault side none carried same rose s sent =
+    ends_for_fault start now traffic marks faults feeder waiting [] LinkFault refl side carried same rose s
+ends_reading start now traffic marks faults feeder waiting (BadFrame refusal) side none carried same (failed, of_bytes, still) s sent =
+    ends_with start now (with_link now traffic marks faults) feeder waiting [] (BadFrame refusal) [] s refl refl (calls_same now.calls)
+    carried still tt same (no_calls start now feeder waiting s sent) (
+      s.heard.behind,
+      all_answered start now feeder waiting side none s sent,
+      subst (λ (heard : Heard). BeginsWrong heard s.heard.behind refusal) side (s.heard.wrong refusal failed),
+      of_bytes,
+    )
+ends_reading start now traffic marks faults feeder waiting Memory side none carried same still s sent =
+    ends_with start now (with_link now traffic marks faults) feeder waiting [] Memory [] s refl refl (calls_same now.calls)
+    carried still tt same
+    (subst (λ (list : List AskMade). length list ≤ 1) (sym (append-nil (calls_for s.unsent))) s.few)
+    (unanswered start now feeder waiting [] side s)
+ends_reading start now traffic marks faults feeder waiting (Hung entered at) side none carried same wrong s sent = absurd wrong
+ends_reading start now traffic marks faults feeder waiting Stopped side none carried same wrong s sent = absurd wrong
+ends_reading start now traffic marks faults feeder waiting (Strayed number found) side none carried same wrong s sent = absurd wrong
+
+-- ---- asking an agent
+
+-- the reply comes of one call, and waits to be sent
+pub asked_once : (start now : ClientSide) (tally : Tally) (calls : Option (List HallCall)) (feeder : Feeding) (frame after : List ℕ)
+    (check : Check) (desk : DeskState) (commit : ℕ) (kind : Kind) (metadata : List ℕ) (reply : AgentReply)
+    → IsReadNow desk now.seat → reading desk check ≡ IsDue commit kind metadata
+    → AsksOnce commit kind check.question metadata now.tally now.calls tally calls reply
+    → frame ≡ spelling (with_sequence check.sequence (message_of (reply_of reply))) → after ≡ [] ++ frame
+    → (s : Stands start now feeder [] (check ∷ [])) → s.unsent ≡ []
+    → Stands start (record now { tally = tally; calls = calls }) feeder after []
+asked_once start now tally calls feeder frame after check desk commit kind metadata reply now_read is (result, asked, leads) spelled put s sent =
+    let call : AskMade = ask_made kind check.question metadata result in
+    answered_with start now tally calls feeder [] after check desk (Some call) (reply_of reply) s now_read
+    (subst (λ (seen : Reading). Answers seen check.question (Some call) (reply_of reply)) (sym is) (result, refl, leads))
+    asked.counted asked.told
+    (subst (λ (list : List Answered). length (calls_for list ++ call ∷ []) ≤ 1) (sym sent) (omega arith))
+    (put ∙ spelled)
+
+-- memory is wanting after the call
+pub asked_for_nothing : (start now : ClientSide) (tally : Tally) (calls : Option (List HallCall)) (feeder : Feeding)
+    (check : Check) (commit : ℕ) (kind : Kind) (metadata : List ℕ) (reply : AgentReply) (ended : Ended) → ended ≡ Memory
+    → feeder.heard ≡ AtClient → AsksOnce commit kind check.question metadata now.tally now.calls tally calls reply
+    → (s : Stands start now feeder [] (check ∷ [])) → s.unsent ≡ []
+    → Talks start (record now { tally = tally; calls = calls }) ended
+asked_for_nothing start now tally calls feeder check commit kind metadata reply ended is side (result, asked, leads) s sent =
+    let call : AskMade = ask_made kind check.question metadata result in
+    let after : ClientSide = record now { tally = tally; calls = calls } in
+    subst (λ (e : Ended). Talks start after e) (sym is)
+    (ends_with start now after feeder [] (check ∷ []) Memory (call ∷ []) s refl asked.counted asked.told (carried_same now.traffic) refl tt refl
+    (subst (λ (list : List Answered). length (calls_for list ++ call ∷ []) ≤ 1) (sym sent) (omega arith))
+    (unanswered start now feeder [] (check ∷ []) side s))
+
+-- no reply comes of it
+vain : (start now after : ClientSide) (feeder : Feeding) (check : Check) (kind : Kind) (metadata : List ℕ) (result : AskResult) (ended : Ended)
+    → feeder.heard ≡ AtClient → after ≡ record now { tally = after.tally; calls = after.calls }
+    → Asked (ask_made kind check.question metadata result) now.tally now.calls after.tally after.calls
+    → IsInVain check.question result ended
+    → (s : Stands start now feeder [] (check ∷ [])) → s.unsent ≡ [] → Talks start after ended
+vain start now after feeder check kind metadata result Stopped side same asked stop s sent =
+    let call : AskMade = ask_made kind check.question metadata result in
+    ends_with start now after feeder [] (check ∷ []) Stopped (call ∷ []) s (ap (λ (x : ClientSide). x.seat) same) asked.counted asked.told
+    (subst (λ (x : ClientSide). Carried now.traffic x.traffic [] []) (sym same) (carried_same now.traffic))
+    (ap (λ (x : ClientSide). x.faults) same) tt (ap (λ (x : ClientSide). x.marks.ends) same)
+    (call, ap (λ (list : List Answered). calls_for list ++ call ∷ []) sent, stop)
+    (unanswered start now feeder [] (check ∷ []) side s)
+vain start now after feeder check kind metadata result Memory side same asked free s sent =
+    let call : AskMade = ask_made kind check.question metadata result in
+    ends_with start now after feeder [] (check ∷ []) Memory (call ∷ []) s (ap (λ (x : ClientSide). x.seat) same) asked.counted asked.told
+    (subst (λ (x : ClientSide). Carried now.traffic x.traffic [] []) (sym same) (carried_same now.traffic))
+    (ap (λ (x : ClientSide). x.faults) same) tt (ap (λ (x : ClientSide). x.marks.ends) same)
+    (subst (λ (list : List Answered). length (calls_for list ++ call ∷ []) ≤ 1) (sym sent) (omega arith))
+    (unanswered start now feeder [] (check ∷ []) side s)
+vain start now after feeder check kind metadata result (Strayed number found) side same asked strays s sent =
+    let call : AskMade = ask_made kind check.question metadata result in
+    ends_with start now after feeder [] (check ∷ []) (Strayed number found) (call ∷ []) s (ap (λ (x : ClientSide). x.seat) same) asked.counted asked.told
+    (subst (λ (x : ClientSide). Carried now.traffic x.traffic [] []) (sym same) (carried_same now.traffic))
+    (ap (λ (x : ClientSide). x.faults) same) tt (ap (λ (x : ClientSide). x.marks.ends) same)
+    (call, ap (λ (list : List Answered). calls_for list ++ call ∷ []) sent, strays)
+    (unanswered start now feeder [] (check ∷ []) side s)
+vain start now after feeder check kind metadata result Closed side same asked wrong s sent = absurd wrong
+vain start now after feeder check kind metadata result (Cut count) side same asked wrong s sent = absurd wrong
+vain start now after feeder check kind metadata result (Hung entered at) side same asked wrong s sent = absurd wrong
+vain start now after feeder check kind metadata result LinkFault side same asked wrong s sent = absurd wrong
+vain start now after feeder check kind metadata result (BadFrame refusal) side same asked wrong s sent = absurd wrong
+
+pub asked_in_vain : (start now : ClientSide) (tally : Tally) (calls : Option (List HallCall)) (feeder : Feeding)
+    (check : Check) (kind : Kind) (metadata : List ℕ) (ended : Ended) → feeder.heard ≡ AtClient
+    → AsksInVain kind check.question metadata now.tally now.calls tally calls ended
+    → (s : Stands start now feeder [] (check ∷ [])) → s.unsent ≡ []
+    → Talks start (record now { tally = tally; calls = calls }) ended
+asked_in_vain start now tally calls feeder check kind metadata ended side made s sent =
+    elim made [
+      | AsksInVain.unasked is same_tally same_calls ↦
+          let after : ClientSide = record now { tally = tally; calls = calls } in
+          subst (λ (e : Ended). Talks start after e) (sym is)
+          (ends_with start now after feeder [] (check ∷ []) Memory [] s refl same_tally
+          (subst (λ told. AppendsCalls now.calls [] told) (sym same_calls) (calls_same now.calls))
+          (carried_same now.traffic) refl tt refl
+          (subst (λ (list : List AskMade). length list ≤ 1) (sym (append-nil (calls_for s.unsent))) s.few)
+          (unanswered start now feeder [] (check ∷ []) side s))
+      | AsksInVain.vain result asked why ↦
+          vain start now (record now { tally = tally; calls = calls }) feeder check kind metadata result ended side refl asked why s sent
+    ]

@@ -1,0 +1,72 @@
+-- What an answer of the policies is for a check.
+use Rattle.std.proofs.Common.{◌≡◌, ◌∙◌, ℕ, Bool, true, false, List, refl, sym, ap, subst}
+use Rattle.cynara_keys.specs.PolicyResult.{is_agent}
+use Rattle.cynara_keys.specs.declared.results.Kind.{Kind}
+use Rattle.bucket_eval.specs.declared.lending.BorrowedAnswer.{BorrowedAnswer}
+use Rattle.bucket_eval.specs.Evaluation.{Outcome}
+use Rattle.bucket_eval.specs.Found.{answer_of}
+use Rattle.bucket_eval.specs.Lent.{outcome_lent}
+use Rattle.wire_messages.specs.Frame.{spelling, with_sequence}
+use Rattle.wire_messages.specs.Lent.{judged}
+use Rattle.wire_messages.specs.declared.messages.Message.TheVariants as message
+use Rattle.desk_world.specs.Links.{read_as, reading_of}
+use Rattle.desk_world.specs.declared.links.Reading.{Reading}
+use Rattle.desk_world.specs.declared.links.Reading.TheVariants.{Nothing, Ready, Due, Waiting}
+use Rattle.desk_world.specs.declared.replies.Reply.TheVariants.{Judged, NotResolved}
+use Rattle.client_door.specs.Reading.{Finds}
+use Rattle.client_door.specs.declared.readings.Found.TheVariants.{Ready as FoundReady}
+
+-- the policies decide
+pub reads_judged : (sequence : ℕ) (simple : Bool) (commit : ℕ) (lent : BorrowedAnswer) (frame : List ℕ)
+    → is_agent (outcome_lent lent).result.kind ≡ false → frame ≡ spelling (with_sequence sequence (judged commit lent))
+    → Finds sequence (reading_of commit simple (outcome_lent lent)) frame FoundReady
+reads_judged sequence simple commit lent frame no_agent spelled = (
+  Judged (record { commit = commit; answer = answer_of (outcome_lent lent) }),
+  ap (λ agent. read_as agent commit simple (outcome_lent lent)) no_agent,
+  spelled,
+)
+
+-- an agent would decide, and none may be asked
+pub reads_simple : (sequence : ℕ) (simple : Bool) (commit : ℕ) (lent : BorrowedAnswer) (kind : Kind) (frame : List ℕ)
+    → is_agent (outcome_lent lent).result.kind ≡ true → simple ≡ true → kind.0 ≡ (outcome_lent lent).result.kind
+    → frame ≡ spelling (with_sequence sequence (message.NotResolved commit kind))
+    → Finds sequence (reading_of commit simple (outcome_lent lent)) frame FoundReady
+reads_simple sequence simple commit lent kind frame agent is same spelled =
+    let kinds : record { 0 = (outcome_lent lent).result.kind } ≡ kind = λ i. record { 0 = sym same i } in (
+      NotResolved commit kind,
+      ap (λ a. read_as a commit simple (outcome_lent lent)) agent ∙ (ap (λ s. read_as true commit s (outcome_lent lent)) is
+          ∙ ap (λ (k : Kind). Ready (NotResolved commit k)) kinds),
+      spelled,
+    )
+
+-- an agent is to be asked
+pub reads_due : (simple : Bool) (commit : ℕ) (lent : BorrowedAnswer) (kind : Kind) (metadata : List ℕ)
+    → is_agent (outcome_lent lent).result.kind ≡ true → simple ≡ false → kind.0 ≡ (outcome_lent lent).result.kind
+    → metadata ≡ (outcome_lent lent).result.metadata → reading_of commit simple (outcome_lent lent) ≡ Due commit kind metadata
+reads_due simple commit lent kind metadata agent is same carried =
+    let kinds : record { 0 = (outcome_lent lent).result.kind } ≡ kind = λ i. record { 0 = sym same i } in
+    ap (λ a. read_as a commit simple (outcome_lent lent)) agent ∙ (ap (λ s. read_as true commit s (outcome_lent lent)) is
+    ∙ λ i. Due commit (kinds i) (sym carried i))
+
+-- only an agent's kind is due
+due_is_agent : (agent simple : Bool) (commit other : ℕ) (outcome : Outcome) (kind : Kind) (metadata : List ℕ)
+    → is_agent outcome.result.kind ≡ agent → read_as agent commit simple outcome ≡ Due other kind metadata → is_agent kind.0 ≡ true
+due_is_agent false simple commit other outcome kind metadata agent is = absurd (apart is)
+  where
+    apart : Ready (Judged (record { commit = commit; answer = answer_of outcome })) ≡ Due other kind metadata → ⊥
+    apart wrong = cc
+due_is_agent true true commit other outcome kind metadata agent is = absurd (apart is)
+  where
+    apart : Ready (NotResolved commit (record { 0 = outcome.result.kind })) ≡ Due other kind metadata → ⊥
+    apart wrong = cc
+due_is_agent true false commit other outcome kind metadata agent is =
+    let same : record { 0 = outcome.result.kind } ≡ kind = due_kind commit other (record { 0 = outcome.result.kind }) kind outcome.result.metadata metadata is in
+    subst (λ (k : Kind). is_agent k.0 ≡ true) same agent
+  where
+    due_kind : (commit other : ℕ) (one kind : Kind) (metadata more : List ℕ) → Due commit one metadata ≡ Due other kind more → one ≡ kind
+    due_kind commit other one kind metadata more is = cc
+
+pub due_to_an_agent : (commit other : ℕ) (simple : Bool) (outcome : Outcome) (kind : Kind) (metadata : List ℕ)
+    → reading_of commit simple outcome ≡ Due other kind metadata → is_agent kind.0 ≡ true
+due_to_an_agent commit other simple outcome kind metadata is =
+    due_is_agent (is_agent outcome.result.kind) simple commit other outcome kind metadata refl is

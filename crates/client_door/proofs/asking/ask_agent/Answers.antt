@@ -1,0 +1,39 @@
+use Rattle.std.proofs.Common.{rules, ◌≡◌, refl, sym, ap, Ok, Err, Some, None}
+use Rattle.agent_table.specs.declared.refusals.PutRefusal.TheVariants as put
+use Rattle.server_hall.specs.declared.refusals.AskRefusal.TheVariants.{Put, Gone, Stopped, Lost}
+use Rattle.client_door.specs.Asking.{AsksInVain}
+use Rattle.client_door.proofs.Asking.{same_questions, other_questions, asked_so}
+use Rattle.client_door.proofs.asking.ask_agent.Goals as goal
+
+pub returns-then-eq : goal.returns-then-eq
+returns-then-eq g c =
+    let same : c.in-Ok-ask.taken.question ≡ c.args.question.now = same_questions c.in-Ok-ask.taken.question c.args.question.now (search rules) in (
+      Ok (c.in-Ok-ask.number, c.in-Ok-ask.taken),
+      asked_so c.args.kind c.args.question.now c.in-Ok.put c.args.metadata c.ask.result (Ok (c.in-Ok-ask.number, c.in-Ok-ask.taken))
+          (g.A.Hall.tally c.args.hall.now) (g.A.Hall.tally c.ask.new.self) (g.A.Hall.calls c.args.hall.now) (g.A.Hall.calls c.ask.new.self)
+          c.in-Ok.ensures (search rules) c.ask.ensures.tally c.ask.ensures.calls,
+      (same, refl),
+    )
+
+pub returns-else-eq : goal.returns-else-eq
+returns-else-eq g c =
+    let given = Ok (c.in-Ok-ask.number, c.in-Ok-ask.taken) in
+    AsksInVain.vain given
+    (asked_so c.args.kind c.args.question.now c.in-Ok.put c.args.metadata c.ask.result given
+    (g.A.Hall.tally c.args.hall.now) (g.A.Hall.tally c.ask.new.self) (g.A.Hall.calls c.args.hall.now) (g.A.Hall.calls c.ask.new.self)
+    c.in-Ok.ensures (search rules) c.ask.ensures.tally c.ask.ensures.calls)
+    (refl, refl, other_questions c.in-Ok-ask.taken.question c.args.question.now (search rules))
+
+pub returns-in-Err-Stopped : goal.returns-in-Err-Stopped
+returns-in-Err-Stopped g c =
+    AsksInVain.vain (Err Stopped)
+    (asked_so c.args.kind c.args.question.now c.in-Ok.put c.args.metadata c.ask.result (Err Stopped)
+    (g.A.Hall.tally c.args.hall.now) (g.A.Hall.tally c.ask.new.self) (g.A.Hall.calls c.args.hall.now) (g.A.Hall.calls c.ask.new.self)
+    c.in-Ok.ensures (search rules) c.ask.ensures.tally c.ask.ensures.calls) refl
+
+pub returns-in-Err-Lost : goal.returns-in-Err-Lost
+returns-in-Err-Lost g c =
+    AsksInVain.vain (Err (Lost c.in-Err-Lost.number))
+    (asked_so c.args.kind c.args.question.now c.in-Ok.put c.args.metadata c.ask.result (Err (Lost c.in-Err-Lost.number))
+    (g.A.Hall.tally c.args.hall.now) (g.A.Hall.tally c.ask.new.self) (g.A.Hall.calls c.args.hall.now) (g.A.Hall.calls c.ask.new.self)
+    c.in-Ok.ensures (search rules) c.ask.ensures.tally c.ask.ensures.calls) refl

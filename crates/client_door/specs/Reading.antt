@@ -1,0 +1,39 @@
+-- What a check reads of the policies of a published state.
+use Rattle.std.specs.Prelude.{◌≡◌, ◌≤◌, ℕ, Bool, List}
+use Rattle.bucket_eval.specs.Evaluation.{Outcome}
+use Rattle.bucket_eval.specs.Root.{root_outcome}
+use Rattle.desk_state.specs.DeskState.{DeskState}
+use Rattle.live_desk.specs.History.{IsLast, Rises}
+use Rattle.live_desk.specs.Seat.{SeatState}
+use Rattle.wire_messages.specs.Frame.{spelling, with_sequence}
+use Rattle.desk_world.specs.Links.{reading_of}
+use Rattle.desk_world.specs.declared.links.Reading.{Reading}
+use Rattle.desk_world.specs.declared.links.Reading.TheVariants.{Ready as IsReady, Due as IsDue}
+use Rattle.desk_world.specs.declared.replies.Reply.{Reply}
+use Rattle.client_door.specs.Check.{message_of}
+use Rattle.client_door.specs.declared.checks.Check.{Check}
+use Rattle.client_door.specs.declared.readings.Read.{Read}
+use Rattle.client_door.specs.declared.readings.Found.{Found}
+use Rattle.client_door.specs.declared.readings.Found.TheVariants.{Ready, Due, Memory}
+
+-- what a check reads at a state: what the world of events reads there
+abbrev pub reading : DeskState → Check → Reading
+reading desk check = reading_of desk.commit check.simple (root_outcome desk.database check.question)
+
+-- what was read is this reading; of a reply the buffer holds the frame
+abbrev pub Finds : ℕ → Reading → List ℕ → Found → Type 0
+Finds sequence seen frame Ready =
+    (reply : Reply) × (seen ≡ IsReady reply) × (frame ≡ spelling (with_sequence sequence (message_of reply)))
+Finds sequence seen frame (Due commit kind metadata) = seen ≡ IsDue commit kind metadata
+Finds sequence seen frame Memory = Unit {0}
+
+abbrev pub Reads : ℕ → Bool → ℕ → Outcome → Read → Type 0
+Reads sequence simple commit outcome read = Finds sequence (reading_of commit simple outcome) read.frame read.found
+
+-- it was read at the last state that the seat has seen, whose commit is not below the seat's note
+abbrev pub ReadsAtLast : Check → SeatState → Read → Type 0
+ReadsAtLast check seat read = (desk : DeskState)
+    × IsLast seat.seen desk
+    × Rises seat.seen
+    × (seat.note ≤ desk.commit)
+    × Reads check.sequence check.simple desk.commit (root_outcome desk.database check.question) read

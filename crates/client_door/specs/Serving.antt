@@ -1,0 +1,132 @@
+-- What a connection of a client is answered, and how it ends.
+use Rattle.std.specs.Prelude.{◌≡◌, ◌≤◌, ℕ, List, [], ◌∷◌, ◌++◌, map, length, Option, Some, Result, Ok, Err}
+use Rattle.std.specs.List.{AllByRecursion}
+use Rattle.desk_ports.specs.Faults.{next_count}
+use Rattle.link_ports.specs.Traffic.{Traffic}
+use Rattle.link_ports.specs.LinkMarks.{LinkMarks, with_end_taken}
+use Rattle.live_desk.specs.History.{GoesOn}
+use Rattle.live_desk.specs.Seat.{SeatState, with_note}
+use Rattle.live_roll.specs.declared.answers.Left.{Left}
+use Rattle.live_roll.specs.declared.answers.Left.TheVariants.{Still, Hung as LeftHung, Stopped as LeftStopped}
+use Rattle.live_roll.specs.declared.answers.Stopped.{Stopped as IsStopped}
+use Rattle.wire_messages.specs.declared.operations.Heard.TheVariants.{AtClient}
+use Rattle.server_hall.specs.Call.{AskMade}
+use Rattle.server_hall.specs.Tally.{Tally, after_enter, after_leave, IsRaised}
+use Rattle.server_hall.specs.Told.{AppendsCalls}
+use Rattle.server_hall.specs.declared.calls.HallCall.{HallCall}
+use Rattle.server_hall.specs.declared.calls.HallCall.TheVariants.{Ask}
+use Rattle.door_frames.specs.Carried.{Carried}
+use Rattle.door_frames.specs.Ending.{EndsBytes, IsAtEnd, faults_after}
+use Rattle.door_frames.specs.declared.endings.Ended.{Ended}
+use Rattle.door_frames.specs.declared.endings.Ended.TheVariants.{Closed, Cut, Hung, LinkFault, BadFrame, Stopped, Memory, Strayed}
+use Rattle.client_door.specs.Asking.{FindsStop, Strays}
+use Rattle.client_door.specs.Answered.{Answered, IsRight, frames_of, replies_bytes, calls_for, after_asks, AreReadIn}
+
+-- what a connection of a client is served with: the seat, the hall's tally and calls, and the link
+pub record ClientSide : Type 0 where
+  pub seat : SeatState
+  pub tally : Tally
+  pub calls : Option (List HallCall)
+  pub traffic : Option Traffic
+  pub marks : LinkMarks
+  pub faults : ℕ
+
+abbrev pub client_side : SeatState → Tally → Option (List HallCall) → Option Traffic → LinkMarks → ℕ → ClientSide
+client_side seat tally calls traffic marks faults = record {
+  seat = seat;
+  tally = tally;
+  calls = calls;
+  traffic = traffic;
+  marks = marks;
+  faults = faults;
+}
+
+-- with the link as it stands then
+abbrev pub with_link : ClientSide → Option Traffic → LinkMarks → ℕ → ClientSide
+with_link side traffic marks faults = record side { traffic = traffic; marks = marks; faults = faults }
+
+-- ---- a connection that has entered
+
+-- Which calls of `ask` were made for checks whose replies were not sent, where the answering ended so: none where the input
+-- ended or was wrong; the one that found the hall stopped, or lost its question; and else one at most.
+abbrev pub EndsAsking : Ended → List AskMade → Type 0
+EndsAsking Closed last = last ≡ []
+EndsAsking (Cut count) last = last ≡ []
+EndsAsking (BadFrame refusal) last = last ≡ []
+EndsAsking Stopped last = (call : AskMade) × (last ≡ call ∷ []) × FindsStop call.result
+EndsAsking (Strayed number found) last =
+    (call : AskMade) × (last ≡ call ∷ []) × Strays call.question number found call.result
+EndsAsking LinkFault last = length last ≤ 1
+EndsAsking Memory last = length last ≤ 1
+EndsAsking (Hung entered now) last = ⊥
+
+-- The checks that were answered in turn, each with one reply that was sent; the bytes that were received in this time; and
+-- the calls of `ask` for checks whose replies were not sent.
+pub record Talks (start now : ClientSide) (ended : Ended) : Type 0 where
+  pub received : List ℕ
+  pub answered : List Answered
+  pub last : List AskMade
+  -- the replies are right, and are those to the first frames received
+  pub right : AllByRecursion IsRight answered
+  pub bytes : EndsBytes AtClient received (frames_of answered) ended
+  pub carried : Carried start.traffic now.traffic received (replies_bytes answered)
+  -- each was read at a state that the seat has seen, no older than its note
+  pub read : AreReadIn now.seat.seen now.seat.note answered
+  pub seen : GoesOn start.seat.seen now.seat.seen
+  pub same_seat : now.seat ≡ record start.seat { seen = now.seat.seen }
+  -- the calls that were made on the hall
+  pub tally : now.tally ≡ after_asks (calls_for answered ++ last) start.tally
+  pub calls : AppendsCalls start.calls (map Ask (calls_for answered ++ last)) now.calls
+  pub asking : EndsAsking ended last
+  -- the link
+  pub faults : now.faults ≡ faults_after ended start.faults
+  pub at_end : IsAtEnd ended now.marks
+  pub ends : now.marks.ends ≡ start.marks.ends
+
+-- how a connection ends that leaves so, after the answering ended so
+abbrev pub ended_by_leaving : ℕ → Left → Ended → Ended
+ended_by_leaving entered Still ended = ended
+ended_by_leaving entered (LeftHung now) ended = Hung entered now
+ended_by_leaving entered (LeftStopped now) ended = Stopped
+
+-- ---- a whole connection
+
+-- the hang end was not to be had
+abbrev pub IsUnbegun : Ended → ℕ → ℕ → Type 0
+IsUnbegun LinkFault before after = after ≡ next_count before
+IsUnbegun Memory before after = after ≡ before
+IsUnbegun other before after = ⊥
+
+-- nothing was heard, answered or called
+pub record IsIdle (start now : ClientSide) : Type 0 where
+  pub seat : now.seat ≡ start.seat
+  pub calls : now.calls ≡ start.calls
+  pub carried : Carried start.traffic now.traffic [] []
+
+-- the connection entered at this commit, was served, and left
+pub record Served (result : Ended) (start now : ClientSide) : Type 0 where
+  pub entered : ℕ
+  pub inner : Ended
+  pub left : Left
+  -- what stood once it had entered, and before it left
+  pub first : ClientSide
+  pub last : ClientSide
+  pub entry : first.tally ≡ after_enter (Ok entered) start.tally
+  pub told : first.seat ≡ with_note entered start.seat
+  pub told_calls : first.calls ≡ start.calls
+  pub opened : Carried start.traffic first.traffic [] []
+  pub marks : first.marks ≡ with_end_taken start.marks
+  pub faults : first.faults ≡ start.faults
+  pub talks : Talks first last inner
+  pub leaving : now ≡ record last { tally = after_leave left last.tally }
+  pub raised : IsRaised entered left
+  pub result_is : result ≡ ended_by_leaving entered left inner
+
+-- A connection of a client: no hang end of its link was to be had; or the hall was stopped, and it didn't enter; or it
+-- entered, was served, and left.
+pub data Serves (result : Ended) (start now : ClientSide) : Type 0 where
+  unbegun : IsUnbegun result start.faults now.faults → now.tally ≡ start.tally → now.marks ≡ start.marks
+      → IsIdle start now → Serves result start now
+  refused : (refusal : IsStopped) → result ≡ Stopped → now.tally ≡ after_enter {T = ℕ} (Err refusal) start.tally
+      → now.marks ≡ with_end_taken start.marks → now.faults ≡ start.faults → IsIdle start now → Serves result start now
+  served : Served result start now → Serves result start now

@@ -1,0 +1,61 @@
+-- How the answering of checks stands between two calls.
+use Rattle.std.specs.Prelude.{◌≡◌, ◌≤◌, ℕ, List, [], ◌∷◌, ◌++◌, map, length}
+use Rattle.std.specs.List.{AllByRecursion}
+use Rattle.live_desk.specs.History.{GoesOn, IsLast, Rises}
+use Rattle.live_desk.specs.Seat.{SeatState}
+use Rattle.desk_state.specs.DeskState.{DeskState}
+use Rattle.door_frames.specs.declared.endings.Ended.{Ended}
+use Rattle.wire_messages.specs.Stream.{Feeding}
+use Rattle.wire_messages.specs.declared.operations.Heard.TheVariants.{AtClient}
+use Rattle.server_hall.specs.Told.{AppendsCalls}
+use Rattle.server_hall.specs.declared.calls.HallCall.TheVariants.{Ask}
+use Rattle.door_frames.specs.Carried.{Carried}
+use Rattle.door_frames.specs.Hearing.{HasHeard, IsSound}
+use Rattle.client_door.specs.Answered.{Answered, IsRight, frames_of, replies_bytes, calls_for, after_asks, AreReadIn}
+use Rattle.client_door.specs.Check.{framed_of}
+use Rattle.client_door.specs.Reading.{reading, Reads}
+use Rattle.client_door.specs.Serving.{ClientSide, Talks}
+use Rattle.client_door.specs.declared.checks.Check.{Check}
+use Rattle.client_door.specs.declared.readings.Read.{Read}
+
+-- Since the start some checks were answered, of which the replies to the first were sent and those to the others wait; of
+-- the latter one at most was answered by way of an agent. These checks were taken behind them.
+pub record Stands (start now : ClientSide) (feeder : Feeding) (waiting : List ℕ) (taken : List Check) : Type 0 where
+  pub received : List ℕ
+  pub sent : List Answered
+  pub unsent : List Answered
+  pub right : AllByRecursion IsRight (sent ++ unsent)
+  pub heard : HasHeard received (frames_of (sent ++ unsent) ++ map framed_of taken) feeder
+  pub carried : Carried start.traffic now.traffic received (replies_bytes sent)
+  pub waits : waiting ≡ replies_bytes unsent
+  pub read : AreReadIn now.seat.seen now.seat.note (sent ++ unsent)
+  pub seen : GoesOn start.seat.seen now.seat.seen
+  pub same_seat : now.seat ≡ record start.seat { seen = now.seat.seen }
+  pub tally : now.tally ≡ after_asks (calls_for (sent ++ unsent)) start.tally
+  pub calls : AppendsCalls start.calls (map Ask (calls_for (sent ++ unsent))) now.calls
+  pub few : length (calls_for unsent) ≤ 1
+  pub faults : now.faults ≡ start.faults
+  pub ends : now.marks.ends ≡ start.marks.ends
+
+-- How it stands: the feeder, the bytes of the replies that wait, and the checks that were taken.
+pub record Standing : Type 0 where
+  pub feeder : Feeding
+  pub waiting : List ℕ
+  pub taken : List Check
+
+abbrev pub StandsAt : ClientSide → ClientSide → Standing → Type 0
+StandsAt start now at = Stands start now at.feeder at.waiting at.taken
+
+-- from whatever start it stood so before, it stands so after
+abbrev pub Goes : ClientSide → Standing → ClientSide → Standing → Type 0
+Goes old before new after = (start : ClientSide) → StandsAt start old before → StandsAt start new after
+
+-- from whatever start it stood so before, the talk has ended so
+abbrev pub Ends : ClientSide → Standing → ClientSide → Ended → Type 0
+Ends old before new ended = (start : ClientSide) → StandsAt start old before → Talks start new ended
+
+-- the state is the last that the seat has seen, and no older than its note
+pub record IsReadNow (desk : DeskState) (seat : SeatState) : Type 0 where
+  pub last : IsLast seat.seen desk
+  pub rising : Rises seat.seen
+  pub fresh : seat.note ≤ desk.commit

@@ -1,0 +1,121 @@
+ghost use Rattle.std.specs.Prelude.{◌≡◌, IsSome, MatchResult};
+ghost use Rattle.desk_state.specs.DeskState.{DeskState};
+ghost use Rattle.live_desk.specs.History.{GoesOn};
+ghost use Rattle.client_door.specs.Message.{check_in, AnswersCheck, RefusesCheck, SeesOf, SeesAtLast};
+ghost use Rattle.client_door.specs.Message.{read_at, IsSeenLast, AnswersQuestion, IsRefused};
+
+use crate::asking::ask_agent;
+use cynara_keys::{Kind, Metadata, Question};
+use door_frames::Ended;
+use live_desk::{BorrowedVerdict, Seat};
+use server_hall::Hall;
+use std::alloc::Global;
+use std::sync::Wait;
+use wire_messages::{Message, PackedVerdict};
+
+/// What the policies say to a check, by value.
+#[derive(Drop)]
+pub(crate) enum Seen {
+    Judged(PackedVerdict),
+    NotResolved {
+        commit: u64,
+        kind: Kind,
+    },
+    Due {
+        commit: u64,
+        kind: Kind,
+        metadata: Metadata,
+    },
+    Memory,
+}
+
+/// Answers one message of a client, `Check` or `SimpleCheck`, as a connection does. It may wait.
+pub fn answer_check<R: Wait, A: Hall>(
+    rt: &R,
+    alloc: Global,
+    seat: &mut Seat,
+    hall: &mut A,
+    message: &Message,
+) -> Result<Message, Ended>
+    requires { IsSome (check_in message.now) }
+    ensures same { seat.new ≡ record seat.old { seen = seat.new.seen } }
+    ensures seen { GoesOn seat.old.seen seat.new.seen }
+    ensures answer { MatchResult result
+        (AnswersCheck message.now seat.new (A.tally hall.old) (A.calls hall.old) (A.tally hall.new) (A.calls hall.new))
+        (RefusesCheck message.now seat.new (A.tally hall.old) (A.calls hall.old) (A.tally hall.new) (A.calls hall.new)) }
+{
+    match message {
+        Message::Check { question } => answer_question(rt, alloc, seat, hall, question, false),
+        Message::SimpleCheck { question } => answer_question(rt, alloc, seat, hall, question, true),
+        _ => unreachable!(),
+    }
+}
+
+fn answer_question<R: Wait, A: Hall>(
+    rt: &R,
+    alloc: Global,
+    seat: &mut Seat,
+    hall: &mut A,
+    question: &Question,
+    simple: bool,
+) -> Result<Message, Ended>
+    ensures same { seat.new ≡ record seat.old { seen = seat.new.seen } }
+    ensures seen { GoesOn seat.old.seen seat.new.seen }
+    ensures answer { (desk : DeskState) × IsSeenLast desk seat.new
+        × MatchResult result
+        (AnswersQuestion (read_at desk question.now simple) question.now
+        (A.tally hall.old) (A.calls hall.old) (A.tally hall.new) (A.calls hall.new))
+        (IsRefused (read_at desk question.now simple) question.now
+        (A.tally hall.old) (A.calls hall.old) (A.tally hall.new) (A.calls hall.new)) }
+{
+    match see(rt, alloc, seat, question, simple) {
+        Seen::Judged(verdict) => Ok(Message::Judged { verdict }),
+        Seen::NotResolved { commit, kind } => Ok(Message::NotResolved { commit, kind }),
+        Seen::Due {
+            commit,
+            kind,
+            metadata,
+        } => match ask_agent(hall, commit, kind, question, metadata) {
+            Ok(reply) => Ok(reply.message()),
+            Err(ended) => Err(ended),
+        },
+        Seen::Memory => Err(Ended::Memory),
+    }
+}
+
+// What the last state that the seat has then seen says.
+fn see<R: Wait>(rt: &R, alloc: Global, seat: &mut Seat, question: &Question, simple: bool) -> Seen
+    ensures same { seat.new ≡ record seat.old { seen = seat.new.seen } }
+    ensures seen { GoesOn seat.old.seen seat.new.seen }
+    ensures read { SeesAtLast question.now simple seat.new result }
+{
+    seat.check_with(
+        rt,
+        &question.borrowed(),
+        move |verdict: BorrowedVerdict<'_>| seen_of(alloc, &verdict, simple),
+    )
+}
+
+fn seen_of(alloc: Global, verdict: &BorrowedVerdict<'_>, simple: bool) -> Seen
+    ensures { SeesOf simple verdict.now result }
+{
+    let commit = verdict.commit;
+    let kind = verdict.answer.result.kind();
+    if !kind.is_agent() {
+        return match PackedVerdict::pack(alloc, &verdict.to_verdict()) {
+            Ok(packed) => Seen::Judged(packed),
+            Err(_) => Seen::Memory,
+        };
+    }
+    if simple {
+        return Seen::NotResolved { commit, kind };
+    }
+    match verdict.answer.result.metadata().copy() {
+        Ok(metadata) => Seen::Due {
+            commit,
+            kind,
+            metadata,
+        },
+        Err(_) => Seen::Memory,
+    }
+}

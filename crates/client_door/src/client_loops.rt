@@ -1,0 +1,68 @@
+ghost use Rattle.std.specs.Prelude.{◌≡◌};
+ghost use Rattle.client_door.specs.Serving.{client_side, Serves, Talks};
+
+use crate::talking::Talk;
+use desk_ports::PortFault;
+use door_frames::{Ended, MOST_PIECE};
+use link_ports::{Gate, GateStep, Link};
+use live_desk::Seat;
+use live_roll::Left;
+use server_hall::Hall;
+use std::alloc::Global;
+use std::sync::Wait;
+
+/// Serves one connection of a client: it enters the hall in the place of the seat, each check is answered in turn, and it
+/// leaves. The replies to checks that came together are sent together. It passes the gate once it has entered, and once for
+/// each reply that was sent. It may wait.
+pub fn client_loop<R: Wait, A: Hall, L: Link<End = A::End>, G: Gate>(
+    rt: &R,
+    alloc: Global,
+    seat: &mut Seat,
+    hall: &mut A,
+    link: &mut L,
+    gate: &G,
+) -> Ended
+    ensures { Serves result
+        (client_side seat.old (A.tally hall.old) (A.calls hall.old) (L.traffic link.old) (L.marks link.old) (L.faults link.old))
+        (client_side seat.new (A.tally hall.new) (A.calls hall.new) (L.traffic link.new) (L.marks link.new) (L.faults link.new)) }
+{
+    let end = match link.hang_end() {
+        Ok(end) => end,
+        Err(PortFault::Failed) => return Ended::LinkFault,
+        Err(PortFault::Memory(_)) => return Ended::Memory,
+    };
+    let Ok(entered) = hall.enter(end, seat) else {
+        return Ended::Stopped;
+    };
+    gate.pass(seat.number(), GateStep::Entered);
+    let ended = answer_all(rt, alloc, seat, hall, link, gate);
+    match hall.leave(seat.number(), entered) {
+        Left::Hung { now } => Ended::Hung { entered, now },
+        Left::Stopped { .. } => Ended::Stopped,
+        Left::Still => ended,
+    }
+}
+
+// Answers the checks of a connection that has entered.
+fn answer_all<R: Wait, A: Hall, L: Link, G: Gate>(
+    rt: &R,
+    alloc: Global,
+    seat: &mut Seat,
+    hall: &mut A,
+    link: &mut L,
+    gate: &G,
+) -> Ended
+    ensures { Talks
+        (client_side seat.old (A.tally hall.old) (A.calls hall.old) (L.traffic link.old) (L.marks link.old) (L.faults link.old))
+        (client_side seat.new (A.tally hall.new) (A.calls hall.new) (L.traffic link.new) (L.marks link.new) (L.faults link.new))
+        result }
+{
+    let mut talk = Talk::new(alloc);
+    let mut room = [0u8; MOST_PIECE];
+    for _ in rt.forever() {
+        if let Err(ended) = talk.turn(rt, seat, hall, link, gate, &mut room) {
+            return ended;
+        }
+    }
+    unreachable!()
+}

@@ -1,0 +1,21 @@
+//! The door for clients: the checks that come over a connection, each answered by the policies of a published state, or by
+//! an agent to which they leave it.
+//!
+//! A check is read at the last state that its seat has then seen. Where the policies leave it to an agent, the question is
+//! put to the agent through the hall, and the reply is what that gives, for this very question.
+#![tactic(auto)]
+
+mod agent_replies;
+mod answers;
+mod asking;
+mod checks;
+mod client_loops;
+mod outboxes;
+mod readings;
+mod spelling;
+mod talking;
+
+pub use agent_replies::AgentReply;
+pub use answers::answer_check;
+pub use checks::Check;
+pub use client_loops::client_loop;

@@ -1,0 +1,83 @@
+ghost use Rattle.std.specs.Prelude.{◌≡◌, ◌++◌, [], MatchResult, OnOk, OnErr};
+ghost use Rattle.desk_ports.specs.Faults.{next_count};
+ghost use Rattle.door_frames.specs.Carried.{Carried};
+ghost use Rattle.door_frames.specs.declared.endings.Ended.TheVariants.{LinkFault};
+
+use desk_ports::Bytes;
+use door_frames::Ended;
+use link_ports::{Gate, GateStep, Link};
+use std::alloc::{AllocError, Global};
+use std::marker::Model;
+
+/// Replies that wait to be sent together. Contracts see their bytes.
+#[derive(Drop)]
+pub(crate) struct Outbox {
+    bytes: Bytes,
+    replies: u32,
+}
+
+impl Model for Outbox {
+    ghost use Rattle.std.specs.Prelude.{ℕ, List};
+
+    ghost Value = { List ℕ };
+
+    ghost view = { λ outbox. outbox.bytes };
+}
+
+impl Outbox {
+    /// No reply waits. Takes no memory.
+    pub fn new(alloc: Global) -> Outbox
+        ensures { result ≡ [] }
+    {
+        Outbox {
+            bytes: Bytes::new(alloc),
+            replies: 0,
+        }
+    }
+
+    /// Puts a reply behind those that wait.
+    pub fn put(&mut self, frame: &Bytes) -> Result<(), AllocError>
+        ensures put { OnOk result (self.new ≡ self.old ++ frame.now) }
+        ensures kept { OnErr result (self.new ≡ self.old) }
+    {
+        self.bytes.append(frame.as_slice())?;
+        self.replies = self.replies.saturating_add(1);
+        Ok(())
+    }
+
+    /// Sends the replies that wait, if there are any, with one call of the link; and then passes the gate once for each. May
+    /// wait.
+    pub fn flush<L: Link, G: Gate>(
+        &mut self,
+        link: &mut L,
+        seat: u32,
+        gate: &G,
+    ) -> Result<(), Ended>
+        ensures sent { OnOk result (Carried (L.traffic link.old) (L.traffic link.new) [] self.old) }
+        ensures empty { OnOk result (self.new ≡ []) }
+        ensures faults { OnOk result (L.faults link.new ≡ L.faults link.old) }
+        ensures unsent { OnErr result (Carried (L.traffic link.old) (L.traffic link.new) [] []) }
+        ensures kept { OnErr result (self.new ≡ self.old) }
+        ensures ended { MatchResult result (λ _. L.faults link.new ≡ L.faults link.old)
+            (λ ended. (ended ≡ LinkFault) × (L.faults link.new ≡ next_count (L.faults link.old))) }
+        ensures marks { L.marks link.new ≡ L.marks link.old }
+    {
+        if self.bytes.len() == 0 {
+            return Ok(());
+        }
+        let Ok(()) = link.send(self.bytes.as_slice()) else {
+            return Err(Ended::LinkFault);
+        };
+        self.bytes.clear();
+        pass_each(gate, seat, self.replies);
+        self.replies = 0;
+        Ok(())
+    }
+}
+
+// The worker with this seat has sent so many replies.
+fn pass_each<G: Gate>(gate: &G, seat: u32, replies: u32) {
+    for _ in 0..replies {
+        gate.pass(seat, GateStep::Answered);
+    }
+}

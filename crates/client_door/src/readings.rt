@@ -1,0 +1,110 @@
+// What a check reads of the policies.
+ghost use Rattle.std.specs.Prelude.{◌≡◌};
+ghost use Rattle.bucket_eval.specs.Lent.{outcome_lent};
+ghost use Rattle.live_desk.specs.History.{GoesOn};
+ghost use Rattle.client_door.specs.Reading.{Reads, ReadsAtLast};
+ghost use Rattle.client_door.specs.declared.readings.Found.TheVariants.{Ready, Memory};
+
+use crate::spelling::spell;
+use crate::{Check, Check};
+use bucket_eval::BorrowedAnswer;
+use cynara_keys::{Kind, Metadata};
+use desk_ports::Bytes;
+use live_desk::{BorrowedVerdict, Seat};
+use std::sync::Wait;
+use wire_messages::{Message, encode_judged_into, encode_message_into};
+
+/// What was read for a check, and the buffer for its reply.
+#[derive(Drop)]
+pub(crate) struct Read {
+    pub frame: Bytes,
+    pub found: Found,
+}
+
+/// What was read for a check.
+#[derive(Drop)]
+pub(crate) enum Found {
+    /// The reply, whose frame the buffer holds.
+    Ready,
+    /// An agent of the kind is to be asked.
+    Due {
+        commit: u64,
+        kind: Kind,
+        metadata: Metadata,
+    },
+    /// Want of memory.
+    Memory,
+}
+
+/// Reads a check at the last state that the seat has then seen. It may wait.
+pub(crate) fn read_check<R: Wait>(rt: &R, seat: &mut Seat, check: &Check, frame: Bytes) -> Read
+    ensures same { seat.new ≡ record seat.old { seen = seat.new.seen } }
+    ensures seen { GoesOn seat.old.seen seat.new.seen }
+    ensures read { ReadsAtLast check.now seat.new result }
+{
+    let sequence = check.sequence;
+    let simple = check.simple;
+    seat.check_with(
+        rt,
+        &check.question.borrowed(),
+        move |verdict: BorrowedVerdict<'_>| {
+            read_answer(verdict.commit, &verdict.answer, sequence, simple, frame)
+        },
+    )
+}
+
+// What the answer of the policies of a commit is for a check.
+fn read_answer(
+    commit: u64,
+    answer: &BorrowedAnswer<'_>,
+    sequence: u16,
+    simple: bool,
+    frame: Bytes,
+) -> Read
+    ensures { Reads sequence simple commit (outcome_lent answer.now) result }
+{
+    let kind = answer.result.kind();
+    let mut frame = frame;
+    if !kind.is_agent() {
+        return match encode_judged_into(&mut frame, sequence, commit, answer) {
+            Ok(()) => ready(frame),
+            Err(_) => out_of_memory(frame),
+        };
+    }
+    if simple {
+        let message = Message::NotResolved { commit, kind };
+        return match spell(&mut frame, sequence, message) {
+            Ok(()) => ready(frame),
+            Err(_) => out_of_memory(frame),
+        };
+    }
+    match answer.result.metadata().copy() {
+        Ok(metadata) => Read {
+            frame,
+            found: Found::Due {
+                commit,
+                kind,
+                metadata,
+            },
+        },
+        Err(_) => out_of_memory(frame),
+    }
+}
+
+fn ready(frame: Bytes) -> Read
+    ensures { result ≡ record { frame = frame; found = Ready } }
+{
+    Read {
+        frame,
+        found: Found::Ready,
+    }
+}
+
+fn out_of_memory(frame: Bytes) -> Read
+    ensures { result ≡ record { frame = frame; found = Memory } }
+{
+    Read {
+        frame,
+        found: Found::Memory,
+    }
+}

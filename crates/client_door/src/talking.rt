@@ -1,0 +1,277 @@
+// The checks of a connection, answered in turn.
+ghost use Rattle.std.specs.Prelude.{◌≡◌, ◌<◌, ◌∷◌, [], ◌++◌, length, IsTrue, MatchResult, OnOk, OnErr};
+ghost use Rattle.cynara_keys.specs.PolicyResult.{is_agent};
+ghost use Rattle.desk_state.specs.DeskState.{DeskState};
+ghost use Rattle.desk_world.specs.declared.links.Reading.TheVariants.{Due as IsDue};
+ghost use Rattle.live_desk.specs.History.{GoesOn};
+ghost use Rattle.live_desk.specs.Seat.{SeatState};
+ghost use Rattle.wire_messages.specs.declared.operations.Heard.TheVariants.{AtClient};
+ghost use Rattle.wire_messages.specs.Frame.{spelling, with_sequence};
+ghost use Rattle.wire_messages.specs.Stream.{unfed};
+ghost use Rattle.door_frames.specs.Hearing.{IsSound};
+ghost use Rattle.door_frames.specs.declared.endings.Ended.TheVariants.{Memory};
+ghost use Rattle.client_door.specs.Check.{message_of, reply_of};
+ghost use Rattle.client_door.specs.Reading.{reading, Finds};
+ghost use Rattle.client_door.specs.Serving.{ClientSide, client_side, with_link};
+ghost use Rattle.client_door.specs.parts.Talk.{Goes, Ends, IsReadNow};
+
+use crate::AgentReply;
+use crate::asking::ask_agent;
+use crate::checks::{Check, take_check};
+use crate::outboxes::Outbox;
+use crate::readings::{Found, Read, read_check};
+use crate::spelling::spell;
+use core::mem::replace;
+use cynara_keys::{Kind, Metadata};
+use desk_ports::Bytes;
+use door_frames::{Ended, receive_more};
+use link_ports::{Gate, Link};
+use live_desk::Seat;
+use server_hall::Hall;
+use std::alloc::Global;
+use std::sync::Wait;
+use wire_messages::{Feeder, Heard};
+
+/// What a connection has heard and not answered yet, and the replies that are not sent yet.
+#[derive(Drop)]
+pub(crate) struct Talk {
+    alloc: Global,
+    feeder: Feeder,
+    outbox: Outbox,
+    // The room for one reply.
+    frame: Bytes,
+}
+
+impl Talk {
+    /// Before the first byte. Takes no memory.
+    pub fn new(alloc: Global) -> Talk
+        ensures feeder { result.feeder ≡ unfed AtClient }
+        ensures outbox { result.outbox ≡ [] }
+    {
+        Talk {
+            alloc,
+            feeder: Feeder::new(alloc, Heard::AtClient),
+            outbox: Outbox::new(alloc),
+            frame: Bytes::new(alloc),
+        }
+    }
+
+    /// Answers all checks that were heard, sends the replies, and receives more. It may wait.
+    pub fn turn<R: Wait, A: Hall, L: Link, G: Gate>(
+        &mut self,
+        rt: &R,
+        seat: &mut Seat,
+        hall: &mut A,
+        link: &mut L,
+        gate: &G,
+        room: &mut [u8],
+    ) -> Result<(), Ended>
+        requires some { 0 < length room.old }
+        requires side { self.old.feeder.heard ≡ AtClient }
+        requires sound { IsSound self.old.feeder }
+        ensures side { OnOk result (self.new.feeder.heard ≡ AtClient) }
+        ensures sound { OnOk result (IsSound self.new.feeder) }
+        ensures talk { MatchResult result
+            (λ _. Goes
+            (client_side seat.old (A.tally hall.old) (A.calls hall.old) (L.traffic link.old) (L.marks link.old) (L.faults link.old))
+            (record { feeder = self.old.feeder; waiting = self.old.outbox; taken = [] })
+            (client_side seat.new (A.tally hall.new) (A.calls hall.new) (L.traffic link.new) (L.marks link.new) (L.faults link.new))
+            (record { feeder = self.new.feeder; waiting = self.new.outbox; taken = [] }))
+            (Ends
+            (client_side seat.old (A.tally hall.old) (A.calls hall.old) (L.traffic link.old) (L.marks link.old) (L.faults link.old))
+            (record { feeder = self.old.feeder; waiting = self.old.outbox; taken = [] })
+            (client_side seat.new (A.tally hall.new) (A.calls hall.new) (L.traffic link.new) (L.marks link.new) (L.faults link.new))) }
+    {
+        if let Err(ended) = self.answer_waiting(rt, seat, hall, link, gate) {
+            return Err(ended);
+        }
+        match self.send_and_receive(link, seat.number(), gate, room) {
+            Ok(()) => Ok(()),
+            Err(ended) => Err(ended),
+        }
+    }
+
+    // Sends the replies that wait, and receives more.
+    fn send_and_receive<L: Link, G: Gate>(
+        &mut self,
+        link: &mut L,
+        seat: u32,
+        gate: &G,
+        room: &mut [u8],
+    ) -> Result<(), Ended>
+        requires some { 0 < length room.old }
+        requires all { self.old.feeder.waiting ≡ [] }
+        requires side { self.old.feeder.heard ≡ AtClient }
+        requires sound { IsSound self.old.feeder }
+        ensures side { self.new.feeder.heard ≡ AtClient }
+        ensures sound { OnOk result (IsSound self.new.feeder) }
+        ensures talk { (side : ClientSide) → MatchResult result
+            (λ _. Goes (with_link side (L.traffic link.old) (L.marks link.old) (L.faults link.old))
+            (record { feeder = self.old.feeder; waiting = self.old.outbox; taken = [] })
+            (with_link side (L.traffic link.new) (L.marks link.new) (L.faults link.new))
+            (record { feeder = self.new.feeder; waiting = self.new.outbox; taken = [] }))
+            (Ends (with_link side (L.traffic link.old) (L.marks link.old) (L.faults link.old))
+            (record { feeder = self.old.feeder; waiting = self.old.outbox; taken = [] })
+            (with_link side (L.traffic link.new) (L.marks link.new) (L.faults link.new))) }
+    {
+        if let Err(ended) = self.outbox.flush(link, seat, gate) {
+            return Err(ended);
+        }
+        match receive_more(link, &mut self.feeder, room) {
+            Ok(()) => Ok(()),
+            Err(ended) => Err(ended),
+        }
+    }
+
+    // Answers all checks that were heard. Some replies may not be sent yet.
+    fn answer_waiting<R: Wait, A: Hall, L: Link, G: Gate>(
+        &mut self,
+        rt: &R,
+        seat: &mut Seat,
+        hall: &mut A,
+        link: &mut L,
+        gate: &G,
+    ) -> Result<(), Ended>
+        requires side { self.old.feeder.heard ≡ AtClient }
+        requires sound { IsSound self.old.feeder }
+        ensures side { OnOk result (self.new.feeder.heard ≡ AtClient) }
+        ensures sound { OnOk result (IsSound self.new.feeder) }
+        ensures all { OnOk result (self.new.feeder.waiting ≡ []) }
+        ensures talk { MatchResult result
+            (λ _. Goes
+            (client_side seat.old (A.tally hall.old) (A.calls hall.old) (L.traffic link.old) (L.marks link.old) (L.faults link.old))
+            (record { feeder = self.old.feeder; waiting = self.old.outbox; taken = [] })
+            (client_side seat.new (A.tally hall.new) (A.calls hall.new) (L.traffic link.new) (L.marks link.new) (L.faults link.new))
+            (record { feeder = self.new.feeder; waiting = self.new.outbox; taken = [] }))
+            (Ends
+            (client_side seat.old (A.tally hall.old) (A.calls hall.old) (L.traffic link.old) (L.marks link.old) (L.faults link.old))
+            (record { feeder = self.old.feeder; waiting = self.old.outbox; taken = [] })
+            (client_side seat.new (A.tally hall.new) (A.calls hall.new) (L.traffic link.new) (L.marks link.new) (L.faults link.new))) }
+    {
+        while let Some(check) = take_check(&mut self.feeder) {
+            if let Err(ended) = self.answer_check(rt, seat, hall, link, gate, &check) {
+                return Err(ended);
+            }
+        }
+        Ok(())
+    }
+
+    // Answers a check that was taken. The replies before it are sent before an agent is waited for.
+    fn answer_check<R: Wait, A: Hall, L: Link, G: Gate>(
+        &mut self,
+        rt: &R,
+        seat: &mut Seat,
+        hall: &mut A,
+        link: &mut L,
+        gate: &G,
+        check: &Check,
+    ) -> Result<(), Ended>
+        ensures feeder { self.new.feeder ≡ self.old.feeder }
+        ensures talk { MatchResult result
+            (λ _. Goes
+            (client_side seat.old (A.tally hall.old) (A.calls hall.old) (L.traffic link.old) (L.marks link.old) (L.faults link.old))
+            (record { feeder = self.old.feeder; waiting = self.old.outbox; taken = check.now ∷ [] })
+            (client_side seat.new (A.tally hall.new) (A.calls hall.new) (L.traffic link.new) (L.marks link.new) (L.faults link.new))
+            (record { feeder = self.new.feeder; waiting = self.new.outbox; taken = [] }))
+            (Ends
+            (client_side seat.old (A.tally hall.old) (A.calls hall.old) (L.traffic link.old) (L.marks link.old) (L.faults link.old))
+            (record { feeder = self.old.feeder; waiting = self.old.outbox; taken = check.now ∷ [] })
+            (client_side seat.new (A.tally hall.new) (A.calls hall.new) (L.traffic link.new) (L.marks link.new) (L.faults link.new))) }
+    {
+        match self.read(rt, seat, check) {
+            Found::Ready => match self.put_reply() {
+                Ok(()) => Ok(()),
+                Err(ended) => Err(ended),
+            },
+            Found::Due {
+                commit,
+                kind,
+                metadata,
+            } => {
+                let number = seat.number();
+                match self.answer_by_agent(
+                    hall, link, gate, number, check, commit, kind, metadata,
+                ) {
+                    Ok(()) => Ok(()),
+                    Err(ended) => Err(ended),
+                }
+            }
+            Found::Memory => Err(Ended::Memory),
+        }
+    }
+
+    // Reads a check. Where a reply was read its frame is spelled.
+    fn read<R: Wait>(&mut self, rt: &R, seat: &mut Seat, check: &Check) -> Found
+        ensures feeder { self.new.feeder ≡ self.old.feeder }
+        ensures outbox { self.new.outbox ≡ self.old.outbox }
+        ensures same { seat.new ≡ record seat.old { seen = seat.new.seen } }
+        ensures seen { GoesOn seat.old.seen seat.new.seen }
+        ensures read { (desk : DeskState) × IsReadNow desk seat.new
+            × Finds check.now.sequence (reading desk check.now) self.new.frame result }
+    {
+        let frame = replace(&mut self.frame, Bytes::new(self.alloc));
+        let Read { frame, found } = read_check(rt, seat, check, frame);
+        self.frame = frame;
+        found
+    }
+
+    // Answers a check that the policies of the commit leave to an agent.
+    fn answer_by_agent<A: Hall, L: Link, G: Gate>(
+        &mut self,
+        hall: &mut A,
+        link: &mut L,
+        gate: &G,
+        seat: u32,
+        check: &Check,
+        commit: u64,
+        kind: Kind,
+        metadata: Metadata,
+    ) -> Result<(), Ended>
+        requires { IsTrue (is_agent kind.0) }
+        ensures feeder { self.new.feeder ≡ self.old.feeder }
+        ensures talk { (reader : SeatState) (desk : DeskState) → IsReadNow desk reader
+            → reading desk check.now ≡ IsDue commit kind metadata → MatchResult result
+            (λ _. Goes
+            (client_side reader (A.tally hall.old) (A.calls hall.old) (L.traffic link.old) (L.marks link.old) (L.faults link.old))
+            (record { feeder = self.old.feeder; waiting = self.old.outbox; taken = check.now ∷ [] })
+            (client_side reader (A.tally hall.new) (A.calls hall.new) (L.traffic link.new) (L.marks link.new) (L.faults link.new))
+            (record { feeder = self.new.feeder; waiting = self.new.outbox; taken = [] }))
+            (Ends
+            (client_side reader (A.tally hall.old) (A.calls hall.old) (L.traffic link.old) (L.marks link.old) (L.faults link.old))
+            (record { feeder = self.old.feeder; waiting = self.old.outbox; taken = check.now ∷ [] })
+            (client_side reader (A.tally hall.new) (A.calls hall.new) (L.traffic link.new) (L.marks link.new) (L.faults link.new))) }
+    {
+        if let Err(ended) = self.outbox.flush(link, seat, gate) {
+            return Err(ended);
+        }
+        match ask_agent(hall, commit, kind, &check.question, metadata) {
+            Ok(reply) => self.tell(check.sequence, reply),
+            Err(ended) => Err(ended),
+        }
+    }
+
+    // Spells the reply that an agent led to, and puts it behind those that wait.
+    fn tell(&mut self, sequence: u16, reply: AgentReply) -> Result<(), Ended>
+        ensures feeder { self.new.feeder ≡ self.old.feeder }
+        ensures put { MatchResult result
+            (λ _. self.new.outbox ≡ self.old.outbox ++ spelling (with_sequence sequence (message_of (reply_of reply))))
+            (λ ended. (ended ≡ Memory) × (self.new.outbox ≡ self.old.outbox)) }
+    {
+        match spell(&mut self.frame, sequence, reply.message()) {
+            Ok(()) => self.put_reply(),
+            Err(ended) => Err(ended),
+        }
+    }
+
+    // Puts the reply that was spelled behind those that wait.
+    fn put_reply(&mut self) -> Result<(), Ended>
+        ensures feeder { self.new.feeder ≡ self.old.feeder }
+        ensures put { MatchResult result (λ _. self.new.outbox ≡ self.old.outbox ++ self.old.frame)
+            (λ ended. (ended ≡ Memory) × (self.new.outbox ≡ self.old.outbox)) }
+    {
+        match self.outbox.put(&self.frame) {
+            Ok(()) => Ok(()),
+            Err(_) => Err(Ended::Memory),
+        }
+    }
+}

@@ -1,0 +1,10 @@
+//! What the doors of a service have in common: frames that come over a link, and how the serving of a connection ends.
+#![tactic(auto)]
+
+mod endings;
+mod receiving;
+mod sending;
+
+pub use endings::Ended;
+pub use receiving::{MOST_PIECE, next_frame, receive_more};
+pub use sending::send_message;

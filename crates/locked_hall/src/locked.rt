@@ -1,0 +1,190 @@
+ghost use Rattle.std.specs.Prelude.{◌≡◌, None, IsTrue, IfErr};
+ghost use Rattle.cynara_keys.specs.PolicyResult.{is_agent};
+ghost use Rattle.server_hall.specs.Tally.{no_calls, IsNamedForItself};
+
+use agent_table::{AnswerRefusal, Asked, Questions, RegisterRefusal, Taken};
+use cynara_keys::{Kind, Metadata, Question};
+use link_ports::HangEnd;
+use live_desk::{Publisher, Seat};
+use live_roll::{Left, Roll, Stopped};
+use server_hall::{
+    AskRefusal, Awaited, Hall, HallTally, NextRefusal, await_answer, enter_roll, give_next,
+    leave_roll, put_question,
+};
+use std::alloc::Global;
+use std::snapshot::Snapshot;
+use std::sync::{Condvar, Mutex, Wait};
+
+/// The table of questions to agents under its lock, and what tells those that wait of news.
+#[derive(Drop)]
+pub struct QuestionDesk {
+    pub table: Mutex<Questions>,
+    pub news: Condvar,
+}
+
+impl QuestionDesk {
+    /// A table with no question. Takes no memory.
+    pub fn new(alloc: Global) -> QuestionDesk {
+        QuestionDesk {
+            table: Mutex::new(Questions::new(alloc)),
+            news: Condvar::new(),
+        }
+    }
+
+    /// Whether the table was stopped. May wait for the lock.
+    pub fn is_stopped<R: Wait>(&self, rt: &R) -> bool {
+        self.table.lock(rt).is_stopped()
+    }
+}
+
+/// The hall over a locked roll and a locked table. It keeps the runtime, and counts the calls that are made by way of it. It
+/// tells no list of its calls.
+#[derive(Drop)]
+pub struct Locked<'a, R: Wait + Drop, H: HangEnd> {
+    rt: R,
+    roll: &'a Mutex<Roll<H>>,
+    questions: &'a QuestionDesk,
+    tally: HallTally,
+}
+
+impl<'a, R: Wait + Drop, H: HangEnd> Locked<'a, R, H> {
+    /// The hall over these locks, by way of which no call was made. Takes no memory.
+    pub fn new(rt: R, roll: &'a Mutex<Roll<H>>, questions: &'a QuestionDesk) -> Locked<'a, R, H>
+        ensures { result.tally ≡ no_calls }
+    {
+        Locked {
+            rt,
+            roll,
+            questions,
+            tally: HallTally::new(),
+        }
+    }
+
+    /// What it counts, and its last calls.
+    pub fn tally(&self) -> &HallTally
+        ensures { result.now ≡ self.now.tally }
+    {
+        &self.tally
+    }
+}
+
+impl<'a, R: Wait + Drop, H: HangEnd> Hall for Locked<'a, R, H> {
+    type End = H;
+
+    ghost tally = { λ hall. hall.tally };
+
+    ghost calls = { λ hall. None };
+
+    fn enter(&mut self, end: H, seat: &mut Seat) -> Result<u64, Stopped> {
+        let mut roll = self.roll.lock(&self.rt);
+        let entered = enter_roll(&mut *roll, end, seat);
+        drop(roll);
+        self.tally.count_enter(&entered);
+        entered
+    }
+
+    fn leave(&mut self, seat: u32, entered: u64) -> Left {
+        let mut roll = self.roll.lock(&self.rt);
+        let left = leave_roll(&mut *roll, seat, entered);
+        drop(roll);
+        self.tally.count_leave(left);
+        left
+    }
+
+    fn hang(&mut self, publisher: &Publisher) {
+        let commit = publisher.commit();
+        self.roll.lock(&self.rt).hang_all(commit);
+        self.tally.note_hang(commit);
+    }
+
+    fn ask(
+        &mut self,
+        kind: Kind,
+        question: Question,
+        metadata: Metadata,
+    ) -> Result<(u32, Taken), AskRefusal> {
+        let asked = Snapshot::of(&question);
+        let with = Snapshot::of(&metadata);
+        let outcome = ask_at(&self.rt, self.questions, kind, question, metadata);
+        self.tally.count_ask(kind, asked, with, &outcome);
+        outcome
+    }
+
+    fn join(&mut self, kind: Kind) -> Result<(), RegisterRefusal> {
+        let outcome = self.questions.table.lock(&self.rt).register(kind);
+        self.tally.count_join(kind, &outcome);
+        outcome
+    }
+
+    fn next(&mut self, kind: Kind) -> Result<Asked, NextRefusal> {
+        let outcome = next_at(&self.rt, self.questions, kind);
+        self.tally.count_next(kind, &outcome);
+        outcome
+    }
+
+    fn answer(&mut self, kind: Kind, number: u32, allowed: bool) -> Result<(), AnswerRefusal> {
+        let outcome = self
+            .questions
+            .table
+            .lock(&self.rt)
+            .answer(kind, number, allowed);
+        self.questions.news.notify_all();
+        self.tally.count_answer(kind, number, allowed, &outcome);
+        outcome
+    }
+
+    fn part(&mut self, kind: Kind) {
+        self.questions.table.lock(&self.rt).drop_agent(kind);
+        self.questions.news.notify_all();
+        self.tally.count_part(kind);
+    }
+
+    fn stop(&mut self) {
+        self.roll.lock(&self.rt).stop();
+        self.questions.table.lock(&self.rt).stop();
+        self.questions.news.notify_all();
+        self.tally.count_stop();
+    }
+}
+
+// Puts a question, and waits for its answer.
+fn ask_at<R: Wait>(
+    rt: &R,
+    questions: &QuestionDesk,
+    kind: Kind,
+    question: Question,
+    metadata: Metadata,
+) -> Result<(u32, Taken), AskRefusal>
+    requires { IsTrue (is_agent kind.0) }
+    ensures { IfErr result IsNamedForItself }
+{
+    let mut table = questions.table.lock(rt);
+    let number = match put_question(&mut *table, kind, question, metadata) {
+        Ok(number) => number,
+        Err(refusal) => return Err(refusal),
+    };
+    questions.news.notify_all();
+    for _ in rt.forever() {
+        match await_answer(&mut *table, number) {
+            Awaited::Answered(taken) => return Ok((number, taken)),
+            Awaited::Refused(refusal) => return Err(refusal),
+            Awaited::NotYet => table = questions.news.wait(rt, table),
+        }
+    }
+    unreachable!()
+}
+
+// Waits until there is a question for the agent of the kind.
+fn next_at<R: Wait>(rt: &R, questions: &QuestionDesk, kind: Kind) -> Result<Asked, NextRefusal>
+    requires { IsTrue (is_agent kind.0) }
+{
+    let mut table = questions.table.lock(rt);
+    for _ in rt.forever() {
+        match give_next(&mut *table, kind) {
+            Ok(Some(asked)) => return Ok(asked),
+            Ok(None) => table = questions.news.wait(rt, table),
+            Err(refusal) => return Err(refusal),
+        }
+    }
+    unreachable!()
+}

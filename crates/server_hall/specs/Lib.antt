@@ -1,0 +1,5 @@
+pub mod Call
+pub mod Tally
+pub mod Told
+pub mod Table
+pub mod ListHall

@@ -1,0 +1,117 @@
+ghost use Rattle.std.specs.Prelude.{◌≡◌, ◌<◌, ◌∷◌, [], List, Option, false, IsTrue, IfOk, IfErr, OnErr};
+ghost use Rattle.cynara_keys.specs.PolicyResult.{is_agent};
+ghost use Rattle.live_desk.specs.History.{last_commit};
+ghost use Rattle.live_desk.specs.Seat.{with_note};
+ghost use Rattle.server_hall.specs.Tally.{Tally, after_enter, after_leave, IsRaised, after_hang, after_ask, after_join};
+ghost use Rattle.server_hall.specs.Tally.{after_next, after_answer, after_part, after_stop, IsNamedForItself};
+ghost use Rattle.server_hall.specs.Told.{AppendsCalls};
+ghost use Rattle.server_hall.specs.declared.calls.HallCall as call;
+
+use crate::{AskRefusal, NextRefusal};
+use agent_table::{AnswerRefusal, Asked, RegisterRefusal, Taken};
+use cynara_keys::{Kind, Metadata, Question};
+use link_ports::HangEnd;
+use live_desk::{Publisher, Seat};
+use live_roll::{Left, Stopped};
+
+/// What all connections of a service share: the roll of the connections that a commit has to hang up, and the questions to
+/// agents. A call may wait. Every hall tells its tally; it may tell the list of its calls of `ask`, `join`, `next` and
+/// `answer`.
+pub trait Hall {
+    /// What hangs a connection of a client up.
+    type End: HangEnd;
+
+    /// How often each call was made, how often one found the hall stopped, and the last calls.
+    ghost tally: { Self → Tally };
+
+    /// The calls of `ask`, `join`, `next` and `answer`, in order, where the hall tells them.
+    ghost calls: { Self → Option (List call.HallCall) };
+
+    /// A connection enters, in the place of the seat. The seat is told the commit at which it enters, which is answered:
+    /// each commit that was acknowledged before is no higher. Refuses `Stopped`; the end is then dropped, and the seat is as
+    /// before.
+    fn enter(&mut self, end: Self::End, seat: &mut Seat) -> Result<u64, Stopped>
+        requires { Self.End.used end ≡ false }
+        ensures tally { tally self.new ≡ after_enter result (tally self.old) }
+        ensures calls { calls self.new ≡ calls self.old }
+        ensures told { IfOk result (λ note. seat.new ≡ with_note note seat.old) }
+        ensures untold { OnErr result (seat.new ≡ seat.old) };
+
+    /// A connection leaves that entered at this commit in the place of this seat. `Hung` where a later commit has hung it
+    /// up, and else `Stopped` where the service is stopped.
+    fn leave(&mut self, seat: u32, entered: u64) -> Left
+        requires { seat < 64 }
+        ensures tally { tally self.new ≡ after_leave result (tally self.old) }
+        ensures calls { calls self.new ≡ calls self.old }
+        ensures raised { IsRaised entered result };
+
+    /// Hangs up each connection that entered before the last commit of the publisher.
+    fn hang(&mut self, publisher: &Publisher)
+        ensures tally { tally self.new ≡ after_hang (last_commit 0 publisher.now) (tally self.old) }
+        ensures calls { calls self.new ≡ calls self.old };
+
+    /// Puts a question to the agent of the kind, and waits for its answer: the number of the question, and the question that
+    /// was found under it with the answer. Want of memory is `Put` of it.
+    fn ask(
+        &mut self,
+        kind: Kind,
+        question: Question,
+        metadata: Metadata,
+    ) -> Result<(u32, Taken), AskRefusal>
+        requires { IsTrue (is_agent kind.0) }
+        ensures tally { tally self.new ≡ after_ask (record {
+          kind = kind;
+          question = question;
+          metadata = metadata;
+          result = result;
+        }) (tally self.old) }
+        ensures calls { AppendsCalls (calls self.old) (call.HallCall.Ask (record {
+          kind = kind;
+          question = question;
+          metadata = metadata;
+          result = result;
+        }) ∷ []) (calls self.new) }
+        ensures named { IfErr result IsNamedForItself };
+
+    /// An agent comes for the kind. Refuses `Stopped`, and `Taken` where the kind has an agent.
+    fn join(&mut self, kind: Kind) -> Result<(), RegisterRefusal>
+        requires { IsTrue (is_agent kind.0) }
+        ensures tally { tally self.new ≡ after_join (record { kind = kind; result = result }) (tally self.old) }
+        ensures calls { AppendsCalls (calls self.old)
+            (call.HallCall.Join (record { kind = kind; result = result }) ∷ []) (calls self.new) };
+
+    /// Waits until there is a question for the agent of the kind, and gives it. Refuses `Stopped`.
+    fn next(&mut self, kind: Kind) -> Result<Asked, NextRefusal>
+        requires { IsTrue (is_agent kind.0) }
+        ensures tally { tally self.new ≡ after_next (record { kind = kind; result = result }) (tally self.old) }
+        ensures calls { AppendsCalls (calls self.old)
+            (call.HallCall.Next (record { kind = kind; result = result }) ∷ []) (calls self.new) };
+
+    /// Takes the answer of the agent of the kind to the question of the number. Refuses it where no such question waits
+    /// for it.
+    fn answer(&mut self, kind: Kind, number: u32, allowed: bool) -> Result<(), AnswerRefusal>
+        requires { IsTrue (is_agent kind.0) }
+        ensures tally { tally self.new ≡ after_answer (record {
+          kind = kind;
+          number = number;
+          allowed = allowed;
+          result = result;
+        }) (tally self.old) }
+        ensures calls { AppendsCalls (calls self.old) (call.HallCall.Answer (record {
+          kind = kind;
+          number = number;
+          allowed = allowed;
+          result = result;
+        }) ∷ []) (calls self.new) };
+
+    /// The agent of the kind leaves.
+    fn part(&mut self, kind: Kind)
+        requires { IsTrue (is_agent kind.0) }
+        ensures tally { tally self.new ≡ after_part kind (tally self.old) }
+        ensures calls { calls self.new ≡ calls self.old };
+
+    /// The service stops: nobody enters or joins any more, and nobody waits for an answer.
+    fn stop(&mut self)
+        ensures tally { tally self.new ≡ after_stop (tally self.old) }
+        ensures calls { calls self.new ≡ calls self.old };
+}

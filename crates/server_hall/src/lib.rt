@@ -1,0 +1,25 @@
+//! Halls: the state of a service that all its connections share. In a hall are the roll of the connections that a commit
+//! has to hang up, and the table of questions to agents.
+//!
+//! A connection makes its calls on a hall, whatever stands behind it: two locks in a service that runs, or a list of
+//! answers in a test. Every hall counts its calls and keeps the last ones, so that a promise of a connection can speak of
+//! the calls that it made. What a call does to a roll and a table is said where it is lent them.
+#![tactic(auto)]
+
+mod calls;
+mod halls;
+mod list_answers;
+mod list_hall;
+mod refusals;
+mod roll_calls;
+mod table_calls;
+mod tallies;
+
+pub use calls::{AnswerCall, AskCall, HallCall, JoinCall, NextCall, PartCall};
+pub use halls::Hall;
+pub use list_answers::HallAnswer;
+pub use list_hall::ListHall;
+pub use refusals::{AskRefusal, NextRefusal};
+pub use roll_calls::{enter_roll, leave_roll};
+pub use table_calls::{Awaited, await_answer, give_next, put_question};
+pub use tallies::HallTally;

@@ -1,0 +1,320 @@
+ghost use Rattle.std.specs.Prelude.{◌≡◌, ◌<◌, ◌∷◌, [], false, IfOk, IfErr, OnErr};
+ghost use Rattle.live_roll.specs.Roll.{with_entry, without_entry, hung_to, stopped};
+ghost use Rattle.live_desk.specs.History.{last_commit};
+ghost use Rattle.live_desk.specs.Seat.{with_note};
+ghost use Rattle.server_hall.specs.Tally.{after_enter, after_leave, IsRaised, after_hang, after_ask, after_join};
+ghost use Rattle.server_hall.specs.Tally.{after_next, after_answer, after_part, after_stop, IsNamedForItself};
+ghost use Rattle.server_hall.specs.Told.{AppendsCalls};
+ghost use Rattle.server_hall.specs.ListHall.{IsNewHall};
+ghost use Rattle.server_hall.specs.declared.calls.HallCall as call;
+
+use crate::calls::{AnswerCall, AskCall, HallCall, JoinCall, NextCall};
+use crate::list_answers::HallAnswer;
+use crate::roll_calls::{enter_roll, leave_roll};
+use crate::tallies::HallTally;
+use crate::{AskRefusal, Hall, NextRefusal};
+use agent_table::{AnswerRefusal, Asked, PutRefusal, RegisterRefusal, Taken};
+use cynara_keys::{Kind, Metadata, Question};
+use link_ports::HangEnd;
+use live_desk::{Publisher, Seat};
+use live_roll::{Left, Roll, Stopped};
+use std::alloc::{AllocError, Global};
+use std::marker::Model;
+use std::snapshot::Snapshot;
+
+/// A hall in memory, for tests: a roll, and a list of answers to `ask`, `join`, `next` and `answer`, of which each of
+/// these calls takes the next one. Where that is an answer to another call, or none is left, the list counts as used up from
+/// then on: such a call counts a stop and answers `Stopped`, and `answer` refuses. It tells its calls until then.
+#[derive(Drop)]
+pub struct ListHall<H> {
+    // The next one is the last.
+    answers: Vec<HallAnswer>,
+    roll: Roll<H>,
+    tally: HallTally,
+    // None once the answers are used up.
+    calls: Option<Vec<HallCall>>,
+}
+
+impl<H> Model for ListHall<H> {
+    ghost use Rattle.std.specs.Option.{option_map};
+    ghost use Rattle.server_hall.specs.ListHall.{HeldHall};
+
+    ghost Value = { HeldHall H };
+
+    ghost view = { λ hall. record {
+      left = hall.answers.items;
+      roll = hall.roll;
+      tally = hall.tally;
+      calls = option_map (λ calls. calls.items) hall.calls;
+    } };
+}
+
+impl<H: HangEnd> ListHall<H> {
+    /// A hall with this roll, and these answers in turn. Takes room for as many calls. An answer `Put` of the table's
+    /// `Stopped` stands for `Stopped`.
+    pub fn new(
+        alloc: Global,
+        answers: Vec<HallAnswer>,
+        roll: Roll<H>,
+    ) -> Result<ListHall<H>, AllocError>
+        ensures { IfOk result (IsNewHall roll) }
+    {
+        let calls = Vec::with_capacity(alloc, answers.len())?;
+        let mut answers = answers;
+        answers.reverse();
+        Ok(ListHall {
+            answers,
+            roll,
+            tally: HallTally::new(),
+            calls: Some(calls),
+        })
+    }
+
+    /// What it counts, and its last calls.
+    pub fn tally(&self) -> &HallTally
+        ensures { result.now ≡ self.now.tally }
+    {
+        &self.tally
+    }
+
+    /// Its roll.
+    pub fn roll(&self) -> &Roll<H>
+        ensures { result.now ≡ self.now.roll }
+    {
+        &self.roll
+    }
+
+    /// How many answers are left.
+    pub fn left(&self) -> usize {
+        self.answers.len()
+    }
+
+    /// Whether its answers are used up.
+    pub fn is_used_up(&self) -> bool {
+        self.calls.is_none()
+    }
+
+    // The next answer. From a call on that finds none the answers are used up.
+    fn take_answer(&mut self) -> Option<HallAnswer>
+        ensures roll { self.new.roll ≡ self.old.roll }
+        ensures tally { self.new.tally ≡ self.old.tally }
+        ensures calls { AppendsCalls self.old.calls [] self.new.calls }
+    {
+        let Some(answer) = self.answers.pop() else {
+            self.calls = None;
+            return None;
+        };
+        Some(answer)
+    }
+
+    // The answers are used up, since the next one belonged to another call.
+    fn use_up(&mut self)
+        ensures roll { self.new.roll ≡ self.old.roll }
+        ensures tally { self.new.tally ≡ self.old.tally }
+        ensures calls { AppendsCalls self.old.calls [] self.new.calls }
+    {
+        self.answers.clear();
+        self.calls = None;
+    }
+
+    // Keeps a call, as long as the calls are told.
+    fn keep(&mut self, call: HallCall)
+        ensures roll { self.new.roll ≡ self.old.roll }
+        ensures tally { self.new.tally ≡ self.old.tally }
+        ensures calls { AppendsCalls self.old.calls (call ∷ []) self.new.calls }
+    {
+        if let Some(mut calls) = self.calls.take() {
+            if let Ok(()) = calls.push(call) {
+                self.calls = Some(calls);
+            }
+        }
+    }
+
+    fn next_ask(&mut self) -> Result<(u32, Taken), AskRefusal>
+        ensures named { IfErr result IsNamedForItself }
+        ensures roll { self.new.roll ≡ self.old.roll }
+        ensures tally { self.new.tally ≡ self.old.tally }
+        ensures calls { AppendsCalls self.old.calls [] self.new.calls }
+    {
+        match self.take_answer() {
+            Some(HallAnswer::Ask(Ok(answered))) => Ok(answered),
+            Some(HallAnswer::Ask(Err(refusal))) => Err(named(refusal)),
+            Some(_) => {
+                self.use_up();
+                Err(AskRefusal::Stopped)
+            }
+            None => Err(AskRefusal::Stopped),
+        }
+    }
+
+    fn next_join(&mut self) -> Result<(), RegisterRefusal>
+        ensures roll { self.new.roll ≡ self.old.roll }
+        ensures tally { self.new.tally ≡ self.old.tally }
+        ensures calls { AppendsCalls self.old.calls [] self.new.calls }
+    {
+        match self.take_answer() {
+            Some(HallAnswer::Join(outcome)) => outcome,
+            Some(_) => {
+                self.use_up();
+                Err(RegisterRefusal::Stopped)
+            }
+            None => Err(RegisterRefusal::Stopped),
+        }
+    }
+
+    fn next_next(&mut self) -> Result<Asked, NextRefusal>
+        ensures roll { self.new.roll ≡ self.old.roll }
+        ensures tally { self.new.tally ≡ self.old.tally }
+        ensures calls { AppendsCalls self.old.calls [] self.new.calls }
+    {
+        match self.take_answer() {
+            Some(HallAnswer::Next(outcome)) => outcome,
+            Some(_) => {
+                self.use_up();
+                Err(NextRefusal::Stopped)
+            }
+            None => Err(NextRefusal::Stopped),
+        }
+    }
+
+    fn next_answer(&mut self, number: u32) -> Result<(), AnswerRefusal>
+        ensures roll { self.new.roll ≡ self.old.roll }
+        ensures tally { self.new.tally ≡ self.old.tally }
+        ensures calls { AppendsCalls self.old.calls [] self.new.calls }
+    {
+        match self.take_answer() {
+            Some(HallAnswer::Answer(outcome)) => outcome,
+            Some(_) => {
+                self.use_up();
+                Err(AnswerRefusal::UnknownNumber(number))
+            }
+            None => Err(AnswerRefusal::UnknownNumber(number)),
+        }
+    }
+}
+
+// The refusal, named for itself.
+fn named(refusal: AskRefusal) -> AskRefusal
+    ensures { IsNamedForItself result }
+{
+    match refusal {
+        AskRefusal::Put(PutRefusal::Stopped) => AskRefusal::Stopped,
+        AskRefusal::Put(PutRefusal::NoAgent(kind)) => AskRefusal::Put(PutRefusal::NoAgent(kind)),
+        AskRefusal::Put(PutRefusal::Full) => AskRefusal::Put(PutRefusal::Full),
+        AskRefusal::Put(PutRefusal::Spent) => AskRefusal::Put(PutRefusal::Spent),
+        AskRefusal::Put(PutRefusal::Memory(error)) => AskRefusal::Put(PutRefusal::Memory(error)),
+        AskRefusal::Gone(number) => AskRefusal::Gone(number),
+        AskRefusal::Stopped => AskRefusal::Stopped,
+        AskRefusal::Lost(number) => AskRefusal::Lost(number),
+    }
+}
+
+impl<H: HangEnd> Hall for ListHall<H> {
+    type End = H;
+
+    ghost tally = { λ hall. hall.tally };
+
+    ghost calls = { λ hall. hall.calls };
+
+    fn enter(&mut self, end: H, seat: &mut Seat) -> Result<u64, Stopped>
+        requires { H.used end ≡ false }
+        ensures tally { self.new.tally ≡ after_enter result self.old.tally }
+        ensures calls { self.new.calls ≡ self.old.calls }
+        ensures told { IfOk result (λ note. seat.new ≡ with_note note seat.old) }
+        ensures untold { OnErr result (seat.new ≡ seat.old) }
+
+        // More than any hall promises: what it makes of the roll.
+        ensures entered { IfOk result
+            (λ note. (note ≡ self.old.roll.note) × (self.new.roll ≡ with_entry seat.old.number end self.old.roll)) }
+        ensures kept { OnErr result (self.new.roll ≡ self.old.roll) }
+    {
+        let entered = enter_roll(&mut self.roll, end, seat);
+        self.tally.count_enter(&entered);
+        entered
+    }
+
+    fn leave(&mut self, seat: u32, entered: u64) -> Left
+        requires { seat < 64 }
+        ensures tally { self.new.tally ≡ after_leave result self.old.tally }
+        ensures calls { self.new.calls ≡ self.old.calls }
+        ensures raised { IsRaised entered result }
+
+        // More than any hall promises: what it makes of the roll.
+        ensures left { self.new.roll ≡ without_entry seat self.old.roll }
+    {
+        let left = leave_roll(&mut self.roll, seat, entered);
+        self.tally.count_leave(left);
+        left
+    }
+
+    fn hang(&mut self, publisher: &Publisher)
+        ensures tally { self.new.tally ≡ after_hang (last_commit 0 publisher.now) self.old.tally }
+        ensures calls { self.new.calls ≡ self.old.calls }
+
+        // More than any hall promises: what it makes of the roll.
+        ensures hung { self.new.roll ≡ hung_to (last_commit 0 publisher.now) self.old.roll }
+    {
+        let commit = publisher.commit();
+        self.roll.hang_all(commit);
+        self.tally.note_hang(commit);
+    }
+
+    fn ask(
+        &mut self,
+        kind: Kind,
+        question: Question,
+        metadata: Metadata,
+    ) -> Result<(u32, Taken), AskRefusal> {
+        let outcome = self.next_ask();
+        self.tally.count_ask(
+            kind,
+            Snapshot::of(&question),
+            Snapshot::of(&metadata),
+            &outcome,
+        );
+        let call = AskCall::of(
+            kind,
+            Snapshot::of(&question),
+            Snapshot::of(&metadata),
+            &outcome,
+        );
+        self.keep(HallCall::Ask(call));
+        outcome
+    }
+
+    fn join(&mut self, kind: Kind) -> Result<(), RegisterRefusal> {
+        let outcome = self.next_join();
+        self.tally.count_join(kind, &outcome);
+        self.keep(HallCall::Join(JoinCall::of(kind, &outcome)));
+        outcome
+    }
+
+    fn next(&mut self, kind: Kind) -> Result<Asked, NextRefusal> {
+        let outcome = self.next_next();
+        self.tally.count_next(kind, &outcome);
+        self.keep(HallCall::Next(NextCall::of(kind, &outcome)));
+        outcome
+    }
+
+    fn answer(&mut self, kind: Kind, number: u32, allowed: bool) -> Result<(), AnswerRefusal> {
+        let outcome = self.next_answer(number);
+        self.tally.count_answer(kind, number, allowed, &outcome);
+        self.keep(HallCall::Answer(AnswerCall::of(kind, number, allowed, &outcome)));
+        outcome
+    }
+
+    fn part(&mut self, kind: Kind) {
+        self.tally.count_part(kind);
+    }
+
+    fn stop(&mut self)
+        ensures tally { self.new.tally ≡ after_stop self.old.tally }
+        ensures calls { self.new.calls ≡ self.old.calls }
+
+        // More than any hall promises: what it makes of the roll.
+        ensures stopped { self.new.roll ≡ stopped self.old.roll }
+    {
+        self.roll.stop();
+        self.tally.count_stop();
+    }
+}

@@ -1,0 +1,28 @@
+use agent_table::PutRefusal;
+use std::alloc::AllocError;
+use thiserror::Error;
+
+/// Why a check that was put to an agent has no answer of it.
+#[derive(Clone, Copy, Debug, PartialEq, Eq, Error)]
+pub enum AskRefusal {
+    /// The question was not put. A stopped table is no such refusal, but `Stopped`.
+    #[error("the question is not put: {0}")]
+    Put(PutRefusal),
+    /// The agent left before it answered the question of this number.
+    #[error("the agent of question {0} has left")]
+    Gone(u32),
+    #[error("the service is stopped")]
+    Stopped,
+    /// The table has no question of the number that was put.
+    #[error("the question {0} is lost")]
+    Lost(u32),
+}
+
+/// Why an agent is given no question.
+#[derive(Clone, Copy, Debug, PartialEq, Eq, Error)]
+pub enum NextRefusal {
+    #[error("the service is stopped")]
+    Stopped,
+    #[error("out of memory")]
+    Memory(AllocError),
+}
