@@ -5,14 +5,14 @@ ghost use Rattle.live_desk.specs.History.{GoesOn};
 ghost use Rattle.client_door.specs.Reading.{Reads, ReadsAtLast};
 ghost use Rattle.client_door.specs.declared.readings.Found.TheVariants.{Ready, Memory};
 
+use crate::Check;
 use crate::spelling::spell;
-use crate::{Check, Check};
 use bucket_eval::BorrowedAnswer;
 use cynara_keys::{Kind, Metadata};
 use desk_ports::Bytes;
 use live_desk::{BorrowedVerdict, Seat};
 use std::sync::Wait;
-use wire_messages::{Message, encode_judged_into, encode_message_into};
+use wire_messages::{Message, encode_judged_into};
 
 /// What was read for a check, and the buffer for its reply.
 #[derive(Drop)]

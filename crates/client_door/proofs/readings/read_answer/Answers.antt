@@ -1,0 +1,26 @@
+use Rattle.std.proofs.Common.{rules, ◌≡◌, ◌∙◌, true, false, sym, ap, subst}
+use Rattle.cynara_keys.specs.PolicyResult.{is_agent}
+use Rattle.bucket_eval.specs.Lent.{outcome_lent}
+use Rattle.client_door.specs.Reading.{Reads}
+use Rattle.client_door.specs.declared.readings.Read.{Read}
+use Rattle.client_door.proofs.Reading.{reads_judged, reads_simple, reads_due}
+use Rattle.client_door.proofs.readings.read_answer.Goals as goal
+
+pub returns-in-Ok : goal.returns-in-Ok
+returns-in-Ok c =
+    let no_agent : is_agent (outcome_lent c.args.answer.now).result.kind ≡ false = search rules in
+    subst (λ (read : Read). Reads c.args.sequence c.args.simple c.args.commit (outcome_lent c.args.answer.now) read) (sym c.ready.ensures)
+    (reads_judged c.args.sequence c.args.simple c.args.commit c.args.answer.now c.encode_judged_into.new.frame no_agent c.in-Ok.ensures.spelled)
+
+pub returns-in-Ok-spell : goal.returns-in-Ok-spell
+returns-in-Ok-spell c =
+    let agent : is_agent (outcome_lent c.args.answer.now).result.kind ≡ true = search rules in
+    subst (λ (read : Read). Reads c.args.sequence c.args.simple c.args.commit (outcome_lent c.args.answer.now) read) (sym c.ready-in-Ok-spell.ensures)
+    (reads_simple c.args.sequence c.args.simple c.args.commit c.args.answer.now c.kind-kind.result c.spell.new.frame agent (search rules)
+    c.kind-kind.ensures c.in-Ok-spell.ensures)
+
+pub returns-in-Ok-copy : goal.returns-in-Ok-copy
+returns-in-Ok-copy c =
+    let agent : is_agent (outcome_lent c.args.answer.now).result.kind ≡ true = search rules in
+    reads_due c.args.simple c.args.commit c.args.answer.now c.kind-kind.result c.in-Ok-copy.metadata agent (search rules)
+    c.kind-kind.ensures (search rules)
