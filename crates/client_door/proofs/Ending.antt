@@ -342,3 +342,12 @@ pub sends_and_asks_in_vain : (old : ClientSide) (sent : Option Traffic) (marks :
 sends_and_asks_in_vain old sent marks faults tally calls feeder waiting check kind metadata ended carried same still side made start s =
     let first = flushed start old sent marks faults feeder waiting (check ∷ []) carried same still s in
     asked_in_vain start (with_link old sent marks faults) tally calls feeder check kind metadata ended side made first.0 first.1
+
+-- a check was read, and an agent is to be asked
+pub reads_on : (old : ClientSide) (seat : SeatState) (feeder fed : Feeding) (waiting after : List ℕ) (check : Check)
+    → seat ≡ record old.seat { seen = seat.seen } → GoesOn old.seat.seen seat.seen → fed ≡ feeder → after ≡ waiting
+    → (start : ClientSide) → Stands start old feeder waiting (check ∷ []) → Stands start (record old { seat = seat }) fed after (check ∷ [])
+reads_on old seat feeder fed waiting after check same goes_on feeder_is waiting_is start s =
+    subst (λ (x : Feeding). Stands start (record old { seat = seat }) x after (check ∷ [])) (sym feeder_is)
+    (subst (λ list. Stands start (record old { seat = seat }) feeder list (check ∷ [])) (sym waiting_is)
+    (reseated start old seat feeder waiting (check ∷ []) same goes_on s))

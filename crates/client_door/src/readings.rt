@@ -2,7 +2,7 @@
 ghost use Rattle.std.specs.Prelude.{◌≡◌};
 ghost use Rattle.bucket_eval.specs.Lent.{outcome_lent};
 ghost use Rattle.live_desk.specs.History.{GoesOn};
-ghost use Rattle.client_door.specs.Reading.{Reads, ReadsAtLast};
+ghost use Rattle.client_door.specs.Reading.{Reads, ReadsAtLast, TellsNotResolved};
 ghost use Rattle.client_door.specs.declared.readings.Found.TheVariants.{Ready, Memory};
 
 use crate::Check;
@@ -72,11 +72,7 @@ fn read_answer(
         };
     }
     if simple {
-        let message = Message::NotResolved { commit, kind };
-        return match spell(&mut frame, sequence, message) {
-            Ok(()) => ready(frame),
-            Err(_) => out_of_memory(frame),
-        };
+        return not_resolved(frame, sequence, commit, kind);
     }
     match answer.result.metadata().copy() {
         Ok(metadata) => Read {
@@ -87,6 +83,17 @@ fn read_answer(
                 metadata,
             },
         },
+        Err(_) => out_of_memory(frame),
+    }
+}
+
+// An agent would decide, and none may be asked.
+fn not_resolved(frame: Bytes, sequence: u16, commit: u64, kind: Kind) -> Read
+    ensures { TellsNotResolved sequence commit kind result.frame result.found }
+{
+    let mut frame = frame;
+    match spell(&mut frame, sequence, Message::NotResolved { commit, kind }) {
+        Ok(()) => ready(frame),
         Err(_) => out_of_memory(frame),
     }
 }
