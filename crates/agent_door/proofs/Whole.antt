@@ -97,7 +97,7 @@ none_in_place start new feeder fed ended bytes framed first handed side (number,
     let h : HasHeard bytes (framed ∷ []) fed = subst (λ (x : Feeding). HandsOut bytes framed x fed) first handed [] [] (unfed_heard AtAgent) in
     let found = unheeded bytes (framed ∷ []) fed (side ∙ ap (λ (x : Feeding). x.heard) first) h in
     subst (λ (e : Ended). IsUnregistered e start new) (sym is)
-    (none start new (BadFrame (BadOperation 0x21)) bytes (inr (framed, found.0, found.1, found.2, number)) tt still tally calls carried same)
+    (none start new (BadFrame (BadOperation 0x21)) bytes (inr (framed, found.0, found.1, found.2, number, refl)) tt still tally calls carried same)
 
 -- ---- one registers
 

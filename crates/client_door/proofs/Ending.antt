@@ -1,11 +1,9 @@
 -- How the answering of checks ends.
-use Rattle.std.proofs.Common.{◌≡◌, ◌∙◌, ◌<◌, ◌≤◌, ℕ, List, [], ◌∷◌, ◌++◌, map, length, Option, Some, None, Result, Ok, Err, refl, sym, ap, subst, append_assoc, append-nil, arith}
+use Rattle.std.proofs.Common.{◌≡◌, ◌∙◌, ◌≤◌, ℕ, List, [], ◌∷◌, ◌++◌, map, length, Option, Some, refl, sym, ap, subst, append_assoc, append-nil, arith}
 use Rattle.std.proofs.lemmas.List.{map-append}
-use Rattle.std.specs.List.{AllByRecursion}
 use Rattle.desk_ports.specs.Faults.{next_count}
 use Rattle.link_ports.specs.Traffic.{Traffic}
 use Rattle.link_ports.specs.LinkMarks.{LinkMarks}
-use Rattle.cynara_keys.specs.Key.{Question}
 use Rattle.cynara_keys.specs.declared.results.Kind.{Kind}
 use Rattle.desk_state.specs.DeskState.{DeskState}
 use Rattle.live_desk.specs.History.{GoesOn}
@@ -19,20 +17,20 @@ use Rattle.wire_messages.specs.declared.messages.Framed.{Framed}
 use Rattle.wire_messages.specs.declared.operations.Heard.{Heard}
 use Rattle.wire_messages.specs.declared.operations.Heard.TheVariants.{AtClient}
 use Rattle.server_hall.specs.Call.{AskMade, AskResult}
-use Rattle.server_hall.specs.Tally.{Tally, after_ask}
+use Rattle.server_hall.specs.Tally.{Tally}
 use Rattle.server_hall.specs.Told.{AppendsCalls}
 use Rattle.server_hall.specs.declared.calls.HallCall.{HallCall}
 use Rattle.server_hall.specs.declared.calls.HallCall.TheVariants.{Ask}
 use Rattle.door_frames.specs.Carried.{Carried}
-use Rattle.door_frames.specs.Hearing.{HasHeard, HearsMore}
+use Rattle.door_frames.specs.Hearing.{HearsMore}
 use Rattle.door_frames.specs.Ending.{EndsReading, EndsBytes, IsAtEnd, faults_after}
 use Rattle.door_frames.specs.declared.endings.Ended.{Ended}
 use Rattle.door_frames.specs.declared.endings.Ended.TheVariants.{Closed, Cut, Hung, LinkFault, BadFrame, Stopped, Memory, Strayed}
 use Rattle.door_frames.proofs.Carrying.{carried_more, carried_same}
 use Rattle.client_door.specs.Check.{framed_of, message_of, reply_of}
-use Rattle.client_door.specs.Asking.{AsksOnce, AsksInVain, Asked, IsInVain, LeadsTo, FindsStop, Strays, ask_made}
+use Rattle.client_door.specs.Asking.{AsksOnce, AsksInVain, Asked, IsInVain, ask_made}
 use Rattle.client_door.specs.Reading.{reading}
-use Rattle.client_door.specs.Answered.{Answered, Answers, IsRight, call_list, calls_for, after_asks, replies_bytes, frames_of, AreReadIn}
+use Rattle.client_door.specs.Answered.{Answered, Answers, calls_for, after_asks, replies_bytes, frames_of, AreReadIn}
 use Rattle.client_door.specs.Serving.{ClientSide, client_side, with_link, EndsAsking, Talks}
 use Rattle.client_door.specs.parts.Talk.{Stands, IsReadNow}
 use Rattle.client_door.specs.declared.checks.Check.{Check}

@@ -4,3 +4,4 @@ pub mod Questions
 pub mod Reading
 pub mod Steps
 pub mod Ending
+pub mod Complete
