@@ -1,5 +1,5 @@
 -- A connection around which nothing fails is answered whole.
-use Rattle.std.proofs.Common.{◌≡◌, ◌∙◌, ◌<◌, ◌≤◌, ◌⊎◌, inl, inr, ℕ, List, [], ◌∷◌, ◌++◌, length, Option, Some, None, Result, Ok, Err, refl, sym, ap, subst, append-nil, arith, cc}
+use Rattle.std.proofs.Common.{◌≡◌, ◌∙◌, ◌<◌, ◌≤◌, ◌⊎◌, inl, inr, ℕ, List, [], ◌∷◌, ◌++◌, length, Option, Some, None, Result, Ok, Err, refl, sym, ap, subst, append-nil, arith}
 use Rattle.std.proofs.lemmas.List.{append_cancel_left}
 use Rattle.std.specs.List.{AllByRecursion}
 use Rattle.desk_ports.specs.Faults.{next_count, last_count}
@@ -36,7 +36,7 @@ moves : (before between after : ℕ) → Stays before after → before ≤ betwe
 moves before between after (below, same) least rises = omega (arith, below, same, least, rises)
 
 -- a count that is not past the last value does not fall
-Kept : ℕ → ℕ → Type 0
+abbrev Kept : ℕ → ℕ → Type 0
 Kept before after = (before ≤ after) × (after ≤ last_count)
 
 stops_kept : (result : AskResult) (stops : ℕ) → stops ≤ last_count → Kept stops (stops_after_ask result stops)
@@ -174,7 +174,7 @@ carried_so : (start now : Option Traffic) (received sent : List ℕ) (before aft
     → start ≡ Some before → now ≡ Some after → after ≡ record { received = before.received ++ received; sent = before.sent ++ sent }
 carried_so start now received sent before after carried told told_now =
     same_inside after (record { received = before.received ++ received; sent = before.sent ++ sent })
-    (sym told_now ∙ subst (λ (x : Option Traffic). Carried x now received sent) told carried)
+    (sym told_now ∙ carried before told)
 
 ends_so : (result inner : Ended) (start now : ClientSide) (frames : List Framed) (answered : List Answered) → result ≡ inner
     → (frames_of answered ≡ frames → AnswersEach frames start now)
