@@ -111,9 +111,17 @@ pub record Asks (registration : Registration) (start now : AgentSide) (ended : E
 
 -- ---- a whole connection
 
+-- an agent that has not registered is not told of what the hall does
+abbrev pub EndsUnregistered : Ended → Type 0
+EndsUnregistered (Hung entered now) = ⊥
+EndsUnregistered Stopped = ⊥
+EndsUnregistered (Strayed number found) = ⊥
+EndsUnregistered ended = Unit {0}
+
 -- no agent registered
 pub record IsUnregistered (result : Ended) (start now : AgentSide) : Type 0 where
   pub received : List ℕ
+  pub ended_so : EndsUnregistered result
   pub bytes : EndsHeeding received [] result
   pub carried : Carried start.traffic now.traffic received []
   pub tally : now.tally ≡ start.tally
