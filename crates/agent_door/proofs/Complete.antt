@@ -1,7 +1,7 @@
 -- A connection around which nothing fails is heeded whole.
-use Rattle.std.proofs.Common.{◌≡◌, ◌∙◌, ◌<◌, ◌≤◌, ◌⊎◌, inl, inr, ℕ, List, [], ◌∷◌, ◌++◌, map, length, Option, Some, None, Result, Ok, Err, refl, sym, ap, subst, append_assoc, append-nil, arith}
+use Rattle.std.proofs.Common.{◌≡◌, ◌∙◌, ◌≤◌, ◌⊎◌, inl, inr, ℕ, List, [], ◌∷◌, ◌++◌, map, length, Option, Some, Result, Ok, Err, refl, sym, ap, subst, append-nil, arith}
 use Rattle.std.proofs.lemmas.List.{append_cancel_left}
-use Rattle.std.specs.List.{AllByRecursion, flat_map}
+use Rattle.std.specs.List.{flat_map}
 use Rattle.desk_ports.specs.Faults.{next_count, last_count}
 use Rattle.link_ports.specs.Traffic.{Traffic}
 use Rattle.cynara_keys.specs.declared.results.Kind.{Kind}
@@ -33,7 +33,7 @@ use Rattle.door_frames.specs.declared.endings.Ended.{Ended}
 use Rattle.door_frames.specs.declared.endings.Ended.TheVariants.{Closed, Cut, Hung, LinkFault, BadFrame, Stopped, Memory, Strayed}
 use Rattle.agent_door.specs.Frame.{register_frame, registered_frame, taken_frame, answer_frame}
 use Rattle.agent_door.specs.Round.{Round, rounds_calls, rounds_frames, rounds_told}
-use Rattle.agent_door.specs.Serving.{AgentSide, Serves, Asks, EndsUnregistered, IsUnjoined, TellsRefusal, EndsHeeding, MayMiss, joined_calls}
+use Rattle.agent_door.specs.Serving.{AgentSide, Serves, Asks, EndsUnregistered, IsUnjoined, TellsRefusal, EndsHeeding, joined_calls}
 use Rattle.agent_door.specs.Complete.{Stays, IsQuiet, Receives, Sends, HeedsEach, frames_of}
 use Rattle.agent_door.specs.declared.messages.Answer.{Answer}
 use Rattle.agent_door.specs.declared.messages.Registration.{Registration}

@@ -1,24 +1,20 @@
 -- Each kind of step keeps how the serving of an agent stands, or ends it.
-use Rattle.std.proofs.Common.{◌≡◌, ◌≢◌, ◌∙◌, ◌<◌, ◌≤◌, ℕ, List, [], ◌∷◌, ◌++◌, length, Option, Some, None, Result, Ok, Err, inl, inr, refl, sym, ap, subst, append_assoc, append-nil, arith}
+use Rattle.std.proofs.Common.{◌≡◌, ◌∙◌, ◌≤◌, ℕ, List, [], ◌∷◌, ◌++◌, length, Option, Some, None, Result, Ok, inl, inr, refl, sym, ap, subst, append_assoc, append-nil, arith}
 use Rattle.std.proofs.lemmas.Grind.{flat_map-append}
 use Rattle.std.proofs.lemmas.Bool.{cases_eq}
 use Rattle.std.specs.List.{AllByRecursion, flat_map}
-use Rattle.desk_ports.specs.Faults.{next_count}
 use Rattle.link_ports.specs.Traffic.{Traffic}
-use Rattle.link_ports.specs.LinkMarks.{LinkMarks}
 use Rattle.cynara_keys.specs.declared.results.Kind.{Kind}
 use Rattle.agent_table.specs.declared.refusals.AnswerRefusal.{AnswerRefusal}
 use Rattle.agent_table.specs.declared.table.Asked.{Asked}
 use Rattle.wire_messages.specs.Frame.{spelling}
-use Rattle.wire_messages.specs.Operation.{number_of}
-use Rattle.wire_messages.specs.Message.{operation}
 use Rattle.wire_messages.specs.Stream.{Feeding, Hears, BeginsWrong, IsOpen}
 use Rattle.wire_messages.specs.declared.messages.Framed.{Framed}
 use Rattle.wire_messages.specs.declared.operations.Heard.{Heard}
 use Rattle.wire_messages.specs.declared.operations.Heard.TheVariants.{AtAgent}
 use Rattle.wire_messages.specs.declared.refusals.WireRefusal.{WireRefusal}
 use Rattle.wire_messages.specs.declared.refusals.WireRefusal.TheVariants.{TooShort, TooLong, BadOperation, BadField, Trailing, Memory as NoMemory}
-use Rattle.server_hall.specs.Tally.{Tally, after_call, after_calls}
+use Rattle.server_hall.specs.Tally.{after_call, after_calls}
 use Rattle.server_hall.specs.Told.{AppendsCalls}
 use Rattle.server_hall.specs.declared.calls.HallCall.{HallCall}
 use Rattle.server_hall.specs.declared.calls.HallCall.TheVariants.{Next}
@@ -27,7 +23,7 @@ use Rattle.door_frames.specs.Hearing.{HasHeard, HearsMore, HandsOut}
 use Rattle.door_frames.specs.Ending.{EndsReading, EndsSending, EndsBytes, IsAtEnd, faults_after}
 use Rattle.door_frames.specs.declared.endings.Ended.{Ended}
 use Rattle.door_frames.specs.declared.endings.Ended.TheVariants.{Closed, Cut, Hung, LinkFault, BadFrame, Stopped, Memory, Strayed}
-use Rattle.door_frames.proofs.Carrying.{carried_more, carried_same}
+use Rattle.door_frames.proofs.Carrying.{carried_more}
 use Rattle.agent_door.specs.Frame.{register_frame, registered_frame, answer_frame, question_frame, unknown_frame, IsOutOfPlace}
 use Rattle.agent_door.specs.Round.{Given, Round, IsWhole, IsOther, answer_call, rounds_calls, rounds_frames, rounds_told, told_of}
 use Rattle.agent_door.specs.Serving.{AgentSide, Asks, EndsAsking, EndsHeeding, MayMiss, joined_calls}

@@ -1,11 +1,10 @@
 -- A whole connection of an agent.
-use Rattle.std.proofs.Common.{◌≡◌, ◌∙◌, ◌<◌, ◌≤◌, ℕ, List, [], ◌∷◌, ◌++◌, length, Option, Some, None, Result, Ok, Err, inl, inr, refl, sym, ap, subst, append-nil}
+use Rattle.std.proofs.Common.{◌≡◌, ◌∙◌, ℕ, List, [], ◌∷◌, length, Option, Err, inr, refl, sym, ap, subst, append-nil}
 use Rattle.std.specs.List.{flat_map}
 use Rattle.link_ports.specs.Traffic.{Traffic}
-use Rattle.link_ports.specs.LinkMarks.{LinkMarks}
 use Rattle.cynara_keys.specs.declared.results.Kind.{Kind}
 use Rattle.agent_table.specs.declared.refusals.RegisterRefusal.{RegisterRefusal}
-use Rattle.agent_table.specs.declared.refusals.RegisterRefusal.TheVariants.{Stopped as NoneComes, Taken as KindTaken, Memory as NoRoom}
+use Rattle.agent_table.specs.declared.refusals.RegisterRefusal.TheVariants.{Taken as KindTaken}
 use Rattle.wire_messages.specs.Frame.{spelling}
 use Rattle.wire_messages.specs.Stream.{Feeding, Hears, BeginsWrong, IsOpen, unfed}
 use Rattle.wire_messages.specs.declared.messages.Framed.{Framed}
@@ -18,7 +17,7 @@ use Rattle.server_hall.specs.declared.calls.HallCall.{HallCall}
 use Rattle.server_hall.specs.declared.calls.HallCall.TheVariants.{Join}
 use Rattle.door_frames.specs.Carried.{Carried}
 use Rattle.door_frames.specs.Hearing.{HasHeard, HearsMore, HandsOut}
-use Rattle.door_frames.specs.Ending.{EndsReading, EndsSending, IsAtEnd, faults_after}
+use Rattle.door_frames.specs.Ending.{EndsReading, IsAtEnd, faults_after}
 use Rattle.door_frames.specs.declared.endings.Ended.{Ended}
 use Rattle.door_frames.specs.declared.endings.Ended.TheVariants.{Closed, Cut, Hung, LinkFault, BadFrame, Stopped, Memory, Strayed}
 use Rattle.door_frames.proofs.Hearing.{unfed_heard}

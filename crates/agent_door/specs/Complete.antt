@@ -1,5 +1,5 @@
 -- What a connection of an agent is where nothing around it fails.
-use Rattle.std.specs.Prelude.{◌≡◌, ◌<◌, ℕ, List, [], ◌∷◌, ◌++◌, map, Option, Some}
+use Rattle.std.specs.Prelude.{◌≡◌, ◌<◌, ℕ, List, [], ◌∷◌, ◌++◌, map, Some}
 use Rattle.std.specs.List.{AllByRecursion, flat_map}
 use Rattle.desk_ports.specs.Faults.{last_count}
 use Rattle.link_ports.specs.Traffic.{Traffic}

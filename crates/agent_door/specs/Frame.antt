@@ -1,5 +1,5 @@
 -- The frames between an agent and the service.
-use Rattle.std.specs.Prelude.{◌≡◌, ℕ, ◌%◌, Bool}
+use Rattle.std.specs.Prelude.{◌≡◌, ℕ, ◌%◌}
 use Rattle.cynara_keys.specs.declared.results.Kind.{Kind}
 use Rattle.agent_table.specs.declared.table.Asked.{Asked}
 use Rattle.wire_messages.specs.Frame.{with_sequence}

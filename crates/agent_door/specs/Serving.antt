@@ -1,5 +1,5 @@
 -- What a connection of an agent is told and asked, and how it ends.
-use Rattle.std.specs.Prelude.{◌≡◌, ◌⊎◌, ◌≤◌, ℕ, ◌+◌, List, [], ◌∷◌, ◌++◌, length, Option, Some, None, Result, Ok, Err}
+use Rattle.std.specs.Prelude.{◌≡◌, ◌⊎◌, ◌≤◌, ℕ, ◌+◌, List, [], ◌∷◌, ◌++◌, length, Option, Ok, Err}
 use Rattle.std.specs.List.{AllByRecursion, flat_map}
 use Rattle.link_ports.specs.Traffic.{Traffic}
 use Rattle.link_ports.specs.LinkMarks.{LinkMarks}
@@ -9,11 +9,10 @@ use Rattle.agent_table.specs.declared.refusals.RegisterRefusal.TheVariants.{Stop
 use Rattle.wire_messages.specs.Frame.{spelling}
 use Rattle.wire_messages.specs.Operation.{number_of}
 use Rattle.wire_messages.specs.Message.{operation}
-use Rattle.wire_messages.specs.Stream.{Hears, BeginsWrong, IsOpen as IsOpenFrame}
+use Rattle.wire_messages.specs.Stream.{Hears}
 use Rattle.wire_messages.specs.declared.messages.Framed.{Framed}
 use Rattle.wire_messages.specs.declared.operations.Heard.TheVariants.{AtAgent}
 use Rattle.wire_messages.specs.declared.refusals.WireRefusal.TheVariants.{BadOperation}
-use Rattle.server_hall.specs.Call.{NextMade}
 use Rattle.server_hall.specs.Tally.{Tally, after_join, after_part, after_calls}
 use Rattle.server_hall.specs.Told.{AppendsCalls}
 use Rattle.server_hall.specs.declared.calls.HallCall.{HallCall}

@@ -1,7 +1,6 @@
 -- A connection around which nothing fails is answered whole.
-use Rattle.std.proofs.Common.{◌≡◌, ◌∙◌, ◌<◌, ◌≤◌, ◌⊎◌, inl, inr, ℕ, List, [], ◌∷◌, ◌++◌, length, Option, Some, None, Result, Ok, Err, refl, sym, ap, subst, append-nil, arith}
+use Rattle.std.proofs.Common.{◌≡◌, ◌∙◌, ◌≤◌, ◌⊎◌, inl, inr, ℕ, List, [], ◌∷◌, ◌++◌, length, Option, Some, None, Ok, Err, refl, sym, ap, subst, append-nil, arith}
 use Rattle.std.proofs.lemmas.List.{append_cancel_left}
-use Rattle.std.specs.List.{AllByRecursion}
 use Rattle.desk_ports.specs.Faults.{next_count, last_count}
 use Rattle.link_ports.specs.Traffic.{Traffic}
 use Rattle.cynara_keys.specs.Key.{Question}
@@ -19,13 +18,13 @@ use Rattle.server_hall.specs.Call.{AskResult, AskMade}
 use Rattle.server_hall.specs.Tally.{Tally, after_ask, after_leave, stops_after_ask, losses_after_ask}
 use Rattle.server_hall.specs.declared.refusals.AskRefusal.TheVariants.{Put, Gone, Stopped as AskStopped, Lost}
 use Rattle.door_frames.specs.Carried.{Carried}
-use Rattle.door_frames.specs.Ending.{EndsBytes, IsOfBytes}
+use Rattle.door_frames.specs.Ending.{IsOfBytes}
 use Rattle.door_frames.specs.declared.endings.Ended.{Ended}
 use Rattle.door_frames.specs.declared.endings.Ended.TheVariants.{Closed, Cut, Hung, LinkFault, BadFrame, Stopped, Memory, Strayed}
 use Rattle.door_frames.proofs.Carrying.{carried_more}
-use Rattle.client_door.specs.Asking.{FindsStop, Strays}
+use Rattle.client_door.specs.Asking.{Strays}
 use Rattle.client_door.specs.Answered.{Answered, frames_of, replies_bytes, calls_for, after_asks}
-use Rattle.client_door.specs.Serving.{ClientSide, Serves, Served, Talks, EndsAsking, ended_by_leaving, IsUnbegun}
+use Rattle.client_door.specs.Serving.{ClientSide, Serves, Served, Talks, ended_by_leaving, IsUnbegun}
 use Rattle.client_door.specs.Complete.{Stays, IsQuiet, Gives, GivesItsQuestion, Receives, AnswersEach}
 use Rattle.client_door.proofs.Calls.{after_asks_more}
 

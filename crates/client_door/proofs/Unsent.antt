@@ -1,5 +1,5 @@
 -- The calls that were made for checks whose replies were not sent.
-use Rattle.std.proofs.Common.{◌≡◌, ◌∙◌, ◌≤◌, ℕ, List, [], ◌∷◌, ◌++◌, Option, Some, None, refl, sym, ap, subst, append_assoc, arith}
+use Rattle.std.proofs.Common.{◌≡◌, ◌≤◌, ℕ, List, [], ◌∷◌, ◌++◌, Option, refl, sym, subst, append_assoc, arith}
 use Rattle.std.specs.List.{AllByRecursion}
 use Rattle.desk_state.specs.DeskState.{DeskState}
 use Rattle.live_desk.specs.Seat.{SeatState}
@@ -11,7 +11,6 @@ use Rattle.wire_messages.specs.declared.messages.Framed.{Framed}
 use Rattle.wire_messages.specs.declared.operations.Heard.TheVariants.{AtClient}
 use Rattle.server_hall.specs.Call.{AskMade}
 use Rattle.client_door.specs.Check.{framed_of}
-use Rattle.client_door.specs.Asking.{ask_made}
 use Rattle.client_door.specs.Reading.{reading}
 use Rattle.client_door.specs.Answered.{Answered, Answers, IsRight, call_list, calls_for, frames_of, StandsIn, AreReadIn}
 use Rattle.client_door.specs.Serving.{IsCallFor}

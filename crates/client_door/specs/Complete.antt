@@ -1,5 +1,5 @@
 -- What a connection of a client is answered where nothing around it fails.
-use Rattle.std.specs.Prelude.{◌≡◌, ◌<◌, ◌^◌, ◌-◌, ℕ, List, [], ◌++◌, Option, Some, None, Result, Ok, Err}
+use Rattle.std.specs.Prelude.{◌≡◌, ◌<◌, ℕ, List, [], ◌++◌, Option, Some, None, Ok, Err}
 use Rattle.std.specs.List.{AllByRecursion}
 use Rattle.cynara_keys.specs.Key.{Question}
 use Rattle.desk_ports.specs.Faults.{last_count}

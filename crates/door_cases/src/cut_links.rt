@@ -1,5 +1,5 @@
 // A link in memory whose bytes come in pieces of given sizes.
-ghost use Rattle.std.specs.Prelude.{None};
+ghost use Rattle.std.specs.Prelude.{None, ◌≤◌};
 
 use crate::desks::numbers;
 use case_words::{Failure, fails, frame_bytes};
@@ -42,15 +42,15 @@ impl CutLink {
     pub fn sent(&self) -> &[u8] {
         self.link.sent()
     }
+}
 
-    fn size(&mut self, most: usize) -> usize {
-        match self.sizes.get(self.next) {
-            Some(size) => {
-                self.next = self.next.saturating_add(1);
-                (*size).min(most as u64) as usize
-            }
-            None => most,
-        }
+// How many bytes the piece at this place may have, none where it may have any, and no more than fit.
+fn most_at(sizes: &[u64], place: usize, most: usize) -> usize
+    ensures { result ≤ most }
+{
+    match sizes.get(place) {
+        Some(size) => (*size).min(most as u64) as usize,
+        None => 0,
     }
 }
 
@@ -70,7 +70,8 @@ impl Link for CutLink {
     }
 
     fn receive(&mut self, into: &mut [u8]) -> Result<usize, Failed> {
-        let size = self.size(into.len());
+        let size = most_at(self.sizes.as_slice(), self.next, into.len());
+        self.next = self.next.saturating_add(1);
         if size == 0 {
             return self.link.receive(into);
         }

@@ -1,4 +1,4 @@
-use Rattle.std.proofs.Common.{◌≡◌, ◌∙◌, [], refl, sym, ap, subst}
+use Rattle.std.proofs.Common.{◌∙◌, [], refl, sym, ap, subst}
 use Rattle.agent_table.specs.declared.refusals.RegisterRefusal.{RegisterRefusal}
 use Rattle.link_ports.specs.LinkMarks.{LinkMarks}
 use Rattle.wire_messages.specs.Stream.{Feeding}
@@ -6,7 +6,6 @@ use Rattle.server_hall.specs.Tally.{after_part}
 use Rattle.door_frames.proofs.Carrying.{carried_same}
 use Rattle.door_frames.specs.declared.endings.Ended.TheVariants.{Stopped, Memory}
 use Rattle.agent_door.specs.Serving.{agent_side, Serves, TellsRefusal}
-use Rattle.agent_door.specs.parts.Talk.{HasJoined}
 use Rattle.agent_door.proofs.Whole.{none_heard, none_in_place, registers, not_joined, kind_is_taken, parts}
 use Rattle.agent_door.proofs.agent_loops.agent_loop.Goals as goal
 

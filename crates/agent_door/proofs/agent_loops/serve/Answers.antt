@@ -1,4 +1,4 @@
-use Rattle.std.proofs.Common.{◌≡◌, ap, refl}
+use Rattle.std.proofs.Common.{ap, refl}
 use Rattle.link_ports.specs.LinkMarks.{LinkMarks}
 use Rattle.agent_door.specs.Serving.{agent_side}
 use Rattle.agent_door.proofs.Serving.{begins, ends_unregistered}

@@ -1,4 +1,4 @@
-use Rattle.std.proofs.Common.{◌≡◌, ◌∙◌, [], ◌∷◌, ap, sym, subst, Err, inl, inr, refl, arith}
+use Rattle.std.proofs.Common.{[], ◌∷◌, ap, Err, inr, refl, arith}
 use Rattle.link_ports.specs.LinkMarks.{LinkMarks}
 use Rattle.door_frames.proofs.Carrying.{carried_same}
 use Rattle.server_hall.specs.declared.calls.HallCall.TheVariants.{Next}

@@ -1,4 +1,4 @@
-use Rattle.std.proofs.Common.{◌≡◌, ◌%◌, [], subst}
+use Rattle.std.proofs.Common.{◌%◌, [], subst}
 use Rattle.cynara_keys.specs.PolicyResult.{Ruling}
 use Rattle.wire_messages.specs.Frame.{spelling, with_sequence}
 use Rattle.wire_messages.specs.declared.messages.Message.TheVariants.{AgentQuestion}

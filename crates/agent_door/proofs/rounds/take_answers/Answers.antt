@@ -1,4 +1,4 @@
-use Rattle.std.proofs.Common.{◌≡◌, ◌∙◌, ap, sym, subst, refl}
+use Rattle.std.proofs.Common.{◌∙◌, ap, sym, subst, refl}
 use Rattle.link_ports.specs.LinkMarks.{LinkMarks}
 use Rattle.door_frames.specs.Ending.{EndsSending}
 use Rattle.agent_door.specs.Serving.{agent_side}

@@ -1,4 +1,4 @@
-use Rattle.std.proofs.Common.{◌≡◌, ◌<◌, Some, length}
+use Rattle.std.proofs.Common.{◌≡◌, Some}
 use Rattle.agent_table.specs.declared.table.Asked.{Asked}
 use Rattle.wire_messages.specs.declared.operations.Heard.TheVariants.{AtAgent}
 use Rattle.door_frames.specs.Hearing.{IsSound}
