@@ -166,8 +166,9 @@ module _ {L : Type 0} (link_faults : L → ℕ) (marks : L → LinkMarks) (traff
     comes_of_more tries before is_tried entry first rest (outcome.Memory error after) old between new some one tried loses late =
         let fewer : length rest < tries - 1 = late.0 in (
           omega (arith, length-append first rest, one, fewer, some),
-          tried_more before is_tried first rest after tried late.1,
-          loses_more first rest old between new loses late.2,
+          sym (behind entry first rest one) ∙ late.1,
+          tried_more before is_tried first rest after tried late.2,
+          loses_more first rest old between new loses late.3,
         )
 
     -- the first try was lost, and this came of those behind it

@@ -87,7 +87,8 @@ module _ {L : Type 0} (link_faults : L → ℕ) (marks : L → LinkMarks) (traff
       pub counted_each : faults new ≡ count_after_give_back (marks link) (link_faults link) (counted (length lost) (faults old))
       pub given : Appends (links_of lost ++ link ∷ []) (given_back old) (given_back new)
 
-    -- what came of it behind the tries that were lost, which are fewer than there were, or as many
+    -- What came of it behind the tries that were lost, which are fewer than there were, or as many. Memory runs out at a dial alone,
+    -- where no link is there.
     abbrev pub ComesOf : ℕ → Bool → Option L → List (Option L) → Outcome L → N → N → Type 0
     ComesOf tries before entry lost (outcome.Replied link is_new framed) old new =
         (length lost < tries) × Replies entry lost link is_new framed old new
@@ -96,7 +97,7 @@ module _ {L : Type 0} (link_faults : L → ℕ) (marks : L → LinkMarks) (traff
     ComesOf tries before entry lost (outcome.Unavailable is_tried) old new =
         (length lost ≡ tries) × (is_tried ≡ (before || has_link lost)) × Loses lost old new
     ComesOf tries before entry lost (outcome.Memory error is_tried) old new =
-        (length lost < tries) × (is_tried ≡ (before || has_link lost)) × Loses lost old new
+        (length lost < tries) × (link_behind entry lost ≡ None) × (is_tried ≡ (before || has_link lost)) × Loses lost old new
 
     -- The frame was to be sent with so many tries, on the link that was there, if one was, and this came of it. Whether it was
     -- tried to be sent before.
