@@ -3,15 +3,15 @@
 of a first build of `line_script` and the crates below it, which is many minutes where nothing of them is kept.
 
 The program in `device_script.rt.txt` runs a script that makes the buckets, each with 16 policies that point to the 16 buckets
-behind it, and the same script with the 64 commands, in turn; the best of several runs each is taken, and their difference. Each
-command puts a policy that points to the bucket of a type of user, which leads to all of those buckets or to none. At most 50
-milliseconds are wanted. Needs `rt`."""
+behind it, and the same script with the 64 commands, in turn; of the processor's time the best of several runs each is taken, and
+their difference. Each command puts a policy that points to the bucket of a type of user, which leads to all of those buckets or
+to none. At most 50 milliseconds are wanted. Needs `rt`."""
 
 import pathlib
+import resource
 import subprocess
 import sys
 import tempfile
-import time
 
 from trial_crate import built
 
@@ -33,12 +33,18 @@ def state(leads):
     return [*lines, b"end"]
 
 
+def used():
+    """The processor seconds of the runs so far."""
+    of = resource.getrusage(resource.RUSAGE_CHILDREN)
+    return of.ru_utime + of.ru_stime
+
+
 def timed(program, lines):
-    """The seconds of a run, and how many commands it accepts."""
+    """The processor seconds of a run, and how many commands it accepts."""
     text = b"\n".join(lines) + b"\n"
-    start = time.monotonic()
+    before = used()
     said = subprocess.run([program], input=text, stdout=subprocess.PIPE, check=True).stdout
-    return time.monotonic() - start, int(said.split()[1])
+    return used() - before, int(said.split()[1])
 
 
 def main():
