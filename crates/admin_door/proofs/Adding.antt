@@ -13,7 +13,9 @@ use Rattle.door_frames.specs.declared.endings.Ended.{Ended}
 use Rattle.admin_door.specs.Side.{AdminSide, with_kept, with_shown, with_fault, with_stop}
 use Rattle.admin_door.specs.Settling.{IsFound, Settles, Unsettles, with_last_shown}
 use Rattle.admin_door.specs.Answering.{Commits, IsDone, LacksMemory, Obeys, IsUnanswered, AnswersUnsettled, AnswersQuestion, AnswersBy, RefusesBy}
-use Rattle.admin_door.specs.Adding.{Adds, AddsAtMost, IsAcknowledged}
+use Rattle.admin_door.specs.Adding.{Adds, AddsAtMost, AddsSome, IsAcknowledged}
+use Rattle.admin_door.specs.Serving.{AdminTalk, Exchange, AreAnswered, EndsAnswering, Serves}
+use Rattle.wire_messages.specs.declared.messages.Framed.{Framed}
 use Rattle.admin_door.specs.declared.settling.Unsettled.{Unsettled}
 use Rattle.admin_door.specs.declared.settling.Unsettled.TheVariants as why
 use Rattle.admin_door.proofs.Showing.{last-behind}
@@ -209,3 +211,33 @@ pub answers-acknowledged : (told : Option DiskState) (found : Option Command) (m
 answers-acknowledged told found message old now replies command commit erased answers some is =
     obeys-acknowledged told command old now replies commit erased
     (subst (λ (found : Option Command). AnswersBy told found message old now replies) some answers) is
+
+-- ---- a connection
+
+some-of : (most : ℕ) (old now : AdminSide) → AddsAtMost most old now → AddsSome old now
+some-of most old now (more, count, adds) = (more, adds)
+
+some-then : (a b c : AdminSide) → AddsSome a b → AddsSome b c → AddsSome a c
+some-then a b c (xs, first) (ys, then) = (xs ++ ys, adds-then a b c xs ys first then)
+
+answered-some : (start : AdminSide) (exchanges : List Exchange) (now : AdminSide) → AreAnswered start exchanges now → AddsSome start now
+answered-some start [] now is = some-of 0 start now (still start now is)
+answered-some start (exchange ∷ more) now (between, one, others) =
+    some-then start between now
+    (some-of 2 start between
+    (answers-two exchange.told (command_of exchange.framed.message) exchange.framed.message start between exchange.replies one))
+    (answered-some between more now others)
+
+ending-some : (ended : Ended) (between now : AdminSide) (frames : List Framed) (bytes : List ℕ)
+    → EndsAnswering ended between now frames bytes → AddsSome between now
+ending-some ended between now frames bytes (inl (no_frame, no_byte, is)) = some-of 0 between now (still between now is)
+ending-some ended between now frames bytes (inr (inl (framed, told, frame, byte, refuses))) =
+    some-of 2 between now (refuses-two told (command_of framed.message) between now refuses.1)
+ending-some ended between now frames bytes (inr (inr (exchange, sent, frame, byte, answered, broken))) =
+    some-of 2 between now
+    (answers-two exchange.told (command_of exchange.framed.message) exchange.framed.message between now exchange.replies answered)
+
+pub serves-some : (start now : AdminTalk) (ended : Ended) → Serves start now ended → AddsSome start.side now.side
+serves-some start now ended serves =
+    some-then start.side serves.between now.side (answered-some start.side serves.answered serves.between serves.in_turn)
+    (ending-some ended serves.between now.side serves.last_frames serves.last_bytes serves.ending)

@@ -106,9 +106,11 @@ module _ (start old : AdminTalk) (feeder fed : Feeding) (bytes : List ℕ) (fram
     -- the frames that were received, and this one behind them
     hears-framed : (rest : List ℕ) × Hears AtAdmin (s.received ++ bytes) ((frames_of s.answered ++ framed ∷ []) ++ fed.waiting) rest
     hears-framed =
-        let heard = hands s.received (frames_of s.answered) s.heard in
-        (heard.behind, subst (λ (side : Heard). Hears side (s.received ++ bytes) ((frames_of s.answered ++ framed ∷ []) ++ fed.waiting) heard.behind)
-        at_admin heard.heard)
+        let heard = hands s.received (frames_of s.answered) s.heard in (
+          heard.behind,
+          subst (λ (side : Heard). Hears side (s.received ++ bytes) ((frames_of s.answered ++ framed ∷ []) ++ fed.waiting) heard.behind)
+              at_admin heard.heard,
+        )
 
     -- it has no answer
     ends-unheeded : (ended : Ended) → IsUnheeded told framed between now ended → ended ≡ Memory → Serves start now ended
@@ -146,13 +148,13 @@ module _ (start old : AdminTalk) (feeder fed : Feeding) (bytes : List ℕ) (fram
           last_bytes = replies_bytes framed.sequence half.cut_off.sent;
           in_turn = s.in_turn;
           ending = inr (inr (
-                exchange,
-                half.cut_off.sent,
-                refl,
-                refl,
-                half.answers,
-                record { next = half.cut_off.next; unsent = half.cut_off.unsent; replies = half.cut_off.parts; reason = unsent },
-              ));
+            exchange,
+            half.cut_off.sent,
+            refl,
+            refl,
+            half.answers,
+            record { next = half.cut_off.next; unsent = half.cut_off.unsent; replies = half.cut_off.parts; reason = unsent },
+          ));
           stopping = stopping;
           bytes = heard;
           carried = carried-turn s.received bytes (exchanges_bytes s.answered) (replies_bytes framed.sequence half.cut_off.sent)

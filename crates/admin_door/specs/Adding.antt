@@ -20,6 +20,10 @@ pub record Adds (old now : AdminSide) (more : List DeskState) : Type 0 where
 abbrev pub AddsAtMost : ℕ → AdminSide → AdminSide → Type 0
 AddsAtMost most old now = (more : List DeskState) × (length more ≤ most) × Adds old now more
 
+-- any number of them
+abbrev pub AddsSome : AdminSide → AdminSide → Type 0
+AddsSome old now = (more : List DeskState) × Adds old now more
+
 -- A commit that was acknowledged: it is known that the folder keeps its state, that is the last one that was published, and
 -- all connections that entered before it are hung up.
 pub record IsAcknowledged (now : AdminSide) (commit : ℕ) : Type 0 where

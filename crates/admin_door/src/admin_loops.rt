@@ -9,6 +9,7 @@ ghost use Rattle.wire_messages.specs.declared.messages.Message.TheVariants.{Stop
 ghost use Rattle.door_frames.specs.Carried.{Carried};
 ghost use Rattle.door_frames.specs.Hearing.{IsSound};
 ghost use Rattle.admin_door.specs.Side.{side_of};
+ghost use Rattle.admin_door.specs.Adding.{AddsSome};
 ghost use Rattle.admin_door.specs.Serving.{talk_of, Serves, replies_bytes, IsNoStop};
 ghost use Rattle.admin_door.specs.parts.Talk.{Goes, Ends, IsWhole, EndsAt, IsCutOff};
 
@@ -38,6 +39,31 @@ pub fn admin_loop<R: Wait, D: Disk, A: Hall, L: Link>(
         (L.traffic link.old) (L.marks link.old) (L.faults link.old))
         (talk_of (side_of D.faults keeper.new publisher.new (A.tally hall.new) (A.calls hall.new))
         (L.traffic link.new) (L.marks link.new) (L.faults link.new)) result }
+    ensures adds { AddsSome
+        (side_of D.faults keeper.old publisher.old (A.tally hall.old) (A.calls hall.old))
+        (side_of D.faults keeper.new publisher.new (A.tally hall.new) (A.calls hall.new)) }
+    ensures behind { last_commit 0 publisher.new ≤ keeper.new.desk.commit }
+    ensures same_disk { IsSameDisk keeper.old keeper.new }
+{
+    let ended = serve(rt, alloc, keeper, publisher, hall, link);
+    ended
+}
+
+// The same. What follows of it on what was published is told by its caller.
+fn serve<R: Wait, D: Disk, A: Hall, L: Link>(
+    rt: &R,
+    alloc: Global,
+    keeper: &mut Keeper<'_, D>,
+    publisher: &mut Publisher,
+    hall: &mut A,
+    link: &mut L,
+) -> Ended
+    requires { last_commit 0 publisher.old ≤ keeper.old.desk.commit }
+    ensures served { Serves
+        (talk_of (side_of D.faults keeper.old publisher.old (A.tally hall.old) (A.calls hall.old))
+        (L.traffic link.old) (L.marks link.old) (L.faults link.old))
+        (talk_of (side_of D.faults keeper.new publisher.new (A.tally hall.new) (A.calls hall.new))
+        (L.traffic link.new) (L.marks link.new) (L.faults link.new)) result }
     ensures behind { last_commit 0 publisher.new ≤ keeper.new.desk.commit }
     ensures same_disk { IsSameDisk keeper.old keeper.new }
 {
@@ -45,7 +71,17 @@ pub fn admin_loop<R: Wait, D: Disk, A: Hall, L: Link>(
     let mut room = [0u8; MOST_PIECE];
     let mut frame = Bytes::new(alloc);
     for _ in rt.forever() {
-        let turn = turn(rt, alloc, keeper, publisher, hall, link, &mut feeder, &mut room, &mut frame);
+        let turn = turn(
+            rt,
+            alloc,
+            keeper,
+            publisher,
+            hall,
+            link,
+            &mut feeder,
+            &mut room,
+            &mut frame,
+        );
         if let Err(ended) = turn {
             return ended;
         }

@@ -6,7 +6,7 @@ use Rattle.door_frames.specs.Hearing.{IsSound}
 use Rattle.admin_door.specs.Side.{side_of}
 use Rattle.admin_door.specs.Serving.{talk_of}
 use Rattle.admin_door.specs.parts.Talk.{Stands}
-use Rattle.admin_door.proofs.admin_loops.admin_loop.Given as goal
+use Rattle.admin_door.proofs.admin_loops.serve.Given as goal
 
 -- the frames so far were answered
 abbrev pub invariant-loop : goal.invariant-loop
