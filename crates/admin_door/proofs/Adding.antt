@@ -1,5 +1,5 @@
 -- What each part of the answering of a message adds to what was published.
-use Rattle.std.proofs.Common.{◌≡◌, ◌∙◌, ◌⊎◌, ◌≤◌, ◌+◌, inl, inr, ℕ, Bool, true, false, cond, nat_lt, List, [], ◌∷◌, ◌++◌, length, Option, Some, None, refl, sym, ap, subst, append_assoc, append-nil, length-append, arith}
+use Rattle.std.proofs.Common.{◌≡◌, ◌∙◌, ◌⊎◌, ◌≤◌, ◌+◌, inl, inr, ℕ, Bool, true, false, cond, nat_lt, List, [], ◌∷◌, ◌++◌, Option, Some, None, refl, sym, ap, subst, append_assoc, append-nil, length-append, arith}
 use Rattle.desk_ports.specs.Disk.{DiskState}
 use Rattle.desk_state.specs.DeskState.{DeskState}
 use Rattle.desk_state.specs.Next.{next, erased_by}
@@ -8,11 +8,11 @@ use Rattle.live_desk.specs.History.{last_commit}
 use Rattle.server_hall.specs.Tally.{Tally}
 use Rattle.wire_messages.specs.Commands.{command_of}
 use Rattle.wire_messages.specs.declared.messages.Message.{Message}
-use Rattle.wire_messages.specs.declared.messages.Message.TheVariants.{Done, Refused, Listing, AdminCheck, Stop, StoreFault, StoreDamaged}
+use Rattle.wire_messages.specs.declared.messages.Message.TheVariants.{Done, Listing, AdminCheck, Stop}
 use Rattle.door_frames.specs.declared.endings.Ended.{Ended}
 use Rattle.admin_door.specs.Side.{AdminSide, with_kept, with_shown, with_fault, with_stop}
-use Rattle.admin_door.specs.Settling.{IsFound, Settles, Unsettles, with_last_shown}
-use Rattle.admin_door.specs.Answering.{Commits, IsDone, LacksMemory, Obeys, IsUnanswered, AnswersUnsettled, AnswersQuestion, AnswersBy, RefusesBy}
+use Rattle.admin_door.specs.Settling.{IsFound, Settles, Unsettles}
+use Rattle.admin_door.specs.Answering.{Commits, LacksMemory, Obeys, IsUnanswered, AnswersQuestion, AnswersBy, RefusesBy}
 use Rattle.admin_door.specs.Adding.{Adds, AddsAtMost, AddsSome, IsAcknowledged}
 use Rattle.admin_door.specs.Serving.{AdminTalk, Exchange, AreAnswered, EndsAnswering, Serves}
 use Rattle.wire_messages.specs.declared.messages.Framed.{Framed}

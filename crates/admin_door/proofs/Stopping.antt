@@ -1,5 +1,5 @@
 -- What stops leave, put together from what each part of a command leaves.
-use Rattle.std.proofs.Common.{◌≡◌, ◌∙◌, ◌⊎◌, inl, inr, ⊎_elim, ℕ, Bool, true, false, List, [], ◌∷◌, ◌++◌, Option, Some, None, Result, Ok, ◌≤◌, refl, sym, ap, subst}
+use Rattle.std.proofs.Common.{◌≡◌, ◌∙◌, inl, inr, ⊎_elim, ℕ, List, [], ◌∷◌, ◌++◌, Option, Some, None, Result, Ok, ◌≤◌, refl, sym, ap, subst}
 use Rattle.desk_ports.specs.FileMap.{FileMap}
 use Rattle.desk_ports.specs.Disk.{DiskState, MayLeave, WhereTold, IsTouchedOnly}
 use Rattle.desk_ports.specs.Moments.{LeavesOnly}
@@ -10,13 +10,13 @@ use Rattle.desk_state.specs.Next.{next}
 use Rattle.desk_state.specs.Rules.{fault}
 use Rattle.desk_state.specs.declared.commands.Command.{Command}
 use Rattle.desk_keeper.specs.Kept.{kept}
-use Rattle.desk_keeper.specs.Keeping.{IsKept, EndsKept, StandsAsAllowed, IsBeforeOrAfter}
+use Rattle.desk_keeper.specs.Keeping.{IsKept, StandsAsAllowed, IsBeforeOrAfter}
 use Rattle.desk_state.specs.History.{Follows, IsChain, latest_of}
 use Rattle.set_text.specs.Fault.{Fault}
 use Rattle.desk_keeper.specs.Keeper.{disk_of, held_of}
 use Rattle.desk_keeper.specs.declared.keeper.Keeper.{Keeper}
 use Rattle.admin_door.specs.Side.{decided_of}
-use Rattle.admin_door.specs.Stops.{StandsAsAt, Allows, IsApplied, IsBeforeOrApplied, StandsBy, StandsAlong, AlwaysTells, KeepsKnown, RunsOver}
+use Rattle.admin_door.specs.Stops.{StandsAsAt, Allows, IsApplied, IsBeforeOrApplied, StandsBy, StandsAlong, KeepsKnown, RunsOver}
 use Rattle.admin_door.specs.parts.Step.{StepsOver}
 
 -- what is durable at a state that keeps a policy state stands for it

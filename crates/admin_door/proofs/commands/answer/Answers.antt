@@ -1,4 +1,4 @@
-use Rattle.std.proofs.Common.{◌∙◌, Option, None, Some, sym, subst}
+use Rattle.std.proofs.Common.{◌∙◌, Option, None, sym, subst}
 use Rattle.desk_ports.specs.Moments.{LeavesOnly}
 use Rattle.desk_state.specs.declared.commands.Command.{Command}
 use Rattle.wire_messages.specs.Commands.{command_of}
