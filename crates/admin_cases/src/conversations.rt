@@ -82,12 +82,7 @@ fn with_publisher<R: Wait>(
 
 fn question(alloc: Global) -> Result<Question, Failure> {
     let name = Name::read(alloc, b"c")?;
-    Ok(Question::of(
-        alloc,
-        name.as_slice(),
-        name.as_slice(),
-        name.as_slice(),
-    )?)
+    Ok(Question::of(alloc, name.as_slice(), name.as_slice(), name.as_slice())?)
 }
 
 fn link_of_words(alloc: Global, words: &str) -> Result<MemLink, Failure> {
