@@ -1,5 +1,5 @@
 -- Frames that are answered one after the other, and how that ends.
-use Rattle.std.proofs.Common.{◌≡◌, ◌∙◌, ◌<◌, ◌⊎◌, inl, inr, ℕ, true, List, [], ◌∷◌, ◌++◌, map, length, Option, Some, None, refl, sym, ap, subst, append_assoc, append-nil}
+use Rattle.std.proofs.Common.{◌≡◌, ◌∙◌, inl, inr, ℕ, List, [], ◌∷◌, ◌++◌, length, Option, refl, sym, ap, subst, append-nil}
 use Rattle.std.proofs.lemmas.Grind.{flat_map-append}
 use Rattle.std.proofs.lemmas.List.{map-append}
 use Rattle.desk_ports.specs.Disk.{DiskState}
@@ -7,19 +7,18 @@ use Rattle.link_ports.specs.Traffic.{Traffic}
 use Rattle.link_ports.specs.LinkMarks.{LinkMarks}
 use Rattle.wire_messages.specs.Stream.{Feeding, Hears, BeginsWrong, IsOpen, unfed}
 use Rattle.wire_messages.specs.declared.messages.Framed.{Framed}
-use Rattle.wire_messages.specs.declared.messages.Message.{Message}
 use Rattle.wire_messages.specs.declared.messages.Message.TheVariants.{Stop}
 use Rattle.wire_messages.specs.declared.operations.Heard.{Heard}
 use Rattle.wire_messages.specs.declared.operations.Heard.TheVariants.{AtAdmin}
 use Rattle.door_frames.specs.Carried.{Carried}
 use Rattle.door_frames.specs.Hearing.{HasHeard, HearsMore, HandsOut}
-use Rattle.door_frames.specs.Ending.{EndsReading, EndsBytes, EndsSending, IsAtEnd, faults_after}
+use Rattle.door_frames.specs.Ending.{EndsReading, EndsBytes, IsAtEnd, faults_after}
 use Rattle.door_frames.specs.declared.endings.Ended.{Ended}
 use Rattle.door_frames.specs.declared.endings.Ended.TheVariants.{Closed, Cut, Hung, LinkFault, BadFrame, Stopped, Memory, Strayed}
 use Rattle.door_frames.proofs.Carrying.{carried_more, carried_same}
 use Rattle.door_frames.proofs.Hearing.{unfed_heard}
 use Rattle.admin_door.specs.Side.{AdminSide}
-use Rattle.admin_door.specs.Serving.{AdminTalk, talk_of, Exchange, exchange_bytes, exchanges_bytes, frames_of, replies_bytes, IsAnswered, AreAnswered, IsNoStop, AreNoStops, StopsAt, IsUnsent, EndsAnswering, Serves}
+use Rattle.admin_door.specs.Serving.{AdminTalk, talk_of, Exchange, exchange_bytes, exchanges_bytes, frames_of, replies_bytes, IsAnswered, AreAnswered, IsNoStop, AreNoStops, StopsAt, IsUnsent, Serves}
 use Rattle.admin_door.specs.parts.Talk.{Stands, IsWhole, IsUnheeded, IsHalfSent, EndsAt}
 
 -- ---- lists of frames
@@ -106,9 +105,11 @@ module _ (start old : AdminTalk) (feeder fed : Feeding) (bytes : List ℕ) (fram
     -- the frames that were received, and this one behind them
     hears-framed : (rest : List ℕ) × Hears AtAdmin (s.received ++ bytes) ((frames_of s.answered ++ framed ∷ []) ++ fed.waiting) rest
     hears-framed =
-        let heard = hands s.received (frames_of s.answered) s.heard in
-        (heard.behind, subst (λ (side : Heard). Hears side (s.received ++ bytes) ((frames_of s.answered ++ framed ∷ []) ++ fed.waiting) heard.behind)
-        at_admin heard.heard)
+        let heard = hands s.received (frames_of s.answered) s.heard in (
+          heard.behind,
+          subst (λ (side : Heard). Hears side (s.received ++ bytes) ((frames_of s.answered ++ framed ∷ []) ++ fed.waiting) heard.behind)
+              at_admin heard.heard,
+        )
 
     -- it has no answer
     ends-unheeded : (ended : Ended) → IsUnheeded told framed between now ended → ended ≡ Memory → Serves start now ended
@@ -146,13 +147,13 @@ module _ (start old : AdminTalk) (feeder fed : Feeding) (bytes : List ℕ) (fram
           last_bytes = replies_bytes framed.sequence half.cut_off.sent;
           in_turn = s.in_turn;
           ending = inr (inr (
-                exchange,
-                half.cut_off.sent,
-                refl,
-                refl,
-                half.answers,
-                record { next = half.cut_off.next; unsent = half.cut_off.unsent; replies = half.cut_off.parts; reason = unsent },
-              ));
+            exchange,
+            half.cut_off.sent,
+            refl,
+            refl,
+            half.answers,
+            record { next = half.cut_off.next; unsent = half.cut_off.unsent; replies = half.cut_off.parts; reason = unsent },
+          ));
           stopping = stopping;
           bytes = heard;
           carried = carried-turn s.received bytes (exchanges_bytes s.answered) (replies_bytes framed.sequence half.cut_off.sent)

@@ -1,10 +1,9 @@
 -- States that are published one behind the other, and what a side is then.
-use Rattle.std.proofs.Common.{◌≡◌, ◌≤◌, ◌<◌, ◌∙◌, ◌++◌, ◌∷◌, [], ℕ, Bool, cond, nat_lt, List, Option, refl, ap, sym}
+use Rattle.std.proofs.Common.{◌≡◌, ◌≤◌, ◌<◌, ◌∙◌, ◌++◌, ◌∷◌, [], ℕ, cond, List, refl, ap, sym}
 use Rattle.std.proofs.lemmas.Bool.{lt-ltb, le-ltb}
 use Rattle.desk_state.specs.DeskState.{DeskState}
 use Rattle.live_desk.specs.History.{last_commit}
 use Rattle.server_hall.specs.Tally.{Tally, after_hang}
-use Rattle.server_hall.specs.declared.calls.HallCall.{HallCall}
 use Rattle.admin_door.specs.Side.{AdminSide, with_shown}
 use Rattle.admin_door.specs.Settling.{with_last_shown}
 

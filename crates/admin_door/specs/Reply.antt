@@ -1,5 +1,5 @@
 -- What a message of an administrator is answered at a policy state.
-use Rattle.std.specs.Prelude.{ℕ, Bool, if◌then◌else◌, List, [], ◌∷◌, ◌++◌, length, map, Option, Some, None}
+use Rattle.std.specs.Prelude.{ℕ, Bool, if◌then◌else◌, List, [], ◌∷◌, ◌++◌, length, map}
 use Rattle.cynara_keys.specs.Key.{Question}
 use Rattle.cynara_keys.specs.declared.keys.Filter.{Filter}
 use Rattle.bucket_store.specs.Database.{has_bucket}

@@ -12,7 +12,7 @@ use Rattle.wire_messages.specs.declared.operations.Heard.TheVariants.{AtAdmin}
 use Rattle.door_frames.specs.Carried.{Carried}
 use Rattle.door_frames.specs.Ending.{EndsBytes, IsAtEnd, faults_after}
 use Rattle.door_frames.specs.declared.endings.Ended.{Ended}
-use Rattle.door_frames.specs.declared.endings.Ended.TheVariants.{Closed, Cut, Hung, LinkFault, BadFrame, Stopped, Memory, Strayed}
+use Rattle.door_frames.specs.declared.endings.Ended.TheVariants.{Hung, LinkFault, Stopped, Memory, Strayed}
 use Rattle.admin_door.specs.Side.{AdminSide}
 use Rattle.admin_door.specs.Answering.{Answers, Refuses}
 

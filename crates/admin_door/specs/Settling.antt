@@ -1,7 +1,6 @@
 -- What an earlier command left undone is settled.
-use Rattle.std.specs.Prelude.{◌≡◌, ◌⊎◌, ◌≤◌, ℕ, true, false, nat_lt, if◌then◌else◌, List, [], ◌∷◌, ◌++◌, Option, Ok, Err}
+use Rattle.std.specs.Prelude.{◌≡◌, ◌⊎◌, ◌≤◌, true, false, nat_lt, if◌then◌else◌, Option, Ok, Err}
 use Rattle.desk_ports.specs.Disk.{DiskState, WhereTold}
-use Rattle.desk_state.specs.DeskState.{DeskState}
 use Rattle.desk_keeper.specs.Kept.{kept}
 use Rattle.desk_keeper.specs.Keeping.{IsOlder}
 use Rattle.live_desk.specs.History.{last_commit}

@@ -1,5 +1,9 @@
 ghost use Rattle.std.specs.Prelude.{◌≡◌, ◌≤◌, ◌<◌, [], true, false, length, Some, MatchResult, OnOk};
-ghost use Rattle.desk_keeper.specs.Keeper.{disk_of, IsSameDisk};
+ghost use Rattle.desk_ports.specs.Disk.{WhereTold};
+ghost use Rattle.desk_ports.specs.Moments.{LeavesOnly};
+ghost use Rattle.desk_keeper.specs.Keeper.{disk_of, held_of, IsSameDisk};
+ghost use Rattle.desk_keeper.specs.Keeping.{EndsKept};
+ghost use Rattle.wire_messages.specs.Commands.{command_of};
 ghost use Rattle.live_desk.specs.History.{last_commit};
 ghost use Rattle.wire_messages.specs.Operation.{number_of, operation_of};
 ghost use Rattle.wire_messages.specs.Message.{operation};
@@ -8,8 +12,11 @@ ghost use Rattle.wire_messages.specs.declared.operations.Heard.TheVariants.{AtAd
 ghost use Rattle.wire_messages.specs.declared.messages.Message.TheVariants.{Stop};
 ghost use Rattle.door_frames.specs.Carried.{Carried};
 ghost use Rattle.door_frames.specs.Hearing.{IsSound};
-ghost use Rattle.admin_door.specs.Side.{side_of};
+ghost use Rattle.admin_door.specs.Side.{side_of, decided_of};
+ghost use Rattle.admin_door.specs.Stops.{KeepsKnown, StandsBy, RunsOver};
+ghost use Rattle.admin_door.specs.Adding.{AddsSome};
 ghost use Rattle.admin_door.specs.Serving.{talk_of, Serves, replies_bytes, IsNoStop};
+ghost use Rattle.admin_door.specs.parts.Step.{StepsOver};
 ghost use Rattle.admin_door.specs.parts.Talk.{Goes, Ends, IsWhole, EndsAt, IsCutOff};
 
 use crate::commands::answer_command;
@@ -38,6 +45,35 @@ pub fn admin_loop<R: Wait, D: Disk, A: Hall, L: Link>(
         (L.traffic link.old) (L.marks link.old) (L.faults link.old))
         (talk_of (side_of D.faults keeper.new publisher.new (A.tally hall.new) (A.calls hall.new))
         (L.traffic link.new) (L.marks link.new) (L.faults link.new)) result }
+    ensures adds { AddsSome
+        (side_of D.faults keeper.old publisher.old (A.tally hall.old) (A.calls hall.old))
+        (side_of D.faults keeper.new publisher.new (A.tally hall.new) (A.calls hall.new)) }
+
+    // What a stop at any moment of the connection may leave in the folder, and what the folder keeps behind it.
+    ensures stops { RunsOver D.state D.moment D.left_since keeper.old keeper.new }
+    ensures behind { last_commit 0 publisher.new ≤ keeper.new.desk.commit }
+    ensures same_disk { IsSameDisk keeper.old keeper.new }
+{
+    let ended = serve(rt, alloc, keeper, publisher, hall, link);
+    ended
+}
+
+// The same. What follows of it on what was published is told by its caller.
+fn serve<R: Wait, D: Disk, A: Hall, L: Link>(
+    rt: &R,
+    alloc: Global,
+    keeper: &mut Keeper<'_, D>,
+    publisher: &mut Publisher,
+    hall: &mut A,
+    link: &mut L,
+) -> Ended
+    requires { last_commit 0 publisher.old ≤ keeper.old.desk.commit }
+    ensures served { Serves
+        (talk_of (side_of D.faults keeper.old publisher.old (A.tally hall.old) (A.calls hall.old))
+        (L.traffic link.old) (L.marks link.old) (L.faults link.old))
+        (talk_of (side_of D.faults keeper.new publisher.new (A.tally hall.new) (A.calls hall.new))
+        (L.traffic link.new) (L.marks link.new) (L.faults link.new)) result }
+    ensures stops { RunsOver D.state D.moment D.left_since keeper.old keeper.new }
     ensures behind { last_commit 0 publisher.new ≤ keeper.new.desk.commit }
     ensures same_disk { IsSameDisk keeper.old keeper.new }
 {
@@ -45,7 +81,17 @@ pub fn admin_loop<R: Wait, D: Disk, A: Hall, L: Link>(
     let mut room = [0u8; MOST_PIECE];
     let mut frame = Bytes::new(alloc);
     for _ in rt.forever() {
-        let turn = turn(rt, alloc, keeper, publisher, hall, link, &mut feeder, &mut room, &mut frame);
+        let turn = turn(
+            rt,
+            alloc,
+            keeper,
+            publisher,
+            hall,
+            link,
+            &mut feeder,
+            &mut room,
+            &mut frame,
+        );
         if let Err(ended) = turn {
             return ended;
         }
@@ -83,6 +129,7 @@ fn turn<R: Wait, D: Disk, A: Hall, L: Link>(
     ensures side { OnOk result (feeder.new.heard ≡ AtAdmin) }
     ensures sound { OnOk result (IsSound feeder.new) }
     ensures room { length room.new ≡ length room.old }
+    ensures stops { StepsOver D.state D.moment D.left_since keeper.old keeper.new }
     ensures behind { last_commit 0 publisher.new ≤ keeper.new.desk.commit }
     ensures same_disk { IsSameDisk keeper.old keeper.new }
 {
@@ -119,6 +166,12 @@ fn answer_frame<R: Wait, D: Disk, A: Hall, L: Link>(
         (L.traffic link.old) (L.marks link.old) (L.faults link.old))
         (talk_of (side_of D.faults keeper.new publisher.new (A.tally hall.new) (A.calls hall.new))
         (L.traffic link.new) (L.marks link.new) (L.faults link.new))) }
+    ensures stops { WhereTold (D.state (disk_of keeper.old)) (λ before.
+        KeepsKnown (decided_of keeper.old) keeper.old.desk (held_of keeper.old) before
+        → LeavesOnly D.moment D.left_since (disk_of keeper.old) (disk_of keeper.new) (StandsBy (command_of framed.now.message) before)) }
+    ensures kept { WhereTold (D.state (disk_of keeper.old)) (λ before.
+        KeepsKnown (decided_of keeper.old) keeper.old.desk (held_of keeper.old) before
+        → decided_of keeper.new ≡ true → EndsKept keeper.new.desk (held_of keeper.new) (D.state (disk_of keeper.new))) }
     ensures behind { last_commit 0 publisher.new ≤ keeper.new.desk.commit }
     ensures same_disk { IsSameDisk keeper.old keeper.new }
 {

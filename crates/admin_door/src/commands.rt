@@ -1,11 +1,12 @@
 // Messages of an administrator: commands, and what else may be asked.
-ghost use Rattle.std.specs.Prelude.{◌≡◌, ◌≤◌, ◌<◌, ◌∷◌, [], true, List, Some, MatchResult};
+ghost use Rattle.std.specs.Prelude.{◌≡◌, ◌≤◌, ◌<◌, ◌∷◌, [], true, List, Some, IfOk, MatchResult};
 ghost use Rattle.guard_files.specs.Settled.{gone_names};
 ghost use Rattle.desk_state.specs.DeskState.{DeskState};
 ghost use Rattle.desk_ports.specs.Disk.{WhereTold};
 ghost use Rattle.desk_ports.specs.Moments.{LeavesOnly};
 ghost use Rattle.desk_keeper.specs.Keeper.{disk_of, held_of, IsSameDisk};
 ghost use Rattle.desk_keeper.specs.Keeping.{IsKept, EndsKept, IsBeforeOrAfter};
+ghost use Rattle.admin_door.specs.Adding.{AddsAtMost, Acknowledges};
 ghost use Rattle.admin_door.specs.Stops.{KeepsKnown, StandsBy, IsBeforeOrApplied};
 ghost use Rattle.live_desk.specs.History.{last_commit};
 ghost use Rattle.wire_messages.specs.Operation.{number_of, operation_of};
@@ -36,6 +37,46 @@ use wire_messages::{Message, command_of};
 /// once its state is durable and published and all older connections are hung up; by the first rule that it breaks; or by what
 /// the store met. A question is answered at the last state that is known to be kept, and `Stop` stops the hall. It may wait.
 pub fn answer_command<R: Wait, D: Disk, A: Hall>(
+    rt: &R,
+    alloc: Global,
+    keeper: &mut Keeper<'_, D>,
+    publisher: &mut Publisher,
+    hall: &mut A,
+    message: &Message,
+) -> Result<Vec<Message>, Ended>
+    requires known { operation_of AtAdmin (number_of (operation message.now)) ≡ Some (operation message.now) }
+    requires behind { last_commit 0 publisher.old ≤ keeper.old.desk.commit }
+    ensures answered { MatchResult result
+        (λ replies. Answers (D.state (disk_of keeper.old)) message.now
+        (side_of D.faults keeper.old publisher.old (A.tally hall.old) (A.calls hall.old))
+        (side_of D.faults keeper.new publisher.new (A.tally hall.new) (A.calls hall.new)) replies.items)
+        (Refuses (D.state (disk_of keeper.old)) message.now
+        (side_of D.faults keeper.old publisher.old (A.tally hall.old) (A.calls hall.old))
+        (side_of D.faults keeper.new publisher.new (A.tally hall.new) (A.calls hall.new))) }
+    ensures adds { AddsAtMost 2
+        (side_of D.faults keeper.old publisher.old (A.tally hall.old) (A.calls hall.old))
+        (side_of D.faults keeper.new publisher.new (A.tally hall.new) (A.calls hall.new)) }
+    ensures acknowledged { IfOk result (λ replies. Acknowledges message.now
+        (side_of D.faults keeper.new publisher.new (A.tally hall.new) (A.calls hall.new)) replies.items) }
+
+    // What a stop at any moment of the call may leave in the folder, and what the folder keeps behind the call.
+    ensures stops { WhereTold (D.state (disk_of keeper.old)) (λ before.
+        KeepsKnown (decided_of keeper.old) keeper.old.desk (held_of keeper.old) before
+        → LeavesOnly D.moment D.left_since (disk_of keeper.old) (disk_of keeper.new) (StandsBy (words.command_of message.now) before)) }
+    ensures kept { WhereTold (D.state (disk_of keeper.old)) (λ before.
+        KeepsKnown (decided_of keeper.old) keeper.old.desk (held_of keeper.old) before
+        → decided_of keeper.new ≡ true → EndsKept keeper.new.desk (held_of keeper.new) (D.state (disk_of keeper.new))) }
+    ensures behind { last_commit 0 publisher.new ≤ keeper.new.desk.commit }
+    ensures same_disk { IsSameDisk keeper.old keeper.new }
+{
+    match answer(rt, alloc, keeper, publisher, hall, message) {
+        Ok(replies) => Ok(replies),
+        Err(ended) => Err(ended),
+    }
+}
+
+// The same. What follows of it on what was published is told by its caller.
+fn answer<R: Wait, D: Disk, A: Hall>(
     rt: &R,
     alloc: Global,
     keeper: &mut Keeper<'_, D>,

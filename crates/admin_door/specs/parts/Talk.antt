@@ -12,7 +12,7 @@ use Rattle.door_frames.specs.Hearing.{HasHeard}
 use Rattle.door_frames.specs.declared.endings.Ended.{Ended}
 use Rattle.door_frames.specs.declared.endings.Ended.TheVariants.{Stopped}
 use Rattle.admin_door.specs.Answering.{Answers, Refuses}
-use Rattle.admin_door.specs.Serving.{AdminTalk, Exchange, AreAnswered, AreNoStops, IsNoStop, exchanges_bytes, frames_of, replies_bytes, Serves}
+use Rattle.admin_door.specs.Serving.{AdminTalk, Exchange, AreAnswered, AreNoStops, exchanges_bytes, frames_of, replies_bytes, Serves}
 
 -- since the start these frames were answered, and their replies are all sent
 pub record Stands (start now : AdminTalk) (feeder : Feeding) : Type 0 where

@@ -1,8 +1,10 @@
-use Rattle.std.proofs.Common.{◌∙◌}
+use Rattle.std.proofs.Common.{◌∙◌, None}
+use Rattle.wire_messages.specs.Commands.{command_of}
 use Rattle.desk_keeper.specs.Keeper.{disk_of}
 use Rattle.admin_door.specs.Side.{side_of}
 use Rattle.admin_door.specs.Serving.{talk_of}
 use Rattle.admin_door.proofs.Answering.{either-way}
+use Rattle.admin_door.proofs.Stopping.{rests-as, stands-by}
 use Rattle.admin_door.proofs.Serving.{stands-more, ends-at, ends-reading}
 use Rattle.admin_door.proofs.admin_loops.turn.Goals as goal
 
@@ -34,3 +36,20 @@ returns-clause-talk g c =
     (g.L.Link.traffic c.next_frame.new.link) (g.L.Link.marks c.next_frame.new.link) (g.L.Link.faults c.next_frame.new.link) now s heard.1
     heard.2 c.in-Ok.ensures.faults c.next_frame.ensures.ends at_admin ended ends)
     c.answer_frame-outcome.ensures.answered
+
+pub returns-in-Err-clause-stops : goal.returns-in-Err-clause-stops
+returns-in-Err-clause-stops g c before told known =
+    let disk = disk_of c.args.keeper.now in (
+      (
+        None,
+        stands-by g.D.Disk.moment g.D.Disk.left_since disk disk None before
+            (rests-as g.D.Disk.moment g.D.Disk.left_since disk before (λ left was. g.met.D.Disk.only_now disk left before told was)),
+      ),
+      λ decided. (before, told, known decided),
+    )
+
+pub returns-clause-stops : goal.returns-clause-stops
+returns-clause-stops g c before told known = (
+  (command_of c.in-Ok.framed.message, c.answer_frame-outcome.ensures.stops before told known),
+  c.answer_frame-outcome.ensures.kept before told known,
+)

@@ -3,12 +3,10 @@ use Rattle.cynara_keys.specs.declared.keys.Policy.{Policy}
 use Rattle.bucket_store.specs.Change.{listed}
 use Rattle.bucket_store.specs.Database.{Database}
 use Rattle.bucket_store.specs.WellFormed.{IsSound}
-use Rattle.desk_state.specs.declared.refusals.Refusal.TheVariants.{NoBucket}
 use Rattle.wire_messages.specs.declared.messages.Message.{Message}
-use Rattle.wire_messages.specs.declared.messages.Message.TheVariants.{Refused, ListRow, ListEnd}
+use Rattle.wire_messages.specs.declared.messages.Message.TheVariants.{ListRow, ListEnd}
 use Rattle.door_frames.specs.declared.endings.Ended.TheVariants.{Memory}
-use Rattle.admin_door.specs.Reply.{about}
-use Rattle.admin_door.proofs.Finding.{about-there, about-absent, listed-within}
+use Rattle.admin_door.proofs.Finding.{about-absent, listed-within}
 use Rattle.admin_door.proofs.questions.list_replies.Goals as goal
 
 pub rows-requires : goal.rows-requires

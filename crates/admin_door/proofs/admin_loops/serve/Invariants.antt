@@ -4,9 +4,10 @@ use Rattle.live_desk.specs.History.{last_commit}
 use Rattle.desk_keeper.specs.Keeper.{IsSameDisk}
 use Rattle.door_frames.specs.Hearing.{IsSound}
 use Rattle.admin_door.specs.Side.{side_of}
+use Rattle.admin_door.specs.Stops.{RunsOver}
 use Rattle.admin_door.specs.Serving.{talk_of}
 use Rattle.admin_door.specs.parts.Talk.{Stands}
-use Rattle.admin_door.proofs.admin_loops.admin_loop.Given as goal
+use Rattle.admin_door.proofs.admin_loops.serve.Given as goal
 
 -- the frames so far were answered
 abbrev pub invariant-loop : goal.invariant-loop
@@ -21,3 +22,4 @@ invariant-loop g l =
     × (length l.room ≡ 4096)
     × (last_commit 0 l.publisher ≤ l.keeper.desk.commit)
     × IsSameDisk l.fn.keeper l.keeper
+    × RunsOver g.D.Disk.state g.D.Disk.moment g.D.Disk.left_since l.fn.keeper l.keeper
