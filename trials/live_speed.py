@@ -23,6 +23,17 @@ import time
 from trial_crate import built
 
 USES = ["cynara_keys", "bucket_eval", "desk_state", "line_script", "link_ports", "live_desk", "anyhow"]
+# That a seat may go to another thread.
+ANSWERS = """use denote.Param.Send.{sendable}
+use Rattle.live_desk.proofs.Sent.{seat_row_send}
+use Rattle.live_speed.proofs.timed.Goals as goal
+
+pub by_one-done-requires-send-C : goal.by_one-done-requires-send-C
+by_one-done-requires-send-C g c κs within = search (sendable, seat_row_send) depth 20
+
+pub by_four-done-requires-send-C : goal.by_four-done-requires-send-C
+by_four-done-requires-send-C g c κs within = search (sendable, seat_row_send) depth 20
+"""
 RUNS = 5
 ROUNDS = 50
 TENTHS = 30
@@ -95,7 +106,7 @@ def main():
     flat = subprocess.run([peer, "flat", "65536"], stdout=subprocess.PIPE, check=True).stdout
     with tempfile.TemporaryDirectory() as name:
         scratch = pathlib.Path(name)
-        program = built(scratch, "live_speed", USES)
+        program = built(scratch, "live_speed", USES, {"timed": ANSWERS})
         kept = True
         for script, of in (device, "a device"), (flat, "65,536 policies"):
             if "check" in asked:

@@ -23,8 +23,9 @@ def below(names):
     return found
 
 
-def built(scratch, name, uses):
-    """The program `NAME.rt.txt` of this folder, which uses these crates."""
+def built(scratch, name, uses, answers={}):
+    """The program `NAME.rt.txt` of this folder, which uses these crates. `answers` has for a function the text of its
+    answers, where its proof needs some."""
     crates = below(uses)
     for crate in crates:
         # work that a proof begins with is of use only where no library is made of it yet
@@ -33,6 +34,10 @@ def built(scratch, name, uses):
     source = scratch / "crates" / name / "src"
     source.mkdir(parents=True)
     shutil.copy(HERE / f"{name}.rt.txt", source / "main.rt")
+    for function, text in answers.items():
+        folder = source.parent / "proofs" / function
+        folder.mkdir(parents=True)
+        (folder / "Answers.antt").write_text(text)
     (scratch / "crates.txt").write_text("\n".join([*crates.values(), f"{name}: {' '.join(uses)}"]) + "\n")
     made = subprocess.run(
         ["rt", "run"], cwd=source.parent, stdin=subprocess.DEVNULL, stdout=subprocess.PIPE, stderr=subprocess.STDOUT

@@ -1,2 +1,0 @@
-pub mod Monitor
-pub mod parts
