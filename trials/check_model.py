@@ -181,8 +181,13 @@ def cases():
     yield case(judged(), dials="1,2,3", sink="1")
 
 
-for line in cases():
-    if sys.argv[1] == "stdout" and not line.startswith("#"):
-        word, words = line.split(" ", 1)
-        line = f"{line} => {answered(word, words)}"
-    print(line)
+def main():
+    for line in cases():
+        if sys.argv[1] == "stdout" and not line.startswith("#"):
+            word, words = line.split(" ", 1)
+            line = f"{line} => {answered(word, words)}"
+        print(line)
+
+
+if __name__ == "__main__":
+    main()

@@ -38,6 +38,12 @@ line_of (Err (refusal.Older told got)) = Err Reply
 line_of (Err (refusal.BadReply fault)) = Err Reply
 line_of (Err (refusal.Memory error)) = Err Memory
 
+-- a call gives this text, or finds no memory
+abbrev pub GivesText : List ℕ → Result (List ℕ) Ending → Type 0
+GivesText text (Ok line) = line ≡ text
+GivesText text (Err Memory) = Unit {0}
+GivesText text (Err ending) = ⊥
+
 -- a call gives the line of an answer, or how a run ends; want of memory may come instead of a line
 abbrev pub GivesLine : Result Checked ClientRefusal → Result (List ℕ) Ending → Type 0
 GivesLine answer (Ok line) = line_of answer ≡ Ok line

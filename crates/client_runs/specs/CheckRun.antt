@@ -1,5 +1,6 @@
 -- What `check` and `simple` say, and how they end, over a dialler before and after.
-use Rattle.std.specs.Prelude.{◌≡◌, ◌⊎◌, false, Bool, List, ℕ, Option, Some, None, Result, Ok, Err}
+use Rattle.std.specs.Prelude.{◌≡◌, ◌⊎◌, false, Bool, List, ℕ, Option, Some, None, Result, Err}
+use Rattle.std.specs.declared.alloc.AllocError.{AllocError}
 use Rattle.cynara_keys.specs.Key.{Question}
 use Rattle.wire_messages.specs.Frame.{spelling, with_sequence}
 use Rattle.wire_messages.specs.Lent.{asks}
@@ -12,9 +13,8 @@ use Rattle.cynara_client.specs.Reply.{reply_of, refusal_of}
 use Rattle.cynara_client.specs.declared.refusals.Checked.{Checked}
 use Rattle.cynara_client.specs.declared.refusals.ClientRefusal.{ClientRefusal}
 use Rattle.cynara_client.specs.declared.refusals.ClientRefusal.TheVariants as refusal
-use Rattle.run_endings.specs.Saying.{Said, silence}
+use Rattle.run_endings.specs.Saying.{Said}
 use Rattle.run_endings.specs.declared.endings.Ending.{Ending}
-use Rattle.run_endings.specs.declared.endings.Ending.TheVariants.{Memory}
 use Rattle.agent_runs.specs.LinkSeen.{LinkSeen, DialSeen}
 use Rattle.client_runs.specs.AnswerLine.{Says}
 
@@ -37,23 +37,26 @@ abbrev pub link_of : {L : Type 0} → Outcome L → Option L
 link_of (outcome.Replied link is_new framed) = Some link
 link_of other = None
 
--- The question went out on links that were dialled, up to three, and this came of it; the line of the answer was due; and the
--- link of the reply was given back.
-pub record Asked (asked : AskedNames) (simple : Bool) (said : Said) (ending : Ending) (before after : DialSeen) : Type 0 where
+-- The question went out on links that were dialled, up to three, and this came of it; the link of the reply was given back.
+pub record AskedOnce (frame : List ℕ) (answer : Result Checked ClientRefusal) (before after : DialSeen) : Type 0 where
   pub came_of : Outcome LinkSeen
   pub between : DialSeen
-  pub sent : Asks (λ link. link.faults) (λ link. link.marks) (λ link. link.traffic) (question_frame asked simple)
+  pub sent : Asks (λ link. link.faults) (λ link. link.marks) (λ link. link.traffic) frame
       (λ dial. dial.faults) (λ dial. dial.dials) (λ dial. dial.given) 3 false None came_of before between
   pub given : GivesBackAny (λ dial. dial.faults) (λ dial. dial.dials) (λ dial. dial.given) (λ link. link.faults) (λ link. link.marks)
       (link_of came_of) between after
-  pub says : Says (answer_of came_of) said ending
+  pub answer_is : answer ≡ answer_of came_of
 
 -- no memory was found before anything was sent
-pub record Unasked (said : Said) (ending : Ending) (before after : DialSeen) : Type 0 where
-  pub ending_is : ending ≡ Memory
-  pub said_is : said ≡ silence
+pub record Unasked (answer : Result Checked ClientRefusal) (before after : DialSeen) : Type 0 where
+  pub error : AllocError
+  pub answer_is : answer ≡ Err (refusal.Memory error)
   pub same : after ≡ before
 
+abbrev pub AsksOnce : List ℕ → Result Checked ClientRefusal → DialSeen → DialSeen → Type 0
+AsksOnce frame answer before after = AskedOnce frame answer before after ⊎ Unasked answer before after
+
+-- the question was asked once, and the line of its answer was due
 abbrev pub RunsCheck : AskedNames → Bool → Said → Ending → DialSeen → DialSeen → Type 0
 RunsCheck asked simple said ending before after =
-    Asked asked simple said ending before after ⊎ Unasked said ending before after
+    (answer : Result Checked ClientRefusal) × AsksOnce (question_frame asked simple) answer before after × Says answer said ending

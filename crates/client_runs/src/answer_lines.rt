@@ -1,13 +1,14 @@
 // The line of what a check is answered.
-ghost use Rattle.std.specs.Prelude.{◌≡◌, ◌++◌, OnOk};
-ghost use Rattle.client_runs.specs.AnswerLine.{GivesLine, checked_text, verdict_line};
+ghost use Rattle.std.specs.Prelude.{Ok, Err};
+ghost use Rattle.line_script.specs.Answers.{answer_text};
+ghost use Rattle.client_runs.specs.AnswerLine.{GivesText, GivesLine, verdict_line};
 
-use bucket_eval::{Answer, Verdict};
+use bucket_eval::Verdict;
 use cynara_client::{Checked, ClientRefusal};
 use desk_ports::Bytes;
 use line_script::{LineAnswer, print};
 use run_endings::Ending;
-use std::alloc::{AllocError, Global};
+use std::alloc::Global;
 
 /// The line of the answer, or how a run ends without one.
 pub(crate) fn answer_line(
@@ -16,19 +17,17 @@ pub(crate) fn answer_line(
 ) -> Result<Bytes, Ending>
     ensures { GivesLine answer.now result }
 {
-    let mut line = Bytes::new(alloc);
     match answer {
-        Ok(checked) => put_checked(checked, &mut line)?,
-        Err(refusal) => put_refusal(refusal, &mut line)?,
+        Ok(checked) => checked_line(alloc, checked),
+        Err(refusal) => refusal_line(alloc, refusal),
     }
-    Ok(line)
 }
 
-fn put_checked(checked: &Checked, line: &mut Bytes) -> Result<(), AllocError>
-    ensures { OnOk result (line.new ≡ line.old ++ checked_text checked.now) }
+fn checked_line(alloc: Global, checked: &Checked) -> Result<Bytes, Ending>
+    ensures { GivesLine (Ok checked.now) result }
 {
     match checked {
-        Checked::Judged(verdict) => put_verdict(verdict, line),
+        Checked::Judged(verdict) => verdict_text(alloc, verdict),
         Checked::FromAgent {
             commit,
             kind,
@@ -41,15 +40,15 @@ fn put_checked(checked: &Checked, line: &mut Bytes) -> Result<(), AllocError>
                 kind: *kind,
                 number: *number,
             };
-            print(&answer, line)
+            printed(alloc, &answer)
         }
     }
 }
 
-fn put_verdict(verdict: &Verdict, line: &mut Bytes) -> Result<(), AllocError>
-    ensures { OnOk result (line.new ≡ line.old ++ verdict_line verdict.now) }
+fn verdict_text(alloc: Global, verdict: &Verdict) -> Result<Bytes, Ending>
+    ensures { GivesText (verdict_line verdict.now) result }
 {
-    let answer: &Answer = &verdict.answer;
+    let answer = &verdict.answer;
     match &answer.cause.row {
         Some(row) => {
             let text = LineAnswer::ByPolicy {
@@ -61,7 +60,7 @@ fn put_verdict(verdict: &Verdict, line: &mut Bytes) -> Result<(), AllocError>
                 user: row.user.as_slice(),
                 privilege: row.privilege.as_slice(),
             };
-            print(&text, line)
+            printed(alloc, &text)
         }
         None => {
             let text = LineAnswer::ByFallback {
@@ -70,35 +69,58 @@ fn put_verdict(verdict: &Verdict, line: &mut Bytes) -> Result<(), AllocError>
                 kind: answer.kind,
                 metadata: answer.metadata.as_slice(),
             };
-            print(&text, line)
+            printed(alloc, &text)
         }
     }
 }
 
 // The line of what the service refused, or how a run ends where there is none.
-fn put_refusal(refusal: &ClientRefusal, line: &mut Bytes) -> Result<(), Ending> {
-    let answer = match refusal {
-        ClientRefusal::NotResolved { commit, kind } => LineAnswer::NotResolved {
-            commit: *commit,
-            kind: *kind,
-        },
-        ClientRefusal::NoAgent { commit, kind } => LineAnswer::NoAgent {
-            commit: *commit,
-            kind: *kind,
-        },
-        ClientRefusal::AgentGone { commit, number } => LineAnswer::AgentGone {
-            commit: *commit,
-            number: *number,
-        },
-        ClientRefusal::AgentFull { commit, kind, most } => LineAnswer::AgentFull {
-            commit: *commit,
-            kind: *kind,
-            most: *most,
-        },
-        ClientRefusal::Unavailable => return Err(Ending::Net),
-        ClientRefusal::Older { .. } => return Err(Ending::Reply),
-        ClientRefusal::BadReply(_) => return Err(Ending::Reply),
-        ClientRefusal::Memory(_) => return Err(Ending::Memory),
-    };
-    Ok(print(&answer, line)?)
+fn refusal_line(alloc: Global, refusal: &ClientRefusal) -> Result<Bytes, Ending>
+    ensures { GivesLine (Err refusal.now) result }
+{
+    match refusal {
+        ClientRefusal::NotResolved { commit, kind } => printed(
+            alloc,
+            &LineAnswer::NotResolved {
+                commit: *commit,
+                kind: *kind,
+            },
+        ),
+        ClientRefusal::NoAgent { commit, kind } => printed(
+            alloc,
+            &LineAnswer::NoAgent {
+                commit: *commit,
+                kind: *kind,
+            },
+        ),
+        ClientRefusal::AgentGone { commit, number } => printed(
+            alloc,
+            &LineAnswer::AgentGone {
+                commit: *commit,
+                number: *number,
+            },
+        ),
+        ClientRefusal::AgentFull { commit, kind, most } => printed(
+            alloc,
+            &LineAnswer::AgentFull {
+                commit: *commit,
+                kind: *kind,
+                most: *most,
+            },
+        ),
+        ClientRefusal::Unavailable => Err(Ending::Net),
+        ClientRefusal::Older { .. } => Err(Ending::Reply),
+        ClientRefusal::BadReply(_) => Err(Ending::Reply),
+        ClientRefusal::Memory(_) => Err(Ending::Memory),
+    }
+}
+
+fn printed(alloc: Global, answer: &LineAnswer<'_>) -> Result<Bytes, Ending>
+    ensures { GivesText (answer_text answer.now) result }
+{
+    let mut line = Bytes::new(alloc);
+    match print(answer, &mut line) {
+        Ok(()) => Ok(line),
+        Err(_) => Err(Ending::Memory),
+    }
 }

@@ -1,9 +1,11 @@
 // `check` and `simple`.
-ghost use Rattle.std.specs.Prelude.{◌≡◌, ◌<◌, ◌⊎◌, true, false};
+ghost use Rattle.std.specs.Prelude.{◌≡◌, true, false};
 ghost use Rattle.run_endings.specs.Outside.{sink_seen};
 ghost use Rattle.run_endings.specs.Saying.{Said, WritesAnswers};
 ghost use Rattle.agent_runs.specs.LinkSeen.{link_seen, dial_seen};
-ghost use Rattle.client_runs.specs.CheckRun.{RunsCheck};
+ghost use Rattle.wire_messages.specs.Frame.{spelling, with_sequence};
+ghost use Rattle.wire_messages.specs.Lent.{asks};
+ghost use Rattle.client_runs.specs.CheckRun.{AsksOnce, RunsCheck};
 ghost use Rattle.client_runs.specs.AnswerLine.{Says};
 
 use crate::answer_lines::answer_line;
