@@ -1,5 +1,5 @@
 -- A message that was sent, and what came back.
-use Rattle.std.proofs.Common.{◌≡◌, ◌∙◌, ℕ, List, [], ◌++◌, Option, Some, Result, Ok, Err, IfOk, IfErr, refl, sym, ap, subst, inl, inr, append-nil}
+use Rattle.std.proofs.Common.{◌≡◌, ◌∙◌, ℕ, List, [], Option, Some, Result, Ok, Err, IfOk, IfErr, refl, sym, ap, subst, inl, inr, append-nil}
 use Rattle.desk_ports.specs.Faults.{next_count}
 use Rattle.link_ports.specs.Told.{KeepsTold, ChangesTold}
 use Rattle.link_ports.specs.LinkMarks.{LinkMarks}
@@ -7,8 +7,7 @@ use Rattle.link_ports.specs.NetCounts.{count_after_give_back}
 use Rattle.client_connection.specs.Reading.{IsTrouble}
 use Rattle.client_connection.proofs.Troubles.{trouble-counts}
 use Rattle.link_ports.specs.Traffic.{Traffic, with_received, with_sent}
-use Rattle.wire_messages.specs.Stream.{Hears, IsOpen, first_of}
-use Rattle.wire_messages.specs.declared.messages.Framed.{Framed}
+use Rattle.wire_messages.specs.Stream.{IsOpen, first_of}
 use Rattle.wire_messages.specs.declared.messages.Message.{Message}
 use Rattle.wire_messages.specs.declared.operations.Heard.TheVariants.{Replies}
 use Rattle.admin_client.specs.Replies.{wanted_of}

@@ -5,7 +5,6 @@ use Rattle.wire_messages.specs.Message.{operation}
 use Rattle.wire_messages.specs.declared.messages.Framed.{Framed}
 use Rattle.wire_messages.specs.declared.messages.Message.{Message}
 use Rattle.wire_messages.specs.declared.messages.Message.TheVariants as message
-use Rattle.client_connection.specs.declared.faults.ReplyFault.{ReplyFault}
 use Rattle.client_connection.specs.declared.faults.ReplyFault.TheVariants.{Sequence, Operation}
 use Rattle.admin_client.specs.declared.wanted.Wanted.{Wanted}
 use Rattle.admin_client.specs.declared.wanted.Wanted.TheVariants.{Command, Verdict, Rows, Stop}

@@ -1,6 +1,6 @@
 -- A piece that is no longer than what is wanted of the frame under way: it ends the frame, or goes on with it.
-use Rattle.std.proofs.Common.{◌≡◌, ◌≤◌, ℕ, List, [], ◌∷◌, ◌++◌, length, Option, Some, None, refl, sym, ap, ◌∙◌, subst, append-nil}
-use Rattle.wire_messages.specs.Stream.{Feeding, Hears, HearsOne, BeginsWrong, IsOpen, Fed, Failed, wanted, first_of, Partial, Wrong}
+use Rattle.std.proofs.Common.{◌≡◌, ◌≤◌, ℕ, List, [], ◌∷◌, ◌++◌, length, None, refl, sym, ap, ◌∙◌, subst}
+use Rattle.wire_messages.specs.Stream.{Feeding, Hears, HearsOne, BeginsWrong, IsOpen, Fed, Failed, wanted, first_of}
 use Rattle.wire_messages.specs.declared.messages.Framed.{Framed}
 use Rattle.wire_messages.specs.declared.operations.Heard.{Heard}
 use Rattle.wire_messages.specs.declared.refusals.WireRefusal.{WireRefusal}

@@ -1,14 +1,13 @@
 -- Bytes that were received piece by piece, and heard.
-use Rattle.std.proofs.Common.{◌≡◌, ◌<◌, ◌∙◌, ℕ, List, [], ◌∷◌, ◌++◌, length, take, Option, Some, Result, Ok, Err, refl, sym, ap, subst, append_assoc, append-nil}
+use Rattle.std.proofs.Common.{◌≡◌, ◌<◌, ◌∙◌, ℕ, List, [], ◌++◌, length, take, Option, Some, Result, sym, ap, subst, append_assoc, append-nil}
 use Rattle.link_ports.specs.Told.{IfTold, KeepsTold, ChangesTold}
 use Rattle.link_ports.specs.Traffic.{Traffic, with_received}
 use Rattle.link_ports.specs.LinkMarks.{LinkMarks}
-use Rattle.wire_messages.specs.Stream.{Feeding, Hears, BeginsWrong, IsOpen, unfed}
+use Rattle.wire_messages.specs.Stream.{Feeding, unfed}
 use Rattle.wire_messages.specs.declared.messages.Framed.{Framed}
 use Rattle.wire_messages.specs.declared.operations.Heard.{Heard}
-use Rattle.wire_messages.specs.declared.refusals.WireRefusal.{WireRefusal}
 use Rattle.client_connection.specs.Reading.{IsRead, Receives}
-use Rattle.client_connection.specs.parts.Pieces.{Came, HearsPiece, TakesPiece}
+use Rattle.client_connection.specs.parts.Pieces.{HearsPiece, TakesPiece}
 use Rattle.client_connection.specs.declared.faults.Broken.{Broken}
 use Rattle.client_connection.specs.declared.reading.Piece.{Piece}
 use Rattle.client_connection.specs.declared.reading.Piece.TheVariants as piece
@@ -58,12 +57,6 @@ pub nothing_came : (count : ℕ) (room : List ℕ) (start end : Option Traffic) 
 nothing_came count room start end zero changes before told =
     subst (λ (n : ℕ). ChangesTold start (with_received (take n room)) end) zero changes before told
     ∙ ap Some (λ i. record before { received = append-nil before.received i })
-
--- a call that keeps what is told leaves what was received
-pub received_still : (bytes : List ℕ) (start between end : Option Traffic)
-    → IfTold start (λ before. between ≡ Some (with_received bytes before)) → KeepsTold between end
-    → IfTold start (λ before. end ≡ Some (with_received bytes before))
-received_still bytes start between end one kept before told = kept (with_received bytes before) (one before told)
 
 -- ---- the feeder
 

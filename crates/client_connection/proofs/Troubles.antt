@@ -1,9 +1,9 @@
 -- A link that failed or was at its end counts for the dialler when it is given back.
-use Rattle.std.proofs.Common.{◌≡◌, ◌⊎◌, ◌<◌, ℕ, Bool, true, false, ◌&&◌, ◌||◌, cond, ltb, eqb, Ok, refl, sym, ap, subst, ◌∙◌, inl, inr, arith}
+use Rattle.std.proofs.Common.{◌≡◌, ◌<◌, ℕ, Bool, true, false, ◌&&◌, ◌||◌, cond, ltb, eqb, Ok, refl, sym, ap, subst, ◌∙◌, arith}
 use Rattle.std.proofs.lemmas.Bool.Decides.{nat_tests}
 use Rattle.desk_ports.specs.Faults.{next_count}
 use Rattle.link_ports.specs.LinkMarks.{LinkMarks, marks_after_receive}
-use Rattle.link_ports.specs.NetCounts.{gave_trouble, count_after_give_back}
+use Rattle.link_ports.specs.NetCounts.{count_after_give_back}
 use Rattle.client_connection.specs.Reading.{IsTrouble}
 
 above : (n : ℕ) → 0 < n → ltb 0 n ≡ true
@@ -19,11 +19,6 @@ or_true false b is = is
 front_true : (a b : Bool) → a ≡ true → (a || b) ≡ true
 front_true true b is = refl
 front_true false b is = cc
-
--- a call of the link failed
-pub trouble-failed : (marks : LinkMarks) (faults : ℕ) → IsTrouble marks (next_count faults)
-trouble-failed marks faults none =
-    no_end marks.ends _ none (front_true (ltb 0 (next_count faults)) _ (above (next_count faults) (omega arith)))
 
 -- its input had ended
 ended : (marks : LinkMarks) (faults room : ℕ) → 0 < room → IsTrouble (marks_after_receive (Ok 0) room marks) faults
@@ -41,12 +36,3 @@ trouble-ended marks after faults room count some zero is =
 pub trouble-counts : (marks : LinkMarks) (faults count : ℕ) → IsTrouble marks faults → marks.ends ≡ 0
     → count_after_give_back marks faults count ≡ next_count count
 trouble-counts marks faults count trouble none = ap (λ b. cond b (next_count count) count) (trouble none)
-
-by_trouble : (b : Bool) (count : ℕ) → (cond b (next_count count) count ≡ count) ⊎ (cond b (next_count count) count ≡ next_count count)
-by_trouble true count = inr refl
-by_trouble false count = inl refl
-
--- giving any link back counts one failure, or none
-pub left_faults : (marks : LinkMarks) (faults count : ℕ)
-    → (count_after_give_back marks faults count ≡ count) ⊎ (count_after_give_back marks faults count ≡ next_count count)
-left_faults marks faults count = by_trouble (gave_trouble marks faults) count

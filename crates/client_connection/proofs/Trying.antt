@@ -1,16 +1,15 @@
 -- One try behind another.
-use Rattle.std.proofs.Common.{◌≡◌, ◌<◌, ◌∙◌, ℕ, zero, suc, ◌-◌, ◌+◌, Bool, true, false, ◌||◌, not, List, [], ◌∷◌, ◌++◌, length, Option, Some, None, Result, Ok, Err, is_some, refl, sym, ap, subst, arith, append_assoc, append-nil, length-append}
+use Rattle.std.proofs.Common.{◌≡◌, ◌<◌, ◌∙◌, ℕ, zero, suc, ◌-◌, Bool, true, false, ◌||◌, not, List, [], ◌∷◌, ◌++◌, length, Option, Some, None, Result, Ok, Err, is_some, refl, sym, ap, subst, arith, append_assoc, append-nil, length-append}
 use Rattle.desk_ports.specs.Faults.{next_count}
 use Rattle.link_ports.specs.Traffic.{Traffic}
 use Rattle.link_ports.specs.LinkMarks.{LinkMarks}
 use Rattle.link_ports.specs.NetCounts.{count_after_give_back}
 use Rattle.wire_messages.specs.declared.messages.Framed.{Framed}
-use Rattle.wire_messages.specs.declared.refusals.WireRefusal.{WireRefusal}
 use Rattle.client_connection.specs.declared.faults.Broken.{Broken}
-use Rattle.client_connection.specs.declared.faults.Broken.TheVariants.{Lost, Wrong}
+use Rattle.client_connection.specs.declared.faults.Broken.TheVariants.{Wrong}
 use Rattle.client_connection.specs.Giving.{Appends}
-use Rattle.client_connection.specs.Asking.{counted, links_of, has_link, link_behind, tries_made, dials_in, IsBase, CameOver, AreLost, Loses, Replies, RepliesWrong, ComesOf, Asks}
-use Rattle.client_connection.specs.parts.Over.{Goes, Fails, GoesOver}
+use Rattle.client_connection.specs.Asking.{counted, links_of, has_link, link_behind, tries_made, dials_in, IsBase, CameOver, AreLost, Loses, ComesOf, Asks}
+use Rattle.client_connection.specs.parts.Over.{GoesOver}
 use Rattle.client_connection.specs.declared.asking.Outcome.{Outcome}
 use Rattle.client_connection.specs.declared.asking.Outcome.TheVariants as outcome
 

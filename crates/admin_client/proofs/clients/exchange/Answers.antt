@@ -1,4 +1,4 @@
-use Rattle.std.proofs.Common.{◌≡◌, ℕ, List, subst}
+use Rattle.std.proofs.Common.{ℕ, List, subst}
 use Rattle.link_ports.specs.Told.{ChangesTold}
 use Rattle.link_ports.specs.Traffic.{with_sent}
 use Rattle.admin_client.specs.Sending.{listed}

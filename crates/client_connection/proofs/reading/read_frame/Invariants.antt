@@ -1,4 +1,4 @@
-use Rattle.std.proofs.Common.{◌≡◌, ◌-◌, [], None, Some, length}
+use Rattle.std.proofs.Common.{◌≡◌, ◌-◌, Some, length}
 use Rattle.link_ports.specs.Told.{IfTold}
 use Rattle.link_ports.specs.Traffic.{with_received}
 use Rattle.wire_messages.specs.Stream.{IsOpen, unfed}
