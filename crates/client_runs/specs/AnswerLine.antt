@@ -44,11 +44,13 @@ GivesText text (Ok line) = line ≡ text
 GivesText text (Err Memory) = Unit {0}
 GivesText text (Err ending) = ⊥
 
--- a call gives the line of an answer, or how a run ends; want of memory may come instead of a line
+-- it gives the line that is wanted, or how the run ends that is to have none
+abbrev pub GivesFrom : Result (List ℕ) Ending → Result (List ℕ) Ending → Type 0
+GivesFrom (Ok text) result = GivesText text result
+GivesFrom (Err wanted) result = result ≡ Err wanted
+
 abbrev pub GivesLine : Result Checked ClientRefusal → Result (List ℕ) Ending → Type 0
-GivesLine answer (Ok line) = line_of answer ≡ Ok line
-GivesLine answer (Err Memory) = Unit {0}
-GivesLine answer (Err ending) = line_of answer ≡ Err ending
+GivesLine answer result = GivesFrom (line_of answer) result
 
 -- what is said of a line that is due, and how the run ends
 abbrev pub SaysLine : Result (List ℕ) Ending → Said → Ending → Type 0

@@ -2,17 +2,14 @@
 ghost use Rattle.std.specs.Prelude.{◌≡◌, true, false};
 ghost use Rattle.run_endings.specs.Outside.{sink_seen};
 ghost use Rattle.run_endings.specs.Saying.{Said, WritesAnswers};
-ghost use Rattle.agent_runs.specs.LinkSeen.{link_seen, dial_seen};
-ghost use Rattle.wire_messages.specs.Frame.{spelling, with_sequence};
-ghost use Rattle.wire_messages.specs.Lent.{asks};
-ghost use Rattle.client_runs.specs.CheckRun.{AsksOnce, RunsCheck};
+ghost use Rattle.cynara_client.specs.Single.{first_frame, AsksOnce};
+ghost use Rattle.client_runs.specs.CheckRun.{RunsCheck, question_of};
 ghost use Rattle.client_runs.specs.AnswerLine.{Says};
 
 use crate::answer_lines::answer_line;
-use client_connection::ReplyFault;
 use command_words::AskedNames;
-use cynara_client::{Checked, Client, ClientRefusal};
-use cynara_keys::{Name, Question};
+use cynara_client::{Checked, ClientRefusal, ReplyFault, check_once};
+use cynara_keys::Question;
 use desk_ports::{Failed, Sink, write_all};
 use link_ports::Dial;
 use run_endings::{Ending, note_text};
@@ -27,9 +24,8 @@ pub fn run_check<N: Dial, K: Sink>(
     sink: &mut K,
 ) -> Ending
     ensures { (said : Said)
-        × RunsCheck asked.now false said result
-        (dial_seen N.given_back N.dials N.faults (link_seen N.Link.traffic N.Link.marks N.Link.faults) dial.old)
-        (dial_seen N.given_back N.dials N.faults (link_seen N.Link.traffic N.Link.marks N.Link.faults) dial.new)
+        × RunsCheck N.Link.faults N.Link.marks N.Link.traffic N.faults N.dials N.given_back
+        asked.now false said result dial.old dial.new
         × WritesAnswers result said (sink_seen K.taken K.faults sink.old) (sink_seen K.taken K.faults sink.new) }
 {
     run(alloc, asked, false, dial, sink)
@@ -43,9 +39,8 @@ pub fn run_simple<N: Dial, K: Sink>(
     sink: &mut K,
 ) -> Ending
     ensures { (said : Said)
-        × RunsCheck asked.now true said result
-        (dial_seen N.given_back N.dials N.faults (link_seen N.Link.traffic N.Link.marks N.Link.faults) dial.old)
-        (dial_seen N.given_back N.dials N.faults (link_seen N.Link.traffic N.Link.marks N.Link.faults) dial.new)
+        × RunsCheck N.Link.faults N.Link.marks N.Link.traffic N.faults N.dials N.given_back
+        asked.now true said result dial.old dial.new
         × WritesAnswers result said (sink_seen K.taken K.faults sink.old) (sink_seen K.taken K.faults sink.new) }
 {
     run(alloc, asked, true, dial, sink)
@@ -59,45 +54,31 @@ fn run<N: Dial, K: Sink>(
     sink: &mut K,
 ) -> Ending
     ensures { (said : Said)
-        × RunsCheck asked.now simple said result
-        (dial_seen N.given_back N.dials N.faults (link_seen N.Link.traffic N.Link.marks N.Link.faults) dial.old)
-        (dial_seen N.given_back N.dials N.faults (link_seen N.Link.traffic N.Link.marks N.Link.faults) dial.new)
+        × RunsCheck N.Link.faults N.Link.marks N.Link.traffic N.faults N.dials N.given_back
+        asked.now simple said result dial.old dial.new
         × WritesAnswers result said (sink_seen K.taken K.faults sink.old) (sink_seen K.taken K.faults sink.new) }
 {
-    let question = Question::of(
-        alloc,
-        asked.client.as_slice(),
-        asked.user.as_slice(),
-        asked.privilege.as_slice(),
-    );
-    match question {
-        Ok(question) => {
-            let answer = ask_once(alloc, &asked.session, &question, simple, dial);
-            say(alloc, &answer, sink)
-        }
-        Err(_) => Ending::Memory,
-    }
+    let answer = answer_to(alloc, asked, simple, dial);
+    say(alloc, &answer, sink)
 }
 
-// Asks once, and gives the link back.
-fn ask_once<N: Dial>(
+// The answer to the question.
+fn answer_to<N: Dial>(
     alloc: Global,
-    session: &Name,
-    question: &Question,
+    asked: &AskedNames,
     simple: bool,
     dial: &mut N,
-) -> Result<Checked, ClientRefusal> {
-    let mut client = match Client::new(alloc, dial, 1) {
-        Ok(client) => client,
-        Err(error) => return Err(ClientRefusal::Memory(error)),
-    };
-    let answer = if simple {
-        client.simple_check(session, question)
-    } else {
-        client.check(session, question)
-    };
-    let _dial = client.finish();
-    answer
+) -> Result<Checked, ClientRefusal>
+    ensures { AsksOnce N.Link.faults N.Link.marks N.Link.traffic N.faults N.dials N.given_back
+        (first_frame simple (question_of asked.now)) result dial.old dial.new }
+{
+    let client = asked.client.as_slice();
+    let user = asked.user.as_slice();
+    let privilege = asked.privilege.as_slice();
+    match Question::of(alloc, client, user, privilege) {
+        Ok(question) => check_once(alloc, dial, simple, &question),
+        Err(error) => Err(ClientRefusal::Memory(error)),
+    }
 }
 
 // Writes the line of an answer. Where there is none a person is told why.
@@ -105,15 +86,24 @@ fn say<K: Sink>(alloc: Global, answer: &Result<Checked, ClientRefusal>, sink: &m
     ensures { (said : Said) × Says answer.now said result
         × WritesAnswers result said (sink_seen K.taken K.faults sink.old) (sink_seen K.taken K.faults sink.new) }
 {
-    if let Err(refusal) = answer {
-        note_refusal(alloc, refusal, sink);
-    }
+    note_answer(alloc, answer, sink);
     match answer_line(alloc, answer) {
         Ok(line) => match write_all(sink, line.as_slice()) {
             Ok(()) => Ending::Done,
             Err(Failed) => Ending::Sink,
         },
         Err(ending) => ending,
+    }
+}
+
+// Tells why there is no answer.
+fn note_answer<K: Sink>(alloc: Global, answer: &Result<Checked, ClientRefusal>, sink: &mut K)
+    ensures taken { K.taken sink.new ≡ K.taken sink.old }
+    ensures count { K.faults sink.new ≡ K.faults sink.old }
+{
+    match answer {
+        Ok(_) => {}
+        Err(refusal) => note_refusal(alloc, refusal, sink),
     }
 }
 

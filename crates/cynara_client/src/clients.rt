@@ -2,7 +2,6 @@ ghost use Rattle.std.specs.Prelude.{◌≡◌, ◌<◌, ◌≤◌, true, false, 
 ghost use Rattle.answer_cache.specs.Limits.{most_entries};
 ghost use Rattle.answer_cache.specs.Cache.{asked_in, empty_cache};
 ghost use Rattle.cynara_client.specs.Reply as words;
-ghost use Rattle.client_connection.specs.Giving.{GivesBackAny};
 ghost use Rattle.cynara_client.specs.Looking.{Looks};
 ghost use Rattle.cynara_client.specs.Checking.{Checks, Serves, Leaves, Ends, IsKept, replied, closed};
 
@@ -108,17 +107,6 @@ impl<N: Dial> Client<N> {
             (asked_in session.now question.now) true result self.old self.new }
     {
         self.ask(session, question, true)
-    }
-
-    /// Gives the link back, if there is one, and hands the dialler out.
-    pub fn finish(self) -> N
-        ensures { GivesBackAny N.faults N.dials N.given_back N.Link.faults N.Link.marks self.link self.dial result }
-    {
-        let mut dial = self.dial;
-        if let Some(link) = self.link {
-            dial.give_back(link);
-        }
-        dial
     }
 
     fn ask(
