@@ -87,17 +87,6 @@ impl<N: Dial> AdminClient<N> {
         }
     }
 
-    /// Gives the link back, if there is one, and hands the dialler out.
-    pub fn finish(self) -> N
-        ensures { GivesBackAny N.faults N.dials N.given_back N.Link.faults N.Link.marks self.link self.dial result }
-    {
-        let mut dial = self.dial;
-        if let Some(link) = self.link {
-            dial.give_back(link);
-        }
-        dial
-    }
-
     // Gives the link back, if there is one.
     fn leave(&mut self)
         ensures link { self.new.link ≡ None }

@@ -1,3 +1,0 @@
-pub mod StepMessage
-pub mod ReplyLine
-pub mod AdminRun
