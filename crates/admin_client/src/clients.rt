@@ -91,11 +91,9 @@ impl<N: Dial> AdminClient<N> {
     pub fn finish(self) -> N
         ensures { GivesBackAny N.faults N.dials N.given_back N.Link.faults N.Link.marks self.link self.dial result }
     {
-        let mut dial = self.dial;
-        if let Some(link) = self.link {
-            dial.give_back(link);
-        }
-        dial
+        let mut client = self;
+        client.leave();
+        client.dial
     }
 
     // Gives the link back, if there is one.
