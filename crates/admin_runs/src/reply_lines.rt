@@ -1,6 +1,8 @@
 // The lines of the replies to a message.
-ghost use Rattle.std.specs.Prelude.{◌≡◌, ◌++◌, OnOk};
-ghost use Rattle.admin_runs.specs.ReplyLine.{reply_text, replies_text, erases};
+ghost use Rattle.std.specs.Prelude.{◌≡◌, ◌++◌, if◌then◌else◌, OnOk};
+ghost use Rattle.line_script.specs.Answers.{accepted_text, erased_text};
+ghost use Rattle.script_replies.specs.Reply.{policy_text};
+ghost use Rattle.admin_runs.specs.ReplyLine.{verdict_by, reply_text, replies_text, erases};
 
 use cynara_keys::Policy;
 use desk_ports::Bytes;
@@ -52,7 +54,9 @@ fn put_reply(erases: bool, reply: &Message, out: &mut Bytes) -> Result<(), Alloc
     }
 }
 
-fn put_done(erases: bool, commit: u64, erased: u32, out: &mut Bytes) -> Result<(), AllocError> {
+fn put_done(erases: bool, commit: u64, erased: u32, out: &mut Bytes) -> Result<(), AllocError>
+    ensures { OnOk result (out.new ≡ out.old ++ (if erases then erased_text commit erased else accepted_text commit)) }
+{
     if erases {
         return print(
             &LineAnswer::Erased {
@@ -65,7 +69,9 @@ fn put_done(erases: bool, commit: u64, erased: u32, out: &mut Bytes) -> Result<(
     print(&LineAnswer::Accepted { commit }, out)
 }
 
-fn put_verdict(verdict: &PackedVerdict, out: &mut Bytes) -> Result<(), AllocError> {
+fn put_verdict(verdict: &PackedVerdict, out: &mut Bytes) -> Result<(), AllocError>
+    ensures { OnOk result (out.new ≡ out.old ++ verdict_by verdict.now.commit verdict.now.answer verdict.now.answer.cause.row) }
+{
     match verdict.row() {
         Some(row) => {
             let line = LineAnswer::ByPolicy {
@@ -91,7 +97,9 @@ fn put_verdict(verdict: &PackedVerdict, out: &mut Bytes) -> Result<(), AllocErro
     }
 }
 
-fn put_row(policy: &Policy, out: &mut Bytes) -> Result<(), AllocError> {
+fn put_row(policy: &Policy, out: &mut Bytes) -> Result<(), AllocError>
+    ensures { OnOk result (out.new ≡ out.old ++ policy_text policy.now) }
+{
     let line = LineAnswer::Row {
         client: policy.key.client(),
         user: policy.key.user(),
