@@ -1,0 +1,12 @@
+//! `serve W`: the service of a device over its folder, with a worker on a thread of its own for each of W connections of
+//! clients and for each of eight of agents. The calling thread serves the administrators, and each way out ends all of it.
+#![tactic(auto)]
+
+mod beside;
+mod crews;
+mod endings;
+mod serving;
+mod runs;
+
+pub use crews::AGENT_WORKERS;
+pub use runs::{MOST_CLIENT_WORKERS, run_serve};
