@@ -1,0 +1,63 @@
+-- The bytes of the replies to a message, and what they come to.
+use Rattle.std.specs.Prelude.{◌≡◌, ℕ, List, [], ◌∷◌, ◌++◌, length, map, Option, Some}
+use Rattle.link_ports.specs.Told.{IfTold}
+use Rattle.link_ports.specs.Traffic.{Traffic, with_received}
+use Rattle.wire_messages.specs.Stream.{Hears, BeginsWrong, IsOpen}
+use Rattle.wire_messages.specs.declared.messages.Framed.{Framed}
+use Rattle.wire_messages.specs.declared.messages.Message.{Message}
+use Rattle.wire_messages.specs.declared.operations.Heard.TheVariants.{Replies}
+use Rattle.wire_messages.specs.declared.refusals.WireRefusal.{WireRefusal}
+use Rattle.wire_messages.specs.declared.refusals.WireRefusal.TheVariants as wire
+use Rattle.client_connection.specs.declared.faults.Broken.{Broken}
+use Rattle.client_connection.specs.declared.faults.Broken.TheVariants as broken
+use Rattle.client_connection.specs.declared.faults.ReplyFault.{ReplyFault}
+use Rattle.client_connection.specs.declared.faults.ReplyFault.TheVariants.{Frame}
+use Rattle.admin_client.specs.Replies.{next_of, AreRows}
+use Rattle.admin_client.specs.declared.refusals.AdminRefusal.{AdminRefusal}
+use Rattle.admin_client.specs.declared.refusals.AdminRefusal.TheVariants.{Unavailable, BadReply, TooLong, Memory}
+use Rattle.admin_client.specs.declared.wanted.Wanted.{Wanted}
+use Rattle.admin_client.specs.declared.wanted.Next.TheVariants.{Whole, Wrong}
+
+-- the bytes received are such
+abbrev pub TookBytes : (List ℕ → Type 0) → Option Traffic → Option Traffic → Type 0
+TookBytes P old new = IfTold old (λ before. (bytes : List ℕ) × P bytes × (new ≡ Some (with_received bytes before)))
+
+-- the bytes begin with rows, and these are behind them
+pub record BeginsWithRows (wanted : Wanted) (sequence : ℕ) (bytes behind : List ℕ) : Type 0 where
+  pub rows : List Framed
+  pub heard : Hears Replies bytes rows behind
+  pub are_rows : AreRows wanted sequence 0 rows
+
+-- The bytes are a whole answer, and nothing is behind it: rows, where rows are wanted, and the last reply. These are the
+-- replies.
+pub record IsWhole (wanted : Wanted) (sequence : ℕ) (replies : List Message) (bytes : List ℕ) : Type 0 where
+  pub rows : List Framed
+  pub last : Framed
+  pub heard : Hears Replies bytes (rows ++ last ∷ []) []
+  pub are_rows : AreRows wanted sequence 0 rows
+  pub whole : next_of wanted sequence (length rows) last ≡ Whole
+  pub are_all : replies ≡ map (λ framed. framed.message) (rows ++ last ∷ [])
+
+-- the bytes are no answer: behind rows they go on with what is no frame, or with a reply that is wrong there
+pub data IsBad (wanted : Wanted) (sequence : ℕ) (fault : ReplyFault) (bytes : List ℕ) : Type 0 where
+  no_frame : (refusal : WireRefusal) (behind : List ℕ) → fault ≡ Frame refusal → BeginsWithRows wanted sequence bytes behind
+      → BeginsWrong Replies behind refusal → IsBad wanted sequence fault bytes
+  no_answer : (rows : List Framed) (wrong : Framed) → Hears Replies bytes (rows ++ wrong ∷ []) [] → AreRows wanted sequence 0 rows
+      → next_of wanted sequence (length rows) wrong ≡ Wrong fault → IsBad wanted sequence fault bytes
+
+-- what the bytes are behind which a message has no answer
+abbrev pub IsRefused : Wanted → ℕ → AdminRefusal → List ℕ → Type 0
+IsRefused wanted sequence Unavailable bytes =
+    (behind : List ℕ) × BeginsWithRows wanted sequence bytes behind × IsOpen Replies behind
+IsRefused wanted sequence (BadReply fault) bytes = IsBad wanted sequence fault bytes
+IsRefused wanted sequence (TooLong n) bytes = ⊥
+IsRefused wanted sequence (Memory error) bytes = Unit {0}
+
+abbrev pub IfUnavailable : AdminRefusal → Type 0 → Type 0
+IfUnavailable Unavailable fact = fact
+IfUnavailable other fact = Unit {0}
+
+abbrev pub refusal_of : Broken → AdminRefusal
+refusal_of broken.Lost = Unavailable
+refusal_of (broken.Wrong (wire.Memory error)) = Memory error
+refusal_of (broken.Wrong fault) = BadReply (Frame fault)

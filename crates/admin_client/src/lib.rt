@@ -1,0 +1,13 @@
+//! An administrator's client of the policy service: a command is sent once, and the caller hears exactly what came back.
+//!
+//! What is sent is never sent a second time: of a command whose reply was lost nobody knows whether it was accepted, and
+//! sending it again might do it twice.
+#![tactic(auto)]
+
+mod clients;
+mod refusals;
+mod replies;
+mod wanted;
+
+pub use clients::AdminClient;
+pub use refusals::AdminRefusal;

@@ -1,0 +1,5 @@
+mod Hearing
+mod Receiving
+mod Exchanging
+pub mod Troubles
+mod Trying

@@ -1,0 +1,5 @@
+pub mod Refusing
+pub mod Reply
+pub mod State
+pub mod Looking
+pub mod Checking

@@ -1,0 +1,17 @@
+//! Clients of the policy service: a launcher's, which checks and keeps what it was answered, and an administrator's, which
+//! sends a command once and says exactly what came back.
+//!
+//! What a check means is Cynara's, as its wiki says. When an answer that was kept may be used is this project's profile:
+//! only while the link that it came over is up, and only where it is not older than a commit that the client was told
+//! of. Since the service hangs up all older links before it acknowledges a commit, no answer is older than one that was
+//! acknowledged before the question was asked.
+#![tactic(auto)]
+
+mod clients;
+mod looking;
+mod refusals;
+mod replies;
+
+pub use client_connection::ReplyFault;
+pub use clients::Client;
+pub use refusals::{Checked, ClientRefusal};
