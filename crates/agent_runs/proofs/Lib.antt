@@ -1,0 +1,5 @@
+mod Pieces
+pub mod Carrying
+pub mod Receiving
+pub mod Talking
+pub mod Dialling

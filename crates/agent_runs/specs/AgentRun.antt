@@ -1,0 +1,47 @@
+-- What `agent KIND allow` and `agent KIND deny` say, and how they end, over a dialler before and after.
+use Rattle.std.specs.Prelude.{◌≡◌, ◌⊎◌, ℕ, Bool}
+use Rattle.desk_ports.specs.Faults.{next_count}
+use Rattle.cynara_keys.specs.declared.results.Kind.{Kind}
+use Rattle.link_ports.specs.Told.{AppendsTold}
+use Rattle.link_ports.specs.LinkMarks.{fresh_marks}
+use Rattle.link_ports.specs.NetCounts.{count_after_give_back}
+use Rattle.run_endings.specs.Saying.{Said, silence}
+use Rattle.run_endings.specs.declared.endings.Ending.{Ending}
+use Rattle.run_endings.specs.declared.endings.Ending.TheVariants.{Memory, Sink, Net}
+use Rattle.agent_runs.specs.LinkSeen.{LinkSeen, DialSeen}
+use Rattle.agent_runs.specs.AgentTalk.{Serves}
+
+-- how a run ends whose dial fails, and what it does to the dialler's count
+abbrev pub DialFails : Ending → ℕ → ℕ → Type 0
+DialFails Net count counted = counted ≡ next_count count
+DialFails Memory count counted = counted ≡ count
+DialFails ending count counted = ⊥
+
+-- no link was dialled
+pub record Undialled (said : Said) (ending : Ending) (before after : DialSeen) : Type 0 where
+  pub said_is : said ≡ silence
+  pub fails : DialFails ending before.faults after.faults
+  pub given : after.given ≡ before.given
+
+-- A link was dialled and served, and then given back, also where it did not fail. So a connection that the service ended
+-- counts for the dialler as one whose input had ended.
+pub record Dialled (kind : Kind) (allowed : Bool) (said : Said) (ending : Ending) (before after : DialSeen) : Type 0 where
+  pub link : LinkSeen
+  pub link_after : LinkSeen
+  pub unmarked : link.marks ≡ fresh_marks
+  pub unfailed : link.faults ≡ 0
+  pub served : Serves kind allowed said ending link link_after
+  pub given : AppendsTold before.given link_after after.given
+  pub faults : after.faults ≡ count_after_give_back link_after.marks link_after.faults before.faults
+
+abbrev pub RunsAgent : Kind → Bool → Said → Ending → DialSeen → DialSeen → Type 0
+RunsAgent kind allowed said ending before after =
+    Undialled said ending before after ⊎ Dialled kind allowed said ending before after
+
+-- The count of the dialler behind a run: one call of the outside failed where the run ended so. Where its peer ended the
+-- connection one may have been counted when the link was given back.
+abbrev pub DialCounts : Ending → ℕ → ℕ → Type 0
+DialCounts Net before after = after ≡ next_count before
+DialCounts Memory before after = after ≡ before
+DialCounts Sink before after = after ≡ before
+DialCounts ending before after = (after ≡ before) ⊎ (after ≡ next_count before)

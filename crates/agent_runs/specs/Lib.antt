@@ -1,0 +1,4 @@
+pub mod LinkSeen
+pub mod AgentTalk
+pub mod AgentRun
+pub mod parts
