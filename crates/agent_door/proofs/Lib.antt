@@ -1,3 +1,4 @@
 pub mod Growing
 pub mod Calls
 pub mod Serving
+pub mod Misplaced

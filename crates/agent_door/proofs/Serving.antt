@@ -31,7 +31,7 @@ use Rattle.door_frames.proofs.Carrying.{carried_more, carried_same}
 use Rattle.agent_door.specs.Frame.{register_frame, registered_frame, answer_frame, question_frame, unknown_frame, IsOutOfPlace}
 use Rattle.agent_door.specs.Round.{Given, Round, IsWhole, IsOther, answer_call, rounds_calls, rounds_frames, rounds_told, told_of}
 use Rattle.agent_door.specs.Serving.{AgentSide, Asks, EndsAsking, EndsHeeding, MayMiss, joined_calls}
-use Rattle.agent_door.specs.parts.Talk.{Stands, HandsIn, HasJoined, open_of, AreOther}
+use Rattle.agent_door.specs.parts.Talk.{Stands, EndsHearing, HandsIn, HasJoined, open_of, AreOther}
 use Rattle.agent_door.specs.declared.messages.Answer.{Answer}
 use Rattle.agent_door.specs.declared.messages.Registration.{Registration}
 use Rattle.agent_door.proofs.Calls.{after_calls_more, calls_same, calls_more}
@@ -512,3 +512,55 @@ ends_unregistered registration start old new feeder (Hung entered now) wrong sid
 ends_unregistered registration start old new feeder (BadFrame refusal) wrong side carried tally calls same s = absurd wrong
 ends_unregistered registration start old new feeder Stopped wrong side carried tally calls same s = absurd wrong
 ends_unregistered registration start old new feeder (Strayed number found) wrong side carried tally calls same s = absurd wrong
+
+-- ---- a frame that comes and, behind it, one that goes
+
+received_and_sent : (before between after : Option Traffic) (bytes sent : List ℕ) → Carried before between bytes [] → Carried between after [] sent
+    → Carried before after bytes sent
+received_and_sent before between after bytes sent one other =
+    subst (λ list. Carried before after list sent) (append-nil bytes) (carried_more bytes [] [] sent before between after one other)
+
+pub takes_other : (registration : Registration) (old new : AgentSide) (between : Option Traffic) (feeder fed : Feeding) (asked : Asked) (answer : Answer)
+    (outcome : Result (Unit {0}) AnswerRefusal) (bytes : List ℕ) → (answer.number ≡ asked.number → ⊥)
+    → HandsOut bytes (answer_frame answer) feeder fed
+    → Carried old.traffic between bytes [] → Carried between new.traffic [] (bytes_of (told_of outcome answer))
+    → HandsIn registration.kind answer outcome old.tally old.calls new.tally new.calls
+    → new.faults ≡ old.faults → new.marks.ends ≡ old.marks.ends
+    → (start : AgentSide) → Stands registration start old feeder (Some asked) → Stands registration start new fed (Some asked)
+takes_other registration old new between feeder fed asked answer outcome bytes other handed one then made still ends start s =
+    answered_other registration start old new feeder fed asked answer outcome bytes other handed
+    (received_and_sent old.traffic between new.traffic bytes (bytes_of (told_of outcome answer)) one then) made still ends s
+
+pub takes_it : (registration : Registration) (old new : AgentSide) (between : Option Traffic) (feeder fed : Feeding) (asked : Asked) (answer : Answer)
+    (outcome : Result (Unit {0}) AnswerRefusal) (bytes : List ℕ) → answer.number ≡ asked.number
+    → HandsOut bytes (answer_frame answer) feeder fed
+    → Carried old.traffic between bytes [] → Carried between new.traffic [] (bytes_of (told_of outcome answer))
+    → HandsIn registration.kind answer outcome old.tally old.calls new.tally new.calls
+    → new.faults ≡ old.faults → new.marks.ends ≡ old.marks.ends
+    → (start : AgentSide) → Stands registration start old feeder (Some asked) → Stands registration start new fed None
+takes_it registration old new between feeder fed asked answer outcome bytes it handed one then made still ends start s =
+    answered_it registration start old new feeder fed asked answer outcome bytes it handed
+    (received_and_sent old.traffic between new.traffic bytes (bytes_of (told_of outcome answer)) one then) made still ends s
+
+pub takes_untold : (registration : Registration) (old new : AgentSide) (between : Option Traffic) (feeder fed : Feeding) (asked : Asked) (answer : Answer)
+    (outcome : Result (Unit {0}) AnswerRefusal) (ended : Ended) (bytes : List ℕ) → HandsOut bytes (answer_frame answer) feeder fed
+    → fed.heard ≡ AtAgent → told_of outcome answer ≡ unknown_frame answer ∷ [] → EndsSending ended old.faults new.faults
+    → HandsIn registration.kind answer outcome old.tally old.calls new.tally new.calls
+    → Carried old.traffic between bytes [] → Carried between new.traffic [] [] → new.marks.ends ≡ old.marks.ends
+    → (start : AgentSide) → Stands registration start old feeder (Some asked) → Asks start new ended
+takes_untold registration old new between feeder fed asked answer outcome ended bytes handed side told sending made one then same start s =
+    ends_untold registration start old new feeder fed asked answer outcome ended bytes handed side told sending made
+    (received_and_sent old.traffic between new.traffic bytes [] one then) same s
+
+-- no answer comes
+pub takes_none : (registration : Registration) (old new : AgentSide) (feeder fed : Feeding) (asked : Asked) (ended : Ended)
+    → EndsHearing feeder fed old.traffic new.traffic new.marks old.faults new.faults ended → feeder.heard ≡ AtAgent
+    → new.tally ≡ old.tally → new.calls ≡ old.calls → new.marks.ends ≡ old.marks.ends
+    → (start : AgentSide) → Stands registration start old feeder (Some asked) → Asks start new ended
+takes_none registration old new feeder fed asked ended why side tally calls same start s =
+    elim why [
+      | EndsHearing.unheard bytes carried hears none heard reading ↦
+          ends_unheard registration start old new feeder fed asked ended bytes hears none (heard ∙ side) reading tally calls carried same s
+      | EndsHearing.misplaced bytes framed carried handed heard misplaced still ↦
+          ends_misplaced registration start old new feeder fed asked ended bytes framed handed (heard ∙ side) misplaced tally calls still carried same s
+    ]

@@ -6,6 +6,7 @@ use Rattle.wire_messages.specs.Frame.{with_sequence}
 use Rattle.wire_messages.specs.Operation.{number_of}
 use Rattle.wire_messages.specs.Message.{operation}
 use Rattle.wire_messages.specs.declared.messages.Framed.{Framed}
+use Rattle.wire_messages.specs.declared.messages.Message.{Message}
 use Rattle.wire_messages.specs.declared.messages.Message.TheVariants.{Register, AgentAnswer, Registered, KindTaken, AgentQuestion, UnknownNumber}
 use Rattle.wire_messages.specs.declared.refusals.WireRefusal.TheVariants.{BadOperation}
 use Rattle.door_frames.specs.declared.endings.Ended.{Ended}
@@ -25,6 +26,15 @@ answer_frame answer = with_sequence answer.sequence (AgentAnswer answer.number a
 abbrev pub IsOutOfPlace : ℕ → Framed → Ended → Type 0
 IsOutOfPlace number framed ended =
     (number_of (operation framed.message) ≡ number) × (ended ≡ BadFrame (BadOperation number))
+
+-- a message that is no registration, and one that is no answer
+abbrev pub IsNoRegistration : Message → Type 0
+IsNoRegistration (Register kind) = ⊥
+IsNoRegistration other = Unit {0}
+
+abbrev pub IsNoAnswer : Message → Type 0
+IsNoAnswer (AgentAnswer number allowed) = ⊥
+IsNoAnswer other = Unit {0}
 
 -- ---- what an agent is told
 

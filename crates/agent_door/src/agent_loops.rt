@@ -7,10 +7,11 @@ ghost use Rattle.agent_door.specs.parts.Talk.{HasJoined, TellsTaken};
 
 use crate::messages::{Registration, read_registration};
 use crate::rounds::round;
+use crate::sending::send;
 use agent_table::RegisterRefusal;
 use cynara_keys::Kind;
 use desk_ports::Bytes;
-use door_frames::{Ended, MOST_PIECE, next_frame, send_message};
+use door_frames::{Ended, MOST_PIECE, next_frame};
 use link_ports::Link;
 use server_hall::Hall;
 use std::alloc::Global;
@@ -67,7 +68,7 @@ fn tell_taken<L: Link>(link: &mut L, frame: &mut Bytes, registered: Registration
     let message = Message::KindTaken {
         kind: registered.kind,
     };
-    match send_message(link, frame, registered.sequence, &message) {
+    match send(link, frame, registered.sequence, message) {
         Ok(()) => Ended::Closed,
         Err(ended) => ended,
     }
@@ -95,7 +96,7 @@ fn serve<R: Wait, A: Hall, L: Link>(
 {
     let kind = registered.kind;
     let message = Message::Registered { kind };
-    if let Err(ended) = send_message(link, frame, registered.sequence, &message) {
+    if let Err(ended) = send(link, frame, registered.sequence, message) {
         return ended;
     }
     for _ in rt.forever() {

@@ -5,5 +5,6 @@
 mod agent_loops;
 mod messages;
 mod rounds;
+mod sending;
 
 pub use agent_loops::agent_loop;

@@ -1,12 +1,12 @@
 // What an agent says, and what is not known where it stands.
-ghost use Rattle.std.specs.Prelude.{◌≡◌, IsTrue, MatchResult};
+ghost use Rattle.std.specs.Prelude.{◌≡◌, IsTrue, MatchResult, MatchOption};
 ghost use Rattle.cynara_keys.specs.PolicyResult.{is_agent};
 ghost use Rattle.wire_messages.specs.Hearing.{IsHeard};
 ghost use Rattle.wire_messages.specs.declared.operations.Heard.TheVariants.{AtAgent};
 ghost use Rattle.wire_messages.specs.Operation.{number_of};
 ghost use Rattle.wire_messages.specs.declared.refusals.WireRefusal.TheVariants.{BadOperation};
 ghost use Rattle.door_frames.specs.declared.endings.Ended.TheVariants.{BadFrame};
-ghost use Rattle.agent_door.specs.Frame.{register_frame, answer_frame, IsOutOfPlace};
+ghost use Rattle.agent_door.specs.Frame.{register_frame, answer_frame, IsOutOfPlace, IsNoRegistration, IsNoAnswer};
 
 use cynara_keys::Kind;
 use door_frames::Ended;
@@ -34,10 +34,12 @@ pub(crate) fn read_registration(framed: Framed) -> Result<Registration, Ended>
         (λ registration. (framed ≡ register_frame registration) × IsTrue (is_agent registration.kind.0))
         (IsOutOfPlace 0x21 framed) }
 {
-    let Framed { sequence, message } = framed;
-    match message {
-        Message::Register { kind } => Ok(Registration { sequence, kind }),
-        _ => Err(out_of_place(Operation::AgentAnswer)),
+    let registration = registration_in(&framed);
+    // Handed on by value, it is not gone through variant by variant here.
+    drop(framed);
+    match registration {
+        Some(registration) => Ok(registration),
+        None => Err(out_of_place(Operation::AgentAnswer)),
     }
 }
 
@@ -46,14 +48,37 @@ pub(crate) fn read_answer(framed: Framed) -> Result<Answer, Ended>
     requires { IsHeard AtAgent framed }
     ensures { MatchResult result (λ answer. framed ≡ answer_frame answer) (IsOutOfPlace 0x20 framed) }
 {
-    let Framed { sequence, message } = framed;
-    match message {
-        Message::AgentAnswer { number, allowed } => Ok(Answer {
-            sequence,
-            number,
-            allowed,
+    let answer = answer_in(&framed);
+    drop(framed);
+    match answer {
+        Some(answer) => Ok(answer),
+        None => Err(out_of_place(Operation::Register)),
+    }
+}
+
+fn registration_in(framed: &Framed) -> Option<Registration>
+    ensures { MatchOption result (IsNoRegistration framed.now.message)
+        (λ registration. framed.now ≡ register_frame registration) }
+{
+    match &framed.message {
+        Message::Register { kind } => Some(Registration {
+            sequence: framed.sequence,
+            kind: *kind,
         }),
-        _ => Err(out_of_place(Operation::Register)),
+        _ => None,
+    }
+}
+
+fn answer_in(framed: &Framed) -> Option<Answer>
+    ensures { MatchOption result (IsNoAnswer framed.now.message) (λ answer. framed.now ≡ answer_frame answer) }
+{
+    match &framed.message {
+        Message::AgentAnswer { number, allowed } => Some(Answer {
+            sequence: framed.sequence,
+            number: *number,
+            allowed: *allowed,
+        }),
+        _ => None,
     }
 }
 

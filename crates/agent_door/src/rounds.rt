@@ -15,10 +15,11 @@ ghost use Rattle.agent_door.specs.Serving.{agent_side};
 ghost use Rattle.agent_door.specs.parts.Talk.{Goes, Ends, EndsHearing, HandsIn};
 
 use crate::messages::{Answer, Registration, read_answer};
+use crate::sending::send;
 use agent_table::Asked;
 use cynara_keys::{Kind, PolicyResult};
 use desk_ports::Bytes;
-use door_frames::{Ended, next_frame, send_message};
+use door_frames::{Ended, next_frame};
 use link_ports::Link;
 use server_hall::{Hall, NextRefusal};
 use std::sync::Wait;
@@ -58,8 +59,13 @@ pub(crate) fn round<R: Wait, A: Hall, L: Link>(
         Err(NextRefusal::Memory(_)) => return Err(Ended::Memory),
     };
     let number = asked.number;
-    send_question(link, frame, kind, asked)?;
-    take_answers(rt, hall, link, feeder, room, frame, registration, number)
+    if let Err(ended) = send_question(link, frame, kind, asked) {
+        return Err(ended);
+    }
+    match take_answers(rt, hall, link, feeder, room, frame, registration, number) {
+        Ok(()) => Ok(()),
+        Err(ended) => Err(ended),
+    }
 }
 
 // Sends a question, with the low 16 bits of its number as the frame's sequence number.
@@ -70,8 +76,9 @@ fn send_question<L: Link>(
     asked: Asked,
 ) -> Result<(), Ended>
     requires { IsTrue (is_agent kind.0) }
-    ensures sent { OnOk result (Carried (L.traffic link.old) (L.traffic link.new) [] (spelling (question_frame kind asked))) }
-    ensures ended { MatchResult result (λ _. L.faults link.new ≡ L.faults link.old)
+    ensures sent { MatchResult result
+        (λ _. Carried (L.traffic link.old) (L.traffic link.new) [] (spelling (question_frame kind asked))
+        × (L.faults link.new ≡ L.faults link.old))
         (λ ended. EndsSending ended (L.faults link.old) (L.faults link.new)
         × Carried (L.traffic link.old) (L.traffic link.new) [] []) }
     ensures marks { L.marks link.new ≡ L.marks link.old }
@@ -90,7 +97,10 @@ fn send_question<L: Link>(
         question,
         result,
     };
-    send_message(link, frame, sequence, &message)
+    match send(link, frame, sequence, message) {
+        Ok(()) => Ok(()),
+        Err(ended) => Err(ended),
+    }
 }
 
 // Takes answers until one to the question of this number has come.
@@ -122,8 +132,13 @@ fn take_answers<R: Wait, A: Hall, L: Link>(
         (agent_side (A.tally hall.new) (A.calls hall.new) (L.traffic link.new) (L.marks link.new) (L.faults link.new))) }
 {
     for _ in rt.forever() {
-        let given = take_answer(rt, link, feeder, room)?;
-        hand_in(hall, link, frame, registration.kind, given)?;
+        let given = match take_answer(rt, link, feeder, room) {
+            Ok(given) => given,
+            Err(ended) => return Err(ended),
+        };
+        if let Err(ended) = hand_in(hall, link, frame, registration.kind, given) {
+            return Err(ended);
+        }
         if given.number == number {
             return Ok(());
         }
@@ -153,7 +168,10 @@ fn take_answer<R: Wait, L: Link>(
     ensures ends { (L.marks link.new).ends ≡ (L.marks link.old).ends }
 {
     match next_frame(rt, link, feeder, room) {
-        Ok(framed) => read_answer(framed),
+        Ok(framed) => match read_answer(framed) {
+            Ok(given) => Ok(given),
+            Err(ended) => Err(ended),
+        },
         Err(ended) => Err(ended),
     }
 }
@@ -182,7 +200,10 @@ fn hand_in<A: Hall, L: Link>(
         Ok(()) => Ok(()),
         Err(_) => {
             let message = Message::UnknownNumber { number };
-            send_message(link, frame, given.sequence, &message)
+            match send(link, frame, given.sequence, message) {
+                Ok(()) => Ok(()),
+                Err(ended) => Err(ended),
+            }
         }
     }
 }

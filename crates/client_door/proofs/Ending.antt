@@ -8,9 +8,11 @@ use Rattle.link_ports.specs.LinkMarks.{LinkMarks}
 use Rattle.cynara_keys.specs.Key.{Question}
 use Rattle.cynara_keys.specs.declared.results.Kind.{Kind}
 use Rattle.desk_state.specs.DeskState.{DeskState}
+use Rattle.live_desk.specs.History.{GoesOn}
 use Rattle.live_desk.specs.Seat.{SeatState}
 use Rattle.desk_world.specs.declared.links.Reading.{Reading}
-use Rattle.desk_world.specs.declared.links.Reading.TheVariants.{Due as IsDue}
+use Rattle.desk_world.specs.declared.links.Reading.TheVariants.{Ready as IsReady, Due as IsDue}
+use Rattle.desk_world.specs.declared.replies.Reply.{Reply}
 use Rattle.wire_messages.specs.Frame.{spelling, with_sequence}
 use Rattle.wire_messages.specs.Stream.{Feeding, Hears, BeginsWrong, IsOpen}
 use Rattle.wire_messages.specs.declared.messages.Framed.{Framed}
@@ -22,7 +24,7 @@ use Rattle.server_hall.specs.Told.{AppendsCalls}
 use Rattle.server_hall.specs.declared.calls.HallCall.{HallCall}
 use Rattle.server_hall.specs.declared.calls.HallCall.TheVariants.{Ask}
 use Rattle.door_frames.specs.Carried.{Carried}
-use Rattle.door_frames.specs.Hearing.{HasHeard}
+use Rattle.door_frames.specs.Hearing.{HasHeard, HearsMore}
 use Rattle.door_frames.specs.Ending.{EndsReading, EndsBytes, IsAtEnd, faults_after}
 use Rattle.door_frames.specs.declared.endings.Ended.{Ended}
 use Rattle.door_frames.specs.declared.endings.Ended.TheVariants.{Closed, Cut, Hung, LinkFault, BadFrame, Stopped, Memory, Strayed}
@@ -36,7 +38,7 @@ use Rattle.client_door.specs.parts.Talk.{Stands, IsReadNow}
 use Rattle.client_door.specs.declared.checks.Check.{Check}
 use Rattle.client_door.specs.declared.agent_replies.AgentReply.{AgentReply}
 use Rattle.client_door.proofs.Calls.{after_asks_more, calls_same, calls_more, calls_for_more, front_right}
-use Rattle.client_door.proofs.Steps.{answered_with}
+use Rattle.client_door.proofs.Steps.{answered_with, answered_by_policies, reseated, flushed, heard_more}
 
 -- the first of some checks were read as all of them
 front_read : (seen : List DeskState) (low : ℕ) (answered more : List Answered) → AreReadIn seen low (answered ++ more) → AreReadIn seen low answered
@@ -255,3 +257,97 @@ asked_in_vain start now tally calls feeder check kind metadata ended side made s
       | AsksInVain.vain result asked why ↦
           vain start now (record now { tally = tally; calls = calls }) feeder check kind metadata result ended side refl asked why s sent
     ]
+
+-- ---- the parts of a turn
+
+-- a check was read and put behind those that wait, by the policies alone
+pub reads_and_puts : (old new : ClientSide) (seat : SeatState) (feeder : Feeding) (waiting frame after : List ℕ) (check : Check)
+    (desk : DeskState) (reply : Reply) → seat ≡ record old.seat { seen = seat.seen } → GoesOn old.seat.seen seat.seen
+    → new ≡ record old { seat = seat } → IsReadNow desk seat → reading desk check ≡ IsReady reply
+    → frame ≡ spelling (with_sequence check.sequence (message_of reply)) → after ≡ waiting ++ frame
+    → (start : ClientSide) → Stands start old feeder waiting (check ∷ []) → Stands start new feeder after []
+reads_and_puts old new seat feeder waiting frame after check desk reply same goes_on is now_read read spelled put start s =
+    subst (λ (x : ClientSide). Stands start x feeder after []) (sym is)
+    (answered_by_policies start (record old { seat = seat }) feeder waiting frame after check desk reply now_read read spelled put
+    (reseated start old seat feeder waiting (check ∷ []) same goes_on s))
+
+-- a check was read, and memory was wanting
+pub reads_for_nothing : (old new : ClientSide) (seat : SeatState) (feeder : Feeding) (waiting : List ℕ) (check : Check) (ended : Ended)
+    → seat ≡ record old.seat { seen = seat.seen } → GoesOn old.seat.seen seat.seen → new ≡ record old { seat = seat }
+    → ended ≡ Memory → feeder.heard ≡ AtClient
+    → (start : ClientSide) → Stands start old feeder waiting (check ∷ []) → Talks start new ended
+reads_for_nothing old new seat feeder waiting check ended same goes_on is memory side start s =
+    subst (λ (x : ClientSide). Talks start x ended) (sym is)
+    (ends_for_memory start (record old { seat = seat }) feeder waiting (check ∷ []) ended memory side
+    (reseated start old seat feeder waiting (check ∷ []) same goes_on s))
+
+-- replies were sent, and more was received
+pub sends_and_receives : (side : ClientSide) (before : Option Traffic) (marks : LinkMarks) (faults : ℕ) (sent : Option Traffic) (marks_sent : LinkMarks)
+    (faults_sent : ℕ) (after : Option Traffic) (marks_after : LinkMarks) (faults_after : ℕ) (feeder fed : Feeding) (waiting bytes : List ℕ)
+    → Carried before sent [] waiting → marks_sent ≡ marks → faults_sent ≡ faults
+    → Carried sent after bytes [] → HearsMore bytes feeder fed → marks_after.ends ≡ marks_sent.ends → faults_after ≡ faults_sent
+    → (start : ClientSide) → Stands start (with_link side before marks faults) feeder waiting []
+    → Stands start (with_link side after marks_after faults_after) fed [] []
+sends_and_receives side before marks faults sent marks_sent faults_sent after marks_after faults_after feeder fed waiting bytes carried same still received hears ends rest start s =
+    let first = flushed start (with_link side before marks faults) sent marks_sent faults_sent feeder waiting [] carried same still s in
+    (heard_more start (with_link side sent marks_sent faults_sent) after marks_after faults_after feeder fed [] bytes received hears ends rest first.0).0
+
+-- replies were sent, and no more comes
+pub sends_and_ends : (side : ClientSide) (before : Option Traffic) (marks : LinkMarks) (faults : ℕ) (sent : Option Traffic) (marks_sent : LinkMarks)
+    (faults_sent : ℕ) (after : Option Traffic) (marks_after : LinkMarks) (faults_now : ℕ) (feeder fed : Feeding) (waiting bytes : List ℕ) (ended : Ended)
+    → Carried before sent [] waiting → marks_sent ≡ marks → faults_sent ≡ faults
+    → Carried sent after bytes [] → HearsMore bytes feeder fed → marks_after.ends ≡ marks_sent.ends
+    → fed.heard ≡ AtClient → fed.waiting ≡ [] → EndsReading ended fed marks_after faults_sent faults_now
+    → (start : ClientSide) → Stands start (with_link side before marks faults) feeder waiting []
+    → Talks start (with_link side after marks_after faults_now) ended
+sends_and_ends side before marks faults sent marks_sent faults_sent after marks_after faults_now feeder fed waiting bytes ended carried same still received hears ends heard none reading start s =
+    let first = flushed start (with_link side before marks faults) sent marks_sent faults_sent feeder waiting [] carried same still s in
+    let then = heard_more start (with_link side sent marks_sent faults_sent) after marks_sent faults_sent feeder fed [] bytes received hears refl refl first.0 in
+    ends_reading start (with_link side after marks_sent faults_sent) after marks_after faults_now fed [] ended heard none (carried_same after) ends reading
+    then.0 (then.1 ∙ first.1)
+
+-- replies were sent, an agent was asked, and the reply waits
+pub sends_and_asks : (old : ClientSide) (sent : Option Traffic) (marks : LinkMarks) (faults : ℕ) (tally : Tally) (calls : Option (List HallCall))
+    (feeder : Feeding) (waiting between frame after : List ℕ) (check : Check) (desk : DeskState) (commit : ℕ) (kind : Kind) (metadata : List ℕ) (reply : AgentReply)
+    → Carried old.traffic sent [] waiting → marks ≡ old.marks → faults ≡ old.faults → between ≡ []
+    → IsReadNow desk old.seat → reading desk check ≡ IsDue commit kind metadata
+    → AsksOnce commit kind check.question metadata old.tally old.calls tally calls reply
+    → after ≡ between ++ spelling (with_sequence check.sequence (message_of (reply_of reply)))
+    → (start : ClientSide) → Stands start old feeder waiting (check ∷ [])
+    → Stands start (client_side old.seat tally calls sent marks faults) feeder after []
+sends_and_asks old sent marks faults tally calls feeder waiting between frame after check desk commit kind metadata reply carried same still none now_read is asks put start s =
+    let first = flushed start old sent marks faults feeder waiting (check ∷ []) carried same still s in
+    asked_once start (with_link old sent marks faults) tally calls feeder (spelling (with_sequence check.sequence (message_of (reply_of reply)))) after
+    check desk commit kind metadata reply now_read is asks refl
+    (put ∙ ap (λ list. list ++ spelling (with_sequence check.sequence (message_of (reply_of reply)))) none) first.0 first.1
+
+-- the same, and memory was wanting for the reply
+pub sends_and_asks_for_nothing : (old : ClientSide) (sent : Option Traffic) (marks : LinkMarks) (faults : ℕ) (tally : Tally) (calls : Option (List HallCall))
+    (feeder : Feeding) (waiting : List ℕ) (check : Check) (commit : ℕ) (kind : Kind) (metadata : List ℕ) (reply : AgentReply) (ended : Ended)
+    → Carried old.traffic sent [] waiting → marks ≡ old.marks → faults ≡ old.faults → ended ≡ Memory → feeder.heard ≡ AtClient
+    → AsksOnce commit kind check.question metadata old.tally old.calls tally calls reply
+    → (start : ClientSide) → Stands start old feeder waiting (check ∷ [])
+    → Talks start (client_side old.seat tally calls sent marks faults) ended
+sends_and_asks_for_nothing old sent marks faults tally calls feeder waiting check commit kind metadata reply ended carried same still is side asks start s =
+    let first = flushed start old sent marks faults feeder waiting (check ∷ []) carried same still s in
+    asked_for_nothing start (with_link old sent marks faults) tally calls feeder check commit kind metadata reply ended is side asks first.0 first.1
+
+-- the same, and no reply comes of it
+pub sends_and_asks_in_vain : (old : ClientSide) (sent : Option Traffic) (marks : LinkMarks) (faults : ℕ) (tally : Tally) (calls : Option (List HallCall))
+    (feeder : Feeding) (waiting : List ℕ) (check : Check) (kind : Kind) (metadata : List ℕ) (ended : Ended)
+    → Carried old.traffic sent [] waiting → marks ≡ old.marks → faults ≡ old.faults → feeder.heard ≡ AtClient
+    → AsksInVain kind check.question metadata old.tally old.calls tally calls ended
+    → (start : ClientSide) → Stands start old feeder waiting (check ∷ [])
+    → Talks start (client_side old.seat tally calls sent marks faults) ended
+sends_and_asks_in_vain old sent marks faults tally calls feeder waiting check kind metadata ended carried same still side made start s =
+    let first = flushed start old sent marks faults feeder waiting (check ∷ []) carried same still s in
+    asked_in_vain start (with_link old sent marks faults) tally calls feeder check kind metadata ended side made first.0 first.1
+
+-- a check was read, and an agent is to be asked
+pub reads_on : (old : ClientSide) (seat : SeatState) (feeder fed : Feeding) (waiting after : List ℕ) (check : Check)
+    → seat ≡ record old.seat { seen = seat.seen } → GoesOn old.seat.seen seat.seen → fed ≡ feeder → after ≡ waiting
+    → (start : ClientSide) → Stands start old feeder waiting (check ∷ []) → Stands start (record old { seat = seat }) fed after (check ∷ [])
+reads_on old seat feeder fed waiting after check same goes_on feeder_is waiting_is start s =
+    subst (λ (x : Feeding). Stands start (record old { seat = seat }) x after (check ∷ [])) (sym feeder_is)
+    (subst (λ list. Stands start (record old { seat = seat }) feeder list (check ∷ [])) (sym waiting_is)
+    (reseated start old seat feeder waiting (check ∷ []) same goes_on s))

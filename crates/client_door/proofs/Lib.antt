@@ -1,6 +1,6 @@
 pub mod Published
 pub mod Calls
-pub mod Asking
+pub mod Questions
 pub mod Reading
 pub mod Steps
 pub mod Ending

@@ -13,8 +13,9 @@ use Rattle.desk_world.specs.Links.{read_as, reading_of}
 use Rattle.desk_world.specs.declared.links.Reading.{Reading}
 use Rattle.desk_world.specs.declared.links.Reading.TheVariants.{Nothing, Ready, Due, Waiting}
 use Rattle.desk_world.specs.declared.replies.Reply.TheVariants.{Judged, NotResolved}
-use Rattle.client_door.specs.Reading.{Finds}
-use Rattle.client_door.specs.declared.readings.Found.TheVariants.{Ready as FoundReady}
+use Rattle.client_door.specs.Reading.{Finds, TellsNotResolved}
+use Rattle.client_door.specs.declared.readings.Found.{Found}
+use Rattle.client_door.specs.declared.readings.Found.TheVariants.{Ready as FoundReady, Due as FoundDue, Memory as FoundMemory}
 
 -- the policies decide
 pub reads_judged : (sequence : ℕ) (simple : Bool) (commit : ℕ) (lent : BorrowedAnswer) (frame : List ℕ)
@@ -38,6 +39,16 @@ reads_simple sequence simple commit lent kind frame agent is same spelled =
           ∙ ap (λ (k : Kind). Ready (NotResolved commit k)) kinds),
       spelled,
     )
+
+-- the same, of what was spelled for it
+pub reads_not_resolved : (sequence : ℕ) (simple : Bool) (commit : ℕ) (lent : BorrowedAnswer) (kind : Kind) (frame : List ℕ) (found : Found)
+    → is_agent (outcome_lent lent).result.kind ≡ true → simple ≡ true → kind.0 ≡ (outcome_lent lent).result.kind
+    → TellsNotResolved sequence commit kind frame found
+    → Finds sequence (reading_of commit simple (outcome_lent lent)) frame found
+reads_not_resolved sequence simple commit lent kind frame FoundReady agent is same told =
+    reads_simple sequence simple commit lent kind frame agent is same told
+reads_not_resolved sequence simple commit lent kind frame (FoundDue other due metadata) agent is same told = absurd told
+reads_not_resolved sequence simple commit lent kind frame FoundMemory agent is same told = tt
 
 -- an agent is to be asked
 pub reads_due : (simple : Bool) (commit : ℕ) (lent : BorrowedAnswer) (kind : Kind) (metadata : List ℕ)

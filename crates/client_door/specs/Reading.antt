@@ -9,7 +9,9 @@ use Rattle.wire_messages.specs.Frame.{spelling, with_sequence}
 use Rattle.desk_world.specs.Links.{reading_of}
 use Rattle.desk_world.specs.declared.links.Reading.{Reading}
 use Rattle.desk_world.specs.declared.links.Reading.TheVariants.{Ready as IsReady, Due as IsDue}
+use Rattle.cynara_keys.specs.declared.results.Kind.{Kind}
 use Rattle.desk_world.specs.declared.replies.Reply.{Reply}
+use Rattle.desk_world.specs.declared.replies.Reply.TheVariants.{NotResolved}
 use Rattle.client_door.specs.Check.{message_of}
 use Rattle.client_door.specs.declared.checks.Check.{Check}
 use Rattle.client_door.specs.declared.readings.Read.{Read}
@@ -26,6 +28,13 @@ Finds sequence seen frame Ready =
     (reply : Reply) × (seen ≡ IsReady reply) × (frame ≡ spelling (with_sequence sequence (message_of reply)))
 Finds sequence seen frame (Due commit kind metadata) = seen ≡ IsDue commit kind metadata
 Finds sequence seen frame Memory = Unit {0}
+
+-- the buffer holds the reply that an agent would decide, unless memory was wanting
+abbrev pub TellsNotResolved : ℕ → ℕ → Kind → List ℕ → Found → Type 0
+TellsNotResolved sequence commit kind frame Ready =
+    frame ≡ spelling (with_sequence sequence (message_of (NotResolved commit kind)))
+TellsNotResolved sequence commit kind frame (Due other due metadata) = ⊥
+TellsNotResolved sequence commit kind frame Memory = Unit {0}
 
 abbrev pub Reads : ℕ → Bool → ℕ → Outcome → Read → Type 0
 Reads sequence simple commit outcome read = Finds sequence (reading_of commit simple outcome) read.frame read.found

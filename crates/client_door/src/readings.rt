@@ -2,17 +2,17 @@
 ghost use Rattle.std.specs.Prelude.{◌≡◌};
 ghost use Rattle.bucket_eval.specs.Lent.{outcome_lent};
 ghost use Rattle.live_desk.specs.History.{GoesOn};
-ghost use Rattle.client_door.specs.Reading.{Reads, ReadsAtLast};
+ghost use Rattle.client_door.specs.Reading.{Reads, ReadsAtLast, TellsNotResolved};
 ghost use Rattle.client_door.specs.declared.readings.Found.TheVariants.{Ready, Memory};
 
+use crate::Check;
 use crate::spelling::spell;
-use crate::{Check, Check};
 use bucket_eval::BorrowedAnswer;
 use cynara_keys::{Kind, Metadata};
 use desk_ports::Bytes;
 use live_desk::{BorrowedVerdict, Seat};
 use std::sync::Wait;
-use wire_messages::{Message, encode_judged_into, encode_message_into};
+use wire_messages::{Message, encode_judged_into};
 
 /// What was read for a check, and the buffer for its reply.
 #[derive(Drop)]
@@ -72,11 +72,7 @@ fn read_answer(
         };
     }
     if simple {
-        let message = Message::NotResolved { commit, kind };
-        return match spell(&mut frame, sequence, message) {
-            Ok(()) => ready(frame),
-            Err(_) => out_of_memory(frame),
-        };
+        return not_resolved(frame, sequence, commit, kind);
     }
     match answer.result.metadata().copy() {
         Ok(metadata) => Read {
@@ -87,6 +83,17 @@ fn read_answer(
                 metadata,
             },
         },
+        Err(_) => out_of_memory(frame),
+    }
+}
+
+// An agent would decide, and none may be asked.
+fn not_resolved(frame: Bytes, sequence: u16, commit: u64, kind: Kind) -> Read
+    ensures { TellsNotResolved sequence commit kind result.frame result.found }
+{
+    let mut frame = frame;
+    match spell(&mut frame, sequence, Message::NotResolved { commit, kind }) {
+        Ok(()) => ready(frame),
         Err(_) => out_of_memory(frame),
     }
 }

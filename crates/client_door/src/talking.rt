@@ -166,6 +166,7 @@ impl Talk {
         gate: &G,
         check: &Check,
     ) -> Result<(), Ended>
+        requires { self.old.feeder.heard ≡ AtClient }
         ensures feeder { self.new.feeder ≡ self.old.feeder }
         ensures talk { MatchResult result
             (λ _. Goes
@@ -227,7 +228,8 @@ impl Talk {
         kind: Kind,
         metadata: Metadata,
     ) -> Result<(), Ended>
-        requires { IsTrue (is_agent kind.0) }
+        requires agent { IsTrue (is_agent kind.0) }
+        requires side { self.old.feeder.heard ≡ AtClient }
         ensures feeder { self.new.feeder ≡ self.old.feeder }
         ensures talk { (reader : SeatState) (desk : DeskState) → IsReadNow desk reader
             → reading desk check.now ≡ IsDue commit kind metadata → MatchResult result
@@ -245,7 +247,10 @@ impl Talk {
             return Err(ended);
         }
         match ask_agent(hall, commit, kind, &check.question, metadata) {
-            Ok(reply) => self.tell(check.sequence, reply),
+            Ok(reply) => match self.tell(check.sequence, reply) {
+                Ok(()) => Ok(()),
+                Err(ended) => Err(ended),
+            },
             Err(ended) => Err(ended),
         }
     }

@@ -1,8 +1,8 @@
-use Rattle.std.proofs.Common.{rules, ◌≡◌, refl, sym, ap, Ok, Err, Some, None}
-use Rattle.agent_table.specs.declared.refusals.PutRefusal.TheVariants as put
+use Rattle.std.proofs.Common.{rules, ◌≡◌, refl, sym, ap, subst, Ok, Err, Some, None}
+use Rattle.door_frames.specs.declared.endings.Ended.{Ended}
 use Rattle.server_hall.specs.declared.refusals.AskRefusal.TheVariants.{Put, Gone, Stopped, Lost}
 use Rattle.client_door.specs.Asking.{AsksInVain}
-use Rattle.client_door.proofs.Asking.{same_questions, other_questions, asked_so}
+use Rattle.client_door.proofs.Questions.{same_questions, other_questions, asked_so}
 use Rattle.client_door.proofs.asking.ask_agent.Goals as goal
 
 pub returns-then-eq : goal.returns-then-eq
@@ -37,3 +37,12 @@ returns-in-Err-Lost g c =
     (asked_so c.args.kind c.args.question.now c.in-Ok.put c.args.metadata c.ask.result (Err (Lost c.in-Err-Lost.number))
     (g.A.Hall.tally c.args.hall.now) (g.A.Hall.tally c.ask.new.self) (g.A.Hall.calls c.args.hall.now) (g.A.Hall.calls c.ask.new.self)
     c.in-Ok.ensures (search rules) c.ask.ensures.tally c.ask.ensures.calls) refl
+
+pub returns-in-Err : goal.returns-in-Err
+returns-in-Err g c =
+    subst (λ (e : Ended). AsksInVain c.args.kind c.args.question.now c.args.metadata (g.A.Hall.tally c.args.hall.now) (g.A.Hall.calls c.args.hall.now)
+    (g.A.Hall.tally c.ask.new.self) (g.A.Hall.calls c.ask.new.self) e) (sym c.in-Err.ensures)
+    (AsksInVain.vain (Err (Put c.in-Err-Put.refusal))
+    (asked_so c.args.kind c.args.question.now c.in-Ok.put c.args.metadata c.ask.result (Err (Put c.in-Err-Put.refusal))
+    (g.A.Hall.tally c.args.hall.now) (g.A.Hall.tally c.ask.new.self) (g.A.Hall.calls c.args.hall.now) (g.A.Hall.calls c.ask.new.self)
+    c.in-Ok.ensures (search rules) c.ask.ensures.tally c.ask.ensures.calls) tt)

@@ -42,7 +42,7 @@ other_questions question other differ same =
     apart (same_question question other) is differ
   where
     apart : (b : Bool) → b ≡ true → b ≡ false → ⊥
-    apart b yes no = cc
+    apart b is_true is_false = cc
 
 -- one call was made, for the question of which a copy was handed over
 pub asked_so : (kind : Kind) (question put : Question) (metadata : List ℕ) (result given : AskResult)
