@@ -1,3 +1,5 @@
 pub mod Finding
 pub mod Showing
 pub mod Answering
+pub mod Sending
+pub mod Serving

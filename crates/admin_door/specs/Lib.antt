@@ -2,4 +2,5 @@ pub mod Side
 pub mod Reply
 pub mod Settling
 pub mod Answering
+pub mod Serving
 pub mod parts

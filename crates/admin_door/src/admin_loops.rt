@@ -1,3 +1,17 @@
+ghost use Rattle.std.specs.Prelude.{◌≡◌, ◌≤◌, ◌<◌, [], true, false, length, Some, MatchResult, OnOk};
+ghost use Rattle.desk_keeper.specs.Keeper.{disk_of, IsSameDisk};
+ghost use Rattle.live_desk.specs.History.{last_commit};
+ghost use Rattle.wire_messages.specs.Operation.{number_of, operation_of};
+ghost use Rattle.wire_messages.specs.Message.{operation};
+ghost use Rattle.wire_messages.specs.Stream.{unfed};
+ghost use Rattle.wire_messages.specs.declared.operations.Heard.TheVariants.{AtAdmin};
+ghost use Rattle.wire_messages.specs.declared.messages.Message.TheVariants.{Stop};
+ghost use Rattle.door_frames.specs.Carried.{Carried};
+ghost use Rattle.door_frames.specs.Hearing.{IsSound};
+ghost use Rattle.admin_door.specs.Side.{side_of};
+ghost use Rattle.admin_door.specs.Serving.{talk_of, Serves, replies_bytes, IsNoStop};
+ghost use Rattle.admin_door.specs.parts.Talk.{Goes, Ends, IsWhole, EndsAt, IsCutOff};
+
 use crate::commands::answer_command;
 use desk_keeper::Keeper;
 use desk_ports::{Bytes, Disk};
@@ -7,7 +21,7 @@ use live_desk::Publisher;
 use server_hall::Hall;
 use std::alloc::Global;
 use std::sync::Wait;
-use wire_messages::{Feeder, Heard, Message, encode_message_into};
+use wire_messages::{Feeder, Framed, Heard, Message};
 
 /// Serves one connection of an administrator: each message is answered in turn, and `Stop` is the last. It may wait.
 pub fn admin_loop<R: Wait, D: Disk, A: Hall, L: Link>(
@@ -17,51 +31,132 @@ pub fn admin_loop<R: Wait, D: Disk, A: Hall, L: Link>(
     publisher: &mut Publisher,
     hall: &mut A,
     link: &mut L,
-) -> Ended {
+) -> Ended
+    requires { last_commit 0 publisher.old ≤ keeper.old.desk.commit }
+    ensures served { Serves
+        (talk_of (side_of D.faults keeper.old publisher.old (A.tally hall.old) (A.calls hall.old))
+        (L.traffic link.old) (L.marks link.old) (L.faults link.old))
+        (talk_of (side_of D.faults keeper.new publisher.new (A.tally hall.new) (A.calls hall.new))
+        (L.traffic link.new) (L.marks link.new) (L.faults link.new)) result }
+    ensures behind { last_commit 0 publisher.new ≤ keeper.new.desk.commit }
+    ensures same_disk { IsSameDisk keeper.old keeper.new }
+{
     let mut feeder = Feeder::new(alloc, Heard::AtAdmin);
     let mut room = [0u8; MOST_PIECE];
-    // Room for `Done` is there before the first command, so that nothing but its publication wants memory behind a commit.
     let mut frame = Bytes::new(alloc);
-    let done = Message::Done {
-        commit: 0,
-        erased: 0,
-    };
-    let Ok(()) = encode_message_into(&mut frame, 0, &done) else {
-        return Ended::Memory;
-    };
     for _ in rt.forever() {
-        let framed = match next_frame(rt, link, &mut feeder, &mut room) {
-            Ok(framed) => framed,
-            Err(ended) => return ended,
-        };
-        let is_stop = is_stop(&framed.message);
-        let replies = match answer_command(rt, alloc, keeper, publisher, hall, &framed.message) {
-            Ok(replies) => replies,
-            Err(ended) => return ended,
-        };
-        if let Err(ended) = send_all(link, &mut frame, framed.sequence, &replies) {
+        let turn = turn(rt, alloc, keeper, publisher, hall, link, &mut feeder, &mut room, &mut frame);
+        if let Err(ended) = turn {
             return ended;
-        }
-        if is_stop {
-            return Ended::Stopped;
         }
     }
     unreachable!()
 }
 
-fn is_stop(message: &Message) -> bool {
-    matches!(message, Message::Stop)
+// Waits for the next frame, and answers it. The frame's buffer is kept for the replies.
+fn turn<R: Wait, D: Disk, A: Hall, L: Link>(
+    rt: &R,
+    alloc: Global,
+    keeper: &mut Keeper<'_, D>,
+    publisher: &mut Publisher,
+    hall: &mut A,
+    link: &mut L,
+    feeder: &mut Feeder,
+    room: &mut [u8],
+    frame: &mut Bytes,
+) -> Result<(), Ended>
+    requires some { 0 < length room.old }
+    requires side { feeder.old.heard ≡ AtAdmin }
+    requires sound { IsSound feeder.old }
+    requires behind { last_commit 0 publisher.old ≤ keeper.old.desk.commit }
+    ensures talk { MatchResult result
+        (λ _. Goes
+        (talk_of (side_of D.faults keeper.old publisher.old (A.tally hall.old) (A.calls hall.old))
+        (L.traffic link.old) (L.marks link.old) (L.faults link.old)) feeder.old
+        (talk_of (side_of D.faults keeper.new publisher.new (A.tally hall.new) (A.calls hall.new))
+        (L.traffic link.new) (L.marks link.new) (L.faults link.new)) feeder.new)
+        (Ends
+        (talk_of (side_of D.faults keeper.old publisher.old (A.tally hall.old) (A.calls hall.old))
+        (L.traffic link.old) (L.marks link.old) (L.faults link.old)) feeder.old
+        (talk_of (side_of D.faults keeper.new publisher.new (A.tally hall.new) (A.calls hall.new))
+        (L.traffic link.new) (L.marks link.new) (L.faults link.new))) }
+    ensures side { OnOk result (feeder.new.heard ≡ AtAdmin) }
+    ensures sound { OnOk result (IsSound feeder.new) }
+    ensures room { length room.new ≡ length room.old }
+    ensures behind { last_commit 0 publisher.new ≤ keeper.new.desk.commit }
+    ensures same_disk { IsSameDisk keeper.old keeper.new }
+{
+    let framed = match next_frame(rt, link, feeder, room) {
+        Ok(framed) => framed,
+        Err(ended) => return Err(ended),
+    };
+    answer_frame(rt, alloc, keeper, publisher, hall, link, frame, &framed)
 }
 
-// Sends the replies to a frame, with its sequence number.
+// Answers a frame, and sends the replies. Behind a stop the connection ends.
+fn answer_frame<R: Wait, D: Disk, A: Hall, L: Link>(
+    rt: &R,
+    alloc: Global,
+    keeper: &mut Keeper<'_, D>,
+    publisher: &mut Publisher,
+    hall: &mut A,
+    link: &mut L,
+    frame: &mut Bytes,
+    framed: &Framed,
+) -> Result<(), Ended>
+    requires known { operation_of AtAdmin (number_of (operation framed.now.message)) ≡ Some (operation framed.now.message) }
+    requires behind { last_commit 0 publisher.old ≤ keeper.old.desk.commit }
+    ensures answered { MatchResult result
+        (λ _. IsNoStop framed.now.message × IsWhole (D.state (disk_of keeper.old)) framed.now
+        (talk_of (side_of D.faults keeper.old publisher.old (A.tally hall.old) (A.calls hall.old))
+        (L.traffic link.old) (L.marks link.old) (L.faults link.old))
+        (talk_of (side_of D.faults keeper.new publisher.new (A.tally hall.new) (A.calls hall.new))
+        (L.traffic link.new) (L.marks link.new) (L.faults link.new)))
+        (EndsAt (D.state (disk_of keeper.old)) framed.now
+        (talk_of (side_of D.faults keeper.old publisher.old (A.tally hall.old) (A.calls hall.old))
+        (L.traffic link.old) (L.marks link.old) (L.faults link.old))
+        (talk_of (side_of D.faults keeper.new publisher.new (A.tally hall.new) (A.calls hall.new))
+        (L.traffic link.new) (L.marks link.new) (L.faults link.new))) }
+    ensures behind { last_commit 0 publisher.new ≤ keeper.new.desk.commit }
+    ensures same_disk { IsSameDisk keeper.old keeper.new }
+{
+    let replies = match answer_command(rt, alloc, keeper, publisher, hall, &framed.message) {
+        Ok(replies) => replies,
+        Err(ended) => return Err(ended),
+    };
+    if let Err(ended) = send_all(link, frame, framed.sequence, &replies) {
+        return Err(ended);
+    }
+    go_on(&framed.message)
+}
+
+// A stop ends the connection.
+fn go_on(message: &Message) -> Result<(), Ended>
+    ensures { MatchResult result (λ _. IsNoStop message.now) (λ ended. (message.now ≡ Stop) × (ended ≡ Ended.Stopped)) }
+{
+    match message {
+        Message::Stop => Err(Ended::Stopped),
+        _ => Ok(()),
+    }
+}
+
+// Sends the replies to a frame, each with its sequence number.
 fn send_all<L: Link>(
     link: &mut L,
     frame: &mut Bytes,
     sequence: u16,
     replies: &[Message],
-) -> Result<(), Ended> {
+) -> Result<(), Ended>
+    ensures sent { MatchResult result
+        (λ _. Carried (L.traffic link.old) (L.traffic link.new) [] (replies_bytes sequence replies.now)
+        × (L.faults link.new ≡ L.faults link.old))
+        (λ ended. IsCutOff ended sequence replies.now (L.traffic link.old) (L.traffic link.new) (L.faults link.old) (L.faults link.new)) }
+    ensures marks { L.marks link.new ≡ L.marks link.old }
+{
     for reply in replies {
-        send_message(link, frame, sequence, reply)?;
+        if let Err(ended) = send_message(link, frame, sequence, reply) {
+            return Err(ended);
+        }
     }
     Ok(())
 }

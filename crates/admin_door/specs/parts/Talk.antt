@@ -1,0 +1,76 @@
+-- How the answering of frames stands between two of them.
+use Rattle.std.specs.Prelude.{◌≡◌, ◌⊎◌, ℕ, List, [], ◌∷◌, ◌++◌, Option}
+use Rattle.desk_ports.specs.Disk.{DiskState}
+use Rattle.link_ports.specs.Traffic.{Traffic}
+use Rattle.wire_messages.specs.Stream.{Feeding}
+use Rattle.wire_messages.specs.declared.messages.Framed.{Framed}
+use Rattle.wire_messages.specs.declared.messages.Message.{Message}
+use Rattle.wire_messages.specs.declared.messages.Message.TheVariants.{Stop}
+use Rattle.door_frames.specs.Carried.{Carried}
+use Rattle.door_frames.specs.Ending.{EndsSending}
+use Rattle.door_frames.specs.Hearing.{HasHeard}
+use Rattle.door_frames.specs.declared.endings.Ended.{Ended}
+use Rattle.door_frames.specs.declared.endings.Ended.TheVariants.{Stopped}
+use Rattle.admin_door.specs.Answering.{Answers, Refuses}
+use Rattle.admin_door.specs.Serving.{AdminTalk, Exchange, AreAnswered, AreNoStops, IsNoStop, exchanges_bytes, frames_of, replies_bytes, Serves}
+
+-- since the start these frames were answered, and their replies are all sent
+pub record Stands (start now : AdminTalk) (feeder : Feeding) : Type 0 where
+  pub received : List ℕ
+  pub answered : List Exchange
+  pub in_turn : AreAnswered start.side answered now.side
+  pub no_stops : AreNoStops answered
+  pub heard : HasHeard received (frames_of answered) feeder
+  pub carried : Carried start.traffic now.traffic received (exchanges_bytes answered)
+  pub faults : now.faults ≡ start.faults
+  pub ends : now.marks.ends ≡ start.marks.ends
+
+-- from whatever start it stood so before, it stands so after
+abbrev pub Goes : AdminTalk → Feeding → AdminTalk → Feeding → Type 0
+Goes old before new after = (start : AdminTalk) → Stands start old before → Stands start new after
+
+-- from whatever start it stood so before, the connection has ended so
+abbrev pub Ends : AdminTalk → Feeding → AdminTalk → Ended → Type 0
+Ends old before new ended = (start : AdminTalk) → Stands start old before → Serves start new ended
+
+-- ---- one frame
+
+-- the link but for the bytes that were sent over it
+pub record SendsMore (old now : AdminTalk) (bytes : List ℕ) : Type 0 where
+  pub carried : Carried old.traffic now.traffic [] bytes
+  pub marks : now.marks ≡ old.marks
+
+-- the frame is answered, and all replies are sent
+pub record IsWhole (told : Option DiskState) (framed : Framed) (old now : AdminTalk) : Type 0 where
+  pub replies : List Message
+  pub answers : Answers told framed.message old.side now.side replies
+  pub sends : SendsMore old now (replies_bytes framed.sequence replies)
+  pub faults : now.faults ≡ old.faults
+
+-- some replies were sent, and the next was not
+pub record IsCutOff (ended : Ended) (sequence : ℕ) (replies : List Message) (old now : Option Traffic) (before after : ℕ) : Type 0 where
+  pub sent : List Message
+  pub next : Message
+  pub unsent : List Message
+  pub parts : replies ≡ sent ++ next ∷ unsent
+  pub carried : Carried old now [] (replies_bytes sequence sent)
+  pub faults : EndsSending ended before after
+
+-- the frame has no answer
+pub record IsUnheeded (told : Option DiskState) (framed : Framed) (old now : AdminTalk) (ended : Ended) : Type 0 where
+  pub refuses : Refuses told framed.message old.side now.side ended
+  pub sends : SendsMore old now []
+  pub faults : now.faults ≡ old.faults
+
+-- it is answered, and the answer is not sent whole
+pub record IsHalfSent (told : Option DiskState) (framed : Framed) (old now : AdminTalk) (ended : Ended) : Type 0 where
+  pub replies : List Message
+  pub answers : Answers told framed.message old.side now.side replies
+  pub cut_off : IsCutOff ended framed.sequence replies old.traffic now.traffic old.faults now.faults
+  pub marks : now.marks ≡ old.marks
+
+-- the connection ends at this frame
+abbrev pub EndsAt : Option DiskState → Framed → AdminTalk → AdminTalk → Ended → Type 0
+EndsAt told framed old now ended = IsUnheeded told framed old now ended
+    ⊎ (IsHalfSent told framed old now ended
+    ⊎ (IsWhole told framed old now × (framed.message ≡ Stop) × (ended ≡ Stopped)))
