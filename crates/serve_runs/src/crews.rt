@@ -114,9 +114,9 @@ pub(crate) fn kinds_of<D: Door>(
     alloc: Global,
     crew: &[Worker<D>],
 ) -> Result<Vec<DoorKind>, Ending> {
-    let mut kinds = Vec::new(alloc);
+    let mut kinds = Vec::with_capacity(alloc, crew.len())?;
     for worker in crew {
-        kinds.push(worker.kind())?;
+        kinds.push_reserved(worker.kind());
     }
     Ok(kinds)
 }

@@ -52,9 +52,9 @@ pub fn replies_text(
     }
 }
 
-/// How a run ended.
-pub fn ending_text(alloc: Global, ending: &Ending) -> Result<String, AllocError> {
-    format!(in alloc; "status {}", ending.status())
+/// How a run ended, and how many replies were sent to clients.
+pub fn ending_text(alloc: Global, ending: &Ending, replies: u32) -> Result<String, AllocError> {
+    format!(in alloc; "status {} replies {replies}", ending.status())
 }
 
 const DIGITS: &[u8; 16] = b"0123456789abcdef";

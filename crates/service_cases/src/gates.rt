@@ -19,6 +19,7 @@ pub struct Passed {
 }
 
 /// A gate that holds the first connection that enters until one is answered, where it is to hold one.
+#[derive(Drop)]
 pub struct HoldingGate<'a, R: Wait + Clock> {
     pub rt: &'a R,
     pub holds: bool,

@@ -14,7 +14,7 @@
 //! `tell N` tells it of a commit; `set CUP=KIND:METADATA` sets a policy of the root bucket, and `stop` stops the service, by an
 //! administrator's client; `wait` is a fifth of a second.
 //!
-//! The answer has what was read and answered, and the status at the end of each run, with how often the client dialled.
+//! The answer has what was read and answered, and at the end of each run the status, and how many replies were sent to clients.
 #![tactic(auto)]
 
 mod answers;

@@ -14,6 +14,7 @@ use std::time::{Clock, Duration};
 use wire_messages::Message;
 
 /// Links, a client that keeps its answers, and an administrator's client.
+#[derive(Drop)]
 pub struct People<'a, R: Wait + Clock> {
     rt: &'a R,
     alloc: Global,

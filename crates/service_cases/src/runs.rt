@@ -50,9 +50,10 @@ fn run<R: Threads + Wait + Sync + Clock>(
         || people.talk(steps),
     );
     let mut told = talked?;
-    if gate.passed().gave_up {
+    let passed = gate.passed();
+    if passed.gave_up {
         put_word(&mut told, "held to the end")?;
     }
-    put_word(&mut told, ending_text(alloc, &ending)?.as_str())?;
+    put_word(&mut told, ending_text(alloc, &ending, passed.answered)?.as_str())?;
     Ok(told)
 }
