@@ -2,3 +2,4 @@ pub mod Growing
 pub mod Calls
 pub mod Serving
 pub mod Misplaced
+pub mod Whole

@@ -163,7 +163,7 @@ asks_next registration start old new feeder asked carried counted made still end
 -- ---- ends
 
 -- some frames may not be heeded
-unheeded : (received : List ℕ) (frames : List Framed) (feeder : Feeding) → feeder.heard ≡ AtAgent → HasHeard received frames feeder
+pub unheeded : (received : List ℕ) (frames : List Framed) (feeder : Feeding) → feeder.heard ≡ AtAgent → HasHeard received frames feeder
     → (more : List Framed) × (rest : List ℕ) × Hears AtAgent received (frames ++ more) rest
 unheeded received frames feeder side heard =
     (feeder.waiting, heard.behind, subst (λ (h : Heard). Hears h received (frames ++ feeder.waiting) heard.behind) side heard.heard)
@@ -179,7 +179,7 @@ pub ends : (registration : Registration) (start old new : AgentSide) (feeder : F
     → rounds_calls registration.kind (rounds ++ open_round) ++ last ≡ rounds_calls registration.kind (s.rounds ++ open_of asked s.given) ++ made
     → new.tally ≡ after_calls made old.tally → AppendsCalls old.calls made new.calls
     → new.faults ≡ faults_after ended old.faults → IsAtEnd ended new.marks → new.marks.ends ≡ old.marks.ends
-    → Asks start new ended
+    → Asks registration start new ended
 ends registration start old new feeder asked s ended rounds open_round last made bytes missing whole unanswered one asking heeding due missed carried calls counted told faults at_end same =
     let before : List Round = s.rounds ++ open_of asked s.given in
     let all : joined_calls registration.kind (rounds ++ open_round) last ≡ joined_calls registration.kind before [] ++ made =
@@ -187,8 +187,7 @@ ends registration start old new feeder asked s ended rounds open_round last made
     (calls ∙ ap (λ list. list ++ made) (sym (append-nil (rounds_calls registration.kind before)))) in
     let sent : List Framed = registered_frame registration ∷ rounds_told registration.kind before in
     record {
-      registration = registration;
-      received = s.received ++ bytes;
+        received = s.received ++ bytes;
       rounds = rounds;
       open_round = open_round;
       last = last;
@@ -231,7 +230,7 @@ pub ends_for_next : (registration : Registration) (start old new : AgentSide) (f
     → MayMiss ended [] → IsAtEnd ended new.marks → new.faults ≡ faults_after ended old.faults
     → new.tally ≡ after_call call old.tally → AppendsCalls old.calls (call ∷ []) new.calls
     → Carried old.traffic new.traffic [] [] → new.marks.ends ≡ old.marks.ends
-    → Stands registration start old feeder None → Asks start new ended
+    → Stands registration start old feeder None → Asks registration start new ended
 ends_for_next registration start old new feeder ended call side asking heeds missed at_end faults counted told carried same s =
     ends registration start old new feeder None s ended s.rounds [] (call ∷ []) (call ∷ []) [] [] s.whole tt (omega arith) asking
     (heeds (s.received ++ []) (register_frame registration ∷ rounds_frames (s.rounds ++ []))
@@ -248,7 +247,7 @@ unasked : (registration : Registration) (start old new : AgentSide) (feeder : Fe
     → new.tally ≡ after_call (Next (record { kind = registration.kind; result = Ok asked })) old.tally
     → AppendsCalls old.calls (Next (record { kind = registration.kind; result = Ok asked }) ∷ []) new.calls
     → Carried old.traffic new.traffic [] [] → new.marks.ends ≡ old.marks.ends
-    → Stands registration start old feeder None → Asks start new ended
+    → Stands registration start old feeder None → Asks registration start new ended
 unasked registration start old new feeder ended asked side asking heeds missed at_end faults counted told carried same s =
     let frames : rounds_frames (s.rounds ++ round_of asked [] ∷ []) ≡ rounds_frames (s.rounds ++ []) = frames_open s.rounds asked in
     let heard : HasHeard (s.received ++ []) (register_frame registration ∷ rounds_frames (s.rounds ++ round_of asked [] ∷ [])) feeder =
@@ -269,7 +268,7 @@ pub ends_unasked : (registration : Registration) (start old new : AgentSide) (fe
     → new.tally ≡ after_call (Next (record { kind = registration.kind; result = Ok asked })) old.tally
     → AppendsCalls old.calls (Next (record { kind = registration.kind; result = Ok asked }) ∷ []) new.calls
     → Carried old.traffic new.traffic [] [] → new.marks.ends ≡ old.marks.ends
-    → Stands registration start old feeder None → Asks start new ended
+    → Stands registration start old feeder None → Asks registration start new ended
 ends_unasked registration start old new feeder LinkFault asked side rose counted told carried same s =
     unasked registration start old new feeder LinkFault asked side refl (λ bytes heeded heard. heard) (omega arith) tt rose counted told carried same s
 ends_unasked registration start old new feeder Memory asked side still counted told carried same s =
@@ -293,7 +292,7 @@ wrong_frame bytes heeded (BadField place) at = at
 wrong_frame bytes heeded (Trailing place) at = at
 wrong_frame bytes heeded (NoMemory error) at = at
 
-whole_heard : (received : List ℕ) (heeded : List Framed) (fed : Feeding) → fed.waiting ≡ [] → fed.heard ≡ AtAgent
+pub whole_heard : (received : List ℕ) (heeded : List Framed) (fed : Feeding) → fed.waiting ≡ [] → fed.heard ≡ AtAgent
     → (h : HasHeard received heeded fed) → Hears AtAgent received heeded h.behind
 whole_heard received heeded fed none side h =
     subst (λ (heard : Heard). Hears heard received heeded h.behind) side
@@ -305,7 +304,7 @@ still_open : (registration : Registration) (start old new : AgentSide) (feeder :
     → EndsAsking registration.kind ended (round_of asked s.given ∷ []) [] → MayMiss ended []
     → EndsHeeding (s.received ++ bytes) (register_frame registration ∷ rounds_frames (s.rounds ++ round_of asked s.given ∷ [])) ended
     → new.tally ≡ old.tally → new.calls ≡ old.calls → Carried old.traffic new.traffic bytes []
-    → new.faults ≡ faults_after ended old.faults → IsAtEnd ended new.marks → new.marks.ends ≡ old.marks.ends → Asks start new ended
+    → new.faults ≡ faults_after ended old.faults → IsAtEnd ended new.marks → new.marks.ends ≡ old.marks.ends → Asks registration start new ended
 still_open registration start old new feeder asked ended bytes s asking missed heeding tally calls carried faults at_end same =
     ends registration start old new feeder (Some asked) s ended s.rounds (round_of asked s.given ∷ []) [] [] bytes [] s.whole (s.others, tt)
     (omega arith) asking heeding (sym (append-nil (rounds_told registration.kind (s.rounds ++ round_of asked s.given ∷ [])))) missed
@@ -317,7 +316,7 @@ pub ends_unheard : (registration : Registration) (start old new : AgentSide) (fe
     → EndsReading ended fed new.marks old.faults new.faults
     → new.tally ≡ old.tally → new.calls ≡ old.calls
     → Carried old.traffic new.traffic bytes [] → new.marks.ends ≡ old.marks.ends
-    → Stands registration start old feeder (Some asked) → Asks start new ended
+    → Stands registration start old feeder (Some asked) → Asks registration start new ended
 ends_unheard registration start old new feeder fed asked Closed bytes hears none side (sound, empty, mark, still) tally calls carried same s =
     let h = hears s.received (register_frame registration ∷ rounds_frames (s.rounds ++ round_of asked s.given ∷ [])) s.heard in
     still_open registration start old new feeder asked Closed bytes s ((round_of asked s.given, refl), refl) refl
@@ -363,12 +362,12 @@ pub ends_misplaced : (registration : Registration) (start old new : AgentSide) (
     (framed : Framed) → HandsOut bytes framed feeder fed → fed.heard ≡ AtAgent → IsOutOfPlace 0x20 framed ended
     → new.tally ≡ old.tally → new.calls ≡ old.calls → new.faults ≡ old.faults
     → Carried old.traffic new.traffic bytes [] → new.marks.ends ≡ old.marks.ends
-    → Stands registration start old feeder (Some asked) → Asks start new ended
+    → Stands registration start old feeder (Some asked) → Asks registration start new ended
 ends_misplaced registration start old new feeder fed asked ended bytes framed handed side (number, is) tally calls still carried same s =
     let heeded : List Framed = register_frame registration ∷ rounds_frames (s.rounds ++ round_of asked s.given ∷ []) in
     let h = handed s.received heeded s.heard in
     let found = unheeded (s.received ++ bytes) (heeded ++ framed ∷ []) fed side h in
-    subst (λ (e : Ended). Asks start new e) (sym is)
+    subst (λ (e : Ended). Asks registration start new e) (sym is)
     (still_open registration start old new feeder asked (BadFrame (BadOperation 0x20)) bytes s ((round_of asked s.given, refl), refl) refl
     (inr (
       framed,
@@ -389,7 +388,7 @@ untold : (registration : Registration) (start old new : AgentSide) (feeder fed :
     → new.faults ≡ faults_after ended old.faults
     → HandsIn registration.kind answer outcome old.tally old.calls new.tally new.calls
     → Carried old.traffic new.traffic bytes [] → new.marks.ends ≡ old.marks.ends
-    → Stands registration start old feeder (Some asked) → Asks start new ended
+    → Stands registration start old feeder (Some asked) → Asks registration start new ended
 untold registration start old new feeder fed asked answer outcome ended bytes asking heeds missed at_end handed side told faults made carried same s =
     let one : Given = record { answer = answer; result = outcome } in
     let round : Round = with_given asked s.given one in
@@ -428,7 +427,7 @@ pub ends_untold : (registration : Registration) (start old new : AgentSide) (fee
     → fed.heard ≡ AtAgent → told_of outcome answer ≡ unknown_frame answer ∷ [] → EndsSending ended old.faults new.faults
     → HandsIn registration.kind answer outcome old.tally old.calls new.tally new.calls
     → Carried old.traffic new.traffic bytes [] → new.marks.ends ≡ old.marks.ends
-    → Stands registration start old feeder (Some asked) → Asks start new ended
+    → Stands registration start old feeder (Some asked) → Asks registration start new ended
 ends_untold registration start old new feeder fed asked answer outcome LinkFault bytes handed side told rose made carried same s =
     untold registration start old new feeder fed asked answer outcome LinkFault bytes (λ open_round. refl) (λ b heeded heard. heard) (omega arith) tt
     handed side told rose made carried same s
@@ -473,9 +472,8 @@ unregistered : (registration : Registration) (start old new : AgentSide) (feeder
     → MayMiss ended (registered_frame registration ∷ []) → IsAtEnd ended new.marks → feeder.heard ≡ AtAgent
     → Carried old.traffic new.traffic [] [] → new.tally ≡ old.tally → new.calls ≡ old.calls
     → new.faults ≡ faults_after ended old.faults → new.marks.ends ≡ old.marks.ends
-    → HasJoined registration start old feeder → Asks start new ended
+    → HasJoined registration start old feeder → Asks registration start new ended
 unregistered registration start old new feeder ended asking heeds missed at_end side carried tally calls faults same s = record {
-  registration = registration;
   received = s.received;
   rounds = [];
   open_round = [];
@@ -501,7 +499,7 @@ unregistered registration start old new feeder ended asking heeds missed at_end 
 pub ends_unregistered : (registration : Registration) (start old new : AgentSide) (feeder : Feeding) (ended : Ended)
     → EndsSending ended old.faults new.faults → feeder.heard ≡ AtAgent
     → Carried old.traffic new.traffic [] [] → new.tally ≡ old.tally → new.calls ≡ old.calls → new.marks.ends ≡ old.marks.ends
-    → HasJoined registration start old feeder → Asks start new ended
+    → HasJoined registration start old feeder → Asks registration start new ended
 ends_unregistered registration start old new feeder LinkFault rose side carried tally calls same s =
     unregistered registration start old new feeder LinkFault refl (λ b heeded heard. heard) (omega arith) tt side carried tally calls rose same s
 ends_unregistered registration start old new feeder Memory still side carried tally calls same s =
@@ -515,7 +513,7 @@ ends_unregistered registration start old new feeder (Strayed number found) wrong
 
 -- ---- a frame that comes and, behind it, one that goes
 
-received_and_sent : (before between after : Option Traffic) (bytes sent : List ℕ) → Carried before between bytes [] → Carried between after [] sent
+pub received_and_sent : (before between after : Option Traffic) (bytes sent : List ℕ) → Carried before between bytes [] → Carried between after [] sent
     → Carried before after bytes sent
 received_and_sent before between after bytes sent one other =
     subst (λ list. Carried before after list sent) (append-nil bytes) (carried_more bytes [] [] sent before between after one other)
@@ -547,7 +545,7 @@ pub takes_untold : (registration : Registration) (old new : AgentSide) (between 
     → fed.heard ≡ AtAgent → told_of outcome answer ≡ unknown_frame answer ∷ [] → EndsSending ended old.faults new.faults
     → HandsIn registration.kind answer outcome old.tally old.calls new.tally new.calls
     → Carried old.traffic between bytes [] → Carried between new.traffic [] [] → new.marks.ends ≡ old.marks.ends
-    → (start : AgentSide) → Stands registration start old feeder (Some asked) → Asks start new ended
+    → (start : AgentSide) → Stands registration start old feeder (Some asked) → Asks registration start new ended
 takes_untold registration old new between feeder fed asked answer outcome ended bytes handed side told sending made one then same start s =
     ends_untold registration start old new feeder fed asked answer outcome ended bytes handed side told sending made
     (received_and_sent old.traffic between new.traffic bytes [] one then) same s
@@ -556,7 +554,7 @@ takes_untold registration old new between feeder fed asked answer outcome ended 
 pub takes_none : (registration : Registration) (old new : AgentSide) (feeder fed : Feeding) (asked : Asked) (ended : Ended)
     → EndsHearing feeder fed old.traffic new.traffic new.marks old.faults new.faults ended → feeder.heard ≡ AtAgent
     → new.tally ≡ old.tally → new.calls ≡ old.calls → new.marks.ends ≡ old.marks.ends
-    → (start : AgentSide) → Stands registration start old feeder (Some asked) → Asks start new ended
+    → (start : AgentSide) → Stands registration start old feeder (Some asked) → Asks registration start new ended
 takes_none registration old new feeder fed asked ended why side tally calls same start s =
     elim why [
       | EndsHearing.unheard bytes carried hears none heard reading ↦

@@ -81,8 +81,7 @@ EndsAsking kind (Strayed number found) open_round last = ⊥
 
 -- The agent registered and joined; it was asked one question after the other, each of which was answered before the next but
 -- for the last; and each answer was handed to the hall.
-pub record Asks (start now : AgentSide) (ended : Ended) : Type 0 where
-  pub registration : Registration
+pub record Asks (registration : Registration) (start now : AgentSide) (ended : Ended) : Type 0 where
   pub received : List ℕ
   pub rounds : List Round
   -- the round that has no answer to its question, if there is one
@@ -144,5 +143,5 @@ pub record IsUnjoined (result : Ended) (start now : AgentSide) : Type 0 where
 pub data Serves (result : Ended) (start now : AgentSide) : Type 0 where
   unregistered : IsUnregistered result start now → Serves result start now
   unjoined : IsUnjoined result start now → Serves result start now
-  joined : (last : AgentSide) → (asks : Asks start last result)
-      → now ≡ record last { tally = after_part asks.registration.kind last.tally } → Serves result start now
+  joined : (registration : Registration) (last : AgentSide) → Asks registration start last result
+      → now ≡ record last { tally = after_part registration.kind last.tally } → Serves result start now

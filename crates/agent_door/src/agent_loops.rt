@@ -90,7 +90,7 @@ fn serve<R: Wait, A: Hall, L: Link>(
     requires sound { IsSound feeder.old }
     ensures { (start : AgentSide) → HasJoined registered start
         (agent_side (A.tally hall.old) (A.calls hall.old) (L.traffic link.old) (L.marks link.old) (L.faults link.old))
-        feeder.old → Asks start
+        feeder.old → Asks registered start
         (agent_side (A.tally hall.new) (A.calls hall.new) (L.traffic link.new) (L.marks link.new) (L.faults link.new))
         result }
 {

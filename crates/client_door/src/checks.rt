@@ -20,8 +20,9 @@ pub(crate) fn take_check(feeder: &mut Feeder) -> Option<Check>
     ensures taken { MatchOption result (feeder.new ≡ feeder.old)
         (λ check. HandsOut [] (framed_of check) feeder.old feeder.new) }
     ensures empty { MatchOption result (feeder.old.waiting ≡ []) (λ check. feeder.new.heard ≡ feeder.old.heard) }
-    ensures sound { MatchOption result (feeder.new ≡ feeder.old)
+    ensures first { MatchOption result (feeder.new ≡ feeder.old)
         (λ check. feeder.old.waiting ≡ framed_of check ∷ feeder.new.waiting) }
+    ensures rest { feeder.new ≡ record feeder.old { waiting = feeder.new.waiting } }
 {
     match feeder.take() {
         Some(framed) => check_of(framed),

@@ -57,7 +57,7 @@ Goes registration old feeder asked new feeder_after asked_after =
 -- from whatever start it stood so before, the serving has ended so
 abbrev pub Ends : Registration → AgentSide → Feeding → Option Asked → AgentSide → Ended → Type 0
 Ends registration old feeder asked new ended =
-    (start : AgentSide) → Stands registration start old feeder asked → Asks start new ended
+    (start : AgentSide) → Stands registration start old feeder asked → Asks registration start new ended
 
 -- ---- parts of a round
 

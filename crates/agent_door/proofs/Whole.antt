@@ -1,0 +1,176 @@
+-- A whole connection of an agent.
+use Rattle.std.proofs.Common.{◌≡◌, ◌∙◌, ◌<◌, ◌≤◌, ℕ, List, [], ◌∷◌, ◌++◌, length, Option, Some, None, Result, Ok, Err, inl, inr, refl, sym, ap, subst, append-nil}
+use Rattle.std.specs.List.{flat_map}
+use Rattle.link_ports.specs.Traffic.{Traffic}
+use Rattle.link_ports.specs.LinkMarks.{LinkMarks}
+use Rattle.cynara_keys.specs.declared.results.Kind.{Kind}
+use Rattle.agent_table.specs.declared.refusals.RegisterRefusal.{RegisterRefusal}
+use Rattle.agent_table.specs.declared.refusals.RegisterRefusal.TheVariants.{Stopped as NoneComes, Taken as KindTaken, Memory as NoRoom}
+use Rattle.wire_messages.specs.Frame.{spelling}
+use Rattle.wire_messages.specs.Stream.{Feeding, Hears, BeginsWrong, IsOpen, unfed}
+use Rattle.wire_messages.specs.declared.messages.Framed.{Framed}
+use Rattle.wire_messages.specs.declared.operations.Heard.{Heard}
+use Rattle.wire_messages.specs.declared.operations.Heard.TheVariants.{AtAgent}
+use Rattle.wire_messages.specs.declared.refusals.WireRefusal.TheVariants.{BadOperation}
+use Rattle.server_hall.specs.Tally.{Tally, after_join}
+use Rattle.server_hall.specs.Told.{AppendsCalls}
+use Rattle.server_hall.specs.declared.calls.HallCall.{HallCall}
+use Rattle.server_hall.specs.declared.calls.HallCall.TheVariants.{Join}
+use Rattle.door_frames.specs.Carried.{Carried}
+use Rattle.door_frames.specs.Hearing.{HasHeard, HearsMore, HandsOut}
+use Rattle.door_frames.specs.Ending.{EndsReading, EndsSending, IsAtEnd, faults_after}
+use Rattle.door_frames.specs.declared.endings.Ended.{Ended}
+use Rattle.door_frames.specs.declared.endings.Ended.TheVariants.{Closed, Cut, Hung, LinkFault, BadFrame, Stopped, Memory, Strayed}
+use Rattle.door_frames.proofs.Hearing.{unfed_heard}
+use Rattle.agent_door.specs.Frame.{register_frame, taken_frame, IsOutOfPlace}
+use Rattle.agent_door.specs.Serving.{AgentSide, agent_side, EndsHeeding, IsUnregistered, IsUnjoined, TellsRefusal}
+use Rattle.agent_door.specs.parts.Talk.{TellsTaken}
+use Rattle.agent_door.specs.declared.messages.Registration.{Registration}
+use Rattle.agent_door.proofs.Serving.{wrong_frame, unheeded, whole_heard, received_and_sent}
+
+-- ---- none registers
+
+none : (start new : AgentSide) (ended : Ended) (bytes : List ℕ) → EndsHeeding bytes [] ended → IsAtEnd ended new.marks
+    → new.faults ≡ faults_after ended start.faults → new.tally ≡ start.tally → new.calls ≡ start.calls
+    → Carried start.traffic new.traffic bytes [] → new.marks.ends ≡ start.marks.ends → IsUnregistered ended start new
+none start new ended bytes heeding at_end faults tally calls carried same = record {
+  received = bytes;
+  bytes = heeding;
+  carried = carried;
+  tally = tally;
+  calls = calls;
+  faults = faults;
+  at_end = at_end;
+  ends = same;
+}
+
+none_comes : (start new : AgentSide) (fed : Feeding) (ended : Ended) (bytes : List ℕ) → HasHeard bytes [] fed → fed.waiting ≡ []
+    → fed.heard ≡ AtAgent → EndsReading ended fed new.marks start.faults new.faults → new.tally ≡ start.tally → new.calls ≡ start.calls
+    → Carried start.traffic new.traffic bytes [] → new.marks.ends ≡ start.marks.ends → IsUnregistered ended start new
+none_comes start new fed Closed bytes h empty side (sound, is, mark, still) tally calls carried same =
+    none start new Closed bytes
+    (subst (λ rest. Hears AtAgent bytes [] rest) ((h.sound sound).0 ∙ is) (whole_heard bytes [] fed empty side h))
+    mark still tally calls carried same
+none_comes start new fed (Cut count) bytes h empty side (sound, is, some, mark, still) tally calls carried same =
+    let at = h.sound sound in
+    none start new (Cut count) bytes (
+      h.behind,
+      whole_heard bytes [] fed empty side h,
+      subst (λ (heard : Heard). IsOpen heard h.behind) side at.1,
+      ap length at.0 ∙ sym is,
+      some,
+    )
+    mark still tally calls carried same
+none_comes start new fed LinkFault bytes h empty side rose tally calls carried same =
+    none start new LinkFault bytes (unheeded bytes [] fed side h) tt rose tally calls carried same
+none_comes start new fed (BadFrame refusal) bytes h empty side (failed, of_bytes, still) tally calls carried same =
+    none start new (BadFrame refusal) bytes
+    (wrong_frame bytes [] refusal (
+      h.behind,
+      whole_heard bytes [] fed empty side h,
+      subst (λ (heard : Heard). BeginsWrong heard h.behind refusal) side (h.wrong refusal failed),
+      of_bytes,
+    ))
+    tt still tally calls carried same
+none_comes start new fed Memory bytes h empty side still tally calls carried same =
+    none start new Memory bytes (unheeded bytes [] fed side h) tt still tally calls carried same
+none_comes start new fed (Hung entered now) bytes h empty side wrong tally calls carried same = absurd wrong
+none_comes start new fed Stopped bytes h empty side wrong tally calls carried same = absurd wrong
+none_comes start new fed (Strayed number found) bytes h empty side wrong tally calls carried same = absurd wrong
+
+-- no frame comes
+pub none_heard : (start new : AgentSide) (feeder fed : Feeding) (ended : Ended) (bytes : List ℕ) → feeder ≡ unfed AtAgent
+    → HearsMore bytes feeder fed → fed.waiting ≡ [] → fed.heard ≡ feeder.heard
+    → EndsReading ended fed new.marks start.faults new.faults → new.tally ≡ start.tally → new.calls ≡ start.calls
+    → Carried start.traffic new.traffic bytes [] → new.marks.ends ≡ start.marks.ends → IsUnregistered ended start new
+none_heard start new feeder fed ended bytes first hears empty side reading tally calls carried same =
+    none_comes start new fed ended bytes
+    (subst (λ (x : Feeding). HearsMore bytes x fed) first hears [] [] (unfed_heard AtAgent)) empty
+    (side ∙ ap (λ (x : Feeding). x.heard) first) reading tally calls carried same
+
+-- a frame comes that is no registration
+pub none_in_place : (start new : AgentSide) (feeder fed : Feeding) (ended : Ended) (bytes : List ℕ) (framed : Framed) → feeder ≡ unfed AtAgent
+    → HandsOut bytes framed feeder fed → fed.heard ≡ feeder.heard → IsOutOfPlace 0x21 framed ended
+    → new.faults ≡ start.faults → new.tally ≡ start.tally → new.calls ≡ start.calls
+    → Carried start.traffic new.traffic bytes [] → new.marks.ends ≡ start.marks.ends → IsUnregistered ended start new
+none_in_place start new feeder fed ended bytes framed first handed side (number, is) still tally calls carried same =
+    let h : HasHeard bytes (framed ∷ []) fed = subst (λ (x : Feeding). HandsOut bytes framed x fed) first handed [] [] (unfed_heard AtAgent) in
+    let found = unheeded bytes (framed ∷ []) fed (side ∙ ap (λ (x : Feeding). x.heard) first) h in
+    subst (λ (e : Ended). IsUnregistered e start new) (sym is)
+    (none start new (BadFrame (BadOperation 0x21)) bytes (inr (framed, found.0, found.1, found.2, number)) tt still tally calls carried same)
+
+-- ---- one registers
+
+pub registers : (bytes : List ℕ) (framed : Framed) (registration : Registration) (feeder fed : Feeding) → feeder ≡ unfed AtAgent
+    → framed ≡ register_frame registration → HandsOut bytes framed feeder fed → HasHeard bytes (register_frame registration ∷ []) fed
+registers bytes framed registration feeder fed first is handed =
+    subst (λ (x : Framed). HasHeard bytes (x ∷ []) fed) is
+    (subst (λ (x : Feeding). HandsOut bytes framed x fed) first handed [] [] (unfed_heard AtAgent))
+
+-- and is not taken in
+pub not_joined : (start new : AgentSide) (fed : Feeding) (registration : Registration) (refusal : RegisterRefusal) (ended : Ended)
+    (bytes : List ℕ) (sent : List Framed) (between : Option Traffic) → HasHeard bytes (register_frame registration ∷ []) fed → fed.heard ≡ AtAgent
+    → TellsRefusal registration refusal ended sent
+    → Carried start.traffic between bytes [] → Carried between new.traffic [] (flat_map spelling sent)
+    → new.tally ≡ after_join (record { kind = registration.kind; result = Err refusal }) start.tally
+    → AppendsCalls start.calls (Join (record { kind = registration.kind; result = Err refusal }) ∷ []) new.calls
+    → new.faults ≡ faults_after ended start.faults → new.marks.ends ≡ start.marks.ends → IsUnjoined ended start new
+not_joined start new fed registration refusal ended bytes sent between h side told one then tally calls faults same = record {
+  registration = registration;
+  received = bytes;
+  refusal = refusal;
+  sent = sent;
+  told = told;
+  bytes = unheeded bytes (register_frame registration ∷ []) fed side h;
+  carried = received_and_sent start.traffic between new.traffic bytes (flat_map spelling sent) one then;
+  tally = tally;
+  calls = calls;
+  faults = faults;
+  ends = same;
+}
+
+-- since the kind is taken
+told_taken : (start new : AgentSide) (fed : Feeding) (registration : Registration) (kind : Kind) (ended : Ended)
+    (bytes : List ℕ) (between : Option Traffic) (faults : ℕ)
+    → HasHeard bytes (register_frame registration ∷ []) fed → fed.heard ≡ AtAgent
+    → TellsTaken registration ended between new.traffic faults new.faults → faults ≡ start.faults
+    → Carried start.traffic between bytes []
+    → new.tally ≡ after_join (record { kind = registration.kind; result = Err (KindTaken kind) }) start.tally
+    → AppendsCalls start.calls (Join (record { kind = registration.kind; result = Err (KindTaken kind) }) ∷ []) new.calls
+    → new.marks.ends ≡ start.marks.ends → IsUnjoined ended start new
+told_taken start new fed registration kind Closed bytes between faults h side (sent, now) still one tally calls same =
+    not_joined start new fed registration (KindTaken kind) Closed bytes (taken_frame registration ∷ []) between h side refl one
+    (subst (λ list. Carried between new.traffic [] list) (sym (append-nil (spelling (taken_frame registration)))) sent)
+    tally calls (now ∙ still) same
+told_taken start new fed registration kind LinkFault bytes between faults h side (unsent, rose) still one tally calls same =
+    not_joined start new fed registration (KindTaken kind) LinkFault bytes [] between h side refl one unsent
+    tally calls (rose ∙ ap (λ count. faults_after LinkFault count) still) same
+told_taken start new fed registration kind Memory bytes between faults h side (unsent, now) still one tally calls same =
+    not_joined start new fed registration (KindTaken kind) Memory bytes [] between h side refl one unsent
+    tally calls (now ∙ still) same
+told_taken start new fed registration kind (Cut count) bytes between faults h side (unsent, wrong) still one tally calls same = absurd wrong
+told_taken start new fed registration kind (Hung entered at) bytes between faults h side (unsent, wrong) still one tally calls same = absurd wrong
+told_taken start new fed registration kind (BadFrame wire) bytes between faults h side (unsent, wrong) still one tally calls same = absurd wrong
+told_taken start new fed registration kind Stopped bytes between faults h side (unsent, wrong) still one tally calls same = absurd wrong
+told_taken start new fed registration kind (Strayed number found) bytes between faults h side (unsent, wrong) still one tally calls same = absurd wrong
+
+pub kind_is_taken : (start new : AgentSide) (fed : Feeding) (registration : Registration) (kind : Kind) (refusal : RegisterRefusal) (ended : Ended)
+    (bytes : List ℕ) (between : Option Traffic) (faults : ℕ) → refusal ≡ KindTaken kind
+    → HasHeard bytes (register_frame registration ∷ []) fed → fed.heard ≡ AtAgent
+    → TellsTaken registration ended between new.traffic faults new.faults → faults ≡ start.faults
+    → Carried start.traffic between bytes []
+    → new.tally ≡ after_join (record { kind = registration.kind; result = Err refusal }) start.tally
+    → AppendsCalls start.calls (Join (record { kind = registration.kind; result = Err refusal }) ∷ []) new.calls
+    → new.marks.ends ≡ start.marks.ends → IsUnjoined ended start new
+kind_is_taken start new fed registration kind refusal ended bytes between faults is h side told still one tally calls same =
+    told_taken start new fed registration kind ended bytes between faults h side told still one
+    (subst (λ (r : RegisterRefusal). new.tally ≡ after_join (record { kind = registration.kind; result = Err r }) start.tally) is tally)
+    (subst (λ (r : RegisterRefusal). AppendsCalls start.calls (Join (record { kind = registration.kind; result = Err r }) ∷ []) new.calls) is calls) same
+
+-- ---- it leaves
+
+pub parts : (last : AgentSide) (after tally : Tally) (calls : Option (List HallCall)) → tally ≡ after → calls ≡ last.calls
+    → agent_side tally calls last.traffic last.marks last.faults ≡ record last { tally = after }
+parts last after tally calls counted same =
+    ap (λ (t : Tally). agent_side t calls last.traffic last.marks last.faults) counted
+    ∙ ap (λ (made : Option (List HallCall)). agent_side after made last.traffic last.marks last.faults) same

@@ -1,0 +1,27 @@
+use Rattle.std.proofs.Common.{◌≡◌, List, ℕ, [], sym, ap, subst}
+use Rattle.wire_messages.specs.Stream.{Feeding, unfed}
+use Rattle.wire_messages.specs.declared.operations.Heard.TheVariants.{AtClient}
+use Rattle.door_frames.specs.Hearing.{IsSound}
+use Rattle.door_frames.proofs.Hearing.{unfed_sound}
+use Rattle.client_door.specs.Serving.{ClientSide, client_side}
+use Rattle.client_door.specs.parts.Talk.{Stands}
+use Rattle.client_door.proofs.Steps.{begins}
+use Rattle.client_door.proofs.client_loops.answer_all.Goals as goal
+
+pub loop-init : goal.loop-init
+loop-init g c =
+    let side : ClientSide = client_side c.args.seat.now (g.A.Hall.tally c.args.hall.now) (g.A.Hall.calls c.args.hall.now)
+    (g.L.Link.traffic c.args.link.now) (g.L.Link.marks c.args.link.now) (g.L.Link.faults c.args.link.now) in (
+      tt,
+      (
+        tt,
+        (
+          ap (λ (feeder : Feeding). feeder.heard) c.new-talk.ensures.feeder,
+          (
+            subst (λ (feeder : Feeding). IsSound feeder) (sym c.new-talk.ensures.feeder) (unfed_sound AtClient),
+            subst (λ (feeder : Feeding). Stands side side feeder c.new-talk.result.outbox []) (sym c.new-talk.ensures.feeder)
+                (subst (λ (waiting : List ℕ). Stands side side (unfed AtClient) waiting []) (sym c.new-talk.ensures.outbox) (begins side)),
+          ),
+        ),
+      ),
+    )
