@@ -1,4 +1,11 @@
 // One connection, over the locks that all connections share.
+ghost use Rattle.std.specs.Prelude.{◌≤◌, None};
+ghost use Rattle.desk_keeper.specs.Keeper.{IsSameDisk};
+ghost use Rattle.live_desk.specs.History.{last_commit};
+ghost use Rattle.door_workers.specs.Clients.{ServesClient};
+ghost use Rattle.door_workers.specs.Agents.{ServesAgent};
+ghost use Rattle.door_workers.specs.Administrators.{ServesAdmin, office_of};
+
 use admin_door::admin_loop;
 use agent_door::agent_loop;
 use client_door::client_loop;
@@ -21,7 +28,9 @@ pub fn serve_client<R: Wait, H: HangEnd, L: Link<End = H>, G: Gate>(
     questions: &QuestionDesk,
     link: &mut L,
     gate: &G,
-) -> Ended {
+) -> Ended
+    ensures { ServesClient L.traffic L.marks L.faults result seat.old link.old seat.new link.new }
+{
     let mut hall = Locked::new(rt, roll, questions);
     client_loop(rt, alloc, seat, &mut hall, link, gate)
 }
@@ -35,7 +44,13 @@ pub fn serve_admin<R: Wait, D: Disk, H: HangEnd, L: Link>(
     roll: &Mutex<Roll<H>>,
     questions: &QuestionDesk,
     link: &mut L,
-) -> Ended {
+) -> Ended
+    requires behind { last_commit 0 publisher.old ≤ keeper.old.desk.commit }
+    ensures served { ServesAdmin L.traffic L.marks L.faults result (office_of D.faults keeper.old publisher.old) link.old
+        (office_of D.faults keeper.new publisher.new) link.new }
+    ensures behind { last_commit 0 publisher.new ≤ keeper.new.desk.commit }
+    ensures same_disk { IsSameDisk keeper.old keeper.new }
+{
     let mut hall = Locked::new(rt, roll, questions);
     admin_loop(rt, alloc, keeper, publisher, &mut hall, link)
 }
@@ -47,7 +62,9 @@ pub fn serve_agent<R: Wait, H: HangEnd, L: Link>(
     roll: &Mutex<Roll<H>>,
     questions: &QuestionDesk,
     link: &mut L,
-) -> Ended {
+) -> Ended
+    ensures { ServesAgent L.traffic L.marks L.faults result link.old link.new }
+{
     let mut hall = Locked::new(rt, roll, questions);
     agent_loop(rt, alloc, &mut hall, link)
 }

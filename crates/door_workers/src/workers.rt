@@ -1,4 +1,15 @@
 // Workers of clients and of agents.
+ghost use Rattle.std.specs.Prelude.{◌≡◌, ℕ, List, Option, IfOk, IfErr, OnOk, MatchResult};
+ghost use Rattle.std.specs.Bool.{OnTrue, OnFalse};
+ghost use Rattle.link_ports.specs.LinkMarks.{fresh_marks};
+ghost use Rattle.live_desk.specs.Seat.{SeatState};
+ghost use Rattle.door_frames.specs.declared.endings.Ended.TheVariants.{Stopped as EndedByStop};
+ghost use Rattle.door_workers.specs.Visit.{Works, EndsWorking, GoesOn};
+ghost use Rattle.door_workers.specs.Clients.{VisitsClients};
+ghost use Rattle.door_workers.specs.Agents.{VisitsAgents};
+ghost use Rattle.door_workers.specs.parts.Turn.{SoFar, RefusesLink};
+ghost use Rattle.door_workers.specs.declared.workers.WorkerEnd.TheVariants.{Stopped};
+
 use crate::connections::{serve_agent, serve_client};
 use desk_ports::PortFault;
 use door_frames::Ended;
@@ -30,7 +41,11 @@ pub fn work_for_clients<R: Wait, H: HangEnd, L: Link<End = H>, D: Door<Link = L>
     questions: &QuestionDesk,
     door: &mut D,
     gate: &G,
-) -> WorkerEnd {
+) -> WorkerEnd
+    ensures worked { Works (VisitsClients L.traffic L.marks L.faults) EndsWorking L.marks L.faults result seat.old seat.new
+        (D.given_back door.old) (D.given_back door.new) (D.faults door.old) (D.faults door.new) }
+    ensures kind { D.kind door.new ≡ D.kind door.old }
+{
     for _ in rt.forever() {
         if let Err(end) = serve_next_client(rt, alloc, seat, roll, questions, door, gate) {
             return end;
@@ -48,8 +63,20 @@ fn serve_next_client<R: Wait, H: HangEnd, L: Link<End = H>, D: Door<Link = L>, G
     questions: &QuestionDesk,
     door: &mut D,
     gate: &G,
-) -> Result<(), WorkerEnd> {
-    let mut link = accept(door)?;
+) -> Result<(), WorkerEnd>
+    ensures worked { (start : SeatState) (given : Option (List L)) (count : ℕ)
+        → SoFar (VisitsClients L.traffic L.marks L.faults) L.marks L.faults start seat.old given (D.given_back door.old)
+        count (D.faults door.old) → MatchResult result
+        (λ _. SoFar (VisitsClients L.traffic L.marks L.faults) L.marks L.faults start seat.new given (D.given_back door.new)
+        count (D.faults door.new))
+        (λ end. Works (VisitsClients L.traffic L.marks L.faults) EndsWorking L.marks L.faults end start seat.new
+        given (D.given_back door.new) count (D.faults door.new)) }
+    ensures kind { D.kind door.new ≡ D.kind door.old }
+{
+    let mut link = match accept(door) {
+        Ok(link) => link,
+        Err(end) => return Err(end),
+    };
     let ended = serve_client(rt, alloc, seat, roll, questions, &mut link, gate);
     door.give_back(link);
     go_on(rt, questions, &ended)
@@ -62,7 +89,11 @@ pub fn work_for_agents<R: Wait, H: HangEnd, L: Link, D: Door<Link = L>>(
     roll: &Mutex<Roll<H>>,
     questions: &QuestionDesk,
     door: &mut D,
-) -> WorkerEnd {
+) -> WorkerEnd
+    ensures worked { Works (VisitsAgents L.traffic L.marks L.faults) EndsWorking L.marks L.faults result tt tt
+        (D.given_back door.old) (D.given_back door.new) (D.faults door.old) (D.faults door.new) }
+    ensures kind { D.kind door.new ≡ D.kind door.old }
+{
     for _ in rt.forever() {
         if let Err(end) = serve_next_agent(rt, alloc, roll, questions, door) {
             return end;
@@ -78,15 +109,34 @@ fn serve_next_agent<R: Wait, H: HangEnd, L: Link, D: Door<Link = L>>(
     roll: &Mutex<Roll<H>>,
     questions: &QuestionDesk,
     door: &mut D,
-) -> Result<(), WorkerEnd> {
-    let mut link = accept(door)?;
+) -> Result<(), WorkerEnd>
+    ensures worked { (given : Option (List L)) (count : ℕ)
+        → SoFar (VisitsAgents L.traffic L.marks L.faults) L.marks L.faults tt tt given (D.given_back door.old)
+        count (D.faults door.old) → MatchResult result
+        (λ _. SoFar (VisitsAgents L.traffic L.marks L.faults) L.marks L.faults tt tt given (D.given_back door.new)
+        count (D.faults door.new))
+        (λ end. Works (VisitsAgents L.traffic L.marks L.faults) EndsWorking L.marks L.faults end tt tt
+        given (D.given_back door.new) count (D.faults door.new)) }
+    ensures kind { D.kind door.new ≡ D.kind door.old }
+{
+    let mut link = match accept(door) {
+        Ok(link) => link,
+        Err(end) => return Err(end),
+    };
     let ended = serve_agent(rt, alloc, roll, questions, &mut link);
     door.give_back(link);
     go_on(rt, questions, &ended)
 }
 
 /// The next link of the door.
-pub(crate) fn accept<D: Door>(door: &mut D) -> Result<D::Link, WorkerEnd> {
+pub(crate) fn accept<D: Door>(door: &mut D) -> Result<D::Link, WorkerEnd>
+    ensures fresh { IfOk result (λ link. D.Link.faults link ≡ 0) }
+    ensures unmarked { IfOk result (λ link. D.Link.marks link ≡ fresh_marks) }
+    ensures kept { D.given_back door.new ≡ D.given_back door.old }
+    ensures kind { D.kind door.new ≡ D.kind door.old }
+    ensures count { MatchResult result (λ _. D.faults door.new ≡ D.faults door.old)
+        (λ end. RefusesLink end (D.faults door.old) (D.faults door.new)) }
+{
     match door.accept() {
         Ok(link) => Ok(link),
         Err(PortFault::Failed) => Err(WorkerEnd::DoorFailed),
@@ -95,7 +145,10 @@ pub(crate) fn accept<D: Door>(door: &mut D) -> Result<D::Link, WorkerEnd> {
 }
 
 // Whether a worker goes on behind a connection that ended so.
-fn go_on<R: Wait>(rt: &R, questions: &QuestionDesk, ended: &Ended) -> Result<(), WorkerEnd> {
+fn go_on<R: Wait>(rt: &R, questions: &QuestionDesk, ended: &Ended) -> Result<(), WorkerEnd>
+    ensures on { OnOk result (GoesOn ended.now) }
+    ensures end { IfErr result (λ end. end ≡ Stopped) }
+{
     if is_stop(ended) || questions.is_stopped(rt) {
         return Err(WorkerEnd::Stopped);
     }
@@ -103,6 +156,9 @@ fn go_on<R: Wait>(rt: &R, questions: &QuestionDesk, ended: &Ended) -> Result<(),
 }
 
 /// Whether a connection ended for a stop of the service.
-pub(crate) fn is_stop(ended: &Ended) -> bool {
+pub(crate) fn is_stop(ended: &Ended) -> bool
+    ensures stop { OnTrue result (ended.now ≡ EndedByStop) }
+    ensures other { OnFalse result (GoesOn ended.now) }
+{
     matches!(ended, Ended::Stopped)
 }

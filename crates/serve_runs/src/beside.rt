@@ -21,6 +21,7 @@ pub(crate) fn beside<
     done
 }
 
+// Has each worker do its work.
 fn each_of<R: Threads + Sync, K: Send, F: Fn(usize, &mut K) + Sync>(
     rt: &R,
     each: &F,

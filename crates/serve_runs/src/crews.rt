@@ -1,4 +1,9 @@
 // The workers that run on threads of their own, each with its door.
+ghost use Rattle.std.specs.Prelude.{◌≡◌, ◌≤◌, List, [], ◌∷◌, IfOk, IfErr};
+ghost use Rattle.link_ports.specs.Told.{IfTold};
+ghost use Rattle.serve_runs.specs.Serving.{EndsUnopened, ClosesDoors};
+ghost use Rattle.serve_runs.specs.parts.Officiating.{Knocks};
+
 use desk_ports::PortFault;
 use door_workers::{WorkerEnd, work_for_agents, work_for_clients};
 use link_ports::{Door, DoorKind, Gate, HangEnd, Link, Net};
@@ -14,7 +19,7 @@ pub const AGENT_WORKERS: u32 = 8;
 
 /// Whom a worker serves.
 #[derive(Drop)]
-enum Station {
+pub(crate) enum Station {
     /// Clients, in the place of this seat.
     Clients(Seat),
     Agents,
@@ -51,12 +56,9 @@ impl<D: Door> Worker<D> {
         self.end = Some(end);
     }
 
-    /// The kind of its door.
-    pub fn kind(&self) -> DoorKind {
-        match &self.station {
-            Station::Clients(_) => DoorKind::Client,
-            Station::Agents => DoorKind::Agent,
-        }
+    // Whether its door found no memory.
+    fn lacked_memory(&self) -> bool {
+        self.end == Some(WorkerEnd::Memory)
     }
 }
 
@@ -66,7 +68,11 @@ pub(crate) fn open_crew<N: Net>(
     net: &mut N,
     seats: Vec<Seat>,
     crew: &mut Vec<Worker<N::Door>>,
-) -> Result<(), Ending> {
+) -> Result<(), Ending>
+    ensures refused { IfErr result (λ ending. EndsUnopened ending (N.faults net.old) (N.faults net.new)) }
+    ensures no_less { N.faults net.old ≤ N.faults net.new }
+    ensures closed { N.closed net.new ≡ N.closed net.old }
+{
     for seat in seats {
         hire(net, Station::Clients(seat), DoorKind::Client, crew)?;
     }
@@ -82,9 +88,18 @@ fn hire<N: Net>(
     station: Station,
     kind: DoorKind,
     crew: &mut Vec<Worker<N::Door>>,
-) -> Result<(), Ending> {
-    crew.reserve(1)?;
-    let door = open(net, kind)?;
+) -> Result<(), Ending>
+    ensures refused { IfErr result (λ ending. EndsUnopened ending (N.faults net.old) (N.faults net.new)) }
+    ensures no_less { N.faults net.old ≤ N.faults net.new }
+    ensures closed { N.closed net.new ≡ N.closed net.old }
+{
+    let Ok(()) = crew.reserve(1) else {
+        return Err(Ending::Memory);
+    };
+    let door = match open(net, kind) {
+        Ok(door) => door,
+        Err(ending) => return Err(ending),
+    };
     crew.push_reserved(Worker {
         station,
         door,
@@ -94,7 +109,13 @@ fn hire<N: Net>(
 }
 
 /// Opens a door of this kind.
-pub(crate) fn open<N: Net>(net: &mut N, kind: DoorKind) -> Result<N::Door, Ending> {
+pub(crate) fn open<N: Net>(net: &mut N, kind: DoorKind) -> Result<N::Door, Ending>
+    ensures fresh { IfOk result (λ opened. N.Door.faults opened ≡ 0) }
+    ensures unused { IfOk result (λ opened. IfTold (N.Door.given_back opened) (λ links. links ≡ [])) }
+    ensures refused { IfErr result (λ ending. EndsUnopened ending (N.faults net.old) (N.faults net.new)) }
+    ensures no_less { N.faults net.old ≤ N.faults net.new }
+    ensures closed { N.closed net.new ≡ N.closed net.old }
+{
     match net.door(kind) {
         Ok(door) => Ok(door),
         Err(PortFault::Failed) => Err(Ending::Net),
@@ -102,38 +123,48 @@ pub(crate) fn open<N: Net>(net: &mut N, kind: DoorKind) -> Result<N::Door, Endin
     }
 }
 
-/// Knocks at the kind of each worker of the crew, once for each of them.
-pub(crate) fn knock_all<N: Net>(net: &mut N, kinds: &[DoorKind]) {
-    for kind in kinds {
-        net.knock(*kind);
-    }
+/// Knocks once for each worker: for so many of clients, and for those of agents. None of them waits at its door then.
+pub(crate) fn knock_all<N: Net>(net: &mut N, clients: u32)
+    ensures { Knocks N.faults N.closed net.old net.new }
+{
+    knock(net, DoorKind::Client, clients);
+    knock(net, DoorKind::Agent, AGENT_WORKERS);
 }
 
-/// The kinds of the crew's doors.
-pub(crate) fn kinds_of<D: Door>(
-    alloc: Global,
-    crew: &[Worker<D>],
-) -> Result<Vec<DoorKind>, Ending> {
-    let mut kinds = Vec::with_capacity(alloc, crew.len())?;
-    for worker in crew {
-        kinds.push_reserved(worker.kind());
+// Knocks so often at a kind.
+fn knock<N: Net>(net: &mut N, kind: DoorKind, times: u32)
+    ensures { Knocks N.faults N.closed net.old net.new }
+{
+    for _ in 0..times {
+        net.knock(kind);
     }
-    Ok(kinds)
 }
 
 /// Closes the doors of the crew. Whether one of its workers found no memory.
-pub(crate) fn close_crew<N: Net>(net: &mut N, crew: Vec<Worker<N::Door>>) -> bool {
+pub(crate) fn close_crew<N: Net>(net: &mut N, crew: Vec<Worker<N::Door>>) -> bool
+    ensures no_less { N.faults net.old ≤ N.faults net.new }
+    ensures closed { (doors : List N.Door) × ClosesDoors (N.closed net.old) doors (N.closed net.new) }
+{
     let mut lacked_memory = false;
     for worker in crew {
-        let Worker {
-            station: _,
-            door,
-            end,
-        } = worker;
-        if end == Some(WorkerEnd::Memory) {
+        if dismiss(net, worker) {
             lacked_memory = true;
         }
-        net.close(door);
     }
+    lacked_memory
+}
+
+// Closes the door of a worker. Whether it found no memory.
+fn dismiss<N: Net>(net: &mut N, worker: Worker<N::Door>) -> bool
+    ensures no_less { N.faults net.old ≤ N.faults net.new }
+    ensures closed { ClosesDoors (N.closed net.old) (worker.door ∷ []) (N.closed net.new) }
+{
+    let lacked_memory = worker.lacked_memory();
+    let Worker {
+        station: _,
+        door,
+        end: _,
+    } = worker;
+    net.close(door);
     lacked_memory
 }

@@ -5,8 +5,8 @@
 mod beside;
 mod crews;
 mod endings;
-mod serving;
 mod runs;
+mod serving;
 
 pub use crews::AGENT_WORKERS;
 pub use runs::{MOST_CLIENT_WORKERS, run_serve};

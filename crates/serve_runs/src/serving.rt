@@ -1,6 +1,14 @@
 // The service, once the folder is mounted.
+ghost use Rattle.std.specs.Prelude.{◌≡◌, ◌<◌, ◌≤◌, ◌∷◌, [], true, MatchResult, OnErr};
+ghost use Rattle.desk_keeper.specs.Keeper.{IsSameDisk};
+ghost use Rattle.live_desk.specs.History.{last_commit};
+ghost use Rattle.admin_door.specs.Side.{decided_of};
+ghost use Rattle.serve_runs.specs.Serving.{EndsUnopened};
+ghost use Rattle.serve_runs.specs.parts.Officiating.{Officiates, Staffs};
+
 use crate::beside::beside;
-use crate::crews::{Worker, close_crew, kinds_of, knock_all, open, open_crew};
+use crate::crews::{Worker, close_crew, knock_all, open, open_crew};
+use crate::endings::lacks_memory;
 use desk_keeper::Keeper;
 use desk_ports::Disk;
 use door_workers::{WorkerEnd, work_for_administrators};
@@ -13,8 +21,8 @@ use std::alloc::Global;
 use std::sync::{Mutex, Wait};
 use std::thread::Threads;
 
-/// Serves over the folder of the keeper, until the service is stopped. Whether an `accept` found no memory, or why nobody
-/// was served.
+/// Serves over the folder of the keeper, by so many workers of clients, until the service is stopped. Whether an `accept`
+/// found no memory, or why nobody was served.
 pub(crate) fn serve_folder<
     R: Threads + Wait + Sync,
     D: Disk,
@@ -30,10 +38,23 @@ pub(crate) fn serve_folder<
     keeper: &mut Keeper<'_, D>,
     net: &mut N,
     gate: &G,
-) -> Result<bool, Ending> {
-    let (publisher, seats, roll) = start(rt, alloc, keeper.desk(), workers)?;
+) -> Result<bool, Ending>
+    requires some { 0 < workers }
+    requires most { workers ≤ 64 }
+    ensures served { MatchResult result
+        (λ lacked. Staffs D.faults L.traffic L.marks L.faults E.given_back E.faults lacked keeper.old keeper.new
+        (N.faults net.old) (N.faults net.new) (N.closed net.old) (N.closed net.new))
+        (λ ending. EndsUnopened ending (N.faults net.old) (N.faults net.new)) }
+    ensures kept { OnErr result (keeper.new ≡ keeper.old) }
+    ensures same_disk { IsSameDisk keeper.old keeper.new }
+{
+    let Ok((publisher, seats, roll)) = start(rt, alloc, keeper.desk(), workers) else {
+        return Err(Ending::Memory);
+    };
     let mut publisher = publisher;
-    let served = open_and_serve(rt, alloc, keeper, &mut publisher, seats, roll, net, gate);
+    let served = open_and_serve(
+        rt, alloc, workers, keeper, &mut publisher, seats, roll, net, gate,
+    );
     publisher.end(rt);
     served
 }
@@ -50,27 +71,38 @@ fn open_and_serve<
 >(
     rt: &R,
     alloc: Global,
+    clients: u32,
     keeper: &mut Keeper<'_, D>,
     publisher: &mut Publisher,
     seats: Vec<Seat>,
     roll: Roll<H>,
     net: &mut N,
     gate: &G,
-) -> Result<bool, Ending> {
-    let mut door = open(net, DoorKind::Admin)?;
-    let mut crew = Vec::new(alloc);
-    let served = match open_crew(net, seats, &mut crew) {
-        Ok(()) => serve(
-            rt, alloc, keeper, publisher, &mut crew, roll, net, &mut door, gate,
-        ),
-        Err(ending) => Err(ending),
+) -> Result<bool, Ending>
+    requires published { publisher.old ≡ keeper.old.desk ∷ [] }
+    ensures served { MatchResult result
+        (λ lacked. Staffs D.faults L.traffic L.marks L.faults E.given_back E.faults lacked keeper.old keeper.new
+        (N.faults net.old) (N.faults net.new) (N.closed net.old) (N.closed net.new))
+        (λ ending. EndsUnopened ending (N.faults net.old) (N.faults net.new)) }
+    ensures kept { OnErr result (keeper.new ≡ keeper.old) }
+    ensures same_disk { IsSameDisk keeper.old keeper.new }
+{
+    let mut door = match open(net, DoorKind::Admin) {
+        Ok(door) => door,
+        Err(ending) => return Err(ending),
     };
+    let mut crew = Vec::new(alloc);
+    if let Err(ending) = open_crew(net, seats, &mut crew) {
+        net.close(door);
+        close_crew(net, crew);
+        return Err(ending);
+    }
+    let end = serve(
+        rt, alloc, clients, keeper, publisher, &mut crew, roll, net, &mut door, gate,
+    );
     net.close(door);
     let lacked_memory = close_crew(net, crew);
-    match served {
-        Ok(end) => Ok(lacked_memory || end == WorkerEnd::Memory),
-        Err(ending) => Err(ending),
-    }
+    Ok(lacked_memory || lacks_memory(end))
 }
 
 // Serves at open doors: the crew on threads, and the administrators on this one. How their worker ended.
@@ -85,6 +117,7 @@ fn serve<
 >(
     rt: &R,
     alloc: Global,
+    clients: u32,
     keeper: &mut Keeper<'_, D>,
     publisher: &mut Publisher,
     crew: &mut [Worker<E>],
@@ -92,17 +125,42 @@ fn serve<
     net: &mut N,
     door: &mut E,
     gate: &G,
-) -> Result<WorkerEnd, Ending> {
-    let kinds = kinds_of(alloc, crew)?;
+) -> WorkerEnd
+    requires { last_commit 0 publisher.old ≤ keeper.old.desk.commit }
+    ensures { Officiates D.faults L.traffic L.marks L.faults E.given_back E.faults N.faults N.closed result
+        keeper.old keeper.new publisher.old publisher.new door.old door.new net.old net.new }
+{
     let roll = Mutex::new(roll);
     let questions = QuestionDesk::new(alloc);
     let shared = &roll;
     let asked = &questions;
-    let mut office = || {
-        let end = work_for_administrators(rt, alloc, keeper, publisher, shared, asked, door);
-        knock_all(net, &kinds);
-        end
-    };
+    let mut office = || -> WorkerEnd
+        requires { last_commit 0 publisher.now ≤ keeper.now.desk.commit }
+        ensures { Officiates D.faults L.traffic L.marks L.faults E.given_back E.faults N.faults N.closed result
+            keeper.entry.now keeper.exit.now publisher.entry.now publisher.exit.now door.entry.now door.exit.now
+            net.entry.now net.exit.now }
+    { officiate(rt, alloc, clients, keeper, publisher, shared, asked, net, door) };
     let each = |_: usize, worker: &mut Worker<E>| worker.work(rt, alloc, shared, asked, gate);
-    Ok(beside(rt, crew, &each, &mut office))
+    beside(rt, crew, &each, &mut office)
+}
+
+// Serves the administrators, and wakes all workers that wait at their doors once the service is stopped.
+fn officiate<R: Wait, D: Disk, H: HangEnd, L: Link, E: Door<Link = L>, N: Net>(
+    rt: &R,
+    alloc: Global,
+    clients: u32,
+    keeper: &mut Keeper<'_, D>,
+    publisher: &mut Publisher,
+    roll: &Mutex<Roll<H>>,
+    questions: &QuestionDesk,
+    net: &mut N,
+    door: &mut E,
+) -> WorkerEnd
+    requires { last_commit 0 publisher.old ≤ keeper.old.desk.commit }
+    ensures { Officiates D.faults L.traffic L.marks L.faults E.given_back E.faults N.faults N.closed result
+        keeper.old keeper.new publisher.old publisher.new door.old door.new net.old net.new }
+{
+    let end = work_for_administrators(rt, alloc, keeper, publisher, roll, questions, door);
+    knock_all(net, clients);
+    end
 }
