@@ -51,43 +51,46 @@ module _ {S L : Type 0} (step : S → Visit L → S → Type 0) (marks : L → L
     counted = refl;
   }
 
-  module _ (start old now : S) (given given_old given_now : Option (List L)) (count count_old count_now : ℕ) (visit : Visit L) where
+  module _ (start old now : S) (given given_old given_kept given_now : Option (List L)) (count count_old count_now : ℕ) (visit : Visit L) where
     -- the worker goes on behind a connection
     pub goes_on : SoFar step marks faults start old given given_old count count_old → IsFresh marks faults visit
-        → step old visit now → GoesOn visit.ended → AppendsTold given_old visit.returned given_now → count_now ≡ count_old
+        → step old visit now → GoesOn visit.ended → given_kept ≡ given_old → AppendsTold given_kept visit.returned given_now → count_now ≡ count_old
         → SoFar step marks faults start now given given_now count count_now
-    goes_on so_far fresh one on appends same = record {
+    goes_on so_far fresh one on kept appends same = record {
       visits = so_far.visits ++ visit ∷ [];
       fresh = all_more (IsFresh marks faults) so_far.visits visit so_far.fresh fresh;
       in_turn = in_turn_more step start old now so_far.visits visit so_far.in_turn one;
       go_on = all_more (λ (v : Visit L). GoesOn v.ended) so_far.visits visit so_far.go_on on;
-      given_back = gives_more given given_old given_now so_far.visits visit so_far.given_back appends;
+      given_back = gives_more given given_old given_now so_far.visits visit so_far.given_back
+          (subst (λ (told : Option (List L)). AppendsTold told visit.returned given_now) kept appends);
       counted = same ∙ so_far.counted;
     }
 
     -- it ends as stopped behind one
     pub stops : SoFar step marks faults start old given given_old count count_old → IsFresh marks faults visit
-        → step old visit now → AppendsTold given_old visit.returned given_now → count_now ≡ count_old
+        → step old visit now → given_kept ≡ given_old → AppendsTold given_kept visit.returned given_now → count_now ≡ count_old
         → Works step EndsWorking marks faults Stopped start now given given_now count count_now
-    stops so_far fresh one appends same = record {
+    stops so_far fresh one kept appends same = record {
       visits = so_far.visits ++ visit ∷ [];
       fresh = all_more (IsFresh marks faults) so_far.visits visit so_far.fresh fresh;
       in_turn = in_turn_more step start old now so_far.visits visit so_far.in_turn one;
       ending = (so_far.visits, visit, refl, so_far.go_on);
-      given_back = gives_more given given_old given_now so_far.visits visit so_far.given_back appends;
+      given_back = gives_more given given_old given_now so_far.visits visit so_far.given_back
+          (subst (λ (told : Option (List L)). AppendsTold told visit.returned given_now) kept appends);
       counted = same ∙ so_far.counted;
     }
 
     -- it ends as stopped behind one whose stop was answered
     pub stops_office : SoFar step marks faults start old given given_old count count_old → IsFresh marks faults visit
-        → step old visit now → visit.ended ≡ EndedByStop → AppendsTold given_old visit.returned given_now → count_now ≡ count_old
+        → step old visit now → visit.ended ≡ EndedByStop → given_kept ≡ given_old → AppendsTold given_kept visit.returned given_now → count_now ≡ count_old
         → Works step EndsOffice marks faults Stopped start now given given_now count count_now
-    stops_office so_far fresh one by_stop appends same = record {
+    stops_office so_far fresh one by_stop kept appends same = record {
       visits = so_far.visits ++ visit ∷ [];
       fresh = all_more (IsFresh marks faults) so_far.visits visit so_far.fresh fresh;
       in_turn = in_turn_more step start old now so_far.visits visit so_far.in_turn one;
       ending = (so_far.visits, visit, refl, so_far.go_on, by_stop);
-      given_back = gives_more given given_old given_now so_far.visits visit so_far.given_back appends;
+      given_back = gives_more given given_old given_now so_far.visits visit so_far.given_back
+          (subst (λ (told : Option (List L)). AppendsTold told visit.returned given_now) kept appends);
       counted = same ∙ so_far.counted;
     }
 

@@ -8,7 +8,7 @@ use Rattle.desk_keeper.specs.declared.keeper.Keeper.{Keeper}
 use Rattle.server_hall.specs.Tally.{Tally, no_calls}
 use Rattle.door_frames.specs.declared.endings.Ended.{Ended}
 use Rattle.door_frames.specs.declared.endings.Ended.TheVariants.{Stopped as EndedByStop}
-use Rattle.admin_door.specs.Side.{AdminSide, admin_side, decided_of}
+use Rattle.admin_door.specs.Side.{AdminSide, decided_of}
 use Rattle.admin_door.specs.Serving.{talk_of, Serves}
 use Rattle.door_workers.specs.Visit.{Visit, AllGoOn}
 use Rattle.door_workers.specs.declared.workers.WorkerEnd.{WorkerEnd}
@@ -32,7 +32,14 @@ office_of faults keeper published = record {
 
 -- with a hall by way of which these calls were made
 abbrev pub side_in : Office → Tally → AdminSide
-side_in office tally = admin_side office.desk office.decided office.published tally None office.faults
+side_in office tally = record {
+  desk = office.desk;
+  decided = office.decided;
+  published = office.published;
+  tally = tally;
+  calls = None;
+  faults = office.faults;
+}
 
 -- what `admin_loop` does, over a hall of the connection's own by way of which no call was made before
 abbrev pub ServesAdmin : {L : Type 0} → (L → Option Traffic) → (L → LinkMarks) → (L → ℕ) → Ended → Office → L → Office → L → Type 0

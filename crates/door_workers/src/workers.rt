@@ -1,5 +1,5 @@
 // Workers of clients and of agents.
-ghost use Rattle.std.specs.Prelude.{◌≡◌, ℕ, List, Option, IfOk, IfErr, OnOk, MatchResult};
+ghost use Rattle.std.specs.Prelude.{◌≡◌, ℕ, List, Option, IfOk, MatchResult};
 ghost use Rattle.std.specs.Bool.{OnTrue, OnFalse};
 ghost use Rattle.link_ports.specs.LinkMarks.{fresh_marks};
 ghost use Rattle.live_desk.specs.Seat.{SeatState};
@@ -8,7 +8,6 @@ ghost use Rattle.door_workers.specs.Visit.{Works, EndsWorking, GoesOn};
 ghost use Rattle.door_workers.specs.Clients.{VisitsClients};
 ghost use Rattle.door_workers.specs.Agents.{VisitsAgents};
 ghost use Rattle.door_workers.specs.parts.Turn.{SoFar, RefusesLink};
-ghost use Rattle.door_workers.specs.declared.workers.WorkerEnd.TheVariants.{Stopped};
 
 use crate::connections::{serve_agent, serve_client};
 use desk_ports::PortFault;
@@ -79,7 +78,10 @@ fn serve_next_client<R: Wait, H: HangEnd, L: Link<End = H>, D: Door<Link = L>, G
     };
     let ended = serve_client(rt, alloc, seat, roll, questions, &mut link, gate);
     door.give_back(link);
-    go_on(rt, questions, &ended)
+    if is_over(rt, questions, &ended) {
+        return Err(WorkerEnd::Stopped);
+    }
+    Ok(())
 }
 
 /// Serves connections of agents, one after the other. It ends as a worker of clients does. It may wait.
@@ -125,7 +127,10 @@ fn serve_next_agent<R: Wait, H: HangEnd, L: Link, D: Door<Link = L>>(
     };
     let ended = serve_agent(rt, alloc, roll, questions, &mut link);
     door.give_back(link);
-    go_on(rt, questions, &ended)
+    if is_over(rt, questions, &ended) {
+        return Err(WorkerEnd::Stopped);
+    }
+    Ok(())
 }
 
 /// The next link of the door.
@@ -144,15 +149,14 @@ pub(crate) fn accept<D: Door>(door: &mut D) -> Result<D::Link, WorkerEnd>
     }
 }
 
-// Whether a worker goes on behind a connection that ended so.
-fn go_on<R: Wait>(rt: &R, questions: &QuestionDesk, ended: &Ended) -> Result<(), WorkerEnd>
-    ensures on { OnOk result (GoesOn ended.now) }
-    ensures end { IfErr result (λ end. end ≡ Stopped) }
+// Whether the service is stopped by the time that a connection ended so.
+fn is_over<R: Wait>(rt: &R, questions: &QuestionDesk, ended: &Ended) -> bool
+    ensures { OnFalse result (GoesOn ended.now) }
 {
-    if is_stop(ended) || questions.is_stopped(rt) {
-        return Err(WorkerEnd::Stopped);
+    if is_stop(ended) {
+        return true;
     }
-    Ok(())
+    questions.is_stopped(rt)
 }
 
 /// Whether a connection ended for a stop of the service.

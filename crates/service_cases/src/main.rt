@@ -9,6 +9,11 @@
 //! disk that fail, with commas between them, or `-`. At each `/` the service is to have stopped, and a new one runs on the same
 //! folder.
 //!
+//!     memory W FAILS NET_FAILS BYTES | BYTES | ..
+//!
+//! is a service over a net in memory, whose calls of `dial` and `door` with the numbers `NET_FAILS` fail, and at whose door for
+//! administrators come links with these bytes, or none for `-`. Its answer has what was sent on each of these links.
+//!
 //! Steps: `client X`, `admin X` and `agent X` dial a link of the name X; `X> BYTES` sends a frame on it, in digits and quoted
 //! texts; `X<` reads a frame; `X-` lets the link go; `check CUP` and `simple CUP` ask by a client that keeps its answers, and
 //! `tell N` tells it of a commit; `set CUP=KIND:METADATA` sets a policy of the root bucket, and `stop` stops the service, by an
@@ -19,6 +24,7 @@
 
 mod answers;
 mod gates;
+mod memory;
 mod people;
 mod runs;
 mod words;
@@ -38,6 +44,9 @@ fn answer<R: Threads + Wait + Sync + Clock>(
     let (word, rest) = first_word(line);
     if word == "serve" {
         return runs::serve(rt, alloc, rest);
+    }
+    if word == "memory" {
+        return memory::serve(rt, alloc, rest);
     }
     Err(Failure::Words)
 }

@@ -1,0 +1,29 @@
+-- Doors that are closed one after the other, and what that does to the count of their net.
+use Rattle.std.proofs.Common.{◌≡◌, ◌∙◌, ◌≤◌, ℕ, List, [], ◌∷◌, ◌++◌, Option, Some, refl, sym, ap, subst, append_assoc, append-nil}
+use Rattle.desk_ports.specs.Faults.{next_count}
+use Rattle.link_ports.specs.NetCounts.{count_after_close}
+use Rattle.door_workers.specs.Visit.{door_faults_after}
+use Rattle.door_workers.specs.declared.workers.WorkerEnd.{WorkerEnd}
+use Rattle.door_workers.specs.declared.workers.WorkerEnd.TheVariants.{DoorFailed}
+use Rattle.serve_runs.specs.Serving.{ClosesDoors, HasRisen}
+
+pub closes_none : {E : Type 0} (told : Option (List E)) → ClosesDoors told [] told
+closes_none told = λ after is. (after, is, sym (append-nil after))
+
+pub closes_then : {E : Type 0} (old between new : Option (List E)) (first more : List E) → ClosesDoors old first between
+    → ClosesDoors between more new → ClosesDoors old (first ++ more) new
+closes_then {E} old between new first more some others = λ after told.
+    let (middle, middle_told, after_is) = others after told in
+    let (before, old_told, middle_is) = some middle middle_told in
+    (before, old_told, after_is ∙ (ap (λ (doors : List E). doors ++ more) middle_is ∙ append_assoc before first more))
+
+risen_since : (before between after : ℕ) → before ≤ between → next_count between ≤ after → HasRisen before after
+risen_since before between after no_less risen = omega (arith, no_less, risen)
+
+-- a door whose `accept` failed raises the count of its net when it is closed
+pub door_failed : (end : WorkerEnd) (faults before opened closed after : ℕ) → before ≤ opened → faults ≡ door_faults_after end 0
+    → closed ≡ count_after_close faults opened → closed ≤ after → end ≡ DoorFailed → HasRisen before after
+door_failed end faults before opened closed after no_less counted closes later is =
+    let faults_is : faults ≡ next_count 0 = subst (λ (e : WorkerEnd). faults ≡ door_faults_after e 0) is counted in
+    let closed_is : closed ≡ next_count opened = subst (λ (n : ℕ). closed ≡ count_after_close n opened) faults_is closes in
+    risen_since before opened after no_less (subst (λ (n : ℕ). n ≤ after) closed_is later)
