@@ -12,7 +12,7 @@ loop-init g c = (
           begins (VisitsOffice g.L.Link.traffic g.L.Link.marks g.L.Link.faults) g.L.Link.marks g.L.Link.faults
               (office_of g.D.Disk.faults c.args.keeper.now c.args.publisher.now)
               (g.E.Door.given_back c.args.door.now) (g.E.Door.faults c.args.door.now),
-          (c.requires, (refl, refl)),
+          (c.requires.behind, (refl, refl)),
         ),
       ),
     )
