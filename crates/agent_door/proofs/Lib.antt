@@ -3,3 +3,4 @@ pub mod Calls
 pub mod Serving
 pub mod Misplaced
 pub mod Whole
+pub mod Complete

@@ -187,7 +187,7 @@ ends registration start old new feeder asked s ended rounds open_round last made
     (calls ∙ ap (λ list. list ++ made) (sym (append-nil (rounds_calls registration.kind before)))) in
     let sent : List Framed = registered_frame registration ∷ rounds_told registration.kind before in
     record {
-        received = s.received ++ bytes;
+      received = s.received ++ bytes;
       rounds = rounds;
       open_round = open_round;
       last = last;
@@ -375,6 +375,7 @@ ends_misplaced registration start old new feeder fed asked ended bytes framed ha
       found.1,
       subst (λ list. Hears AtAgent (s.received ++ bytes) list found.1) (append_assoc heeded (framed ∷ []) found.0) found.2,
       number,
+      refl,
     ))
     tally calls carried still tt same)
 

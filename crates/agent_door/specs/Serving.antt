@@ -40,13 +40,19 @@ abbrev pub agent_side : Tally → Option (List HallCall) → Option Traffic → 
 agent_side tally calls traffic marks faults =
     record { tally = tally; calls = calls; traffic = traffic; marks = marks; faults = faults }
 
+-- the operation that is not known where it stands: an answer before a registration, and a registration behind it
+abbrev pub misplaced_behind : List Framed → ℕ
+misplaced_behind [] = 0x21
+misplaced_behind (framed ∷ more) = 0x20
+
 -- The bytes that were received, of which these frames were heeded, are such where a connection ended so. A frame that is not
 -- known where it stands is wrong there.
 abbrev pub EndsHeeding : List ℕ → List Framed → Ended → Type 0
 EndsHeeding bytes heeded (BadFrame (BadOperation number)) =
     EndsBytes AtAgent bytes heeded (BadFrame (BadOperation number))
     ⊎ ((framed : Framed) × (more : List Framed) × (rest : List ℕ)
-    × Hears AtAgent bytes (heeded ++ framed ∷ more) rest × (number_of (operation framed.message) ≡ number))
+    × Hears AtAgent bytes (heeded ++ framed ∷ more) rest
+    × (number_of (operation framed.message) ≡ number) × (number ≡ misplaced_behind heeded))
 EndsHeeding bytes heeded ended = EndsBytes AtAgent bytes heeded ended
 
 -- These frames were due and so many of them sent: all, but for the last one where the connection ended for its link or for
@@ -105,9 +111,17 @@ pub record Asks (registration : Registration) (start now : AgentSide) (ended : E
 
 -- ---- a whole connection
 
+-- an agent that has not registered is not told of what the hall does
+abbrev pub EndsUnregistered : Ended → Type 0
+EndsUnregistered (Hung entered now) = ⊥
+EndsUnregistered Stopped = ⊥
+EndsUnregistered (Strayed number found) = ⊥
+EndsUnregistered ended = Unit {0}
+
 -- no agent registered
 pub record IsUnregistered (result : Ended) (start now : AgentSide) : Type 0 where
   pub received : List ℕ
+  pub ended_so : EndsUnregistered result
   pub bytes : EndsHeeding received [] result
   pub carried : Carried start.traffic now.traffic received []
   pub tally : now.tally ≡ start.tally

@@ -3,8 +3,10 @@
 #![tactic(auto)]
 
 mod agent_loops;
+mod laws;
 mod messages;
 mod rounds;
 mod sending;
 
 pub use agent_loops::agent_loop;
+pub use laws::each_frame_of_an_agent_is_heeded;

@@ -1,14 +1,12 @@
 -- Calls of `ask` in turn, and what a hall counts of them.
-use Rattle.std.proofs.Common.{◌≡◌, ◌∙◌, ℕ, List, [], ◌∷◌, ◌++◌, map, Option, Some, None, refl, sym, ap, subst, append_assoc, append-nil}
+use Rattle.std.proofs.Common.{◌≡◌, ◌∙◌, List, [], ◌∷◌, ◌++◌, Option, refl, sym, ap, append_assoc, append-nil}
 use Rattle.std.proofs.lemmas.Grind.{flat_map-append}
-use Rattle.std.proofs.lemmas.List.{map-append}
-use Rattle.std.specs.List.{AllByRecursion, flat_map}
+use Rattle.std.specs.List.{AllByRecursion}
 use Rattle.server_hall.specs.Call.{AskMade}
 use Rattle.server_hall.specs.Tally.{Tally, after_ask}
 use Rattle.server_hall.specs.Told.{AppendsCalls}
 use Rattle.server_hall.specs.declared.calls.HallCall.{HallCall}
-use Rattle.server_hall.specs.declared.calls.HallCall.TheVariants.{Ask}
-use Rattle.client_door.specs.Answered.{Answered, IsRight, call_list, calls_for, after_asks, reply_bytes, replies_bytes, frames_of}
+use Rattle.client_door.specs.Answered.{Answered, IsRight, call_list, calls_for, after_asks, reply_bytes, replies_bytes}
 
 pub after_asks_more : (calls more : List AskMade) (tally : Tally) → after_asks (calls ++ more) tally ≡ after_asks more (after_asks calls tally)
 after_asks_more [] more tally = refl

@@ -1,11 +1,10 @@
 -- How the answering of checks ends.
-use Rattle.std.proofs.Common.{◌≡◌, ◌∙◌, ◌<◌, ◌≤◌, ℕ, List, [], ◌∷◌, ◌++◌, map, length, Option, Some, None, Result, Ok, Err, refl, sym, ap, subst, append_assoc, append-nil, arith}
+use Rattle.std.proofs.Common.{◌≡◌, ◌∙◌, ◌≤◌, ℕ, List, [], ◌∷◌, ◌++◌, map, length, Option, Some, refl, sym, ap, subst, append_assoc, append-nil, arith}
 use Rattle.std.proofs.lemmas.List.{map-append}
 use Rattle.std.specs.List.{AllByRecursion}
 use Rattle.desk_ports.specs.Faults.{next_count}
 use Rattle.link_ports.specs.Traffic.{Traffic}
 use Rattle.link_ports.specs.LinkMarks.{LinkMarks}
-use Rattle.cynara_keys.specs.Key.{Question}
 use Rattle.cynara_keys.specs.declared.results.Kind.{Kind}
 use Rattle.desk_state.specs.DeskState.{DeskState}
 use Rattle.live_desk.specs.History.{GoesOn}
@@ -19,25 +18,27 @@ use Rattle.wire_messages.specs.declared.messages.Framed.{Framed}
 use Rattle.wire_messages.specs.declared.operations.Heard.{Heard}
 use Rattle.wire_messages.specs.declared.operations.Heard.TheVariants.{AtClient}
 use Rattle.server_hall.specs.Call.{AskMade, AskResult}
-use Rattle.server_hall.specs.Tally.{Tally, after_ask}
+use Rattle.server_hall.specs.Tally.{Tally}
 use Rattle.server_hall.specs.Told.{AppendsCalls}
 use Rattle.server_hall.specs.declared.calls.HallCall.{HallCall}
 use Rattle.server_hall.specs.declared.calls.HallCall.TheVariants.{Ask}
 use Rattle.door_frames.specs.Carried.{Carried}
-use Rattle.door_frames.specs.Hearing.{HasHeard, HearsMore}
+use Rattle.door_frames.specs.Hearing.{HearsMore}
 use Rattle.door_frames.specs.Ending.{EndsReading, EndsBytes, IsAtEnd, faults_after}
 use Rattle.door_frames.specs.declared.endings.Ended.{Ended}
 use Rattle.door_frames.specs.declared.endings.Ended.TheVariants.{Closed, Cut, Hung, LinkFault, BadFrame, Stopped, Memory, Strayed}
 use Rattle.door_frames.proofs.Carrying.{carried_more, carried_same}
 use Rattle.client_door.specs.Check.{framed_of, message_of, reply_of}
-use Rattle.client_door.specs.Asking.{AsksOnce, AsksInVain, Asked, IsInVain, LeadsTo, FindsStop, Strays, ask_made}
+use Rattle.client_door.specs.Asking.{AsksOnce, AsksInVain, Asked, IsInVain, ask_made}
 use Rattle.client_door.specs.Reading.{reading}
-use Rattle.client_door.specs.Answered.{Answered, Answers, IsRight, call_list, calls_for, after_asks, replies_bytes, frames_of, AreReadIn}
-use Rattle.client_door.specs.Serving.{ClientSide, client_side, with_link, EndsAsking, Talks}
+use Rattle.client_door.specs.Answered.{Answered, Answers, calls_for, after_asks, replies_bytes, frames_of, AreReadIn}
+use Rattle.client_door.specs.Serving.{ClientSide, client_side, with_link, EndsAsking, IsCallFor, Talks}
 use Rattle.client_door.specs.parts.Talk.{Stands, IsReadNow}
 use Rattle.client_door.specs.declared.checks.Check.{Check}
 use Rattle.client_door.specs.declared.agent_replies.AgentReply.{AgentReply}
 use Rattle.client_door.proofs.Calls.{after_asks_more, calls_same, calls_more, calls_for_more, front_right}
+use Rattle.client_door.proofs.Published.{stands_last}
+use Rattle.client_door.proofs.Unsent.{back_right, back_read, all_calls, unsent_calls}
 use Rattle.client_door.proofs.Steps.{answered_with, answered_by_policies, reseated, flushed, heard_more}
 
 -- the first of some checks were read as all of them
@@ -46,30 +47,36 @@ front_read seen low [] more read = tt
 front_read seen low (one ∷ answered) more (there, fresh, others) =
     (there, fresh, front_read seen one.desk.commit answered more others)
 
+-- the frames that were heard behind those that were answered
+heard_behind : (start now : ClientSide) (feeder : Feeding) (waiting : List ℕ) (taken : List Check) → feeder.heard ≡ AtClient
+    → (s : Stands start now feeder waiting taken)
+    → Hears AtClient s.received (frames_of s.sent ++ (frames_of s.unsent ++ (map framed_of taken ++ feeder.waiting))) s.heard.behind
+heard_behind start now feeder waiting taken side s =
+    let others : List Framed = frames_of s.unsent ++ (map framed_of taken ++ feeder.waiting) in
+    let frames : (frames_of (s.sent ++ s.unsent) ++ map framed_of taken) ++ feeder.waiting ≡ frames_of s.sent ++ others =
+    append_assoc (frames_of (s.sent ++ s.unsent)) (map framed_of taken) feeder.waiting
+    ∙ (ap (λ list. list ++ (map framed_of taken ++ feeder.waiting)) (map-append (λ (one : Answered). framed_of one.check) s.sent s.unsent)
+    ∙ append_assoc (frames_of s.sent) (frames_of s.unsent) (map framed_of taken ++ feeder.waiting)) in
+    subst (λ (heard : Heard). Hears heard s.received (frames_of s.sent ++ others) s.heard.behind) side
+    (subst (λ list. Hears feeder.heard s.received list s.heard.behind) frames s.heard.heard)
+
 -- some frames may not be answered
 pub unanswered : (start now : ClientSide) (feeder : Feeding) (waiting : List ℕ) (taken : List Check) → feeder.heard ≡ AtClient
     → (s : Stands start now feeder waiting taken)
     → (more : List Framed) × (rest : List ℕ) × Hears AtClient s.received (frames_of s.sent ++ more) rest
 unanswered start now feeder waiting taken side s =
-    let others : List Framed = frames_of s.unsent ++ (map framed_of taken ++ feeder.waiting) in
-    let frames : (frames_of (s.sent ++ s.unsent) ++ map framed_of taken) ++ feeder.waiting ≡ frames_of s.sent ++ others =
-    append_assoc (frames_of (s.sent ++ s.unsent)) (map framed_of taken) feeder.waiting
-    ∙ (ap (λ list. list ++ (map framed_of taken ++ feeder.waiting)) (map-append (λ (one : Answered). framed_of one.check) s.sent s.unsent)
-    ∙ append_assoc (frames_of s.sent) (frames_of s.unsent) (map framed_of taken ++ feeder.waiting)) in (
-      others,
-      s.heard.behind,
-      subst (λ (heard : Heard). Hears heard s.received (frames_of s.sent ++ others) s.heard.behind) side
-          (subst (λ list. Hears feeder.heard s.received list s.heard.behind) frames s.heard.heard),
-    )
+    (frames_of s.unsent ++ (map framed_of taken ++ feeder.waiting), s.heard.behind, heard_behind start now feeder waiting taken side s)
 
 -- the answering ends, after these calls of `ask` more
 pub ends_with : (start now after : ClientSide) (feeder : Feeding) (waiting : List ℕ) (taken : List Check) (ended : Ended) (extra : List AskMade)
     → (s : Stands start now feeder waiting taken)
     → after.seat ≡ now.seat → after.tally ≡ after_asks extra now.tally → AppendsCalls now.calls (map Ask extra) after.calls
     → Carried now.traffic after.traffic [] [] → after.faults ≡ faults_after ended now.faults → IsAtEnd ended after.marks
-    → after.marks.ends ≡ now.marks.ends → EndsAsking ended (calls_for s.unsent ++ extra)
+    → after.marks.ends ≡ now.marks.ends → EndsAsking ended (calls_for s.unsent ++ extra) → feeder.heard ≡ AtClient
+    → AllByRecursion (IsCallFor now.seat s.received s.sent) extra
     → EndsBytes AtClient s.received (frames_of s.sent) ended → Talks start after ended
-ends_with start now after feeder waiting taken ended extra s seat tally told carried faults at_end ends asking bytes =
+ends_with start now after feeder waiting taken ended extra s seat tally told carried faults at_end ends asking side for_extra bytes =
+    let read = back_read now.seat.seen now.seat.note s.sent s.unsent s.read in
     let made : calls_for (s.sent ++ s.unsent) ++ extra ≡ calls_for s.sent ++ (calls_for s.unsent ++ extra) =
     ap (λ list. list ++ extra) (calls_for_more s.sent s.unsent) ∙ append_assoc (calls_for s.sent) (calls_for s.unsent) extra in
     record {
@@ -92,6 +99,11 @@ ends_with start now after feeder waiting taken ended extra s seat tally told car
           (sym (map-append Ask (calls_for (s.sent ++ s.unsent)) extra))
           (calls_more (map Ask (calls_for (s.sent ++ s.unsent))) (map Ask extra) start.calls now.calls after.calls s.calls told));
       asking = asking;
+      for_checks = subst (λ (x : SeatState). AllByRecursion (IsCallFor x s.received s.sent) (calls_for s.unsent ++ extra)) (sym seat)
+          (all_calls (IsCallFor now.seat s.received s.sent) (calls_for s.unsent) extra
+          (unsent_calls now.seat s.received s.sent [] s.unsent (map framed_of taken ++ feeder.waiting) s.heard.behind read.0 read.1
+          (back_right s.sent s.unsent s.right) read.2 (heard_behind start now feeder waiting taken side s))
+          for_extra);
       faults = faults ∙ ap (λ count. faults_after ended count) s.faults;
       at_end = at_end;
       ends = ends ∙ s.ends;
@@ -103,7 +115,7 @@ pub ends_for_memory : (start now : ClientSide) (feeder : Feeding) (waiting : Lis
 ends_for_memory start now feeder waiting taken ended is side s =
     subst (λ (e : Ended). Talks start now e) (sym is)
     (ends_with start now now feeder waiting taken Memory [] s refl refl (calls_same now.calls) (carried_same now.traffic) refl tt refl
-    (subst (λ (list : List AskMade). length list ≤ 1) (sym (append-nil (calls_for s.unsent))) s.few)
+    (subst (λ (list : List AskMade). length list ≤ 1) (sym (append-nil (calls_for s.unsent))) s.few) side tt
     (unanswered start now feeder waiting taken side s))
 
 -- for a fault of the link
@@ -115,7 +127,7 @@ ends_for_fault start now traffic marks faults feeder waiting taken ended is side
     subst (λ (e : Ended). Talks start (with_link now traffic marks faults) e) (sym is)
     (ends_with start now (with_link now traffic marks faults) feeder waiting taken LinkFault [] s refl refl (calls_same now.calls)
     carried rose tt same
-    (subst (λ (list : List AskMade). length list ≤ 1) (sym (append-nil (calls_for s.unsent))) s.few)
+    (subst (λ (list : List AskMade). length list ≤ 1) (sym (append-nil (calls_for s.unsent))) s.few) side tt
     (unanswered start now feeder waiting taken side s))
 
 -- ---- no further frame comes
@@ -143,12 +155,12 @@ pub ends_reading : (start now : ClientSide) (traffic : Option Traffic) (marks : 
 ends_reading start now traffic marks faults feeder waiting Closed side none carried same (sound, empty, mark, still) s sent =
     let behind : s.heard.behind ≡ [] = (s.heard.sound sound).0 ∙ empty in
     ends_with start now (with_link now traffic marks faults) feeder waiting [] Closed [] s refl refl (calls_same now.calls) carried still mark same
-    (no_calls start now feeder waiting s sent)
+    (no_calls start now feeder waiting s sent) side tt
     (subst (λ rest. Hears AtClient s.received (frames_of s.sent) rest) behind (all_answered start now feeder waiting side none s sent))
 ends_reading start now traffic marks faults feeder waiting (Cut count) side none carried same (sound, is, some, mark, still) s sent =
     let at = s.heard.sound sound in
     ends_with start now (with_link now traffic marks faults) feeder waiting [] (Cut count) [] s refl refl (calls_same now.calls) carried still mark same
-    (no_calls start now feeder waiting s sent) (
+    (no_calls start now feeder waiting s sent) side tt (
       s.heard.behind,
       all_answered start now feeder waiting side none s sent,
       subst (λ (heard : Heard). IsOpen heard s.heard.behind) side at.1,
@@ -159,7 +171,7 @@ ends_reading start now traffic marks faults feeder waiting LinkFault side none c
     ends_for_fault start now traffic marks faults feeder waiting [] LinkFault refl side carried same rose s
 ends_reading start now traffic marks faults feeder waiting (BadFrame refusal) side none carried same (failed, of_bytes, still) s sent =
     ends_with start now (with_link now traffic marks faults) feeder waiting [] (BadFrame refusal) [] s refl refl (calls_same now.calls)
-    carried still tt same (no_calls start now feeder waiting s sent) (
+    carried still tt same (no_calls start now feeder waiting s sent) side tt (
       s.heard.behind,
       all_answered start now feeder waiting side none s sent,
       subst (λ (heard : Heard). BeginsWrong heard s.heard.behind refusal) side (s.heard.wrong refusal failed),
@@ -168,7 +180,7 @@ ends_reading start now traffic marks faults feeder waiting (BadFrame refusal) si
 ends_reading start now traffic marks faults feeder waiting Memory side none carried same still s sent =
     ends_with start now (with_link now traffic marks faults) feeder waiting [] Memory [] s refl refl (calls_same now.calls)
     carried still tt same
-    (subst (λ (list : List AskMade). length list ≤ 1) (sym (append-nil (calls_for s.unsent))) s.few)
+    (subst (λ (list : List AskMade). length list ≤ 1) (sym (append-nil (calls_for s.unsent))) s.few) side tt
     (unanswered start now feeder waiting [] side s)
 ends_reading start now traffic marks faults feeder waiting (Hung entered at) side none carried same wrong s sent = absurd wrong
 ends_reading start now traffic marks faults feeder waiting Stopped side none carried same wrong s sent = absurd wrong
@@ -192,59 +204,79 @@ asked_once start now tally calls feeder frame after check desk commit kind metad
     (subst (λ (list : List Answered). length (calls_for list ++ call ∷ []) ≤ 1) (sym sent) (omega arith))
     (put ∙ spelled)
 
+-- the call that is made for a check that was taken
+made_for : (start now : ClientSide) (feeder : Feeding) (check : Check) (desk : DeskState) (commit : ℕ) (kind : Kind) (metadata : List ℕ)
+    (result : AskResult) → feeder.heard ≡ AtClient → IsReadNow desk now.seat → reading desk check ≡ IsDue commit kind metadata
+    → (s : Stands start now feeder [] (check ∷ [])) → IsCallFor now.seat s.received s.sent (ask_made kind check.question metadata result)
+made_for start now feeder check desk commit kind metadata result side now_read due s = record {
+  check = check;
+  desk = desk;
+  commit = commit;
+  read = due;
+  question = refl;
+  stands = stands_last desk now.seat.seen now_read.last;
+  fresh = now_read.fresh;
+  heard = (frames_of s.unsent, feeder.waiting, s.heard.behind, heard_behind start now feeder [] (check ∷ []) side s);
+}
+
 -- memory is wanting after the call
 pub asked_for_nothing : (start now : ClientSide) (tally : Tally) (calls : Option (List HallCall)) (feeder : Feeding)
-    (check : Check) (commit : ℕ) (kind : Kind) (metadata : List ℕ) (reply : AgentReply) (ended : Ended) → ended ≡ Memory
-    → feeder.heard ≡ AtClient → AsksOnce commit kind check.question metadata now.tally now.calls tally calls reply
+    (check : Check) (desk : DeskState) (commit : ℕ) (kind : Kind) (metadata : List ℕ) (reply : AgentReply) (ended : Ended) → ended ≡ Memory
+    → feeder.heard ≡ AtClient → IsReadNow desk now.seat → reading desk check ≡ IsDue commit kind metadata → AsksOnce commit kind check.question metadata now.tally now.calls tally calls reply
     → (s : Stands start now feeder [] (check ∷ [])) → s.unsent ≡ []
     → Talks start (record now { tally = tally; calls = calls }) ended
-asked_for_nothing start now tally calls feeder check commit kind metadata reply ended is side (result, asked, leads) s sent =
+asked_for_nothing start now tally calls feeder check desk commit kind metadata reply ended is side now_read due (result, asked, leads) s sent =
     let call : AskMade = ask_made kind check.question metadata result in
     let after : ClientSide = record now { tally = tally; calls = calls } in
     subst (λ (e : Ended). Talks start after e) (sym is)
     (ends_with start now after feeder [] (check ∷ []) Memory (call ∷ []) s refl asked.counted asked.told (carried_same now.traffic) refl tt refl
-    (subst (λ (list : List Answered). length (calls_for list ++ call ∷ []) ≤ 1) (sym sent) (omega arith))
+    (subst (λ (list : List Answered). length (calls_for list ++ call ∷ []) ≤ 1) (sym sent) (omega arith)) side
+    (made_for start now feeder check desk commit kind metadata result side now_read due s, tt)
     (unanswered start now feeder [] (check ∷ []) side s))
 
 -- no reply comes of it
-vain : (start now after : ClientSide) (feeder : Feeding) (check : Check) (kind : Kind) (metadata : List ℕ) (result : AskResult) (ended : Ended)
+vain : (start now after : ClientSide) (feeder : Feeding) (check : Check) (desk : DeskState) (commit : ℕ) (kind : Kind) (metadata : List ℕ)
+    (result : AskResult) (ended : Ended) → IsReadNow desk now.seat → reading desk check ≡ IsDue commit kind metadata
     → feeder.heard ≡ AtClient → after ≡ record now { tally = after.tally; calls = after.calls }
     → Asked (ask_made kind check.question metadata result) now.tally now.calls after.tally after.calls
     → IsInVain check.question result ended
     → (s : Stands start now feeder [] (check ∷ [])) → s.unsent ≡ [] → Talks start after ended
-vain start now after feeder check kind metadata result Stopped side same asked stop s sent =
+vain start now after feeder check desk commit kind metadata result Stopped now_read due side same asked stop s sent =
     let call : AskMade = ask_made kind check.question metadata result in
     ends_with start now after feeder [] (check ∷ []) Stopped (call ∷ []) s (ap (λ (x : ClientSide). x.seat) same) asked.counted asked.told
     (subst (λ (x : ClientSide). Carried now.traffic x.traffic [] []) (sym same) (carried_same now.traffic))
     (ap (λ (x : ClientSide). x.faults) same) tt (ap (λ (x : ClientSide). x.marks.ends) same)
-    (call, ap (λ (list : List Answered). calls_for list ++ call ∷ []) sent, stop)
+    (call, ap (λ (list : List Answered). calls_for list ++ call ∷ []) sent, stop) side
+    (made_for start now feeder check desk commit kind metadata result side now_read due s, tt)
     (unanswered start now feeder [] (check ∷ []) side s)
-vain start now after feeder check kind metadata result Memory side same asked free s sent =
+vain start now after feeder check desk commit kind metadata result Memory now_read due side same asked free s sent =
     let call : AskMade = ask_made kind check.question metadata result in
     ends_with start now after feeder [] (check ∷ []) Memory (call ∷ []) s (ap (λ (x : ClientSide). x.seat) same) asked.counted asked.told
     (subst (λ (x : ClientSide). Carried now.traffic x.traffic [] []) (sym same) (carried_same now.traffic))
     (ap (λ (x : ClientSide). x.faults) same) tt (ap (λ (x : ClientSide). x.marks.ends) same)
-    (subst (λ (list : List Answered). length (calls_for list ++ call ∷ []) ≤ 1) (sym sent) (omega arith))
+    (subst (λ (list : List Answered). length (calls_for list ++ call ∷ []) ≤ 1) (sym sent) (omega arith)) side
+    (made_for start now feeder check desk commit kind metadata result side now_read due s, tt)
     (unanswered start now feeder [] (check ∷ []) side s)
-vain start now after feeder check kind metadata result (Strayed number found) side same asked strays s sent =
+vain start now after feeder check desk commit kind metadata result (Strayed number found) now_read due side same asked strays s sent =
     let call : AskMade = ask_made kind check.question metadata result in
     ends_with start now after feeder [] (check ∷ []) (Strayed number found) (call ∷ []) s (ap (λ (x : ClientSide). x.seat) same) asked.counted asked.told
     (subst (λ (x : ClientSide). Carried now.traffic x.traffic [] []) (sym same) (carried_same now.traffic))
     (ap (λ (x : ClientSide). x.faults) same) tt (ap (λ (x : ClientSide). x.marks.ends) same)
-    (call, ap (λ (list : List Answered). calls_for list ++ call ∷ []) sent, strays)
+    (call, ap (λ (list : List Answered). calls_for list ++ call ∷ []) sent, strays) side
+    (made_for start now feeder check desk commit kind metadata result side now_read due s, tt)
     (unanswered start now feeder [] (check ∷ []) side s)
-vain start now after feeder check kind metadata result Closed side same asked wrong s sent = absurd wrong
-vain start now after feeder check kind metadata result (Cut count) side same asked wrong s sent = absurd wrong
-vain start now after feeder check kind metadata result (Hung entered at) side same asked wrong s sent = absurd wrong
-vain start now after feeder check kind metadata result LinkFault side same asked wrong s sent = absurd wrong
-vain start now after feeder check kind metadata result (BadFrame refusal) side same asked wrong s sent = absurd wrong
+vain start now after feeder check desk commit kind metadata result Closed now_read due side same asked wrong s sent = absurd wrong
+vain start now after feeder check desk commit kind metadata result (Cut count) now_read due side same asked wrong s sent = absurd wrong
+vain start now after feeder check desk commit kind metadata result (Hung entered at) now_read due side same asked wrong s sent = absurd wrong
+vain start now after feeder check desk commit kind metadata result LinkFault now_read due side same asked wrong s sent = absurd wrong
+vain start now after feeder check desk commit kind metadata result (BadFrame refusal) now_read due side same asked wrong s sent = absurd wrong
 
 pub asked_in_vain : (start now : ClientSide) (tally : Tally) (calls : Option (List HallCall)) (feeder : Feeding)
-    (check : Check) (kind : Kind) (metadata : List ℕ) (ended : Ended) → feeder.heard ≡ AtClient
-    → AsksInVain kind check.question metadata now.tally now.calls tally calls ended
+    (check : Check) (desk : DeskState) (commit : ℕ) (kind : Kind) (metadata : List ℕ) (ended : Ended) → IsReadNow desk now.seat
+    → reading desk check ≡ IsDue commit kind metadata → feeder.heard ≡ AtClient → AsksInVain kind check.question metadata now.tally now.calls tally calls ended
     → (s : Stands start now feeder [] (check ∷ [])) → s.unsent ≡ []
     → Talks start (record now { tally = tally; calls = calls }) ended
-asked_in_vain start now tally calls feeder check kind metadata ended side made s sent =
+asked_in_vain start now tally calls feeder check desk commit kind metadata ended now_read due side made s sent =
     elim made [
       | AsksInVain.unasked is same_tally same_calls ↦
           let after : ClientSide = record now { tally = tally; calls = calls } in
@@ -252,10 +284,10 @@ asked_in_vain start now tally calls feeder check kind metadata ended side made s
           (ends_with start now after feeder [] (check ∷ []) Memory [] s refl same_tally
           (subst (λ told. AppendsCalls now.calls [] told) (sym same_calls) (calls_same now.calls))
           (carried_same now.traffic) refl tt refl
-          (subst (λ (list : List AskMade). length list ≤ 1) (sym (append-nil (calls_for s.unsent))) s.few)
+          (subst (λ (list : List AskMade). length list ≤ 1) (sym (append-nil (calls_for s.unsent))) s.few) side tt
           (unanswered start now feeder [] (check ∷ []) side s))
       | AsksInVain.vain result asked why ↦
-          vain start now (record now { tally = tally; calls = calls }) feeder check kind metadata result ended side refl asked why s sent
+          vain start now (record now { tally = tally; calls = calls }) feeder check desk commit kind metadata result ended now_read due side refl asked why s sent
     ]
 
 -- ---- the parts of a turn
@@ -323,25 +355,25 @@ sends_and_asks old sent marks faults tally calls feeder waiting between frame af
 
 -- the same, and memory was wanting for the reply
 pub sends_and_asks_for_nothing : (old : ClientSide) (sent : Option Traffic) (marks : LinkMarks) (faults : ℕ) (tally : Tally) (calls : Option (List HallCall))
-    (feeder : Feeding) (waiting : List ℕ) (check : Check) (commit : ℕ) (kind : Kind) (metadata : List ℕ) (reply : AgentReply) (ended : Ended)
+    (feeder : Feeding) (waiting : List ℕ) (check : Check) (desk : DeskState) (commit : ℕ) (kind : Kind) (metadata : List ℕ) (reply : AgentReply) (ended : Ended)
     → Carried old.traffic sent [] waiting → marks ≡ old.marks → faults ≡ old.faults → ended ≡ Memory → feeder.heard ≡ AtClient
-    → AsksOnce commit kind check.question metadata old.tally old.calls tally calls reply
+    → IsReadNow desk old.seat → reading desk check ≡ IsDue commit kind metadata → AsksOnce commit kind check.question metadata old.tally old.calls tally calls reply
     → (start : ClientSide) → Stands start old feeder waiting (check ∷ [])
     → Talks start (client_side old.seat tally calls sent marks faults) ended
-sends_and_asks_for_nothing old sent marks faults tally calls feeder waiting check commit kind metadata reply ended carried same still is side asks start s =
+sends_and_asks_for_nothing old sent marks faults tally calls feeder waiting check desk commit kind metadata reply ended carried same still is side now_read due asks start s =
     let first = flushed start old sent marks faults feeder waiting (check ∷ []) carried same still s in
-    asked_for_nothing start (with_link old sent marks faults) tally calls feeder check commit kind metadata reply ended is side asks first.0 first.1
+    asked_for_nothing start (with_link old sent marks faults) tally calls feeder check desk commit kind metadata reply ended is side now_read due asks first.0 first.1
 
 -- the same, and no reply comes of it
 pub sends_and_asks_in_vain : (old : ClientSide) (sent : Option Traffic) (marks : LinkMarks) (faults : ℕ) (tally : Tally) (calls : Option (List HallCall))
-    (feeder : Feeding) (waiting : List ℕ) (check : Check) (kind : Kind) (metadata : List ℕ) (ended : Ended)
+    (feeder : Feeding) (waiting : List ℕ) (check : Check) (desk : DeskState) (commit : ℕ) (kind : Kind) (metadata : List ℕ) (ended : Ended)
     → Carried old.traffic sent [] waiting → marks ≡ old.marks → faults ≡ old.faults → feeder.heard ≡ AtClient
-    → AsksInVain kind check.question metadata old.tally old.calls tally calls ended
+    → IsReadNow desk old.seat → reading desk check ≡ IsDue commit kind metadata → AsksInVain kind check.question metadata old.tally old.calls tally calls ended
     → (start : ClientSide) → Stands start old feeder waiting (check ∷ [])
     → Talks start (client_side old.seat tally calls sent marks faults) ended
-sends_and_asks_in_vain old sent marks faults tally calls feeder waiting check kind metadata ended carried same still side made start s =
+sends_and_asks_in_vain old sent marks faults tally calls feeder waiting check desk commit kind metadata ended carried same still side now_read due made start s =
     let first = flushed start old sent marks faults feeder waiting (check ∷ []) carried same still s in
-    asked_in_vain start (with_link old sent marks faults) tally calls feeder check kind metadata ended side made first.0 first.1
+    asked_in_vain start (with_link old sent marks faults) tally calls feeder check desk commit kind metadata ended now_read due side made first.0 first.1
 
 -- a check was read, and an agent is to be asked
 pub reads_on : (old : ClientSide) (seat : SeatState) (feeder fed : Feeding) (waiting after : List ℕ) (check : Check)

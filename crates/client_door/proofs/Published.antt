@@ -1,5 +1,5 @@
 -- States that a seat has seen, whose commits rise.
-use Rattle.std.proofs.Common.{◌≡◌, ◌∙◌, ◌<◌, ◌≤◌, ℕ, List, [], ◌∷◌, ◌++◌, refl, sym, ap, subst, append_assoc, arith}
+use Rattle.std.proofs.Common.{◌≡◌, ◌∙◌, ◌≤◌, ℕ, List, [], ◌∷◌, ◌++◌, refl, sym, ap, subst, append_assoc, arith}
 use Rattle.desk_state.specs.DeskState.{DeskState}
 use Rattle.live_desk.specs.History.{GoesOn, IsLast, Rises, RisesFrom}
 use Rattle.client_door.specs.Answered.{Answered, StandsIn, AreReadIn}

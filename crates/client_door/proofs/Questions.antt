@@ -1,10 +1,9 @@
 -- Questions that are the same, and what comes of a call of `ask`.
-use Rattle.std.proofs.Common.{◌≡◌, ◌∙◌, ℕ, Bool, true, false, ◌&&◌, List, [], ◌∷◌, Option, Result, Ok, Err, refl, sym, ap, subst}
+use Rattle.std.proofs.Common.{◌≡◌, ◌∙◌, ℕ, Bool, true, false, ◌&&◌, List, [], ◌∷◌, Option, refl, ap, subst}
 use Rattle.cynara_keys.specs.Text.{same_text}
 use Rattle.cynara_keys.specs.Key.{Question, same_question}
 use Rattle.cynara_keys.specs.declared.results.Kind.{Kind}
 use Rattle.cynara_keys.proofs.Order.{same_text-≡, ≡-same_text}
-use Rattle.agent_table.specs.declared.table.Taken.{Taken}
 use Rattle.server_hall.specs.Call.{AskResult}
 use Rattle.server_hall.specs.Tally.{Tally, after_ask}
 use Rattle.server_hall.specs.Told.{AppendsCalls}

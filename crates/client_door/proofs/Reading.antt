@@ -10,8 +10,7 @@ use Rattle.wire_messages.specs.Frame.{spelling, with_sequence}
 use Rattle.wire_messages.specs.Lent.{judged}
 use Rattle.wire_messages.specs.declared.messages.Message.TheVariants as message
 use Rattle.desk_world.specs.Links.{read_as, reading_of}
-use Rattle.desk_world.specs.declared.links.Reading.{Reading}
-use Rattle.desk_world.specs.declared.links.Reading.TheVariants.{Nothing, Ready, Due, Waiting}
+use Rattle.desk_world.specs.declared.links.Reading.TheVariants.{Ready, Due}
 use Rattle.desk_world.specs.declared.replies.Reply.TheVariants.{Judged, NotResolved}
 use Rattle.client_door.specs.Reading.{Finds, TellsNotResolved}
 use Rattle.client_door.specs.declared.readings.Found.{Found}

@@ -1,22 +1,20 @@
 -- Each kind of step keeps how the answering of checks stands, or ends it.
-use Rattle.std.proofs.Common.{◌≡◌, ◌∙◌, ◌<◌, ◌≤◌, ℕ, List, [], ◌∷◌, ◌++◌, map, length, take, drop, Option, Some, None, refl, sym, ap, subst, append_assoc, append-nil, arith}
+use Rattle.std.proofs.Common.{◌≡◌, ◌∙◌, ◌≤◌, ℕ, List, [], ◌∷◌, ◌++◌, map, length, Option, None, refl, sym, ap, subst, append_assoc, append-nil, arith}
 use Rattle.std.proofs.lemmas.List.{map-append}
 use Rattle.std.specs.List.{AllByRecursion}
-use Rattle.desk_ports.specs.Faults.{next_count}
 use Rattle.link_ports.specs.Traffic.{Traffic}
 use Rattle.link_ports.specs.LinkMarks.{LinkMarks}
 use Rattle.desk_state.specs.DeskState.{DeskState}
 use Rattle.live_desk.specs.History.{GoesOn}
 use Rattle.live_desk.specs.Seat.{SeatState}
 use Rattle.desk_world.specs.declared.links.Reading.{Reading}
-use Rattle.desk_world.specs.declared.links.Reading.TheVariants.{Ready as IsReady, Due as IsDue}
+use Rattle.desk_world.specs.declared.links.Reading.TheVariants.{Ready as IsReady}
 use Rattle.desk_world.specs.declared.replies.Reply.{Reply}
 use Rattle.wire_messages.specs.Frame.{spelling, with_sequence}
-use Rattle.wire_messages.specs.Stream.{Feeding, Hears, unfed}
-use Rattle.wire_messages.specs.declared.messages.Framed.{Framed}
+use Rattle.wire_messages.specs.Stream.{Feeding, unfed}
 use Rattle.wire_messages.specs.declared.operations.Heard.TheVariants.{AtClient}
 use Rattle.server_hall.specs.Call.{AskMade}
-use Rattle.server_hall.specs.Tally.{Tally, after_ask}
+use Rattle.server_hall.specs.Tally.{Tally}
 use Rattle.server_hall.specs.Told.{AppendsCalls}
 use Rattle.server_hall.specs.declared.calls.HallCall.{HallCall}
 use Rattle.server_hall.specs.declared.calls.HallCall.TheVariants.{Ask}
@@ -27,11 +25,11 @@ use Rattle.door_frames.proofs.Hearing.{unfed_heard}
 use Rattle.client_door.specs.Check.{framed_of, message_of}
 use Rattle.client_door.specs.Reading.{reading}
 use Rattle.client_door.specs.Answered.{Answered, Answers, IsRight, call_list, calls_for, after_asks, reply_bytes, replies_bytes, frames_of, AreReadIn}
-use Rattle.client_door.specs.Serving.{ClientSide, with_link, Talks}
+use Rattle.client_door.specs.Serving.{ClientSide, with_link}
 use Rattle.client_door.specs.parts.Talk.{Stands, IsReadNow}
 use Rattle.client_door.specs.declared.checks.Check.{Check}
 use Rattle.client_door.proofs.Published.{stands_last, not_above, read_in_more, read_in_snoc}
-use Rattle.client_door.proofs.Calls.{after_asks_more, calls_same, calls_more, calls_for_snoc, calls_for_more, replies_snoc, replies_more, all_right_more, front_right}
+use Rattle.client_door.proofs.Calls.{after_asks_more, calls_same, calls_more, calls_for_snoc, replies_snoc, replies_more, all_right_more}
 
 -- ---- the start
 

@@ -1,5 +1,4 @@
 -- A check as a frame, and its reply as a message.
-use Rattle.std.specs.Prelude.{◌≡◌, ℕ}
 use Rattle.desk_world.specs.declared.replies.Reply.{Reply}
 use Rattle.desk_world.specs.declared.replies.Reply.TheVariants as reply
 use Rattle.wire_messages.specs.Frame.{with_sequence}

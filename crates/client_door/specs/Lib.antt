@@ -4,4 +4,5 @@ pub mod Reading
 pub mod Answered
 pub mod Message
 pub mod Serving
+pub mod Complete
 pub mod parts

@@ -1,14 +1,18 @@
 -- What a connection of a client is answered, and how it ends.
-use Rattle.std.specs.Prelude.{◌≡◌, ◌≤◌, ℕ, List, [], ◌∷◌, ◌++◌, map, length, Option, Some, Result, Ok, Err}
+use Rattle.std.specs.Prelude.{◌≡◌, ◌≤◌, ℕ, List, [], ◌∷◌, ◌++◌, map, length, Option, Ok, Err}
 use Rattle.std.specs.List.{AllByRecursion}
 use Rattle.desk_ports.specs.Faults.{next_count}
 use Rattle.link_ports.specs.Traffic.{Traffic}
 use Rattle.link_ports.specs.LinkMarks.{LinkMarks, with_end_taken}
+use Rattle.desk_state.specs.DeskState.{DeskState}
+use Rattle.desk_world.specs.declared.links.Reading.TheVariants.{Due}
 use Rattle.live_desk.specs.History.{GoesOn}
 use Rattle.live_desk.specs.Seat.{SeatState, with_note}
 use Rattle.live_roll.specs.declared.answers.Left.{Left}
 use Rattle.live_roll.specs.declared.answers.Left.TheVariants.{Still, Hung as LeftHung, Stopped as LeftStopped}
 use Rattle.live_roll.specs.declared.answers.Stopped.{Stopped as IsStopped}
+use Rattle.wire_messages.specs.Stream.{Hears}
+use Rattle.wire_messages.specs.declared.messages.Framed.{Framed}
 use Rattle.wire_messages.specs.declared.operations.Heard.TheVariants.{AtClient}
 use Rattle.server_hall.specs.Call.{AskMade}
 use Rattle.server_hall.specs.Tally.{Tally, after_enter, after_leave, IsRaised}
@@ -19,8 +23,11 @@ use Rattle.door_frames.specs.Carried.{Carried}
 use Rattle.door_frames.specs.Ending.{EndsBytes, IsAtEnd, faults_after}
 use Rattle.door_frames.specs.declared.endings.Ended.{Ended}
 use Rattle.door_frames.specs.declared.endings.Ended.TheVariants.{Closed, Cut, Hung, LinkFault, BadFrame, Stopped, Memory, Strayed}
+use Rattle.client_door.specs.Check.{framed_of}
+use Rattle.client_door.specs.Reading.{reading}
+use Rattle.client_door.specs.declared.checks.Check.{Check}
 use Rattle.client_door.specs.Asking.{FindsStop, Strays}
-use Rattle.client_door.specs.Answered.{Answered, IsRight, frames_of, replies_bytes, calls_for, after_asks, AreReadIn}
+use Rattle.client_door.specs.Answered.{Answered, IsRight, frames_of, replies_bytes, calls_for, after_asks, StandsIn, AreReadIn}
 
 -- what a connection of a client is served with: the seat, the hall's tally and calls, and the link
 pub record ClientSide : Type 0 where
@@ -60,6 +67,19 @@ EndsAsking LinkFault last = length last ≤ 1
 EndsAsking Memory last = length last ≤ 1
 EndsAsking (Hung entered now) last = ⊥
 
+-- A call that was made for a check whose reply was not sent: one that came behind those that were answered, read as due at a
+-- state that the seat has seen, no older than its note.
+pub record IsCallFor (seat : SeatState) (received : List ℕ) (answered : List Answered) (call : AskMade) : Type 0 where
+  pub check : Check
+  pub desk : DeskState
+  pub commit : ℕ
+  pub read : reading desk check ≡ Due commit call.kind call.metadata
+  pub question : call.question ≡ check.question
+  pub stands : StandsIn desk seat.seen
+  pub fresh : seat.note ≤ desk.commit
+  pub heard : (between behind : List Framed) × (rest : List ℕ)
+      × Hears AtClient received (frames_of answered ++ (between ++ framed_of check ∷ behind)) rest
+
 -- The checks that were answered in turn, each with one reply that was sent; the bytes that were received in this time; and
 -- the calls of `ask` for checks whose replies were not sent.
 pub record Talks (start now : ClientSide) (ended : Ended) : Type 0 where
@@ -78,6 +98,7 @@ pub record Talks (start now : ClientSide) (ended : Ended) : Type 0 where
   pub tally : now.tally ≡ after_asks (calls_for answered ++ last) start.tally
   pub calls : AppendsCalls start.calls (map Ask (calls_for answered ++ last)) now.calls
   pub asking : EndsAsking ended last
+  pub for_checks : AllByRecursion (IsCallFor now.seat received answered) last
   -- the link
   pub faults : now.faults ≡ faults_after ended start.faults
   pub at_end : IsAtEnd ended now.marks

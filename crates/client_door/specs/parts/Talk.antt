@@ -1,22 +1,19 @@
 -- How the answering of checks stands between two calls.
-use Rattle.std.specs.Prelude.{◌≡◌, ◌≤◌, ℕ, List, [], ◌∷◌, ◌++◌, map, length}
+use Rattle.std.specs.Prelude.{◌≡◌, ◌≤◌, ℕ, List, ◌++◌, map, length}
 use Rattle.std.specs.List.{AllByRecursion}
 use Rattle.live_desk.specs.History.{GoesOn, IsLast, Rises}
 use Rattle.live_desk.specs.Seat.{SeatState}
 use Rattle.desk_state.specs.DeskState.{DeskState}
 use Rattle.door_frames.specs.declared.endings.Ended.{Ended}
 use Rattle.wire_messages.specs.Stream.{Feeding}
-use Rattle.wire_messages.specs.declared.operations.Heard.TheVariants.{AtClient}
 use Rattle.server_hall.specs.Told.{AppendsCalls}
 use Rattle.server_hall.specs.declared.calls.HallCall.TheVariants.{Ask}
 use Rattle.door_frames.specs.Carried.{Carried}
-use Rattle.door_frames.specs.Hearing.{HasHeard, IsSound}
+use Rattle.door_frames.specs.Hearing.{HasHeard}
 use Rattle.client_door.specs.Answered.{Answered, IsRight, frames_of, replies_bytes, calls_for, after_asks, AreReadIn}
 use Rattle.client_door.specs.Check.{framed_of}
-use Rattle.client_door.specs.Reading.{reading, Reads}
 use Rattle.client_door.specs.Serving.{ClientSide, Talks}
 use Rattle.client_door.specs.declared.checks.Check.{Check}
-use Rattle.client_door.specs.declared.readings.Read.{Read}
 
 -- Since the start some checks were answered, of which the replies to the first were sent and those to the others wait; of
 -- the latter one at most was answered by way of an agent. These checks were taken behind them.

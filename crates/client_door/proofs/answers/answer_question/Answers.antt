@@ -1,4 +1,4 @@
-use Rattle.std.proofs.Common.{◌≡◌, Option, Some, None, inr, refl, sym, subst}
+use Rattle.std.proofs.Common.{Some, None, inr, refl, sym, subst}
 use Rattle.desk_world.specs.declared.links.Reading.{Reading}
 use Rattle.desk_world.specs.declared.replies.Reply.TheVariants.{Judged, NotResolved}
 use Rattle.client_door.specs.Asking.{ask_made}

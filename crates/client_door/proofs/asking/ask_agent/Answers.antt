@@ -1,6 +1,6 @@
-use Rattle.std.proofs.Common.{rules, ◌≡◌, refl, sym, ap, subst, Ok, Err, Some, None}
+use Rattle.std.proofs.Common.{rules, ◌≡◌, refl, sym, subst, Ok, Err}
 use Rattle.door_frames.specs.declared.endings.Ended.{Ended}
-use Rattle.server_hall.specs.declared.refusals.AskRefusal.TheVariants.{Put, Gone, Stopped, Lost}
+use Rattle.server_hall.specs.declared.refusals.AskRefusal.TheVariants.{Put, Stopped, Lost}
 use Rattle.client_door.specs.Asking.{AsksInVain}
 use Rattle.client_door.proofs.Questions.{same_questions, other_questions, asked_so}
 use Rattle.client_door.proofs.asking.ask_agent.Goals as goal

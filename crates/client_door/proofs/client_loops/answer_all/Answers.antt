@@ -1,4 +1,4 @@
-use Rattle.std.proofs.Common.{◌≡◌, List, ℕ, [], sym, ap, subst}
+use Rattle.std.proofs.Common.{List, ℕ, [], sym, ap, subst}
 use Rattle.wire_messages.specs.Stream.{Feeding, unfed}
 use Rattle.wire_messages.specs.declared.operations.Heard.TheVariants.{AtClient}
 use Rattle.door_frames.specs.Hearing.{IsSound}

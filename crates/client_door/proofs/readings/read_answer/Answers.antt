@@ -1,4 +1,4 @@
-use Rattle.std.proofs.Common.{rules, ◌≡◌, ◌∙◌, true, false, sym, ap, subst}
+use Rattle.std.proofs.Common.{rules, ◌≡◌, true, false, sym, subst}
 use Rattle.cynara_keys.specs.PolicyResult.{is_agent}
 use Rattle.bucket_eval.specs.Lent.{outcome_lent}
 use Rattle.client_door.specs.Reading.{Reads}

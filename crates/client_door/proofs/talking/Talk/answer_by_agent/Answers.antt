@@ -1,4 +1,4 @@
-use Rattle.std.proofs.Common.{◌≡◌, ◌∙◌, [], ◌∷◌, sym, ap, subst}
+use Rattle.std.proofs.Common.{[], ◌∷◌, sym, ap, subst}
 use Rattle.link_ports.specs.LinkMarks.{LinkMarks}
 use Rattle.wire_messages.specs.Stream.{Feeding}
 use Rattle.client_door.specs.Serving.{client_side}
@@ -36,9 +36,9 @@ returns-in-Err-tell-clause-talk g c reader desk now_read is start s =
     (g.L.Link.marks c.args.link.now) (g.L.Link.faults c.args.link.now))
     (g.L.Link.traffic c.flush.new.link) (g.L.Link.marks c.flush.new.link) (g.L.Link.faults c.flush.new.link)
     (g.A.Hall.tally c.ask_agent.new.hall) (g.A.Hall.calls c.ask_agent.new.hall)
-    c.args.self.now.feeder c.args.self.now.outbox c.args.check.now c.args.commit c.args.kind c.args.metadata
+    c.args.self.now.feeder c.args.self.now.outbox c.args.check.now desk c.args.commit c.args.kind c.args.metadata
     c.in-Ok.reply c.in-Err-tell.ended c.in_default.ensures.sent c.flush.ensures.marks c.in_default.ensures.faults c.in-Err-tell.ensures.put.0
-    c.requires.side c.in-Ok.ensures start s
+    c.requires.side now_read is c.in-Ok.ensures start s
 
 pub returns-in-Err-ask_agent-clause-talk : goal.returns-in-Err-ask_agent-clause-talk
 returns-in-Err-ask_agent-clause-talk g c reader desk now_read is start s =
@@ -47,6 +47,6 @@ returns-in-Err-ask_agent-clause-talk g c reader desk now_read is start s =
     (g.L.Link.marks c.args.link.now) (g.L.Link.faults c.args.link.now))
     (g.L.Link.traffic c.flush.new.link) (g.L.Link.marks c.flush.new.link) (g.L.Link.faults c.flush.new.link)
     (g.A.Hall.tally c.ask_agent.new.hall) (g.A.Hall.calls c.ask_agent.new.hall)
-    c.args.self.now.feeder c.args.self.now.outbox c.args.check.now c.args.kind c.args.metadata
+    c.args.self.now.feeder c.args.self.now.outbox c.args.check.now desk c.args.commit c.args.kind c.args.metadata
     c.in-Err-ask_agent.ended c.in_default.ensures.sent c.flush.ensures.marks c.in_default.ensures.faults
-    c.requires.side c.in-Err-ask_agent.ensures start s
+    c.requires.side now_read is c.in-Err-ask_agent.ensures start s

@@ -1,4 +1,4 @@
-use Rattle.std.proofs.Common.{◌≡◌, ◌∙◌, List, ℕ, [], ◌∷◌, ◌++◌, refl, sym, ap, subst}
+use Rattle.std.proofs.Common.{◌∙◌, List, ℕ, [], ◌++◌, refl, sym, ap, subst}
 use Rattle.wire_messages.specs.Stream.{Feeding}
 use Rattle.client_door.specs.Serving.{client_side}
 use Rattle.client_door.specs.parts.Talk.{Stands}

@@ -1,4 +1,4 @@
-use Rattle.std.proofs.Common.{◌≡◌, ◌∙◌, sym, ap, subst}
+use Rattle.std.proofs.Common.{◌∙◌, sym, ap, subst}
 use Rattle.wire_messages.specs.Stream.{Feeding}
 use Rattle.door_frames.specs.Hearing.{IsSound}
 use Rattle.client_door.specs.Serving.{client_side}

@@ -1,4 +1,4 @@
-use Rattle.std.proofs.Common.{◌≡◌, ◌∙◌, [], sym, ap, subst}
+use Rattle.std.proofs.Common.{◌∙◌, [], sym, ap, subst}
 use Rattle.link_ports.specs.LinkMarks.{LinkMarks}
 use Rattle.client_door.specs.Serving.{with_link}
 use Rattle.client_door.specs.parts.Talk.{Stands}

@@ -1,0 +1,16 @@
+// What holds of all connections. These functions do nothing; their clauses are the laws.
+ghost use Rattle.std.specs.Prelude.{◌≡◌, ◌⊎◌, List};
+ghost use Rattle.door_frames.specs.declared.endings.Ended as ended;
+ghost use Rattle.door_frames.specs.declared.endings.Ended.TheVariants.{Closed, Memory};
+ghost use Rattle.agent_door.specs.Serving.{AgentSide, Serves};
+ghost use Rattle.agent_door.specs.Complete.{IsQuiet, Receives, HeedsEach, frames_of};
+ghost use Rattle.agent_door.specs.declared.messages.Answer as answer;
+ghost use Rattle.agent_door.specs.declared.messages.Registration as registration;
+
+/// Where the frames of an agent are right, whole and in their places, no call of the link fails and the hall is not stopped,
+/// each frame is heeded, or those up to a `KindTaken`, and the connection ends `Closed`; or memory was wanting.
+pub fn each_frame_of_an_agent_is_heeded()
+    ensures { (result : ended.Ended) (start now : AgentSide) (told : registration.Registration) (answers : List answer.Answer)
+        → Serves result start now → IsQuiet start now → Receives (frames_of told answers) start now
+        → ((result ≡ Closed) × HeedsEach told answers start now) ⊎ (result ≡ Memory) }
+{}

@@ -1,0 +1,9 @@
+//! The calls that serve one connection of a service whose connections are served by threads: the loop of its door, by way of
+//! the hall over the locks that all of them share.
+//!
+//! The clauses are those of the loops. That these very locks are handed to them no clause says.
+#![tactic(auto)]
+
+mod serving;
+
+pub use serving::{serve_agent, serve_client};

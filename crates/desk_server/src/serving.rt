@@ -1,0 +1,49 @@
+ghost use Rattle.std.specs.Prelude.{List, None, Option};
+ghost use Rattle.server_hall.specs.Tally as counted;
+ghost use Rattle.server_hall.specs.declared.calls.HallCall as call;
+ghost use Rattle.client_door.specs.Serving.{client_side, Serves as ServesClient};
+ghost use Rattle.agent_door.specs.Serving.{agent_side, Serves as ServesAgent};
+
+use agent_door::agent_loop;
+use client_door::client_loop;
+use door_frames::Ended;
+use link_ports::{Gate, HangEnd, Link};
+use live_desk::Seat;
+use live_roll::Roll;
+use locked_hall::{Locked, QuestionDesk};
+use std::alloc::Global;
+use std::sync::{Mutex, Wait};
+
+/// Serves one connection of a client in the place of the seat, as `client_loop` does. It may wait.
+pub fn serve_client<R: Wait, L: Link, G: Gate>(
+    rt: &R,
+    alloc: Global,
+    seat: &mut Seat,
+    roll: &Mutex<Roll<L::End>>,
+    questions: &QuestionDesk,
+    link: &mut L,
+    gate: &G,
+) -> Ended
+    ensures { (tally : counted.Tally) × (calls : Option (List call.HallCall)) × ServesClient result
+        (client_side seat.old counted.no_calls None (L.traffic link.old) (L.marks link.old) (L.faults link.old))
+        (client_side seat.new tally calls (L.traffic link.new) (L.marks link.new) (L.faults link.new)) }
+{
+    let mut hall = Locked::new(rt, roll, questions);
+    client_loop(rt, alloc, seat, &mut hall, link, gate)
+}
+
+/// Serves one connection of an agent, as `agent_loop` does. It may wait.
+pub fn serve_agent<R: Wait, H: HangEnd, L: Link>(
+    rt: &R,
+    alloc: Global,
+    roll: &Mutex<Roll<H>>,
+    questions: &QuestionDesk,
+    link: &mut L,
+) -> Ended
+    ensures { (tally : counted.Tally) × (calls : Option (List call.HallCall)) × ServesAgent result
+        (agent_side counted.no_calls None (L.traffic link.old) (L.marks link.old) (L.faults link.old))
+        (agent_side tally calls (L.traffic link.new) (L.marks link.new) (L.faults link.new)) }
+{
+    let mut hall = Locked::new(rt, roll, questions);
+    agent_loop(rt, alloc, &mut hall, link)
+}

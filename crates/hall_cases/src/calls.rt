@@ -1,0 +1,107 @@
+// Calls on the hall, and what they answer.
+use cynara_keys::{Kind, Metadata, Name, Question};
+use desk_ports::{Bytes, FailList};
+use link_ports::{Link, MemEnd, MemLink};
+use live_desk::{Publisher, Seat};
+use locked_hall::Locked;
+use server_hall::{AskRefusal, Hall};
+use std::alloc::Global;
+use std::sync::Wait;
+
+// A link over which nothing comes.
+fn quiet_link(alloc: Global) -> Option<MemLink> {
+    MemLink::new(
+        alloc,
+        Bytes::new(alloc),
+        u64::MAX,
+        FailList::of(Vec::new(alloc)),
+    )
+    .ok()
+}
+
+fn ask<R: Wait + Drop>(
+    alloc: Global,
+    hall: &mut Locked<'_, R, MemEnd>,
+    kind: Kind,
+) -> Option<AskRefusal> {
+    let client = Name::read(alloc, b"c").ok()?;
+    let user = Name::read(alloc, b"u").ok()?;
+    let privilege = Name::read(alloc, b"p").ok()?;
+    let question = Question::of(
+        alloc,
+        client.as_slice(),
+        user.as_slice(),
+        privilege.as_slice(),
+    )
+    .ok()?;
+    if !kind.is_agent() {
+        return None;
+    }
+    hall.ask(kind, question, Metadata::empty(alloc)).err()
+}
+
+/// Enters, joins, asks in vain, answers in vain, leaves and enters again.
+pub fn before_a_commit<R: Wait + Drop>(
+    alloc: Global,
+    hall: &mut Locked<'_, R, MemEnd>,
+    seat: &mut Seat,
+) -> Option<String> {
+    let mut link = quiet_link(alloc)?;
+    let end = link.hang_end().ok()?;
+    let entered = hall.enter(end, seat).ok()?;
+    let joined = hall.join(Kind(10));
+    let twice = hall.join(Kind(10));
+    let asked = ask(alloc, hall, Kind(11))?;
+    let answered = hall.answer(Kind(10), 0, true);
+    let left = hall.leave(0, entered);
+    let end = link.hang_end().ok()?;
+    let again = hall.enter(end, seat).ok()?;
+    let stops = hall.tally().stops();
+    let losses = hall.tally().losses();
+    format!(in alloc;
+        "enter {entered}; join {joined:?} and {twice:?}; ask {asked:?}; answer {answered:?}; leave {left:?}; enter {again}; stops {stops}, losses {losses}"
+    ).ok()
+}
+
+/// Hangs up what entered before the commit, leaves and enters by a further link.
+pub fn behind_a_commit<R: Wait + Drop>(
+    alloc: Global,
+    hall: &mut Locked<'_, R, MemEnd>,
+    seat: &mut Seat,
+    publisher: &Publisher,
+) -> Option<String> {
+    hall.hang(publisher);
+    let cleared = hall.tally().cleared();
+    let left = hall.leave(0, 0);
+    let hangs = hall.tally().hangs();
+    let mut link = quiet_link(alloc)?;
+    let end = link.hang_end().ok()?;
+    let entered = hall.enter(end, seat).ok()?;
+    let stops = hall.tally().stops();
+    let losses = hall.tally().losses();
+    hall.stop();
+    let up = link.is_up();
+    format!(in alloc;
+        "cleared {cleared}; leave {left:?}; hangs {hangs}; enter {entered}; stops {stops}, losses {losses}; stop: up {up}"
+    ).ok()
+}
+
+/// Is refused everything.
+pub fn behind_a_stop<R: Wait + Drop>(
+    alloc: Global,
+    hall: &mut Locked<'_, R, MemEnd>,
+    seat: &mut Seat,
+) -> Option<String> {
+    let mut link = quiet_link(alloc)?;
+    let end = link.hang_end().ok()?;
+    let entered = hall.enter(end, seat);
+    let joined = hall.join(Kind(11));
+    let next = hall.next(Kind(10)).err();
+    let asked = ask(alloc, hall, Kind(10))?;
+    let left = hall.leave(0, 1);
+    let stops = hall.tally().stops();
+    let calls = hall.tally().stop_calls();
+    format!(in alloc;
+        "enter {entered:?}; join {joined:?}; next {next:?}; ask {asked:?}; leave {left:?}; stops {stops}, calls of stop {calls}"
+    ).ok()
+}

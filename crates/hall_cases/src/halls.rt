@@ -1,0 +1,60 @@
+// A service in small: one seat, the roll and the table under their locks, and a state that is published.
+use crate::calls::{before_a_commit, behind_a_commit, behind_a_stop};
+use cynara_keys::{BucketName, Kind, PolicyResult};
+use desk_state::{Command, Desk};
+use link_ports::MemEnd;
+use live_desk::{Publisher, Seat, start};
+use live_roll::Roll;
+use locked_hall::{Locked, QuestionDesk};
+use std::alloc::{AllocError, Global};
+use std::sync::{Mutex, Wait};
+
+/// What the calls answered, or want of memory.
+pub fn conversation<R: Wait>(rt: &R, alloc: Global) -> Result<String, AllocError> {
+    let mut desk = Desk::fresh(alloc)?;
+    let (mut publisher, mut seats, roll) = start(rt, alloc, &desk, 1)?;
+    let told = match seats.pop() {
+        Some(mut seat) => with_seat(rt, alloc, &mut desk, &mut publisher, &mut seat, roll),
+        None => None,
+    };
+    publisher.end(rt);
+    told.ok_or(AllocError)
+}
+
+fn with_seat<R: Wait>(
+    rt: &R,
+    alloc: Global,
+    desk: &mut Desk,
+    publisher: &mut Publisher,
+    seat: &mut Seat,
+    roll: Roll<MemEnd>,
+) -> Option<String> {
+    let roll = Mutex::new(roll);
+    let questions = QuestionDesk::new(alloc);
+    let mut hall = Locked::new(rt, &roll, &questions);
+    let first = before_a_commit(alloc, &mut hall, seat)?;
+    publish_next(rt, alloc, desk, publisher)?;
+    let second = behind_a_commit(alloc, &mut hall, seat, publisher)?;
+    let third = behind_a_stop(alloc, &mut hall, seat)?;
+    let stopped = questions.is_stopped(rt);
+    format!(in alloc; "{first}\n{second}\n{third}; table stopped {stopped}").ok()
+}
+
+// Publishes a state behind the one before.
+fn publish_next<R: Wait>(
+    rt: &R,
+    alloc: Global,
+    desk: &mut Desk,
+    publisher: &mut Publisher,
+) -> Option<u64> {
+    let command = Command::SetBucket {
+        bucket: BucketName::root(alloc),
+        fallback: PolicyResult::without_metadata(alloc, Kind(1000)),
+    };
+    desk.change(&command).ok()?;
+    let ready = publisher.prepare(desk).ok()?;
+    if ready.commit() <= publisher.commit() {
+        return None;
+    }
+    publisher.publish(rt, ready).ok()
+}
