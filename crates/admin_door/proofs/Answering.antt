@@ -8,15 +8,11 @@ use Rattle.desk_state.specs.declared.commands.Command.{Command}
 use Rattle.desk_state.specs.declared.refusals.Refusal.{Refusal}
 use Rattle.desk_state.specs.declared.refusals.Refusal.TheVariants as rule
 use Rattle.wire_messages.specs.Commands.{command_of, IsByRule}
-use Rattle.wire_messages.specs.Operation.{number_of, operation_of}
-use Rattle.wire_messages.specs.Message.{operation}
-use Rattle.wire_messages.specs.declared.operations.Heard.TheVariants.{AtAdmin}
 use Rattle.wire_messages.specs.declared.messages.Message.{Message}
 use Rattle.wire_messages.specs.declared.messages.Message.TheVariants as message
 use Rattle.admin_door.specs.Side.{AdminSide, with_kept, with_shown}
 use Rattle.admin_door.specs.Settling.{IsFound, Settles, Unsettles, with_last_shown}
 use Rattle.admin_door.specs.Answering.{Commits, LacksMemory, Obeys, Answers, AnswersBy, RefusesBy}
-use Rattle.admin_door.specs.parts.Asking.{IsNoCommand}
 use Rattle.admin_door.specs.parts.Showing.{Shows, IsUnshown}
 use Rattle.admin_door.specs.declared.settling.Unsettled.{Unsettled}
 use Rattle.admin_door.specs.declared.settling.Unsettled.TheVariants.{Memory}
@@ -111,42 +107,3 @@ refuses-by told asked found other old now is same refuses =
 pub unbegun : (told : Option DiskState) (found : Option Command) (side : AdminSide) → RefusesBy told found side side
 unbegun told (Some command) side = inr (inr refl)
 unbegun told None side = refl
-
--- an administrator's message is a command, a question or a stop
-pub no-command : (asked : Message) → operation_of AtAdmin (number_of (operation asked)) ≡ Some (operation asked)
-    → None ≡ command_of asked → IsNoCommand asked
-no-command (message.Listing bucket filter) known none = tt
-no-command (message.AdminCheck bucket recursive question) known none = tt
-no-command message.Stop known none = tt
-no-command (message.SetBucket bucket fallback) known none = cc
-no-command (message.RemoveBucket bucket) known none = cc
-no-command (message.SetPolicies changes) known none = cc
-no-command (message.Erase bucket filter) known none = cc
-no-command message.Layout known none = cc
-no-command (message.SetTemplate template) known none = cc
-no-command (message.UserSet uid kind) known none = cc
-no-command (message.UserRemove uid) known none = cc
-no-command (message.Install install) known none = cc
-no-command (message.InstallHybrid install) known none = cc
-no-command (message.Convert name hybrid) known none = cc
-no-command (message.Uninstall app scope) known none = cc
-no-command (message.Check question) known none = cc
-no-command (message.SimpleCheck question) known none = cc
-no-command (message.Register kind) known none = cc
-no-command (message.AgentAnswer asked allowed) known none = cc
-no-command (message.Judged verdict) known none = cc
-no-command (message.FromAgent commit kind asked allowed) known none = cc
-no-command (message.NotResolved commit kind) known none = cc
-no-command (message.NoAgent commit kind) known none = cc
-no-command (message.AgentGone commit asked) known none = cc
-no-command (message.AgentFull commit kind most) known none = cc
-no-command (message.Done commit erased) known none = cc
-no-command (message.Refused refusal) known none = cc
-no-command (message.ListRow policy) known none = cc
-no-command (message.ListEnd count) known none = cc
-no-command message.StoreFault known none = cc
-no-command (message.StoreDamaged file line) known none = cc
-no-command (message.Registered kind) known none = cc
-no-command (message.KindTaken kind) known none = cc
-no-command (message.AgentQuestion asked question result) known none = cc
-no-command (message.UnknownNumber asked) known none = cc

@@ -5,7 +5,7 @@ use Rattle.std.proofs.lemmas.List.{map-append}
 use Rattle.desk_ports.specs.Disk.{DiskState}
 use Rattle.link_ports.specs.Traffic.{Traffic}
 use Rattle.link_ports.specs.LinkMarks.{LinkMarks}
-use Rattle.wire_messages.specs.Stream.{Feeding, Hears, BeginsWrong, IsOpen}
+use Rattle.wire_messages.specs.Stream.{Feeding, Hears, BeginsWrong, IsOpen, unfed}
 use Rattle.wire_messages.specs.declared.messages.Framed.{Framed}
 use Rattle.wire_messages.specs.declared.messages.Message.{Message}
 use Rattle.wire_messages.specs.declared.messages.Message.TheVariants.{Stop}
@@ -16,7 +16,8 @@ use Rattle.door_frames.specs.Hearing.{HasHeard, HearsMore, HandsOut}
 use Rattle.door_frames.specs.Ending.{EndsReading, EndsBytes, EndsSending, IsAtEnd, faults_after}
 use Rattle.door_frames.specs.declared.endings.Ended.{Ended}
 use Rattle.door_frames.specs.declared.endings.Ended.TheVariants.{Closed, Cut, Hung, LinkFault, BadFrame, Stopped, Memory, Strayed}
-use Rattle.door_frames.proofs.Carrying.{carried_more}
+use Rattle.door_frames.proofs.Carrying.{carried_more, carried_same}
+use Rattle.door_frames.proofs.Hearing.{unfed_heard}
 use Rattle.admin_door.specs.Side.{AdminSide}
 use Rattle.admin_door.specs.Serving.{AdminTalk, talk_of, Exchange, exchange_bytes, exchanges_bytes, frames_of, replies_bytes, IsAnswered, AreAnswered, IsNoStop, AreNoStops, StopsAt, IsUnsent, EndsAnswering, Serves}
 use Rattle.admin_door.specs.parts.Talk.{Stands, IsWhole, IsUnheeded, IsHalfSent, EndsAt}
@@ -60,6 +61,19 @@ carried-turn received bytes sent more start old between now before hears sends =
 carried-heard : (received bytes sent : List ℕ) (start old now : Option Traffic) → Carried start old received sent
     → Carried old now bytes [] → Carried start now (received ++ bytes) (sent ++ [])
 carried-heard received bytes sent start old now before hears = carried_more received bytes sent [] start old now before hears
+
+-- before the first byte
+pub stands-first : (start : AdminTalk) → Stands start start (unfed AtAdmin)
+stands-first start = record {
+  received = [];
+  answered = [];
+  in_turn = refl;
+  no_stops = tt;
+  heard = unfed_heard AtAdmin;
+  carried = carried_same start.traffic;
+  faults = refl;
+  ends = refl;
+}
 
 -- ---- one frame more
 
@@ -149,8 +163,8 @@ module _ (start old : AdminTalk) (feeder fed : Feeding) (bytes : List ℕ) (fram
         }
 
     ends-half : (ended : Ended) → IsHalfSent told framed between now ended → Serves start now ended
-    ends-half Memory half = half-sent Memory half tt s.no_stops (fed.waiting, hears-framed) half.cut_off.faults tt
-    ends-half LinkFault half = half-sent LinkFault half tt s.no_stops (fed.waiting, hears-framed) half.cut_off.faults tt
+    ends-half Memory half = half-sent Memory half tt s.no_stops (fed.waiting, hears-framed.0, hears-framed.1) half.cut_off.faults tt
+    ends-half LinkFault half = half-sent LinkFault half tt s.no_stops (fed.waiting, hears-framed.0, hears-framed.1) half.cut_off.faults tt
     ends-half Closed half = absurd half.cut_off.faults
     ends-half (Cut count) half = absurd half.cut_off.faults
     ends-half (Hung entered later) half = absurd half.cut_off.faults

@@ -90,7 +90,9 @@ fn turn<R: Wait, D: Disk, A: Hall, L: Link>(
         Ok(framed) => framed,
         Err(ended) => return Err(ended),
     };
-    answer_frame(rt, alloc, keeper, publisher, hall, link, frame, &framed)
+    let outcome = answer_frame(rt, alloc, keeper, publisher, hall, link, frame, &framed);
+    drop(framed);
+    outcome
 }
 
 // Answers a frame, and sends the replies. Behind a stop the connection ends.

@@ -1,11 +1,17 @@
 // Messages of an administrator: commands, and what else may be asked.
-ghost use Rattle.std.specs.Prelude.{◌≡◌, ◌≤◌, ◌<◌, ◌∷◌, [], true, List, Some, MatchResult};
+ghost use Rattle.std.specs.Prelude.{◌≡◌, ◌≤◌, ◌<◌, ◌∷◌, [], true, List, Some, IfOk, MatchResult};
 ghost use Rattle.guard_files.specs.Settled.{gone_names};
 ghost use Rattle.desk_state.specs.DeskState.{DeskState};
+ghost use Rattle.desk_ports.specs.Disk.{WhereTold};
+ghost use Rattle.desk_ports.specs.Moments.{LeavesOnly};
 ghost use Rattle.desk_keeper.specs.Keeper.{disk_of, held_of, IsSameDisk};
+ghost use Rattle.desk_keeper.specs.Keeping.{IsKept, EndsKept, IsBeforeOrAfter};
+ghost use Rattle.admin_door.specs.Adding.{AddsAtMost, Acknowledges};
+ghost use Rattle.admin_door.specs.Stops.{KeepsKnown, StandsBy, IsBeforeOrApplied};
 ghost use Rattle.live_desk.specs.History.{last_commit};
 ghost use Rattle.wire_messages.specs.Operation.{number_of, operation_of};
 ghost use Rattle.wire_messages.specs.Message.{operation};
+ghost use Rattle.wire_messages.specs.Commands as words;
 ghost use Rattle.wire_messages.specs.Commands.{IsByRule};
 ghost use Rattle.server_hall.specs.Tally.{after_stop};
 ghost use Rattle.wire_messages.specs.declared.operations.Heard.TheVariants.{AtAdmin};
@@ -47,6 +53,52 @@ pub fn answer_command<R: Wait, D: Disk, A: Hall>(
         (Refuses (D.state (disk_of keeper.old)) message.now
         (side_of D.faults keeper.old publisher.old (A.tally hall.old) (A.calls hall.old))
         (side_of D.faults keeper.new publisher.new (A.tally hall.new) (A.calls hall.new))) }
+    ensures adds { AddsAtMost 2
+        (side_of D.faults keeper.old publisher.old (A.tally hall.old) (A.calls hall.old))
+        (side_of D.faults keeper.new publisher.new (A.tally hall.new) (A.calls hall.new)) }
+    ensures acknowledged { IfOk result (λ replies. Acknowledges message.now
+        (side_of D.faults keeper.new publisher.new (A.tally hall.new) (A.calls hall.new)) replies.items) }
+
+    // What a stop at any moment of the call may leave in the folder, and what the folder keeps behind the call.
+    ensures stops { WhereTold (D.state (disk_of keeper.old)) (λ before.
+        KeepsKnown (decided_of keeper.old) keeper.old.desk (held_of keeper.old) before
+        → LeavesOnly D.moment D.left_since (disk_of keeper.old) (disk_of keeper.new) (StandsBy (words.command_of message.now) before)) }
+    ensures kept { WhereTold (D.state (disk_of keeper.old)) (λ before.
+        KeepsKnown (decided_of keeper.old) keeper.old.desk (held_of keeper.old) before
+        → decided_of keeper.new ≡ true → EndsKept keeper.new.desk (held_of keeper.new) (D.state (disk_of keeper.new))) }
+    ensures behind { last_commit 0 publisher.new ≤ keeper.new.desk.commit }
+    ensures same_disk { IsSameDisk keeper.old keeper.new }
+{
+    match answer(rt, alloc, keeper, publisher, hall, message) {
+        Ok(replies) => Ok(replies),
+        Err(ended) => Err(ended),
+    }
+}
+
+// The same. What follows of it on what was published is told by its caller.
+fn answer<R: Wait, D: Disk, A: Hall>(
+    rt: &R,
+    alloc: Global,
+    keeper: &mut Keeper<'_, D>,
+    publisher: &mut Publisher,
+    hall: &mut A,
+    message: &Message,
+) -> Result<Vec<Message>, Ended>
+    requires known { operation_of AtAdmin (number_of (operation message.now)) ≡ Some (operation message.now) }
+    requires behind { last_commit 0 publisher.old ≤ keeper.old.desk.commit }
+    ensures answered { MatchResult result
+        (λ replies. Answers (D.state (disk_of keeper.old)) message.now
+        (side_of D.faults keeper.old publisher.old (A.tally hall.old) (A.calls hall.old))
+        (side_of D.faults keeper.new publisher.new (A.tally hall.new) (A.calls hall.new)) replies.items)
+        (Refuses (D.state (disk_of keeper.old)) message.now
+        (side_of D.faults keeper.old publisher.old (A.tally hall.old) (A.calls hall.old))
+        (side_of D.faults keeper.new publisher.new (A.tally hall.new) (A.calls hall.new))) }
+    ensures stops { WhereTold (D.state (disk_of keeper.old)) (λ before.
+        KeepsKnown (decided_of keeper.old) keeper.old.desk (held_of keeper.old) before
+        → LeavesOnly D.moment D.left_since (disk_of keeper.old) (disk_of keeper.new) (StandsBy (words.command_of message.now) before)) }
+    ensures kept { WhereTold (D.state (disk_of keeper.old)) (λ before.
+        KeepsKnown (decided_of keeper.old) keeper.old.desk (held_of keeper.old) before
+        → decided_of keeper.new ≡ true → EndsKept keeper.new.desk (held_of keeper.new) (D.state (disk_of keeper.new))) }
     ensures behind { last_commit 0 publisher.new ≤ keeper.new.desk.commit }
     ensures same_disk { IsSameDisk keeper.old keeper.new }
 {
@@ -117,6 +169,12 @@ fn obey<R: Wait, D: Disk, A: Hall>(
         (λ ended. (ended ≡ Memory) × IsUnanswered (D.state (disk_of keeper.old)) command.now
         (side_of D.faults keeper.old publisher.old (A.tally hall.old) (A.calls hall.old))
         (side_of D.faults keeper.new publisher.new (A.tally hall.new) (A.calls hall.new))) }
+    ensures stops { WhereTold (D.state (disk_of keeper.old)) (λ before.
+        KeepsKnown (decided_of keeper.old) keeper.old.desk (held_of keeper.old) before
+        → LeavesOnly D.moment D.left_since (disk_of keeper.old) (disk_of keeper.new) (StandsBy (Some command.now) before)) }
+    ensures kept { WhereTold (D.state (disk_of keeper.old)) (λ before.
+        KeepsKnown (decided_of keeper.old) keeper.old.desk (held_of keeper.old) before
+        → decided_of keeper.new ≡ true → EndsKept keeper.new.desk (held_of keeper.new) (D.state (disk_of keeper.new))) }
     ensures behind { last_commit 0 publisher.new ≤ keeper.new.desk.commit }
     ensures same_disk { IsSameDisk keeper.old keeper.new }
 {
@@ -155,6 +213,10 @@ fn commit<R: Wait, D: Disk, A: Hall>(
         (λ ended. (ended ≡ Memory) × LacksMemory command.now
         (side_of D.faults keeper.old publisher.old (A.tally hall.old) (A.calls hall.old))
         (side_of D.faults keeper.new publisher.new (A.tally hall.new) (A.calls hall.new))) }
+    ensures stops { WhereTold (D.state (disk_of keeper.old)) (λ before. IsKept keeper.old.desk (held_of keeper.old) before
+        → LeavesOnly D.moment D.left_since (disk_of keeper.old) (disk_of keeper.new) (IsBeforeOrApplied keeper.old.desk command.now)) }
+    ensures kept { WhereTold (D.state (disk_of keeper.old)) (λ before. IsKept keeper.old.desk (held_of keeper.old) before
+        → decided_of keeper.new ≡ true → EndsKept keeper.new.desk (held_of keeper.new) (D.state (disk_of keeper.new))) }
     ensures behind { last_commit 0 publisher.new ≤ keeper.new.desk.commit }
     ensures same_disk { IsSameDisk keeper.old keeper.new }
 {
@@ -196,6 +258,10 @@ fn commit_prepared<R: Wait, D: Disk, A: Hall>(
         (λ ended. (ended ≡ Memory) × IsUnshown prepared.desk
         (side_of D.faults keeper.old publisher.old (A.tally hall.old) (A.calls hall.old))
         (side_of D.faults keeper.new publisher.new (A.tally hall.new) (A.calls hall.new))) }
+    ensures stops { WhereTold (D.state (disk_of keeper.old)) (λ before. IsKept keeper.old.desk (held_of keeper.old) before
+        → LeavesOnly D.moment D.left_since (disk_of keeper.old) (disk_of keeper.new) (IsBeforeOrAfter keeper.old.desk prepared.desk)) }
+    ensures kept { WhereTold (D.state (disk_of keeper.old)) (λ before. IsKept keeper.old.desk (held_of keeper.old) before
+        → decided_of keeper.new ≡ true → EndsKept keeper.new.desk (held_of keeper.new) (D.state (disk_of keeper.new))) }
     ensures behind { last_commit 0 publisher.new ≤ keeper.new.desk.commit }
     ensures same_disk { IsSameDisk keeper.old keeper.new }
 {

@@ -1,7 +1,11 @@
 // What an earlier command left undone: a folder of which it is not known what it keeps, and a state that is not published.
 ghost use Rattle.std.specs.Prelude.{◌≡◌, ◌≤◌, true, false, List, Option, MatchResult, OnOk, OnErr};
 ghost use Rattle.desk_state.specs.DeskState.{DeskState};
-ghost use Rattle.desk_keeper.specs.Keeper.{disk_of, IsSameDisk};
+ghost use Rattle.desk_ports.specs.Disk.{WhereTold};
+ghost use Rattle.desk_ports.specs.Moments.{LeavesOnly};
+ghost use Rattle.desk_keeper.specs.Keeper.{disk_of, held_of, IsSameDisk};
+ghost use Rattle.desk_keeper.specs.Keeping.{EndsKept};
+ghost use Rattle.admin_door.specs.Stops.{KeepsKnown, StandsAsAt, Allows};
 ghost use Rattle.live_desk.specs.History.{last_commit};
 ghost use Rattle.server_hall.specs.Tally.{Tally};
 ghost use Rattle.server_hall.specs.declared.calls.HallCall.{HallCall};
@@ -41,6 +45,11 @@ pub(crate) fn settle<R: Wait, D: Disk, A: Hall>(
         (Unsettles (D.state (disk_of keeper.old))
         (side_of D.faults keeper.old publisher.old (A.tally hall.old) (A.calls hall.old))
         (side_of D.faults keeper.new publisher.new (A.tally hall.new) (A.calls hall.new))) }
+    ensures stops { WhereTold (D.state (disk_of keeper.old)) (λ before.
+        LeavesOnly D.moment D.left_since (disk_of keeper.old) (disk_of keeper.new) (StandsAsAt before)) }
+    ensures kept { WhereTold (D.state (disk_of keeper.old)) (λ before.
+        KeepsKnown (decided_of keeper.old) keeper.old.desk (held_of keeper.old) before → decided_of keeper.new ≡ true
+        → EndsKept keeper.new.desk (held_of keeper.new) (D.state (disk_of keeper.new)) × Allows before keeper.new.desk) }
     ensures decided { OnOk result (decided_of keeper.new ≡ true) }
     ensures even { OnOk result (last_commit 0 publisher.new ≡ keeper.new.desk.commit) }
     ensures behind { OnErr result (last_commit 0 publisher.new ≤ keeper.new.desk.commit) }
@@ -63,6 +72,10 @@ fn remount<D: Disk>(keeper: &mut Keeper<'_, D>) -> Result<(), Unsettled>
         (side_of D.faults keeper.old published tally calls) (side_of D.faults keeper.new published tally calls))
         (Unsettles (D.state (disk_of keeper.old))
         (side_of D.faults keeper.old published tally calls) (side_of D.faults keeper.new published tally calls)) }
+    ensures stops { WhereTold (D.state (disk_of keeper.old)) (λ before.
+        LeavesOnly D.moment D.left_since (disk_of keeper.old) (disk_of keeper.new) (StandsAsAt before)) }
+    ensures kept { WhereTold (D.state (disk_of keeper.old)) (λ before. decided_of keeper.new ≡ true
+        → EndsKept keeper.new.desk (held_of keeper.new) (D.state (disk_of keeper.new)) × Allows before keeper.new.desk) }
     ensures decided { OnOk result (decided_of keeper.new ≡ true) }
     ensures no_older { keeper.old.desk.commit ≤ keeper.new.desk.commit }
     ensures same_disk { IsSameDisk keeper.old keeper.new }

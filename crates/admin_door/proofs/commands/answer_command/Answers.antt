@@ -1,17 +1,25 @@
-use Rattle.std.proofs.Common.{None}
 use Rattle.desk_keeper.specs.Keeper.{disk_of}
+use Rattle.wire_messages.specs.Commands.{command_of}
 use Rattle.admin_door.specs.Side.{side_of}
-use Rattle.admin_door.proofs.Answering.{either-way, answers-other, refuses-by}
+use Rattle.admin_door.proofs.Adding.{answers-two, refuses-two, answers-acknowledged}
 use Rattle.admin_door.proofs.commands.answer_command.Goals as goal
 
-pub returns-in-Ok-None-clause-answered : goal.returns-in-Ok-None-clause-answered
-returns-in-Ok-None-clause-answered g c =
-    let told = g.D.Disk.state (disk_of c.args.keeper.now) in
-    let asked = c.args.message.now in
+pub returns-in-Ok-clause-adds : goal.returns-in-Ok-clause-adds
+returns-in-Ok-clause-adds g c =
     let old = side_of g.D.Disk.faults c.args.keeper.now c.args.publisher.now (g.A.Hall.tally c.args.hall.now) (g.A.Hall.calls c.args.hall.now) in
-    let now = side_of g.D.Disk.faults c.args.keeper.now c.args.publisher.now (g.A.Hall.tally c.answer_question.new.hall) (g.A.Hall.calls c.answer_question.new.hall) in
-    let found = c.in-Ok-None.field-0 in
-    either-way c.answer_question.result _ _ _ _
-    (λ replies answers. answers-other told asked found old now replies.items c.in-Ok-None.ensures c.in-Ok-None.field-0-is answers)
-    (λ ended is. (is.0, refuses-by told asked found None old now c.in-Ok-None.ensures c.in-Ok-None.field-0-is is.1))
-    (c.answer_question.ensures.answered c.args.publisher.now)
+    let now = side_of g.D.Disk.faults c.answer.new.keeper c.answer.new.publisher (g.A.Hall.tally c.answer.new.hall) (g.A.Hall.calls c.answer.new.hall) in
+    answers-two (g.D.Disk.state (disk_of c.args.keeper.now)) (command_of c.args.message.now) c.args.message.now old now
+    c.in-Ok.replies.items c.in-Ok.ensures.answered
+
+pub returns-in-Ok-clause-acknowledged : goal.returns-in-Ok-clause-acknowledged
+returns-in-Ok-clause-acknowledged g c command commit erased some is =
+    let old = side_of g.D.Disk.faults c.args.keeper.now c.args.publisher.now (g.A.Hall.tally c.args.hall.now) (g.A.Hall.calls c.args.hall.now) in
+    let now = side_of g.D.Disk.faults c.answer.new.keeper c.answer.new.publisher (g.A.Hall.tally c.answer.new.hall) (g.A.Hall.calls c.answer.new.hall) in
+    answers-acknowledged (g.D.Disk.state (disk_of c.args.keeper.now)) (command_of c.args.message.now) c.args.message.now old now
+    c.in-Ok.replies.items command commit erased c.in-Ok.ensures.answered some is
+
+pub returns-in-Err-clause-adds : goal.returns-in-Err-clause-adds
+returns-in-Err-clause-adds g c =
+    let old = side_of g.D.Disk.faults c.args.keeper.now c.args.publisher.now (g.A.Hall.tally c.args.hall.now) (g.A.Hall.calls c.args.hall.now) in
+    let now = side_of g.D.Disk.faults c.answer.new.keeper c.answer.new.publisher (g.A.Hall.tally c.answer.new.hall) (g.A.Hall.calls c.answer.new.hall) in
+    refuses-two (g.D.Disk.state (disk_of c.args.keeper.now)) (command_of c.args.message.now) old now c.in-Err.ensures.answered.1

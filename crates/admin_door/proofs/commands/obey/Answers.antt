@@ -1,6 +1,8 @@
 use Rattle.std.proofs.Common.{inl, inr}
+use Rattle.desk_keeper.specs.Keeper.{disk_of}
 use Rattle.admin_door.specs.Side.{side_of}
 use Rattle.admin_door.proofs.Answering.{either-way}
+use Rattle.admin_door.proofs.Stopping.{stands-behind}
 use Rattle.admin_door.proofs.commands.obey.Goals as goal
 
 pub returns-in-Ok-clause-obeyed : goal.returns-in-Ok-clause-obeyed
@@ -15,3 +17,19 @@ returns-in-Err-clause-obeyed g c =
     let unsettles = c.in-Err.ensures.settled in
     either-way c.tell_unsettled.result _ _ _ _ (λ replies told. inr (c.in-Err.reason, unsettles, told))
     (λ ended is. (is, inr (inl (c.in-Err.reason, unsettles)))) c.tell_unsettled.ensures
+
+pub returns-in-Ok-clause-stops : goal.returns-in-Ok-clause-stops
+returns-in-Ok-clause-stops g c before told known =
+    let kept = c.settle.ensures.kept before told known c.in-Ok.ensures.decided in
+    let rests = kept.0 in
+    stands-behind g.D.Disk.moment g.D.Disk.left_since (disk_of c.args.keeper.now) (disk_of c.settle.new.keeper)
+    (disk_of c.commit.new.keeper) before c.settle.new.keeper.desk c.args.command.now kept.1 (c.settle.ensures.stops before told)
+    (c.commit.ensures.stops rests.0 rests.1 rests.2)
+
+pub returns-in-Ok-clause-kept : goal.returns-in-Ok-clause-kept
+returns-in-Ok-clause-kept g c before told known decided =
+    let rests = (c.settle.ensures.kept before told known c.in-Ok.ensures.decided).0 in
+    c.commit.ensures.kept rests.0 rests.1 rests.2 decided
+
+pub returns-in-Err-clause-kept : goal.returns-in-Err-clause-kept
+returns-in-Err-clause-kept g c before told known decided = (c.settle.ensures.kept before told known decided).0

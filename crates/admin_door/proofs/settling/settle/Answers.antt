@@ -1,6 +1,7 @@
-use Rattle.desk_keeper.specs.Keeper.{disk_of}
+use Rattle.desk_keeper.specs.Keeper.{disk_of, held_of}
 use Rattle.admin_door.specs.Side.{side_of}
 use Rattle.admin_door.proofs.Answering.{either-way, settles-shown, unsettles-unshown}
+use Rattle.admin_door.proofs.Stopping.{rests-as, allows-kept}
 use Rattle.admin_door.proofs.settling.settle.Goals as goal
 
 pub returns-in-Ok-clause-settled : goal.returns-in-Ok-clause-settled
@@ -19,3 +20,12 @@ returns-in-Ok-clause-settled g c =
 pub returns-in-Err-clause-settled : goal.returns-in-Err-clause-settled
 returns-in-Err-clause-settled g c =
     c.in-Err.ensures.remounted c.args.publisher.now (g.A.Hall.tally c.args.hall.now) (g.A.Hall.calls c.args.hall.now)
+
+pub returns-then-is_decided-clause-stops : goal.returns-then-is_decided-clause-stops
+returns-then-is_decided-clause-stops g c before told =
+    let disk = disk_of c.args.keeper.now in
+    rests-as g.D.Disk.moment g.D.Disk.left_since disk before (λ left was. g.met.D.Disk.only_now disk left before told was)
+
+pub returns-then-is_decided-clause-kept : goal.returns-then-is_decided-clause-kept
+returns-then-is_decided-clause-kept g c before told known decided =
+    ((before, told, known decided), allows-kept before c.args.keeper.now.desk (held_of c.args.keeper.now) (known decided))

@@ -1,0 +1,78 @@
+-- What stops leave, put together from what each part of a command leaves.
+use Rattle.std.proofs.Common.{◌≡◌, ◌∙◌, ◌⊎◌, inl, inr, ⊎_elim, ℕ, Bool, true, false, List, Option, Some, None, Ok, refl, sym, ap, subst}
+use Rattle.desk_ports.specs.FileMap.{FileMap}
+use Rattle.desk_ports.specs.Disk.{DiskState, MayLeave, WhereTold, IsTouchedOnly}
+use Rattle.desk_ports.specs.Moments.{LeavesOnly}
+use Rattle.desk_ports.specs.declared.file_sets.SetFile.{SetFile}
+use Rattle.desk_ports.proofs.Moments.{AddsOnly-none, LeavesOnly-from, LeavesOnly-then, LeavesOnly-more}
+use Rattle.desk_state.specs.DeskState.{DeskState}
+use Rattle.desk_state.specs.Next.{next}
+use Rattle.desk_state.specs.Rules.{fault}
+use Rattle.desk_state.specs.declared.commands.Command.{Command}
+use Rattle.desk_keeper.specs.Kept.{kept}
+use Rattle.desk_keeper.specs.Keeping.{IsKept, EndsKept, StandsAsAllowed, IsBeforeOrAfter}
+use Rattle.admin_door.specs.Stops.{StandsAsAt, Allows, IsApplied, IsBeforeOrApplied, StandsBy}
+
+-- what is durable at a state that keeps a policy state stands for it
+pub allows-kept : (before : DiskState) (desk : DeskState) (held : Option (List SetFile)) → IsKept desk held before → Allows before desk
+allows-kept before desk held is = let durable : MayLeave before before.durable = λ name outside. refl in (before.durable, durable, is.alone before.durable durable)
+
+-- what is read now is what a stop may leave
+pub allows-current : (before : DiskState) (desk : DeskState) → IsTouchedOnly before → kept before.current ≡ Ok desk → Allows before desk
+allows-current before desk touched is = (before.current, touched, is)
+
+-- a map that stands for what a stop may leave stands so by whatever is applied
+stands-allowed : (found : Option Command) (before : DiskState) (desk : DeskState) → Allows before desk → (left : FileMap)
+    → kept left ≡ Ok desk → StandsBy found before left
+stands-allowed found before desk (other, may, stands) left is = inl (other, may, is ∙ sym stands)
+
+applied-allowed : (before : DiskState) (desk : DeskState) (command : Command) → Allows before desk → (left : FileMap)
+    → IsBeforeOrApplied desk command left → StandsBy (Some command) before left
+applied-allowed before desk command allowed left (inl is) = stands-allowed (Some command) before desk allowed left is
+applied-allowed before desk command allowed left (inr applied) = inr (desk, allowed, applied)
+
+module _ {D : Type 0} (moment : D → ℕ) (left_since : D → ℕ → FileMap → Type 0) where
+  -- nothing is done on the disk
+  pub rests-as : (disk : D) (before : DiskState) → ((left : FileMap) → left_since disk (moment disk) left → MayLeave before left)
+      → LeavesOnly moment left_since disk disk (StandsAsAt before)
+  rests-as disk before only_now =
+      LeavesOnly-from moment left_since disk disk (StandsAsAt before) (λ left was. (left, only_now left was, refl))
+      (AddsOnly-none moment left_since disk (StandsAsAt before))
+
+  pub rests-kept : (disk : D) (before : DiskState) (desk : DeskState) (held : Option (List SetFile)) (P : FileMap → Type 0)
+      → ((left : FileMap) → left_since disk (moment disk) left → MayLeave before left) → IsKept desk held before
+      → ((left : FileMap) → kept left ≡ Ok desk → P left) → LeavesOnly moment left_since disk disk P
+  rests-kept disk before desk held P only_now is holds =
+      LeavesOnly-from moment left_since disk disk P (λ left was. holds left (is.alone left (only_now left was)))
+      (AddsOnly-none moment left_since disk P)
+
+  module _ (old new : D) where
+    pub stands-as-at : (before : DiskState) → LeavesOnly moment left_since old new (StandsAsAllowed before)
+        → LeavesOnly moment left_since old new (StandsAsAt before)
+    stands-as-at before leaves =
+        LeavesOnly-more moment left_since old new (StandsAsAllowed before) (StandsAsAt before)
+        (λ left (other, may, is, others). (other, may, is)) leaves
+
+    pub stands-by : (found : Option Command) (before : DiskState) → LeavesOnly moment left_since old new (StandsAsAt before)
+        → LeavesOnly moment left_since old new (StandsBy found before)
+    stands-by found before leaves =
+        LeavesOnly-more moment left_since old new (StandsAsAt before) (StandsBy found before) (λ left is. inl is) leaves
+
+    -- a prepared state is one that the command leads to
+    pub applies : (desk after : DeskState) (command : Command) → fault desk command ≡ None → after ≡ next desk command
+        → LeavesOnly moment left_since old new (IsBeforeOrAfter desk after)
+        → LeavesOnly moment left_since old new (IsBeforeOrApplied desk command)
+    applies desk after command accepted is leaves =
+        LeavesOnly-more moment left_since old new (IsBeforeOrAfter desk after) (IsBeforeOrApplied desk command)
+        (λ left one. ⊎_elim (λ was. inl was) (λ was. inr (accepted, was ∙ ap Ok is)) one) leaves
+
+  -- a command behind the settling
+  pub stands-behind : (old mid new : D) (before : DiskState) (desk : DeskState) (command : Command) → Allows before desk
+      → LeavesOnly moment left_since old mid (StandsAsAt before)
+      → LeavesOnly moment left_since mid new (IsBeforeOrApplied desk command)
+      → LeavesOnly moment left_since old new (StandsBy (Some command) before)
+  stands-behind old mid new before desk command allowed first then =
+      LeavesOnly-then moment left_since old mid new (StandsBy (Some command) before)
+      (stands-by old mid (Some command) before first)
+      (LeavesOnly-more moment left_since mid new (IsBeforeOrApplied desk command) (StandsBy (Some command) before)
+      (applied-allowed before desk command allowed) then)

@@ -1,0 +1,23 @@
+use Rattle.std.proofs.Common.{◌≡◌, ◌≤◌, length}
+use Rattle.wire_messages.specs.declared.operations.Heard.TheVariants.{AtAdmin}
+use Rattle.live_desk.specs.History.{last_commit}
+use Rattle.desk_keeper.specs.Keeper.{IsSameDisk}
+use Rattle.door_frames.specs.Hearing.{IsSound}
+use Rattle.admin_door.specs.Side.{side_of}
+use Rattle.admin_door.specs.Serving.{talk_of}
+use Rattle.admin_door.specs.parts.Talk.{Stands}
+use Rattle.admin_door.proofs.admin_loops.admin_loop.Given as goal
+
+-- the frames so far were answered
+abbrev pub invariant-loop : goal.invariant-loop
+invariant-loop g l =
+    Stands
+    (talk_of (side_of g.D.Disk.faults l.fn.keeper l.fn.publisher (g.A.Hall.tally l.fn.hall) (g.A.Hall.calls l.fn.hall))
+    (g.L.Link.traffic l.fn.link) (g.L.Link.marks l.fn.link) (g.L.Link.faults l.fn.link))
+    (talk_of (side_of g.D.Disk.faults l.keeper l.publisher (g.A.Hall.tally l.hall) (g.A.Hall.calls l.hall))
+    (g.L.Link.traffic l.link) (g.L.Link.marks l.link) (g.L.Link.faults l.link)) l.feeder
+    × (l.feeder.heard ≡ AtAdmin)
+    × IsSound l.feeder
+    × (length l.room ≡ 4096)
+    × (last_commit 0 l.publisher ≤ l.keeper.desk.commit)
+    × IsSameDisk l.fn.keeper l.keeper

@@ -1,0 +1,34 @@
+-- What the messages of an administrator add to what was published, and what an acknowledged command leaves.
+use Rattle.std.specs.Prelude.{◌≡◌, ◌⊎◌, ◌≤◌, ℕ, true, List, [], ◌∷◌, ◌++◌, length, Some}
+use Rattle.desk_state.specs.DeskState.{DeskState}
+use Rattle.desk_state.specs.declared.commands.Command.{Command}
+use Rattle.live_desk.specs.History.{IsLast, last_commit}
+use Rattle.wire_messages.specs.Commands.{command_of}
+use Rattle.wire_messages.specs.declared.messages.Message.{Message}
+use Rattle.wire_messages.specs.declared.messages.Message.TheVariants.{Done}
+use Rattle.admin_door.specs.Side.{AdminSide}
+
+-- These states were published behind those of before. Where there are any, all connections that entered before the last one
+-- are hung up. Of the hall nothing else changes but how often it was stopped.
+pub record Adds (old now : AdminSide) (more : List DeskState) : Type 0 where
+  pub published : now.published ≡ old.published ++ more
+  pub cleared : ((more ≡ []) × (now.tally.cleared ≡ old.tally.cleared)) ⊎ (now.tally.cleared ≡ last_commit 0 now.published)
+  pub tally : now.tally ≡ record old.tally { cleared = now.tally.cleared; stop_calls = now.tally.stop_calls }
+  pub calls : now.calls ≡ old.calls
+
+-- so many at most
+abbrev pub AddsAtMost : ℕ → AdminSide → AdminSide → Type 0
+AddsAtMost most old now = (more : List DeskState) × (length more ≤ most) × Adds old now more
+
+-- A commit that was acknowledged: it is known that the folder keeps its state, that is the last one that was published, and
+-- all connections that entered before it are hung up.
+pub record IsAcknowledged (now : AdminSide) (commit : ℕ) : Type 0 where
+  pub decided : now.decided ≡ true
+  pub kept : now.desk.commit ≡ commit
+  pub last : IsLast now.published now.desk
+  pub cleared : now.tally.cleared ≡ commit
+
+-- a command that is answered as done is acknowledged
+abbrev pub Acknowledges : Message → AdminSide → List Message → Type 0
+Acknowledges message now replies = (command : Command) (commit erased : ℕ) → command_of message ≡ Some command
+    → replies ≡ Done commit erased ∷ [] → IsAcknowledged now commit
