@@ -9,5 +9,5 @@ mod connections;
 mod workers;
 
 pub use admin_workers::work_for_administrators;
-pub use connections::{serve_admin, serve_agent, serve_client};
+pub use connections::serve_admin;
 pub use workers::{WorkerEnd, work_for_agents, work_for_clients};

@@ -9,8 +9,8 @@ ghost use Rattle.door_workers.specs.Clients.{VisitsClients};
 ghost use Rattle.door_workers.specs.Agents.{VisitsAgents};
 ghost use Rattle.door_workers.specs.parts.Turn.{SoFar, RefusesLink};
 
-use crate::connections::{serve_agent, serve_client};
 use desk_ports::PortFault;
+use desk_server::{serve_agent, serve_client};
 use door_frames::Ended;
 use link_ports::{Door, Gate, HangEnd, Link};
 use live_desk::Seat;
