@@ -5,7 +5,9 @@ use Rattle.link_ports.specs.NetCounts.{count_after_close}
 use Rattle.door_workers.specs.Visit.{door_faults_after}
 use Rattle.door_workers.specs.declared.workers.WorkerEnd.{WorkerEnd}
 use Rattle.door_workers.specs.declared.workers.WorkerEnd.TheVariants.{DoorFailed}
-use Rattle.serve_runs.specs.Serving.{ClosesDoors, HasRisen}
+use Rattle.run_endings.specs.declared.endings.Ending.{Ending}
+use Rattle.run_endings.specs.declared.endings.Ending.TheVariants.{Done, Memory, Words, Line, Source, Sink, Disk, Net, Damaged, Reply, TooLong}
+use Rattle.serve_runs.specs.Serving.{ClosesDoors, HasRisen, EndsUnopened}
 
 pub closes_none : {E : Type 0} (told : Option (List E)) → ClosesDoors told [] told
 closes_none told = λ after is. (after, is, sym (append-nil after))
@@ -19,6 +21,21 @@ closes_then {E} old between new first more some others = λ after told.
 
 risen_since : (before between after : ℕ) → before ≤ between → next_count between ≤ after → HasRisen before after
 risen_since before between after no_less risen = omega (arith, no_less, risen)
+
+-- why doors were not opened, seen from earlier on
+pub unopened_since : (ending : Ending) (before between after : ℕ) → before ≤ between → EndsUnopened ending between after
+    → EndsUnopened ending before after
+unopened_since Memory before between after no_less ends = tt
+unopened_since Net before between after no_less ends = risen_since before between after no_less ends
+unopened_since Done before between after no_less ends = absurd ends
+unopened_since Words before between after no_less ends = absurd ends
+unopened_since (Line n) before between after no_less ends = absurd ends
+unopened_since Source before between after no_less ends = absurd ends
+unopened_since Sink before between after no_less ends = absurd ends
+unopened_since Disk before between after no_less ends = absurd ends
+unopened_since (Damaged f l) before between after no_less ends = absurd ends
+unopened_since Reply before between after no_less ends = absurd ends
+unopened_since (TooLong n) before between after no_less ends = absurd ends
 
 -- a door whose `accept` failed raises the count of its net when it is closed
 pub door_failed : (end : WorkerEnd) (faults before opened closed after : ℕ) → before ≤ opened → faults ≡ door_faults_after end 0

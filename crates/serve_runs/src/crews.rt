@@ -64,6 +64,7 @@ impl<D: Door> Worker<D> {
 
 /// Opens a door for each of these seats, and for each worker of agents. Those that were opened are in the crew, also where a
 /// further one is refused.
+#[tactic(auto, using(crate::proofs::Closing::unopened_since))]
 pub(crate) fn open_crew<N: Net>(
     net: &mut N,
     seats: Vec<Seat>,
@@ -73,11 +74,40 @@ pub(crate) fn open_crew<N: Net>(
     ensures no_less { N.faults net.old ≤ N.faults net.new }
     ensures closed { N.closed net.new ≡ N.closed net.old }
 {
-    for seat in seats {
-        hire(net, Station::Clients(seat), DoorKind::Client, crew)?;
+    match open_for_clients(net, seats, crew) {
+        Ok(()) => open_for_agents(net, crew),
+        Err(ending) => Err(ending),
     }
+}
+
+#[tactic(auto, using(crate::proofs::Closing::unopened_since))]
+fn open_for_clients<N: Net>(
+    net: &mut N,
+    seats: Vec<Seat>,
+    crew: &mut Vec<Worker<N::Door>>,
+) -> Result<(), Ending>
+    ensures refused { IfErr result (λ ending. EndsUnopened ending (N.faults net.old) (N.faults net.new)) }
+    ensures no_less { N.faults net.old ≤ N.faults net.new }
+    ensures closed { N.closed net.new ≡ N.closed net.old }
+{
+    for seat in seats {
+        if let Err(ending) = hire(net, Station::Clients(seat), DoorKind::Client, crew) {
+            return Err(ending);
+        }
+    }
+    Ok(())
+}
+
+#[tactic(auto, using(crate::proofs::Closing::unopened_since))]
+fn open_for_agents<N: Net>(net: &mut N, crew: &mut Vec<Worker<N::Door>>) -> Result<(), Ending>
+    ensures refused { IfErr result (λ ending. EndsUnopened ending (N.faults net.old) (N.faults net.new)) }
+    ensures no_less { N.faults net.old ≤ N.faults net.new }
+    ensures closed { N.closed net.new ≡ N.closed net.old }
+{
     for _ in 0..AGENT_WORKERS {
-        hire(net, Station::Agents, DoorKind::Agent, crew)?;
+        if let Err(ending) = hire(net, Station::Agents, DoorKind::Agent, crew) {
+            return Err(ending);
+        }
     }
     Ok(())
 }
@@ -141,15 +171,15 @@ fn knock<N: Net>(net: &mut N, kind: DoorKind, times: u32)
 }
 
 /// Closes the doors of the crew. Whether one of its workers found no memory.
+#[tactic(auto, using(crate::proofs::Closing::closes_then, crate::proofs::Closing::closes_none))]
 pub(crate) fn close_crew<N: Net>(net: &mut N, crew: Vec<Worker<N::Door>>) -> bool
     ensures no_less { N.faults net.old ≤ N.faults net.new }
     ensures closed { (doors : List N.Door) × ClosesDoors (N.closed net.old) doors (N.closed net.new) }
 {
     let mut lacked_memory = false;
     for worker in crew {
-        if dismiss(net, worker) {
-            lacked_memory = true;
-        }
+        let lacked = dismiss(net, worker);
+        lacked_memory = either(lacked_memory, lacked);
     }
     lacked_memory
 }
@@ -167,4 +197,8 @@ fn dismiss<N: Net>(net: &mut N, worker: Worker<N::Door>) -> bool
     } = worker;
     net.close(door);
     lacked_memory
+}
+
+fn either(one: bool, other: bool) -> bool {
+    one || other
 }

@@ -1,5 +1,4 @@
 // How a run of `serve` ends that has served.
-ghost use Rattle.std.specs.Prelude.{◌≡◌, true};
 ghost use Rattle.std.specs.Bool.{OnTrue, OnFalse};
 ghost use Rattle.serve_runs.specs.Serving.{HasRisen, HasNotRisen, FoundMemory};
 ghost use Rattle.serve_runs.specs.parts.Officiating.{EndsBy};
@@ -31,9 +30,12 @@ pub(crate) fn has_risen(before: u64, after: u64) -> bool
     before.saturating_add(1) <= after
 }
 
-/// Whether the worker of administrators found no memory.
-pub(crate) fn lacks_memory(end: WorkerEnd) -> bool
+/// Whether memory was wanting at a door: at one of the crew, or at that for administrators, whose worker ended so.
+pub(crate) fn lacks_memory(lacked: bool, end: WorkerEnd) -> bool
     ensures { OnFalse result (FoundMemory end) }
 {
-    matches!(end, WorkerEnd::Memory)
+    match end {
+        WorkerEnd::Memory => true,
+        WorkerEnd::Stopped | WorkerEnd::DoorFailed => lacked,
+    }
 }

@@ -102,7 +102,7 @@ fn open_and_serve<
     );
     net.close(door);
     let lacked_memory = close_crew(net, crew);
-    Ok(lacked_memory || lacks_memory(end))
+    Ok(lacks_memory(lacked_memory, end))
 }
 
 // Serves at open doors: the crew on threads, and the administrators on this one. How their worker ended.
