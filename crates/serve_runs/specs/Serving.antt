@@ -1,21 +1,16 @@
--- What a run of `serve W` does at the door for administrators, and how it ends.
-use Rattle.std.specs.Prelude.{◌≡◌, ◌≤◌, ◌<◌, ℕ, true, List, [], ◌∷◌, ◌++◌, Option, Some, Ok}
+-- What a service does at the door for administrators, and how it ends.
+use Rattle.std.specs.Prelude.{◌≡◌, ◌≤◌, ◌<◌, ℕ, true, List, [], ◌∷◌, ◌++◌, Option, Some}
 use Rattle.desk_ports.specs.Faults.{next_count}
-use Rattle.desk_ports.specs.Disk.{WhereTold}
 use Rattle.link_ports.specs.Told.{IfTold}
 use Rattle.link_ports.specs.Traffic.{Traffic}
 use Rattle.link_ports.specs.LinkMarks.{LinkMarks}
 use Rattle.desk_state.specs.DeskState.{DeskState}
-use Rattle.desk_keeper.specs.Kept.{kept}
 use Rattle.door_workers.specs.Visit.{Works}
 use Rattle.door_workers.specs.Administrators.{Office, VisitsOffice, EndsOffice}
 use Rattle.door_workers.specs.declared.workers.WorkerEnd.{WorkerEnd}
 use Rattle.door_workers.specs.declared.workers.WorkerEnd.TheVariants.{Stopped, DoorFailed, Memory as LacksMemory}
-use Rattle.run_endings.specs.Outside.{DiskSeen}
-use Rattle.run_endings.specs.Saying.{silence}
 use Rattle.run_endings.specs.declared.endings.Ending.{Ending}
 use Rattle.run_endings.specs.declared.endings.Ending.TheVariants.{Done, Memory, Disk, Net}
-use Rattle.folder_runs.specs.Folder.{RefusesFolder}
 
 -- ---- counts
 
@@ -74,18 +69,3 @@ pub record Administers {L E : Type 0} (traffic : L → Option Traffic) (marks : 
   pub counted : disk_now ≡ last.faults
   pub doors : ClosesDoors closed (door ∷ others) closed_now
   pub ends : EndsService ending end disk disk_now net net_now
-
--- ---- the whole run
-
--- The folder was not mounted; or the doors were not opened; or the service was served.
-pub data RunsServe {L E : Type 0} (traffic : L → Option Traffic) (marks : L → LinkMarks) (faults : L → ℕ)
-    (given_back : E → Option (List L)) (door_faults : E → ℕ)
-    (ending : Ending) (before after : DiskSeen) (net net_now : ℕ) (closed closed_now : Option (List E)) : Type 0 where
-  refused : RefusesFolder silence ending before after → net_now ≡ net → closed_now ≡ closed
-      → RunsServe traffic marks faults given_back door_faults ending before after net net_now closed closed_now
-  unopened : (start : DeskState) → WhereTold before.state (λ entry. kept entry.current ≡ Ok start) → after.faults ≡ before.faults
-      → EndsUnopened ending net net_now
-      → RunsServe traffic marks faults given_back door_faults ending before after net net_now closed closed_now
-  served : (start : DeskState) → WhereTold before.state (λ entry. kept entry.current ≡ Ok start)
-      → Administers traffic marks faults given_back door_faults ending start before.faults after.faults net net_now closed closed_now
-      → RunsServe traffic marks faults given_back door_faults ending before after net net_now closed closed_now

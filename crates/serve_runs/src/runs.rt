@@ -1,7 +1,7 @@
 // `serve W`.
 ghost use Rattle.std.specs.Prelude.{◌<◌, ◌≤◌};
 ghost use Rattle.run_endings.specs.Outside.{disk_seen};
-ghost use Rattle.serve_runs.specs.Serving.{RunsServe};
+ghost use Rattle.serve_runs.specs.Run.{RunsServe};
 
 use crate::endings::{ending_of, has_risen};
 use crate::serving::serve_folder;
