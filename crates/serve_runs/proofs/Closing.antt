@@ -2,6 +2,7 @@
 use Rattle.std.proofs.Common.{◌≡◌, ◌∙◌, ◌≤◌, ℕ, List, [], ◌∷◌, ◌++◌, Option, Some, refl, sym, ap, subst, append_assoc, append-nil}
 use Rattle.desk_ports.specs.Faults.{next_count}
 use Rattle.link_ports.specs.NetCounts.{count_after_close}
+use Rattle.link_ports.specs.Told.{AppendsTold}
 use Rattle.door_workers.specs.Visit.{door_faults_after}
 use Rattle.door_workers.specs.declared.workers.WorkerEnd.{WorkerEnd}
 use Rattle.door_workers.specs.declared.workers.WorkerEnd.TheVariants.{DoorFailed}
@@ -11,6 +12,9 @@ use Rattle.serve_runs.specs.Serving.{ClosesDoors, HasRisen, EndsUnopened}
 
 pub closes_none : {E : Type 0} (told : Option (List E)) → ClosesDoors told [] told
 closes_none told = λ after is. (after, is, sym (append-nil after))
+
+pub closes_one : {E : Type 0} (old new : Option (List E)) (door : E) → AppendsTold old door new → ClosesDoors old (door ∷ []) new
+closes_one old new door appends = appends
 
 pub closes_then : {E : Type 0} (old between new : Option (List E)) (first more : List E) → ClosesDoors old first between
     → ClosesDoors between more new → ClosesDoors old (first ++ more) new

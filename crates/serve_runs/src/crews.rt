@@ -1,5 +1,5 @@
 // The workers that run on threads of their own, each with its door.
-ghost use Rattle.std.specs.Prelude.{◌≡◌, ◌≤◌, List, [], ◌∷◌, IfOk, IfErr};
+ghost use Rattle.std.specs.Prelude.{◌≡◌, ◌≤◌, List, [], IfOk, IfErr};
 ghost use Rattle.link_ports.specs.Told.{IfTold};
 ghost use Rattle.serve_runs.specs.Serving.{EndsUnopened, ClosesDoors};
 ghost use Rattle.serve_runs.specs.parts.Officiating.{Knocks};
@@ -11,7 +11,7 @@ use live_desk::Seat;
 use live_roll::Roll;
 use locked_hall::QuestionDesk;
 use run_endings::Ending;
-use std::alloc::Global;
+use std::alloc::{AllocError, Global};
 use std::sync::{Mutex, Wait};
 
 /// How many agents may be connected at once.
@@ -25,16 +25,24 @@ pub(crate) enum Station {
     Agents,
 }
 
-/// A worker, its door, and how it ended, once it has.
+/// A worker, its door, once it is opened, and how the worker ended, once it has.
 #[derive(Drop)]
 pub(crate) struct Worker<D: Door> {
     station: Station,
-    door: D,
+    door: Option<D>,
     end: Option<WorkerEnd>,
 }
 
 impl<D: Door> Worker<D> {
-    /// Serves one connection after the other.
+    fn at(station: Station) -> Worker<D> {
+        Worker {
+            station,
+            door: None,
+            end: None,
+        }
+    }
+
+    /// Serves one connection after the other, where its door is open.
     pub fn work<R: Wait, H: HangEnd, L: Link<End = H>, G: Gate>(
         &mut self,
         rt: &R,
@@ -46,7 +54,9 @@ impl<D: Door> Worker<D> {
     where
         D: Door<Link = L>,
     {
-        let door = &mut self.door;
+        let Some(door) = &mut self.door else {
+            return;
+        };
         let end = match &mut self.station {
             Station::Clients(seat) => {
                 work_for_clients(rt, alloc, seat, roll, questions, door, gate)
@@ -56,86 +66,63 @@ impl<D: Door> Worker<D> {
         self.end = Some(end);
     }
 
+    // The kind of its door.
+    fn kind(&self) -> DoorKind {
+        match &self.station {
+            Station::Clients(_) => DoorKind::Client,
+            Station::Agents => DoorKind::Agent,
+        }
+    }
+
     // Whether its door found no memory.
     fn lacked_memory(&self) -> bool {
         self.end == Some(WorkerEnd::Memory)
     }
 }
 
-/// Opens a door for each of these seats, and for each worker of agents. Those that were opened are in the crew, also where a
-/// further one is refused.
-#[tactic(auto, using(crate::proofs::Closing::unopened_since))]
-pub(crate) fn open_crew<N: Net>(
-    net: &mut N,
+/// A worker for each of these seats, and those for agents. No door of them is open.
+pub(crate) fn crew_of<D: Door>(
+    alloc: Global,
     seats: Vec<Seat>,
-    crew: &mut Vec<Worker<N::Door>>,
-) -> Result<(), Ending>
+) -> Result<Vec<Worker<D>>, AllocError> {
+    let count = seats.len().saturating_add(AGENT_WORKERS as usize);
+    let mut crew = Vec::with_capacity(alloc, count)?;
+    for seat in seats {
+        crew.push(Worker::at(Station::Clients(seat)))?;
+    }
+    for _ in 0..AGENT_WORKERS {
+        crew.push(Worker::at(Station::Agents))?;
+    }
+    Ok(crew)
+}
+
+/// Opens the doors of the crew, until one is refused.
+#[tactic(auto, using(crate::proofs::Closing::unopened_since))]
+pub(crate) fn open_doors<N: Net>(net: &mut N, crew: &mut [Worker<N::Door>]) -> Result<(), Ending>
     ensures refused { IfErr result (λ ending. EndsUnopened ending (N.faults net.old) (N.faults net.new)) }
     ensures no_less { N.faults net.old ≤ N.faults net.new }
     ensures closed { N.closed net.new ≡ N.closed net.old }
 {
-    match open_for_clients(net, seats, crew) {
-        Ok(()) => open_for_agents(net, crew),
+    for worker in crew.iter_mut() {
+        if let Err(ending) = open_door(net, worker) {
+            return Err(ending);
+        }
+    }
+    Ok(())
+}
+
+fn open_door<N: Net>(net: &mut N, worker: &mut Worker<N::Door>) -> Result<(), Ending>
+    ensures refused { IfErr result (λ ending. EndsUnopened ending (N.faults net.old) (N.faults net.new)) }
+    ensures no_less { N.faults net.old ≤ N.faults net.new }
+    ensures closed { N.closed net.new ≡ N.closed net.old }
+{
+    match open(net, worker.kind()) {
+        Ok(door) => {
+            worker.door = Some(door);
+            Ok(())
+        }
         Err(ending) => Err(ending),
     }
-}
-
-#[tactic(auto, using(crate::proofs::Closing::unopened_since))]
-fn open_for_clients<N: Net>(
-    net: &mut N,
-    seats: Vec<Seat>,
-    crew: &mut Vec<Worker<N::Door>>,
-) -> Result<(), Ending>
-    ensures refused { IfErr result (λ ending. EndsUnopened ending (N.faults net.old) (N.faults net.new)) }
-    ensures no_less { N.faults net.old ≤ N.faults net.new }
-    ensures closed { N.closed net.new ≡ N.closed net.old }
-{
-    for seat in seats {
-        if let Err(ending) = hire(net, Station::Clients(seat), DoorKind::Client, crew) {
-            return Err(ending);
-        }
-    }
-    Ok(())
-}
-
-#[tactic(auto, using(crate::proofs::Closing::unopened_since))]
-fn open_for_agents<N: Net>(net: &mut N, crew: &mut Vec<Worker<N::Door>>) -> Result<(), Ending>
-    ensures refused { IfErr result (λ ending. EndsUnopened ending (N.faults net.old) (N.faults net.new)) }
-    ensures no_less { N.faults net.old ≤ N.faults net.new }
-    ensures closed { N.closed net.new ≡ N.closed net.old }
-{
-    for _ in 0..AGENT_WORKERS {
-        if let Err(ending) = hire(net, Station::Agents, DoorKind::Agent, crew) {
-            return Err(ending);
-        }
-    }
-    Ok(())
-}
-
-// Opens a door of this kind for a worker.
-fn hire<N: Net>(
-    net: &mut N,
-    station: Station,
-    kind: DoorKind,
-    crew: &mut Vec<Worker<N::Door>>,
-) -> Result<(), Ending>
-    ensures refused { IfErr result (λ ending. EndsUnopened ending (N.faults net.old) (N.faults net.new)) }
-    ensures no_less { N.faults net.old ≤ N.faults net.new }
-    ensures closed { N.closed net.new ≡ N.closed net.old }
-{
-    let Ok(()) = crew.reserve(1) else {
-        return Err(Ending::Memory);
-    };
-    let door = match open(net, kind) {
-        Ok(door) => door,
-        Err(ending) => return Err(ending),
-    };
-    crew.push_reserved(Worker {
-        station,
-        door,
-        end: None,
-    });
-    Ok(())
 }
 
 /// Opens a door of this kind.
@@ -170,35 +157,29 @@ fn knock<N: Net>(net: &mut N, kind: DoorKind, times: u32)
     }
 }
 
-/// Closes the doors of the crew. Whether one of its workers found no memory.
+/// Closes the doors of the crew that are open.
 #[tactic(auto, using(crate::proofs::Closing::closes_then, crate::proofs::Closing::closes_none))]
-pub(crate) fn close_crew<N: Net>(net: &mut N, crew: Vec<Worker<N::Door>>) -> bool
+pub(crate) fn close_doors<N: Net>(net: &mut N, crew: &mut [Worker<N::Door>])
     ensures no_less { N.faults net.old ≤ N.faults net.new }
     ensures closed { (doors : List N.Door) × ClosesDoors (N.closed net.old) doors (N.closed net.new) }
 {
-    let mut lacked_memory = false;
-    for worker in crew {
-        let lacked = dismiss(net, worker);
-        lacked_memory = either(lacked_memory, lacked);
+    for worker in crew.iter_mut() {
+        close_door(net, worker);
     }
-    lacked_memory
 }
 
-// Closes the door of a worker. Whether it found no memory.
-fn dismiss<N: Net>(net: &mut N, worker: Worker<N::Door>) -> bool
+#[tactic(auto, using(crate::proofs::Closing::closes_one, crate::proofs::Closing::closes_none))]
+fn close_door<N: Net>(net: &mut N, worker: &mut Worker<N::Door>)
     ensures no_less { N.faults net.old ≤ N.faults net.new }
-    ensures closed { ClosesDoors (N.closed net.old) (worker.door ∷ []) (N.closed net.new) }
+    ensures closed { (doors : List N.Door) × ClosesDoors (N.closed net.old) doors (N.closed net.new) }
 {
-    let lacked_memory = worker.lacked_memory();
-    let Worker {
-        station: _,
-        door,
-        end: _,
-    } = worker;
+    let Some(door) = worker.door.take() else {
+        return;
+    };
     net.close(door);
-    lacked_memory
 }
 
-fn either(one: bool, other: bool) -> bool {
-    one || other
+/// Whether one of the crew found no memory at its door.
+pub(crate) fn lacked_memory<D: Door>(crew: &[Worker<D>]) -> bool {
+    crew.iter().any(|worker| worker.lacked_memory())
 }

@@ -7,7 +7,7 @@ ghost use Rattle.serve_runs.specs.Serving.{EndsUnopened};
 ghost use Rattle.serve_runs.specs.parts.Officiating.{Officiates, Staffs};
 
 use crate::beside::beside;
-use crate::crews::{Worker, close_crew, knock_all, open, open_crew};
+use crate::crews::{Worker, close_doors, crew_of, knock_all, lacked_memory, open, open_doors};
 use crate::endings::lacks_memory;
 use desk_keeper::Keeper;
 use desk_ports::Disk;
@@ -87,22 +87,25 @@ fn open_and_serve<
     ensures kept { OnErr result (keeper.new ≡ keeper.old) }
     ensures same_disk { IsSameDisk keeper.old keeper.new }
 {
+    let Ok(crew) = crew_of(alloc, seats) else {
+        return Err(Ending::Memory);
+    };
+    let mut crew = crew;
     let mut door = match open(net, DoorKind::Admin) {
         Ok(door) => door,
         Err(ending) => return Err(ending),
     };
-    let mut crew = Vec::new(alloc);
-    if let Err(ending) = open_crew(net, seats, &mut crew) {
+    if let Err(ending) = open_doors(net, &mut crew) {
         net.close(door);
-        close_crew(net, crew);
+        close_doors(net, &mut crew);
         return Err(ending);
     }
     let end = serve(
         rt, alloc, clients, keeper, publisher, &mut crew, roll, net, &mut door, gate,
     );
     net.close(door);
-    let lacked_memory = close_crew(net, crew);
-    Ok(lacks_memory(lacked_memory, end))
+    close_doors(net, &mut crew);
+    Ok(lacks_memory(lacked_memory(&crew), end))
 }
 
 // Serves at open doors: the crew on threads, and the administrators on this one. How their worker ended.
