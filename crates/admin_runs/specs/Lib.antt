@@ -1,0 +1,3 @@
+pub mod StepMessage
+pub mod ReplyLine
+pub mod AdminRun
