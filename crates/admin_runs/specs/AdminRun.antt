@@ -1,16 +1,15 @@
 -- What `admin` reads, sends and says, and how it ends.
-use Rattle.std.specs.Prelude.{◌≡◌, ◌⊎◌, ◌≤◌, ℕ, List, [], ◌∷◌, ◌++◌, length, map, Option, Some, None, Result, Ok, Err, IsOk}
+use Rattle.std.specs.Prelude.{◌≡◌, ◌⊎◌, ◌≤◌, ℕ, List, [], ◌∷◌, ◌++◌, length, map, Option, Some, None, Result, Ok, Err}
 use Rattle.std.specs.List.{flat_map}
 use Rattle.std.specs.Option.{option_to_list}
-use Rattle.text_lines.specs.Lines.{HasNoNewline, AreWholeLines}
 use Rattle.desk_ports.specs.Faults.{next_count}
 use Rattle.link_ports.specs.Traffic.{Traffic}
 use Rattle.link_ports.specs.LinkMarks.{LinkMarks}
 use Rattle.link_ports.specs.NetCounts.{MayCountFailure}
 use Rattle.line_script.specs.declared.places.Place.TheVariants.{Admin}
 use Rattle.line_script.specs.declared.steps.Step.{Step}
-use Rattle.script_replies.specs.Limits.{most_line_bytes}
 use Rattle.script_replies.specs.Script.{Script, read_script, wrong_line}
+use Rattle.script_reading.specs.Reading.{ReadsLines, ReadsAllLines}
 use Rattle.wire_messages.specs.declared.messages.Message.{Message}
 use Rattle.client_connection.specs.Giving.{GivesBackAny}
 use Rattle.admin_client.specs.Sending.{State, Sends}
@@ -33,34 +32,18 @@ read_admin bytes = read_script Admin bytes
 abbrev pub messages_of : List Step → List Message
 messages_of steps = flat_map (λ step. option_to_list (message_for step)) steps
 
--- Some whole lines at the front of the input have these steps, and none of them is wrong; they may end within a block.
--- Other bytes were read behind them. At the end of the input the last line needs no newline.
-pub record ReadsLines (input rest : List ℕ) (steps : List Step) : Type 0 where
-  pub lines : List ℕ
-  pub behind : List ℕ
-  pub parts : input ≡ (lines ++ behind) ++ rest
-  pub whole : AreWholeLines lines ⊎ (behind ++ rest ≡ [])
-  pub right : IsOk (read_admin lines).stands
-  pub steps_are : steps ≡ (read_admin lines).steps
-
--- What was read behind these lines is no whole line, and no longer than one may be.
-pub record ReadsAllLines (input rest : List ℕ) (steps : List Step) : Type 0 where
-  pub reads : ReadsLines input rest steps
-  pub unfinished : HasNoNewline reads.behind
-  pub short : length reads.behind ≤ most_line_bytes
-
 -- The input, what is left of it, and the steps that were read, for each way in which the run ends.
 abbrev pub HasRead : Ending → List ℕ → List ℕ → List Step → Type 0
 HasRead Done input rest steps =
     (rest ≡ []) × (wrong_line (read_admin input) ≡ None) × (steps ≡ (read_admin input).steps)
 HasRead (Line number) input rest steps =
     (wrong_line (read_admin input) ≡ Some number) × (steps ≡ (read_admin input).steps)
-HasRead Source input rest steps = ReadsAllLines input rest steps
-HasRead Memory input rest steps = ReadsLines input rest steps
-HasRead Sink input rest steps = ReadsLines input rest steps
-HasRead Net input rest steps = ReadsLines input rest steps
-HasRead Reply input rest steps = ReadsLines input rest steps
-HasRead (TooLong size) input rest steps = ReadsLines input rest steps
+HasRead Source input rest steps = ReadsAllLines Admin input rest steps
+HasRead Memory input rest steps = ReadsLines Admin input rest steps
+HasRead Sink input rest steps = ReadsLines Admin input rest steps
+HasRead Net input rest steps = ReadsLines Admin input rest steps
+HasRead Reply input rest steps = ReadsLines Admin input rest steps
+HasRead (TooLong size) input rest steps = ReadsLines Admin input rest steps
 HasRead ending input rest steps = ⊥
 
 -- ---- what was sent

@@ -1,15 +1,19 @@
 // `admin`.
-ghost use Rattle.std.specs.Prelude.{◌≡◌};
+ghost use Rattle.std.specs.Prelude.{◌≡◌, ◌≤◌};
 ghost use Rattle.run_endings.specs.Ending.{source_faults_after};
 ghost use Rattle.run_endings.specs.Outside.{source_seen, sink_seen};
 ghost use Rattle.run_endings.specs.Saying.{Said, WritesAnswers};
-ghost use Rattle.agent_runs.specs.LinkSeen.{link_seen, dial_seen};
-ghost use Rattle.admin_runs.specs.AdminRun.{RunsAdmin};
+ghost use Rattle.admin_client.specs.Sending.{with_dial};
+ghost use Rattle.script_replies.specs.Limits.{most_script_bytes};
+ghost use Rattle.script_reading.specs.NextLine.{counts_source};
+ghost use Rattle.admin_runs.specs.AdminRun.{RunsAdmin, IsCounted};
+ghost use Rattle.admin_runs.specs.parts.Talk.{Talks, ending_by};
+ghost use Rattle.admin_runs.specs.parts.Script.{SendsAll, EndsScript};
 
 use crate::admin_scripts::AdminScript;
-use admin_client::AdminClient;
+use admin_client::AdminLink;
 use desk_ports::{Sink, Source};
-use line_script::MOST_LINE_BYTES;
+use line_script::{MOST_LINE_BYTES, Reader};
 use link_ports::Dial;
 use run_endings::Ending;
 use script_replies::{MOST_SCRIPT_BYTES, note_open_block};
@@ -26,33 +30,62 @@ pub fn run_admin<S: Source, K: Sink, N: Dial>(
     dial: &mut N,
 ) -> Ending
     ensures run { (said : Said)
-        × RunsAdmin said result (source_seen S.left S.faults source.old) (source_seen S.left S.faults source.new)
-        (dial_seen N.given_back N.dials N.faults (link_seen N.Link.traffic N.Link.marks N.Link.faults) dial.old)
-        (dial_seen N.given_back N.dials N.faults (link_seen N.Link.traffic N.Link.marks N.Link.faults) dial.new)
+        × RunsAdmin N.Link.faults N.Link.marks N.Link.traffic N.faults N.dials N.given_back
+        said result (source_seen S.left S.faults source.old) (source_seen S.left S.faults source.new) dial.old dial.new
         × WritesAnswers result said (sink_seen K.taken K.faults sink.old) (sink_seen K.taken K.faults sink.new) }
     ensures source { S.faults source.new ≡ source_faults_after result (S.faults source.old) }
+    ensures count { IsCounted result (N.faults dial.old) (N.faults dial.new) }
 {
-    let mut client = AdminClient::new(alloc, dial);
-    let ending = match send_script(alloc, &mut client, source, sink) {
+    let mut link = AdminLink::new(alloc);
+    let ending = match send_script(alloc, &mut link, source, sink, dial) {
         Ok(()) => Ending::Done,
         Err(ending) => ending,
     };
-    let _dial = client.finish();
+    link.leave(dial);
     ending
 }
 
 // Sends the whole script of the source.
 fn send_script<S: Source, K: Sink, N: Dial>(
     alloc: Global,
-    client: &mut AdminClient<N>,
+    link: &mut AdminLink<N>,
     source: &mut S,
     sink: &mut K,
-) -> Result<(), Ending> {
+    dial: &mut N,
+) -> Result<(), Ending>
+    ensures sent { SendsAll (Talks N.Link.faults N.Link.marks N.Link.traffic N.faults N.dials N.given_back
+        (with_dial dial.old link.old) (with_dial dial.new link.new)
+        (sink_seen K.taken K.faults sink.old) (sink_seen K.taken K.faults sink.new))
+        (S.left source.old) (S.left source.new) (ending_by result) }
+    ensures source { S.faults source.new ≡ counts_source result (S.faults source.old) }
+{
     let mut script = AdminScript::new(alloc);
-    let mut lines = LineReader::new(alloc, MOST_LINE_BYTES, MOST_SCRIPT_BYTES)?;
-    'lines: while script.send_next(&mut lines, client, source, sink)? {}
-    if script.reader.in_block() {
-        // The line behind the last one should have ended the block.
+    let mut lines = match LineReader::new(alloc, MOST_LINE_BYTES, MOST_SCRIPT_BYTES) {
+        Ok(lines) => lines,
+        Err(_) => return Err(Ending::Memory),
+    };
+    loop {
+        match script.send_next(&mut lines, link, source, sink, dial) {
+            Ok(true) => {}
+            Ok(false) => return end_script(alloc, &script.reader, &lines, sink),
+            Err(ending) => return Err(ending),
+        }
+    }
+}
+
+// A script must not end within a block: the line behind the last one should have ended it.
+fn end_script<K: Sink>(
+    alloc: Global,
+    reader: &Reader,
+    lines: &LineReader,
+    sink: &mut K,
+) -> Result<(), Ending>
+    requires { lines.now.number ≤ most_script_bytes }
+    ensures ends { EndsScript reader.now lines.now.number result }
+    ensures taken { K.taken sink.new ≡ K.taken sink.old }
+    ensures count { K.faults sink.new ≡ K.faults sink.old }
+{
+    if reader.in_block() {
         let number = lines.number() + 1;
         note_open_block(alloc, number, sink);
         return Err(Ending::Line(number));
