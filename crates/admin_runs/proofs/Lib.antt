@@ -3,3 +3,4 @@ pub mod Talking
 pub mod Lines
 pub mod Scripts
 pub mod Counting
+pub mod Running

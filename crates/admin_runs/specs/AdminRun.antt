@@ -8,8 +8,7 @@ use Rattle.link_ports.specs.LinkMarks.{LinkMarks}
 use Rattle.link_ports.specs.NetCounts.{MayCountFailure}
 use Rattle.line_script.specs.declared.places.Place.TheVariants.{Admin}
 use Rattle.line_script.specs.declared.steps.Step.{Step}
-use Rattle.script_replies.specs.Script.{Script, read_script, wrong_line}
-use Rattle.script_reading.specs.Reading.{ReadsLines, ReadsAllLines}
+use Rattle.script_reading.specs.Reading.{ReadsLines, ReadsAllLines, ReadsWhole, MeetsWrongLine}
 use Rattle.wire_messages.specs.declared.messages.Message.{Message}
 use Rattle.client_connection.specs.Giving.{GivesBackAny}
 use Rattle.admin_client.specs.Sending.{State, Sends}
@@ -24,20 +23,14 @@ use Rattle.admin_runs.specs.ReplyLine.{replies_text}
 
 -- ---- what was read
 
--- what the bytes of a script say that is for a service
-abbrev pub read_admin : List ℕ → Script
-read_admin bytes = read_script Admin bytes
-
 -- the messages of steps, in order
 abbrev pub messages_of : List Step → List Message
 messages_of steps = flat_map (λ step. option_to_list (message_for step)) steps
 
 -- The input, what is left of it, and the steps that were read, for each way in which the run ends.
 abbrev pub HasRead : Ending → List ℕ → List ℕ → List Step → Type 0
-HasRead Done input rest steps =
-    (rest ≡ []) × (wrong_line (read_admin input) ≡ None) × (steps ≡ (read_admin input).steps)
-HasRead (Line number) input rest steps =
-    (wrong_line (read_admin input) ≡ Some number) × (steps ≡ (read_admin input).steps)
+HasRead Done input rest steps = ReadsWhole Admin steps input rest
+HasRead (Line number) input rest steps = MeetsWrongLine Admin number steps input rest
 HasRead Source input rest steps = ReadsAllLines Admin input rest steps
 HasRead Memory input rest steps = ReadsLines Admin input rest steps
 HasRead Sink input rest steps = ReadsLines Admin input rest steps

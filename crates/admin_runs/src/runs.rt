@@ -7,7 +7,8 @@ ghost use Rattle.admin_client.specs.Sending.{with_dial};
 ghost use Rattle.script_replies.specs.Limits.{most_script_bytes};
 ghost use Rattle.script_reading.specs.NextLine.{counts_source};
 ghost use Rattle.admin_runs.specs.AdminRun.{RunsAdmin, IsCounted};
-ghost use Rattle.admin_runs.specs.parts.Talk.{Talks, ending_by};
+ghost use Rattle.admin_runs.specs.parts.Talk as words;
+ghost use Rattle.admin_runs.specs.parts.Talk.{Talks};
 ghost use Rattle.admin_runs.specs.parts.Script.{SendsAll, EndsScript};
 
 use crate::admin_scripts::AdminScript;
@@ -37,12 +38,19 @@ pub fn run_admin<S: Source, K: Sink, N: Dial>(
     ensures count { IsCounted result (N.faults dial.old) (N.faults dial.new) }
 {
     let mut link = AdminLink::new(alloc);
-    let ending = match send_script(alloc, &mut link, source, sink, dial) {
-        Ok(()) => Ending::Done,
-        Err(ending) => ending,
-    };
+    let ending = ending_by(send_script(alloc, &mut link, source, sink, dial));
     link.leave(dial);
     ending
+}
+
+// How a run ends whose script was sent so far.
+fn ending_by(sent: Result<(), Ending>) -> Ending
+    ensures { result ≡ words.ending_by sent }
+{
+    match sent {
+        Ok(()) => Ending::Done,
+        Err(ending) => ending,
+    }
 }
 
 // Sends the whole script of the source.
@@ -56,7 +64,7 @@ fn send_script<S: Source, K: Sink, N: Dial>(
     ensures sent { SendsAll (Talks N.Link.faults N.Link.marks N.Link.traffic N.faults N.dials N.given_back
         (with_dial dial.old link.old) (with_dial dial.new link.new)
         (sink_seen K.taken K.faults sink.old) (sink_seen K.taken K.faults sink.new))
-        (S.left source.old) (S.left source.new) (ending_by result) }
+        (S.left source.old) (S.left source.new) (words.ending_by result) }
     ensures source { S.faults source.new ≡ counts_source result (S.faults source.old) }
 {
     let mut script = AdminScript::new(alloc);

@@ -32,9 +32,7 @@ pub(crate) fn message_of_step(alloc: Global, step: &Step<'_>) -> Result<Option<M
             question: owned(alloc, question)?,
         })),
         Step::Stop => Ok(Some(Message::Stop)),
-        Step::Nothing => Ok(None),
-        Step::Access { .. } => Ok(None),
-        Step::Status => Ok(None),
+        _ => Ok(None),
     }
 }
 

@@ -8,10 +8,11 @@ use Rattle.line_script.specs.Block.{Block}
 use Rattle.line_script.specs.Grammar.{step_at}
 use Rattle.line_script.specs.Turn.{is_in_block}
 use Rattle.line_script.specs.declared.places.Place.{Place}
+use Rattle.line_script.specs.declared.steps.Step.{Step}
 use Rattle.script_replies.specs.Script.{read_lines, read_script, line_step, wrong_line}
-use Rattle.script_reading.specs.Reading.{Reads, Gives, Has, IsOver, ReadsLines, ReadsAllLines, with_steps}
+use Rattle.script_reading.specs.Reading.{Reads, Gives, Has, IsOver, ReadsLines, ReadsAllLines, MeetsWrongLine, ReadsWhole, with_steps}
 use Rattle.script_reading.proofs.Lines.{pieces_of-piece, line_of-piece, read_lines-past, read_lines-none, line_step-none, stops_at}
-use Rattle.script_reading.proofs.Going.{ended_after}
+use Rattle.script_reading.proofs.Going.{ended_after, goes_on}
 use Rattle.run_endings.proofs.Hads.{Took-Had, ReadToEnd-still}
 
 -- nothing was read
@@ -121,8 +122,7 @@ module _ {place : Place} {left left_now : Option (List ℕ)} {block : Block} {re
     -- the next line is past a limit
     pub ends_past_limit : EndsReading left_now left_after reading reading_after → Keeps left_now left_after reading reading_after
         → GoesPast reading.longest reading.room reading_after.waiting → (number : ℕ) → number ≡ reading.number + 1
-        → Has left left_after (λ input rest.
-            (wrong_line (read_script place input) ≡ Some number) × (p.steps ≡ (read_script place input).steps))
+        → Has left left_after (MeetsWrongLine place number p.steps)
     ends_past_limit ends kept past number is =
         let gives : Gives left_now left_after reading = record { given = kept.given; took = kept.took; ended = kept.ended } in
         let had = Took-Had left left_after _ (took_all gives) in
@@ -134,15 +134,18 @@ module _ {place : Place} {left left_now : Option (List ℕ)} {block : Block} {re
           (p.lines ++ (reading.waiting ++ kept.given)) ++ had.0,
           had.0,
           had.1,
-          (ap wrong_line read ∙ ap Some (sym is), ap (λ script. script.steps) (sym read)),
+          record {
+            wrong = ap wrong_line read ∙ ap Some (sym is);
+            steps_are = ap (λ script. script.steps) (sym read);
+            reads = read_so_far gives had.0 had.2;
+          },
         )
 
     -- the next line has no step
     pub ends_at_line : (line : HandsOut left_now left_after reading reading_after)
         → EndsReading left_now left_after reading reading_after → step_at block reading_after.line ≡ None
         → (number : ℕ) → number ≡ reading_after.number
-        → Has left left_after (λ input rest.
-            (wrong_line (read_script place input) ≡ Some number) × (p.steps ≡ (read_script place input).steps))
+        → Has left left_after (MeetsWrongLine place number p.steps)
     ends_at_line line ends none number is =
         let handed = line.handed_out in
         let gives : Gives left_now left_after reading = record { given = line.given; took = line.took; ended = line.ended } in
@@ -160,7 +163,11 @@ module _ {place : Place} {left left_now : Option (List ℕ)} {block : Block} {re
           (p.lines ++ (reading.waiting ++ line.given)) ++ had.0,
           had.0,
           had.1,
-          (ap wrong_line read ∙ ap Some (sym handed.number ∙ sym is), ap (λ script. script.steps) (sym read)),
+          record {
+            wrong = ap wrong_line read ∙ ap Some (sym handed.number ∙ sym is);
+            steps_are = ap (λ script. script.steps) (sym read);
+            reads = read_so_far gives had.0 had.2;
+          },
         )
 
     -- no line is left
@@ -182,8 +189,7 @@ module _ {place : Place} {left left_now : Option (List ℕ)} {block : Block} {re
 
       -- outside of a block
       pub ends_done : is_in_block block ≡ false
-          → Has left left_after (λ input rest.
-              (rest ≡ []) × (wrong_line (read_script place input) ≡ None) × (p.steps ≡ (read_script place input).steps))
+          → Has left left_after (ReadsWhole place p.steps)
       ends_done outside =
           let had = Took-Had left left_after _ (took_all at_end) in
           let rest = had.2 (ended_after p reading_after ends at_end ended.ended) in
@@ -191,26 +197,36 @@ module _ {place : Place} {left left_now : Option (List ℕ)} {block : Block} {re
             (p.lines ++ (reading.waiting ++ ended.kept.given)) ++ had.0,
             had.0,
             had.1,
-            (
-              rest,
-              ap (λ input. wrong_line (read_script place input)) input ∙ wrong_is false outside,
-              steps_are ∙ ap (λ input. (read_script place input).steps) (sym input),
-            ),
+            record {
+              over = rest;
+              right = ap (λ input. wrong_line (read_script place input)) input ∙ wrong_is false outside;
+              steps_are = steps_are ∙ ap (λ input. (read_script place input).steps) (sym input);
+            },
           )
 
       -- within a block
       pub ends_in_block : is_in_block block ≡ true → (number : ℕ) → number ≡ reading_after.number + 1
-          → Has left left_after (λ input rest.
-              (wrong_line (read_script place input) ≡ Some number) × (p.steps ≡ (read_script place input).steps))
+          → Has left left_after (MeetsWrongLine place number p.steps)
       ends_in_block inside number is =
           let had = Took-Had left left_after _ (took_all at_end) in
           let input = whole_input had.0 (had.2 (ended_after p reading_after ends at_end ended.ended)) in (
             (p.lines ++ (reading.waiting ++ ended.kept.given)) ++ had.0,
             had.0,
             had.1,
-            (
-              ap (λ input. wrong_line (read_script place input)) input
-                  ∙ (wrong_is true inside ∙ ap Some (ap (λ number. number + 1) (sym ended.kept.number) ∙ sym is)),
-              steps_are ∙ ap (λ input. (read_script place input).steps) (sym input),
-            ),
+            record {
+              wrong =
+                  ap (λ input. wrong_line (read_script place input)) input
+                  ∙ (wrong_is true inside ∙ ap Some (ap (λ number. number + 1) (sym ended.kept.number) ∙ sym is));
+              steps_are = steps_are ∙ ap (λ input. (read_script place input).steps) (sym input);
+              reads = read_so_far at_end had.0 had.2;
+            },
           )
+
+-- it ends behind the next line, which has this step
+pub ends_behind : {place : Place} {left left_now left_after : Option (List ℕ)} {block next : Block} {reading reading_after : LineReading}
+    (p : Reads place left left_now block reading) (step : Step) → HandsOut left_now left_after reading reading_after
+    → EndsReading left_now left_after reading reading_after → step_at block reading_after.line ≡ Some (next, step)
+    → Has left left_after (λ input rest. ReadsLines place input rest (p.steps ++ step ∷ []))
+ends_behind {place = place} {left = left} {left_after = left_after} p step line ends reads =
+    let on = goes_on p step line ends reads (λ steps. steps ≡ p.steps ++ step ∷ []) refl in
+    subst (λ steps. Has left left_after (λ input rest. ReadsLines place input rest steps)) on.1 (ends_now on.0)

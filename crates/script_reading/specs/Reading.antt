@@ -1,5 +1,5 @@
 -- How far a script is read, line by line, whatever is done with its steps.
-use Rattle.std.specs.Prelude.{◌≡◌, ◌≤◌, ◌+◌, ◌⊎◌, ℕ, true, List, [], ◌++◌, length, Option, IsOk}
+use Rattle.std.specs.Prelude.{◌≡◌, ◌≤◌, ◌+◌, ◌⊎◌, ℕ, true, List, [], ◌++◌, length, Option, Some, None, IsOk}
 use Rattle.desk_ports.specs.Content.{Took, ReadToEnd}
 use Rattle.text_lines.specs.Lines.{HasNoNewline, pieces_of, lines_within, AreWholeLines}
 use Rattle.text_lines.specs.LineReader.{LineReading}
@@ -7,7 +7,7 @@ use Rattle.line_script.specs.Block.{Block}
 use Rattle.line_script.specs.declared.places.Place.{Place}
 use Rattle.line_script.specs.declared.steps.Step.{Step}
 use Rattle.run_endings.specs.Outside.{HadInput}
-use Rattle.script_replies.specs.Script.{Script, read_lines, read_script}
+use Rattle.script_replies.specs.Script.{Script, read_lines, read_script, wrong_line}
 use Rattle.script_replies.specs.Limits.{most_line_bytes, most_script_bytes}
 
 module _ (place : Place) where
@@ -62,3 +62,15 @@ module _ (place : Place) (left left_now : Option (List ℕ)) (block : Block) (re
 -- what is said of the input of a source, and of what is left of it
 abbrev pub Has : Option (List ℕ) → Option (List ℕ) → (List ℕ → List ℕ → Type 0) → Type 0
 Has left left_after P = (input : List ℕ) × (rest : List ℕ) × HadInput left left_after input rest × P input rest
+
+-- The first wrong line of the whole input is this one; the lines before it have these steps.
+pub record MeetsWrongLine (place : Place) (number : ℕ) (steps : List Step) (input rest : List ℕ) : Type 0 where
+  pub wrong : wrong_line (read_script place input) ≡ Some number
+  pub steps_are : steps ≡ (read_script place input).steps
+  pub reads : ReadsLines place input rest steps
+
+-- The input was read to its end, and no line of it is wrong.
+pub record ReadsWhole (place : Place) (steps : List Step) (input rest : List ℕ) : Type 0 where
+  pub over : rest ≡ []
+  pub right : wrong_line (read_script place input) ≡ None
+  pub steps_are : steps ≡ (read_script place input).steps
