@@ -36,12 +36,12 @@ module _ (said : Said) (source source_after : SourceSeen) (disk disk_after : Dis
       → AnswersScript first said ending source source_after → ((ending ≡ Done) × (said.due ≡ answer)) ⊎ (ending ≡ Memory)
   over Done first same unfailed script =
       let input_is = same-input script.input script.rest script.had in
-      let steps = sym script.are_answered ∙ (script.read.2 ∙ ap (λ bytes. (read_local bytes).steps) (sym input_is)) in
+      let steps = sym script.are_answered ∙ (script.read.steps_are ∙ ap (λ bytes. (read_local bytes).steps) (sym input_is)) in
       inl (refl, script.due ∙ (ap (replies first []) steps ∙ ap (λ desk. replies desk [] (read_local input).steps) (sym same)))
   over Memory first same unfailed script = inr refl
   over (Line number) first same unfailed script =
       let input_is = same-input script.input script.rest script.had in
-      let wrong : Some number ≡ None = sym script.read.0 ∙ (ap (λ bytes. wrong_line (read_local bytes)) (sym input_is) ∙ right) in
+      let wrong : Some number ≡ None = sym script.read.wrong ∙ (ap (λ bytes. wrong_line (read_local bytes)) (sym input_is) ∙ right) in
       cc
   over Source first same unfailed script = absurd unfailed
   over Sink first same unfailed script = absurd unfailed

@@ -43,7 +43,8 @@ pub struct LocalScript {
 impl LocalScript {
     ghost use Rattle.local_runs.specs.parts.Local.{IsSameScript, step_of, Turns, Flushes};
     ghost use Rattle.local_runs.specs.parts.Local.{HandsOver, AnswersStep, RefusesStep, AnswersLine, RefusesLine};
-    ghost use Rattle.local_runs.specs.parts.Local.{counts_source, counts_sink};
+    ghost use Rattle.local_runs.specs.parts.Local.{counts_sink};
+    ghost use Rattle.script_reading.specs.NextLine.{counts_source};
     ghost use Rattle.script_replies.specs.Folded.{AreFolded};
     ghost use Rattle.folder_runs.specs.Keeping.{counts_disk, UnlessDisk, Moves};
 

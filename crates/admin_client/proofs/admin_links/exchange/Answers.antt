@@ -3,7 +3,7 @@ use Rattle.link_ports.specs.Told.{ChangesTold}
 use Rattle.link_ports.specs.Traffic.{with_sent}
 use Rattle.admin_client.specs.Sending.{listed}
 use Rattle.admin_client.proofs.Sending.{said, talked, unsent}
-use Rattle.admin_client.proofs.clients.exchange.Goals as goal
+use Rattle.admin_client.proofs.admin_links.exchange.Goals as goal
 
 pub returns-in-Ok-clause-exchanged : goal.returns-in-Ok-clause-exchanged
 returns-in-Ok-clause-exchanged g c =

@@ -1,7 +1,7 @@
 use Rattle.std.proofs.Common.{Option, Ok, Err, Some, ◌∙◌, refl, subst}
 use Rattle.admin_client.specs.Sending.{State, Begins, Sends, next_number}
 use Rattle.admin_client.proofs.Sending.{counts}
-use Rattle.admin_client.proofs.clients.AdminClient.send.Goals as goal
+use Rattle.admin_client.proofs.admin_links.AdminLink.send.Goals as goal
 
 pub returns-in-Ok-exchange : goal.returns-in-Ok-exchange
 returns-in-Ok-exchange g c =

@@ -8,7 +8,7 @@ use Rattle.line_script.specs.Block.{Block}
 use Rattle.line_script.specs.Grammar.{step_at}
 use Rattle.line_script.specs.declared.steps.Step.{Step}
 use Rattle.script_replies.specs.Script.{Script, line_step, with_step, read_lines}
-use Rattle.local_runs.specs.parts.Progress.{with_steps}
+use Rattle.script_reading.specs.Reading.{with_steps}
 use Rattle.script_replies.specs.Limits.{most_line_bytes}
 
 -- a piece is the first of a text, where it ends with a newline or nothing follows
