@@ -1,12 +1,13 @@
 // Names of a question that are not there: a label of no package, a user whom nobody added.
 ghost use Rattle.std.specs.Prelude.{◌≡◌};
 
-use crate::near_names::{PACKAGE_FRONT, is_named, near_label, package_in};
+use crate::device_labels::is_of_device;
+use crate::near_names::{PACKAGE_FRONT, near_label, package_in};
 use crate::refusal_notes::with_guess;
 use crate::shown::shown;
 use app_registry::{Install, User};
 use bucket_store::Bucket;
-use cynara_keys::{BorrowedQuestion, Key};
+use cynara_keys::BorrowedQuestion;
 use desk_ports::Sink;
 use desk_state::Desk;
 use itoa::Buffer;
@@ -106,8 +107,11 @@ fn is_bare(desk: &Desk) -> bool {
     desk.registry().users().is_empty() && desk.registry().installs().is_empty()
 }
 
-// Whether a package or an application has the label, or a policy names the client.
+// Whether the client is one of the device, or a package or an application has the label, or a policy names it.
 fn has_client(desk: &Desk, client: &[u8]) -> bool {
+    if is_of_device(desk, client) {
+        return true;
+    }
     desk.registry()
         .installs()
         .iter()
@@ -167,15 +171,18 @@ fn has_label(install: &Install, label: &[u8]) -> bool {
     }
 }
 
-// Whether the label names a package that is not there, or is the name of a package or an application without the front of
-// their labels. Other labels are those of the device.
+// Whether the label is neither one of the device nor names a package that is there.
 fn is_of_no_package(desk: &Desk, label: &[u8]) -> bool {
-    let installs = desk.registry().installs();
-    if label.starts_with(PACKAGE_FRONT) {
-        let name = package_in(label);
-        return !installs
-            .iter()
-            .any(|install| install.package.as_slice() == name);
+    if is_of_device(desk, label) {
+        return false;
     }
-    installs.iter().any(|install| is_named(label, install))
+    if !label.starts_with(PACKAGE_FRONT) {
+        return true;
+    }
+    let name = package_in(label);
+    !desk
+        .registry()
+        .installs()
+        .iter()
+        .any(|install| install.package.as_slice() == name)
 }

@@ -8,6 +8,7 @@
 
 mod absent_names;
 mod damages;
+mod device_labels;
 mod line_notes;
 mod lost_links;
 mod near_names;

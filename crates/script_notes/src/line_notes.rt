@@ -3,7 +3,7 @@ ghost use Rattle.std.specs.Prelude.{◌≡◌};
 
 use crate::absent_names::{note_of_access, note_of_check};
 use crate::lost_links::note_lost_link;
-use crate::refusal_notes::{BrokenRule, note_broken_rule};
+use crate::refusal_notes::{BrokenRule, note_broken_rule, note_words};
 use crate::refusal_words::bucket_words;
 use cynara_keys::{BorrowedQuestion, BucketName};
 use desk_ports::Sink;
@@ -138,12 +138,7 @@ impl LineNotes {
         ensures count { K.faults sink.new ≡ K.faults sink.old }
     {
         if desk.database().place(bucket).is_none() {
-            crate::refusal_notes::note_words(
-                self.alloc,
-                number,
-                bucket_words(self.alloc, bucket),
-                sink,
-            );
+            note_words(self.alloc, number, bucket_words(self.alloc, bucket), sink);
         }
     }
 }

@@ -67,8 +67,8 @@ pub fn package_in(label: &[u8]) -> &[u8] {
     }
 }
 
-/// Whether the package or the application of the install has this name.
-pub fn is_named(name: &[u8], install: &Install) -> bool {
+// Whether the package or the application of the install has this name.
+fn is_named(name: &[u8], install: &Install) -> bool {
     name == install.package.as_slice() || name == install.app.as_slice()
 }
 
