@@ -13,7 +13,7 @@ use Rattle.smack_rules.specs.declared.modes.Modes.{Modes}
 use Rattle.command_words.specs.Numbers.{number_within}
 use Rattle.command_words.specs.declared.commands.AskedNames.{AskedNames}
 use Rattle.command_words.specs.declared.commands.Command.{Command}
-use Rattle.command_words.specs.declared.commands.Command.TheVariants.{Local, Serve, Check, Simple, Admin, Agent, SmackAccess, SmackLoad, Sample}
+use Rattle.command_words.specs.declared.commands.Command.TheVariants.{Local, Serve, Watch, Check, Simple, Admin, Agent, SmackAccess, SmackLoad, Sample}
 use Rattle.command_words.specs.declared.commands.CommandRefusal.{CommandRefusal}
 use Rattle.command_words.specs.declared.commands.CommandRefusal.TheVariants.{Unknown, Memory}
 
@@ -32,6 +32,9 @@ access_of subject object modes =
 -- `W`
 abbrev pub serve_of : List ℕ → Option Command
 serve_of workers = option_map Serve (number_within 1 64 workers)
+
+abbrev pub watch_of : List ℕ → Option Command
+watch_of workers = option_map Watch (number_within 1 64 workers)
 
 -- `N`
 abbrev pub sample_of : List ℕ → Option Command
@@ -70,7 +73,8 @@ single_of word =
 abbrev pub of_two : List ℕ → List ℕ → Option Command
 of_two word number =
     if same_text word (codes "serve") then serve_of number
-    else (if same_text word (codes "sample") then sample_of number else None)
+    else (if same_text word (codes "watch") then watch_of number
+    else (if same_text word (codes "sample") then sample_of number else None))
 
 abbrev pub of_three : List ℕ → List ℕ → List ℕ → Option Command
 of_three word kind answer = if same_text word (codes "agent") then agent_of kind answer else None
@@ -104,7 +108,8 @@ is_option word = begins_with_dash (string_bytes word)
 abbrev pub is_run : List ℕ → Bool
 is_run word =
     same_text word (codes "local") || same_text word (codes "smack-load") || same_text word (codes "smack-access")
-    || same_text word (codes "sample")
+    || same_text word (codes "sample") || same_text word (codes "check") || same_text word (codes "simple")
+    || same_text word (codes "agent")
 
 abbrev pub begins_with_run : List (String Global) → Bool
 begins_with_run [] = false
@@ -141,15 +146,30 @@ RunsNow Local = Unit {0}
 RunsNow SmackLoad = Unit {0}
 RunsNow (SmackAccess subject object asked) = Unit {0}
 RunsNow (Sample count) = Unit {0}
+RunsNow (Check asked) = Unit {0}
+RunsNow (Simple asked) = Unit {0}
+RunsNow (Agent kind allowed) = Unit {0}
 RunsNow command = ⊥
 
--- whether a run of these words reads the source, and whether it mounts the folder
+-- whether a run of these words reads the source, whether it mounts the folder, and whether it speaks over the net
 abbrev pub reads_source : Option Command → Bool
 reads_source (Some Local) = true
 reads_source (Some (SmackAccess subject object asked)) = true
+reads_source (Some Admin) = true
 reads_source command = false
 
 abbrev pub mounts_folder : Option Command → Bool
 mounts_folder (Some Local) = true
 mounts_folder (Some SmackLoad) = true
+mounts_folder (Some (Serve workers)) = true
+mounts_folder (Some (Watch workers)) = true
 mounts_folder command = false
+
+abbrev pub uses_net : Option Command → Bool
+uses_net (Some (Serve workers)) = true
+uses_net (Some (Watch workers)) = true
+uses_net (Some (Check asked)) = true
+uses_net (Some (Simple asked)) = true
+uses_net (Some Admin) = true
+uses_net (Some (Agent kind allowed)) = true
+uses_net command = false
