@@ -31,10 +31,17 @@ fn is_near_verb(outside: Option<Place>, word: &[u8], verb: Verb) -> bool {
     is_verb_in(outside, verb) && is_near(word, verb.text())
 }
 
-/// Whether a person who wrote the word may have meant the known one: it is the same but for capitals and one slip (a letter
-/// that lacks, one too many, another one, or two that are exchanged), or the known one begins with it.
+/// Whether a person who wrote the word may have meant the known one: it is the same but for capitals; or, where that has three
+/// letters at least, but for one slip besides (a letter that lacks, one too many, another one, or two that are exchanged), or
+/// three letters or more that it begins with.
 pub fn is_near(word: &[u8], known: &[u8]) -> bool {
     let (behind, known_behind) = behind_common_front(word, known);
+    if behind.is_empty() && known_behind.is_empty() {
+        return true;
+    }
+    if known.len() < FEWEST_LETTERS {
+        return false;
+    }
     if behind.is_empty() && word.len() >= FEWEST_LETTERS {
         return true;
     }
