@@ -107,11 +107,8 @@ fn is_bare(desk: &Desk) -> bool {
     desk.registry().users().is_empty() && desk.registry().installs().is_empty()
 }
 
-// Whether the client is one of the device, or a package or an application has the label, or a policy names it.
+// Whether a package or an application has the label, or a policy names the client, or it is one of the device.
 fn has_client(desk: &Desk, client: &[u8]) -> bool {
-    if is_of_device(desk, client) {
-        return true;
-    }
     desk.registry()
         .installs()
         .iter()
@@ -121,6 +118,7 @@ fn has_client(desk: &Desk, client: &[u8]) -> bool {
             .buckets()
             .iter()
             .any(|bucket| names_client(bucket, client))
+        || is_of_device(desk, client)
 }
 
 fn names_client(bucket: &Bucket, client: &[u8]) -> bool {
@@ -171,17 +169,17 @@ fn has_label(install: &Install, label: &[u8]) -> bool {
     }
 }
 
-// Whether the label is neither one of the device nor names a package that is there.
+// Whether the label is neither that of a package that is there nor one of the device.
 fn is_of_no_package(desk: &Desk, label: &[u8]) -> bool {
-    if is_of_device(desk, label) {
+    !is_of_package(desk, label) && !is_of_device(desk, label)
+}
+
+fn is_of_package(desk: &Desk, label: &[u8]) -> bool {
+    if !label.starts_with(PACKAGE_FRONT) {
         return false;
     }
-    if !label.starts_with(PACKAGE_FRONT) {
-        return true;
-    }
     let name = package_in(label);
-    !desk
-        .registry()
+    desk.registry()
         .installs()
         .iter()
         .any(|install| install.package.as_slice() == name)
