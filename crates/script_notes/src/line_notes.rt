@@ -3,11 +3,10 @@ ghost use Rattle.std.specs.Prelude.{◌≡◌};
 
 use crate::absent_names::{note_of_access, note_of_check};
 use crate::lost_links::note_lost_link;
-use crate::refusal_notes::{BrokenRule, note_broken_rule, note_words};
-use crate::refusal_words::bucket_words;
+use crate::refusal_notes::{BrokenRule, absent_bucket_words, note_broken_rule, note_words};
 use cynara_keys::{BorrowedQuestion, BucketName};
 use desk_ports::Sink;
-use desk_state::{Command, Desk, Refusal};
+use desk_state::{Desk, Refusal};
 use line_script::Step;
 use policy_levels::LevelRefusal;
 use private_sharing::ShareRefusal;
@@ -68,7 +67,7 @@ impl LineNotes {
             return;
         }
         match step {
-            Step::Command(command) => self.tell_of_command(number, command.get(), desk, sink),
+            Step::Command(command) => note_lost_link(self.alloc, number, command.get(), desk, sink),
             Step::List { bucket, .. } | Step::From { bucket, .. } => {
                 self.tell_of_bucket(number, bucket, desk, sink)
             }
@@ -113,19 +112,6 @@ impl LineNotes {
         };
     }
 
-    fn tell_of_command<K: Sink>(
-        &mut self,
-        number: u32,
-        command: &Command,
-        desk: &Desk,
-        sink: &mut K,
-    )
-        ensures taken { K.taken sink.new ≡ K.taken sink.old }
-        ensures count { K.faults sink.new ≡ K.faults sink.old }
-    {
-        note_lost_link(self.alloc, number, command, desk, sink);
-    }
-
     // A list, or a question to a bucket, is refused where the bucket is not there.
     fn tell_of_bucket<K: Sink>(
         &mut self,
@@ -138,7 +124,12 @@ impl LineNotes {
         ensures count { K.faults sink.new ≡ K.faults sink.old }
     {
         if desk.database().place(bucket).is_none() {
-            note_words(self.alloc, number, bucket_words(self.alloc, bucket), sink);
+            note_words(
+                self.alloc,
+                number,
+                absent_bucket_words(self.alloc, bucket, desk),
+                sink,
+            );
         }
     }
 }

@@ -2,7 +2,8 @@
 ghost use Rattle.std.specs.Prelude.{◌≡◌};
 
 use crate::near_names::{near_app, near_bucket};
-use crate::refusal_words::{level_words, refusal_words, share_words};
+use crate::refusal_words::{app_words, bucket_words, level_words, refusal_words, share_words};
+use cynara_keys::BucketName;
 use desk_ports::Sink;
 use desk_state::{Desk, Refusal};
 use policy_levels::LevelRefusal;
@@ -60,24 +61,27 @@ pub fn note_words<K: Sink>(
 
 fn broken_words(alloc: Global, broken: &BrokenRule, desk: &Desk) -> Result<String, AllocError> {
     match broken {
-        BrokenRule::OfCommand(refusal) => {
-            let words = refusal_words(alloc, refusal)?;
-            let near = match refusal {
-                Refusal::NoBucket(bucket) => near_bucket(alloc, desk, bucket.as_slice())?,
-                _ => None,
-            };
-            with_guess(alloc, words, near)
+        BrokenRule::OfCommand(Refusal::NoBucket(bucket)) => {
+            absent_bucket_words(alloc, bucket, desk)
         }
+        BrokenRule::OfCommand(refusal) => refusal_words(alloc, refusal),
         BrokenRule::OfLevel(refusal) => level_words(alloc, *refusal),
-        BrokenRule::OfShare(refusal) => {
-            let words = share_words(alloc, refusal)?;
-            let near = match refusal {
-                ShareRefusal::UnknownApp(app) => near_app(alloc, desk, app.as_slice())?,
-                _ => None,
-            };
-            with_guess(alloc, words, near)
+        BrokenRule::OfShare(ShareRefusal::UnknownApp(app)) => {
+            let near = near_app(alloc, desk, app.as_slice())?;
+            with_guess(alloc, app_words(alloc, app)?, near)
         }
+        BrokenRule::OfShare(refusal) => share_words(alloc, refusal),
     }
+}
+
+/// That a bucket is not there, with one that may be meant.
+pub fn absent_bucket_words(
+    alloc: Global,
+    bucket: &BucketName,
+    desk: &Desk,
+) -> Result<String, AllocError> {
+    let near = near_bucket(alloc, desk, bucket.as_slice())?;
+    with_guess(alloc, bucket_words(alloc, bucket)?, near)
 }
 
 /// The words, with what may be meant behind them.

@@ -149,13 +149,16 @@ fn type_word(kind: UserType) -> &'static str {
     }
 }
 
+/// That an application is not installed.
+pub fn app_words(alloc: Global, app: &Ident) -> Result<String, AllocError> {
+    let shown = shown(alloc, app.as_slice())?;
+    format!(in alloc; "no application {shown} is installed; 'install' and 'hybrid' do that")
+}
+
 /// What the refusal of a share says.
 pub fn share_words(alloc: Global, refusal: &ShareRefusal) -> Result<String, AllocError> {
     match refusal {
-        ShareRefusal::UnknownApp(app) => {
-            let shown = shown(alloc, app.as_slice())?;
-            format!(in alloc; "no application {shown} is installed; 'install' and 'hybrid' do that")
-        }
+        ShareRefusal::UnknownApp(app) => app_words(alloc, app),
         ShareRefusal::SameLabel(label) => {
             let shown = shown(alloc, label.as_slice())?;
             format!(in alloc; "both applications run with the label {shown}, so they share all")
