@@ -11,22 +11,22 @@ use Rattle.access_runs.proofs.Completing.{completes-access}
 use Rattle.sample_runs.proofs.Completing.{completes-sample}
 use Rattle.privilege_cli.specs.Program.{NetTells, Ends, Completes}
 
-pub Ends-completes : {N L : Type 0} (tells : NetTells N L) (command : Option Command) (status : ℕ) (before after : Outside) (net net_after : N)
+pub Ends-completes : {N L E A : Type 0} (tells : NetTells N L E A) (command : Option Command) (status : ℕ) (before after : Outside) (net net_after : N)
     → Ends tells command status before after net net_after → NoCallFails before after → Completes command status before after
 Ends-completes tells (Some Local) status before after net net_after e none = λ input start told right stands.
-    let unfailed = is-unfailed e.ending e.said before after e.counts e.writes none in
+    let unfailed = is-unfailed e.ending e.said before after (record { source = e.source_count; disk = e.disk_count }) e.writes none in
     gives e.ending e.said status before.sink after.sink _ e.status_is e.writes
     (completes-local e.said before.source after.source before.disk after.disk input start told right stands e.ending unfailed e.runs)
 Ends-completes tells (Some SmackLoad) status before after net net_after e none = λ start stands.
-    let unfailed = is-unfailed e.ending e.said before after e.counts e.writes none in
+    let unfailed = is-unfailed e.ending e.said before after (record { source = e.source_count; disk = e.disk_count }) e.writes none in
     gives e.ending e.said status before.sink after.sink _ e.status_is e.writes
     (completes-load e.said before.disk after.disk start stands e.ending unfailed e.runs)
 Ends-completes tells (Some (SmackAccess subject object asked)) status before after net net_after e none = λ input rules told right.
-    let unfailed = is-unfailed e.ending e.said before after e.counts e.writes none in
+    let unfailed = is-unfailed e.ending e.said before after (record { source = e.source_count; disk = e.disk_count }) e.writes none in
     gives e.ending e.said status before.sink after.sink _ e.status_is e.writes
     (completes-access subject object asked e.said before.source after.source input rules told right e.ending unfailed e.runs)
 Ends-completes tells (Some (Sample count)) status before after net net_after e none = λ found comes_to.
-    let unfailed = is-unfailed e.ending e.said before after e.counts e.writes none in
+    let unfailed = is-unfailed e.ending e.said before after (record { source = e.source_count; disk = e.disk_count }) e.writes none in
     gives e.ending e.said status before.sink after.sink _ e.status_is e.writes
     (completes-sample count e.said found comes_to e.ending unfailed e.runs)
 Ends-completes tells None status before after net net_after e none = tt

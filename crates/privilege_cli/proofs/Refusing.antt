@@ -1,5 +1,5 @@
 -- Runs without a command.
-use Rattle.std.proofs.Common.{◌≡◌, ◌++◌, [], ℕ, String, List, Option, Some, None, IsTrue, true, false, Err, inl, inr, refl, sym, subst}
+use Rattle.std.proofs.Common.{◌≡◌, ◌++◌, [], ℕ, String, List, Option, Some, None, IsTrue, true, false, Err, inl, inr, refl, sym, subst, arith}
 use Rattle.std.specs.declared.alloc.Global.{Global}
 use Rattle.std.specs.declared.alloc.AllocError.{AllocError}
 use Rattle.desk_ports.specs.Content.{Appended}
@@ -19,7 +19,7 @@ use Rattle.privilege_cli.specs.Program.{NetTells, RunsCommand, CountsNet}
 untrue : IsTrue false → ⊥
 untrue is = let wrong : false ≡ true = is in cc
 
-module _ {N L : Type 0} (tells : NetTells N L) (error : AllocError) where
+module _ {N L E A : Type 0} (tells : NetTells N L E A) (error : AllocError) where
   -- a command for whose words there is no memory reads nothing, dials nothing, and says nothing
   unread : (command : Command) (source : SourceSeen) (disk : DiskSeen) (net : N) → IsTrue (copies_words command)
       → RunsCommand tells (Some command) silence Memory source source disk disk net net
@@ -50,7 +50,7 @@ module _ {N L : Type 0} (tells : NetTells N L) (error : AllocError) where
   )
 
 -- words that name no command read nothing, and only a note is made of them
-pub without_command : {N L : Type 0} (tells : NetTells N L) (words : List (String Global)) (source : SourceSeen)
+pub without_command : {N L E A : Type 0} (tells : NetTells N L E A) (words : List (String Global)) (source : SourceSeen)
     (sink sink_after : SinkSeen) (disk : DiskSeen) (net : N)
     → command_of words ≡ None → sink_after.taken ≡ sink.taken → sink_after.faults ≡ sink.faults
     → (said : Said) × RunsCommand tells (command_of words) said Words source source disk disk net net
@@ -70,13 +70,7 @@ counts-none : (command : Command) (count : ℕ) → IsTrue (copies_words command
 counts-none (SmackAccess subject object asked) count copies = refl
 counts-none (Check asked) count copies = (0, omega arith, refl)
 counts-none (Simple asked) count copies = (0, omega arith, refl)
-counts-none Local count copies = refl
-counts-none SmackLoad count copies = refl
-counts-none (Sample number) count copies = refl
-counts-none (Serve workers) count copies = refl
-counts-none (Watch workers) count copies = refl
-counts-none Admin count copies = refl
-counts-none (Agent kind allowed) count copies = refl
+counts-none command count copies = absurd (untrue copies)
 
 pub uncounted : (words : List (String Global)) (error : AllocError) (count : ℕ)
     → ReadsCommand (Err (NoMemory error)) (command_of words) → CountsNet (command_of words) Memory count count

@@ -16,6 +16,7 @@ use std::alloc::{AllocError, Global};
 use std::io::IsTerminal;
 use std::process::ExitCode;
 use std::sync::Wait;
+use std::thread::Threads;
 
 /// The status of a run that found no memory.
 const NO_MEMORY: u8 = 1;
@@ -30,8 +31,20 @@ fn main(rt: HostRuntime) -> ExitCode {
     }
 }
 
+/// Tells a person on standard error.
+struct ErrorNotes<'a> {
+    rt: &'a HostRuntime,
+}
+
+impl Notes for ErrorNotes<'_> {
+    fn note(&self, line: &str) {
+        // Where standard error takes nothing, there is no one to tell.
+        let _ = eprintln!(self.rt; "{line}");
+    }
+}
+
 // Runs the program on standard input and output, on its folder and on the sockets beside it. How it ends.
-fn run_on_host<W: Wait>(rt: &HostRuntime, waits: &W) -> Result<u8, AllocError> {
+fn run_on_host<T: Threads + Wait + Sync>(rt: &HostRuntime, threads: &T) -> Result<u8, AllocError> {
     take_descriptors(rt);
     let directory = directory_path(rt, rt.alloc())?;
     let folder = folder_of(rt.alloc(), &directory)?;
@@ -42,12 +55,14 @@ fn run_on_host<W: Wait>(rt: &HostRuntime, waits: &W) -> Result<u8, AllocError> {
     greet(rt)?;
     let status = run_on(
         rt,
-        waits,
+        threads,
         rt.alloc(),
         &mut source,
         &mut sink,
         &mut disk,
         &mut net,
+        &OpenGate,
+        &ErrorNotes { rt },
     );
     if let Some(failure) = &source.failure {
         let _ = eprintln!(rt; "privilege: cannot read standard input: {failure}");
