@@ -22,6 +22,6 @@ pub use agent_replies::AgentReply;
 pub use answers::answer_check;
 pub use checks::Check;
 pub use client_loops::{client_loop, recorded_loop};
-pub use recording::Records;
 pub use judgements::Judgement;
 pub use laws::each_frame_of_a_client_is_answered;
+pub use recording::Records;

@@ -77,12 +77,7 @@ impl Outbox {
     }
 
     // Sends the replies that wait, if there are any, with one call of the link; and then passes the gate once for each.
-    fn send_all<L: Link, G: Gate>(
-        &mut self,
-        link: &mut L,
-        seat: u32,
-        gate: &G,
-    ) -> Result<(), Ended>
+    fn send_all<L: Link, G: Gate>(&mut self, link: &mut L, seat: u32, gate: &G) -> Result<(), Ended>
         ensures sent { OnOk result (Carried (L.traffic link.old) (L.traffic link.new) [] self.old) }
         ensures empty { OnOk result (self.new ≡ []) }
         ensures faults { OnOk result (L.faults link.new ≡ L.faults link.old) }

@@ -23,6 +23,7 @@ pub trait Records {
 }
 
 /// Records nothing.
+#[derive(Drop)]
 pub(crate) struct Unrecorded;
 
 impl Records for Unrecorded {

@@ -17,12 +17,12 @@ ghost use Rattle.client_door.specs.Recording.{Recording, Leads, with_noted};
 ghost use Rattle.client_door.specs.Serving.{ClientSide, recorded_side};
 ghost use Rattle.client_door.specs.parts.Talk.{Goes, Ends, IsReadNow, with_sent};
 
-use crate::{AgentReply, Judgement, Records};
 use crate::asking::ask_agent;
 use crate::checks::{Check, take_check};
 use crate::outboxes::Outbox;
 use crate::readings::{Found, Read, read_check};
 use crate::spelling::spell;
+use crate::{AgentReply, Judgement, Records};
 use core::mem::replace;
 use cynara_keys::{Kind, Metadata};
 use desk_ports::Bytes;

@@ -19,7 +19,7 @@ loop-init g c = (
         subst (λ (feeder : Feeding). IsSound feeder) (sym c.new-talk.ensures.feeder) (unfed_sound AtClient),
         λ before fits. let side : ClientSide =
             (recorded_side c.args.seat.now (g.A.Hall.tally c.args.hall.now) (g.A.Hall.calls c.args.hall.now) (g.L.Link.traffic c.args.link.now) (g.L.Link.marks c.args.link.now)
-    (g.L.Link.faults c.args.link.now) before) in (
+            (g.L.Link.faults c.args.link.now) before) in (
               before,
               fits,
               subst (λ (feeder : Feeding). Stands side side feeder c.new-talk.result.outbox []) (sym c.new-talk.ensures.feeder)
@@ -40,9 +40,12 @@ loop-preserved g c = (
       (
         c.in_default-turn.ensures.sound,
         λ before fits. let first = c.loop.invariant.2.2.2 before fits in
-            let then = c.in_default-turn.ensures.talk first.0 first.1 in
-            (then.0, then.1, then.2 (recorded_side c.args.seat.now (g.A.Hall.tally c.args.hall.now) (g.A.Hall.calls c.args.hall.now) (g.L.Link.traffic c.args.link.now) (g.L.Link.marks c.args.link.now)
-    (g.L.Link.faults c.args.link.now) before) first.2),
+            let then = c.in_default-turn.ensures.talk first.0 first.1 in (
+              then.0,
+              then.1,
+              then.2 (recorded_side c.args.seat.now (g.A.Hall.tally c.args.hall.now) (g.A.Hall.calls c.args.hall.now) (g.L.Link.traffic c.args.link.now) (g.L.Link.marks c.args.link.now)
+                  (g.L.Link.faults c.args.link.now) before) first.2,
+            ),
       ),
     ),
   ),
@@ -51,6 +54,9 @@ loop-preserved g c = (
 pub returns-in-Err : goal.returns-in-Err
 returns-in-Err g c before fits =
     let first = c.loop.invariant.2.2.2 before fits in
-    let then = c.in-Err.ensures.talk first.0 first.1 in
-    (then.0, then.1, then.2 (recorded_side c.args.seat.now (g.A.Hall.tally c.args.hall.now) (g.A.Hall.calls c.args.hall.now) (g.L.Link.traffic c.args.link.now) (g.L.Link.marks c.args.link.now)
-    (g.L.Link.faults c.args.link.now) before) first.2)
+    let then = c.in-Err.ensures.talk first.0 first.1 in (
+      then.0,
+      then.1,
+      then.2 (recorded_side c.args.seat.now (g.A.Hall.tally c.args.hall.now) (g.A.Hall.calls c.args.hall.now) (g.L.Link.traffic c.args.link.now) (g.L.Link.marks c.args.link.now)
+          (g.L.Link.faults c.args.link.now) before) first.2,
+    )

@@ -11,11 +11,11 @@ returns-in-Err-clause-talk g c reader desk now_read is before fits = (
   before,
   subst (λ recorder. g.M.Records.fits recorder before) (sym c.in-Err.ensures.unrecorded) fits,
   λ start s. ends_for_fault start
-    (recorded_side reader (g.A.Hall.tally c.args.hall.now) (g.A.Hall.calls c.args.hall.now) (g.L.Link.traffic c.args.link.now) (g.L.Link.marks c.args.link.now)
-    (g.L.Link.faults c.args.link.now) before)
-    (g.L.Link.traffic c.flush.new.link) (g.L.Link.marks c.flush.new.link) (g.L.Link.faults c.flush.new.link) before
-    c.args.self.now.feeder c.args.self.now.outbox (c.args.check.now ∷ []) c.in-Err.ended c.in-Err.ensures.ended.0 c.requires.side
-    c.in-Err.ensures.unsent (ap (λ (marks : LinkMarks). marks.ends) c.flush.ensures.marks) c.in-Err.ensures.ended.1 refl s,
+      (recorded_side reader (g.A.Hall.tally c.args.hall.now) (g.A.Hall.calls c.args.hall.now) (g.L.Link.traffic c.args.link.now) (g.L.Link.marks c.args.link.now)
+      (g.L.Link.faults c.args.link.now) before)
+      (g.L.Link.traffic c.flush.new.link) (g.L.Link.marks c.flush.new.link) (g.L.Link.faults c.flush.new.link) before
+      c.args.self.now.feeder c.args.self.now.outbox (c.args.check.now ∷ []) c.in-Err.ended c.in-Err.ensures.ended.0 c.requires.side
+      c.in-Err.ensures.unsent (ap (λ (marks : LinkMarks). marks.ends) c.flush.ensures.marks) c.in-Err.ensures.ended.1 refl s,
 )
 
 pub returns-in-Ok-tell-clause-talk : goal.returns-in-Ok-tell-clause-talk
@@ -25,10 +25,10 @@ returns-in-Ok-tell-clause-talk g c reader desk now_read is before fits =
       told.1,
       λ start s. subst (λ (feeder : Feeding). Stands start
           (recorded_side reader (g.A.Hall.tally c.ask_agent.new.hall) (g.A.Hall.calls c.ask_agent.new.hall) (g.L.Link.traffic c.flush.new.link) (g.L.Link.marks c.flush.new.link)
-    (g.L.Link.faults c.flush.new.link) told.0) feeder c.tell.new.self.outbox []) (sym c.tell.ensures.feeder)
+          (g.L.Link.faults c.flush.new.link) told.0) feeder c.tell.new.self.outbox []) (sym c.tell.ensures.feeder)
           (sends_and_asks
           (recorded_side reader (g.A.Hall.tally c.args.hall.now) (g.A.Hall.calls c.args.hall.now) (g.L.Link.traffic c.args.link.now) (g.L.Link.marks c.args.link.now)
-    (g.L.Link.faults c.args.link.now) before)
+          (g.L.Link.faults c.args.link.now) before)
           (g.L.Link.traffic c.flush.new.link) (g.L.Link.marks c.flush.new.link) (g.L.Link.faults c.flush.new.link) told.0
           (g.A.Hall.tally c.ask_agent.new.hall) (g.A.Hall.calls c.ask_agent.new.hall)
           c.args.self.now.feeder c.args.self.now.outbox c.flush.new.self [] c.tell.new.self.outbox c.args.check.now desk c.args.commit c.args.kind c.args.metadata
@@ -43,7 +43,7 @@ returns-in-Err-tell-clause-talk g c reader desk now_read is before fits =
       told.1,
       λ start s. sends_and_asks_for_nothing
           (recorded_side reader (g.A.Hall.tally c.args.hall.now) (g.A.Hall.calls c.args.hall.now) (g.L.Link.traffic c.args.link.now) (g.L.Link.marks c.args.link.now)
-    (g.L.Link.faults c.args.link.now) before)
+          (g.L.Link.faults c.args.link.now) before)
           (g.L.Link.traffic c.flush.new.link) (g.L.Link.marks c.flush.new.link) (g.L.Link.faults c.flush.new.link) told.0
           (g.A.Hall.tally c.ask_agent.new.hall) (g.A.Hall.calls c.ask_agent.new.hall)
           c.args.self.now.feeder c.args.self.now.outbox c.args.check.now desk c.args.commit c.args.kind c.args.metadata
@@ -58,7 +58,7 @@ returns-in-Err-ask_agent-clause-talk g c reader desk now_read is before fits =
       told.1,
       λ start s. sends_and_asks_in_vain
           (recorded_side reader (g.A.Hall.tally c.args.hall.now) (g.A.Hall.calls c.args.hall.now) (g.L.Link.traffic c.args.link.now) (g.L.Link.marks c.args.link.now)
-    (g.L.Link.faults c.args.link.now) before)
+          (g.L.Link.faults c.args.link.now) before)
           (g.L.Link.traffic c.flush.new.link) (g.L.Link.marks c.flush.new.link) (g.L.Link.faults c.flush.new.link) told.0
           (g.A.Hall.tally c.ask_agent.new.hall) (g.A.Hall.calls c.ask_agent.new.hall)
           c.args.self.now.feeder c.args.self.now.outbox c.args.check.now desk c.args.commit c.args.kind c.args.metadata

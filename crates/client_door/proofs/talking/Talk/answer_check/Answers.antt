@@ -16,13 +16,13 @@ returns-in-Ok-clause-talk g c before fits =
       told.1,
       λ start s. subst (λ (feeder : Feeding). Stands start
           (recorded_side c.read.new.seat (g.A.Hall.tally c.args.hall.now) (g.A.Hall.calls c.args.hall.now) (g.L.Link.traffic c.args.link.now) (g.L.Link.marks c.args.link.now)
-    (g.L.Link.faults c.args.link.now) told.0) feeder c.put_judged.new.self.outbox [])
+          (g.L.Link.faults c.args.link.now) told.0) feeder c.put_judged.new.self.outbox [])
           (sym (c.put_judged.ensures.feeder ∙ c.read.ensures.feeder))
           (reads_and_puts
           (recorded_side c.args.seat.now (g.A.Hall.tally c.args.hall.now) (g.A.Hall.calls c.args.hall.now) (g.L.Link.traffic c.args.link.now) (g.L.Link.marks c.args.link.now)
-    (g.L.Link.faults c.args.link.now) before)
+          (g.L.Link.faults c.args.link.now) before)
           (recorded_side c.read.new.seat (g.A.Hall.tally c.args.hall.now) (g.A.Hall.calls c.args.hall.now) (g.L.Link.traffic c.args.link.now) (g.L.Link.marks c.args.link.now)
-    (g.L.Link.faults c.args.link.now) told.0)
+          (g.L.Link.faults c.args.link.now) told.0)
           c.read.new.seat told.0 c.args.self.now.feeder c.args.self.now.outbox c.read.new.self.frame c.put_judged.new.self.outbox c.args.check
           read.0 (Judged verdict) c.read.ensures.same c.read.ensures.seen refl read.1 is spelled
           (notes_judged before told.0 c.args.check.question verdict c.in-Judged.commit c.in-Judged.allowed at allowed told.2)
@@ -36,9 +36,9 @@ returns-in-Err-clause-talk g c before fits =
       c.in-Err.ensures.kept before fits,
       reads_for_nothing
           (recorded_side c.args.seat.now (g.A.Hall.tally c.args.hall.now) (g.A.Hall.calls c.args.hall.now) (g.L.Link.traffic c.args.link.now) (g.L.Link.marks c.args.link.now)
-    (g.L.Link.faults c.args.link.now) before)
+          (g.L.Link.faults c.args.link.now) before)
           (recorded_side c.read.new.seat (g.A.Hall.tally c.args.hall.now) (g.A.Hall.calls c.args.hall.now) (g.L.Link.traffic c.args.link.now) (g.L.Link.marks c.args.link.now)
-    (g.L.Link.faults c.args.link.now) before)
+          (g.L.Link.faults c.args.link.now) before)
           c.read.new.seat read.0 c.args.self.now.feeder c.args.self.now.outbox c.args.check c.in-Err.ended c.read.ensures.same c.read.ensures.seen refl
           read.1 c.in-Err.ensures.ended c.requires,
     )
@@ -51,13 +51,13 @@ returns-in-Ok-put_reply-clause-talk g c before fits =
       fits,
       λ start s. subst (λ (feeder : Feeding). Stands start
           (recorded_side c.read.new.seat (g.A.Hall.tally c.args.hall.now) (g.A.Hall.calls c.args.hall.now) (g.L.Link.traffic c.args.link.now) (g.L.Link.marks c.args.link.now)
-    (g.L.Link.faults c.args.link.now) before) feeder c.put_reply.new.self.outbox [])
+          (g.L.Link.faults c.args.link.now) before) feeder c.put_reply.new.self.outbox [])
           (sym (c.put_reply.ensures.feeder ∙ c.read.ensures.feeder))
           (reads_and_puts
           (recorded_side c.args.seat.now (g.A.Hall.tally c.args.hall.now) (g.A.Hall.calls c.args.hall.now) (g.L.Link.traffic c.args.link.now) (g.L.Link.marks c.args.link.now)
-    (g.L.Link.faults c.args.link.now) before)
+          (g.L.Link.faults c.args.link.now) before)
           (recorded_side c.read.new.seat (g.A.Hall.tally c.args.hall.now) (g.A.Hall.calls c.args.hall.now) (g.L.Link.traffic c.args.link.now) (g.L.Link.marks c.args.link.now)
-    (g.L.Link.faults c.args.link.now) before)
+          (g.L.Link.faults c.args.link.now) before)
           c.read.new.seat before c.args.self.now.feeder c.args.self.now.outbox c.read.new.self.frame c.put_reply.new.self.outbox c.args.check
           read.0 (NotResolved commit kind) c.read.ensures.same c.read.ensures.seen refl read.1 is spelled
           (notes_nothing before [] refl)
@@ -71,9 +71,9 @@ returns-in-Err-put_reply-clause-talk g c before fits =
       fits,
       reads_for_nothing
           (recorded_side c.args.seat.now (g.A.Hall.tally c.args.hall.now) (g.A.Hall.calls c.args.hall.now) (g.L.Link.traffic c.args.link.now) (g.L.Link.marks c.args.link.now)
-    (g.L.Link.faults c.args.link.now) before)
+          (g.L.Link.faults c.args.link.now) before)
           (recorded_side c.read.new.seat (g.A.Hall.tally c.args.hall.now) (g.A.Hall.calls c.args.hall.now) (g.L.Link.traffic c.args.link.now) (g.L.Link.marks c.args.link.now)
-    (g.L.Link.faults c.args.link.now) before)
+          (g.L.Link.faults c.args.link.now) before)
           c.read.new.seat read.0 c.args.self.now.feeder c.args.self.now.outbox c.args.check c.in-Err-put_reply.ended c.read.ensures.same c.read.ensures.seen refl
           read.1 c.in-Err-put_reply.ensures.put.0 c.requires,
     )
@@ -85,9 +85,9 @@ returns-in-Memory-clause-talk g c before fits =
       fits,
       reads_for_nothing
           (recorded_side c.args.seat.now (g.A.Hall.tally c.args.hall.now) (g.A.Hall.calls c.args.hall.now) (g.L.Link.traffic c.args.link.now) (g.L.Link.marks c.args.link.now)
-    (g.L.Link.faults c.args.link.now) before)
+          (g.L.Link.faults c.args.link.now) before)
           (recorded_side c.read.new.seat (g.A.Hall.tally c.args.hall.now) (g.A.Hall.calls c.args.hall.now) (g.L.Link.traffic c.args.link.now) (g.L.Link.marks c.args.link.now)
-    (g.L.Link.faults c.args.link.now) before)
+          (g.L.Link.faults c.args.link.now) before)
           c.read.new.seat read.0 c.args.self.now.feeder c.args.self.now.outbox c.args.check _ c.read.ensures.same c.read.ensures.seen refl
           read.1 refl c.requires,
     )
@@ -101,7 +101,7 @@ returns-in-Ok-answer_by_agent-clause-talk g c before fits =
       λ start s. then.2 start
           (reads_on
           (recorded_side c.args.seat.now (g.A.Hall.tally c.args.hall.now) (g.A.Hall.calls c.args.hall.now) (g.L.Link.traffic c.args.link.now) (g.L.Link.marks c.args.link.now)
-    (g.L.Link.faults c.args.link.now) before)
+          (g.L.Link.faults c.args.link.now) before)
           c.read.new.seat read.0 c.args.self.now.feeder c.read.new.self.feeder c.args.self.now.outbox c.read.new.self.outbox c.args.check
           c.read.ensures.same c.read.ensures.seen read.1 c.read.ensures.feeder c.read.ensures.outbox start s),
     )
@@ -115,7 +115,7 @@ returns-in-Err-answer_by_agent-clause-talk g c before fits =
       λ start s. then.2 start
           (reads_on
           (recorded_side c.args.seat.now (g.A.Hall.tally c.args.hall.now) (g.A.Hall.calls c.args.hall.now) (g.L.Link.traffic c.args.link.now) (g.L.Link.marks c.args.link.now)
-    (g.L.Link.faults c.args.link.now) before)
+          (g.L.Link.faults c.args.link.now) before)
           c.read.new.seat read.0 c.args.self.now.feeder c.read.new.self.feeder c.args.self.now.outbox c.read.new.self.outbox c.args.check
           c.read.ensures.same c.read.ensures.seen read.1 c.read.ensures.feeder c.read.ensures.outbox start s),
     )

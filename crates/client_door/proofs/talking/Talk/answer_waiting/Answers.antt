@@ -14,7 +14,7 @@ returns-in-Err-clause-talk g c before fits =
       λ start s. then.2 start
           (takes_check start
           (recorded_side c.loop-check.seat (g.A.Hall.tally c.loop-check.hall) (g.A.Hall.calls c.loop-check.hall) (g.L.Link.traffic c.loop-check.link) (g.L.Link.marks c.loop-check.link)
-    (g.L.Link.faults c.loop-check.link) first.0)
+          (g.L.Link.faults c.loop-check.link) first.0)
           c.loop-check.self.feeder c.take_check.new.feeder c.loop-check.self.outbox c.in-Some.check c.in-Some.ensures.taken
           (first.2 start s)),
     )
@@ -31,7 +31,7 @@ loop-check-preserved g c = (
           λ start s. then.2 start
               (takes_check start
               (recorded_side c.loop-check.seat (g.A.Hall.tally c.loop-check.hall) (g.A.Hall.calls c.loop-check.hall) (g.L.Link.traffic c.loop-check.link) (g.L.Link.marks c.loop-check.link)
-    (g.L.Link.faults c.loop-check.link) first.0)
+              (g.L.Link.faults c.loop-check.link) first.0)
               c.loop-check.self.feeder c.take_check.new.feeder c.loop-check.self.outbox c.in-Some.check c.in-Some.ensures.taken
               (first.2 start s)),
         ),
