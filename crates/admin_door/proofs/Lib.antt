@@ -8,3 +8,4 @@ pub mod Behind
 pub mod Framing
 pub mod Sending
 pub mod Serving
+pub mod Complete

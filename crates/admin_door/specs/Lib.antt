@@ -6,4 +6,5 @@ pub mod Adding
 pub mod Stops
 pub mod Serving
 pub mod Running
+pub mod Complete
 pub mod parts

@@ -106,6 +106,11 @@ impl<'d, D: Disk> Keeper<'d, D> {
             ⊎ IsOlder self.old.desk before.current fault))) }
         ensures unchanged { IfErr result (λ refusal. WhereTold (D.state self.old.vault.disk.now)
             (λ before. LeavesDamaged refusal before (D.state self.new.vault.disk.now))) }
+
+        // What is read behind the call is damaged as it was told.
+        ensures still_damaged { IfErr result (λ refusal. WhereTold (D.state self.old.vault.disk.now)
+            (λ before. IfDamaged refusal (λ fault. WhereTold (D.state self.new.vault.disk.now)
+            (λ after. (kept after.current ≡ Err fault) ⊎ IsOlder self.old.desk after.current fault)))) }
         ensures tells { StillTells (D.state self.old.vault.disk.now) (D.state self.new.vault.disk.now) }
         ensures count { D.faults self.new.vault.disk.now ≡ count_after_mount result (D.faults self.old.vault.disk.now) }
         ensures same_disk { self.new.vault.disk.ghost_name ≡ self.old.vault.disk.ghost_name }
