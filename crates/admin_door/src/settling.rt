@@ -3,6 +3,7 @@ ghost use Rattle.std.specs.Prelude.{◌≡◌, ◌≤◌, true, false, List, Opt
 ghost use Rattle.desk_state.specs.DeskState.{DeskState};
 ghost use Rattle.desk_ports.specs.Disk.{WhereTold};
 ghost use Rattle.desk_ports.specs.Moments.{LeavesOnly};
+ghost use Rattle.guard_files.specs.Telling.{StillTells};
 ghost use Rattle.desk_keeper.specs.Keeper.{disk_of, held_of, IsSameDisk};
 ghost use Rattle.desk_keeper.specs.Keeping.{EndsKept};
 ghost use Rattle.admin_door.specs.Stops.{KeepsKnown, StandsAsAt, Allows};
@@ -50,6 +51,7 @@ pub(crate) fn settle<R: Wait, D: Disk, A: Hall>(
     ensures kept { WhereTold (D.state (disk_of keeper.old)) (λ before.
         KeepsKnown (decided_of keeper.old) keeper.old.desk (held_of keeper.old) before → decided_of keeper.new ≡ true
         → EndsKept keeper.new.desk (held_of keeper.new) (D.state (disk_of keeper.new)) × Allows before keeper.new.desk) }
+    ensures tells { StillTells (D.state (disk_of keeper.old)) (D.state (disk_of keeper.new)) }
     ensures decided { OnOk result (decided_of keeper.new ≡ true) }
     ensures even { OnOk result (last_commit 0 publisher.new ≡ keeper.new.desk.commit) }
     ensures behind { OnErr result (last_commit 0 publisher.new ≤ keeper.new.desk.commit) }
@@ -76,6 +78,7 @@ fn remount<D: Disk>(keeper: &mut Keeper<'_, D>) -> Result<(), Unsettled>
         LeavesOnly D.moment D.left_since (disk_of keeper.old) (disk_of keeper.new) (StandsAsAt before)) }
     ensures kept { WhereTold (D.state (disk_of keeper.old)) (λ before. decided_of keeper.new ≡ true
         → EndsKept keeper.new.desk (held_of keeper.new) (D.state (disk_of keeper.new)) × Allows before keeper.new.desk) }
+    ensures tells { StillTells (D.state (disk_of keeper.old)) (D.state (disk_of keeper.new)) }
     ensures decided { OnOk result (decided_of keeper.new ≡ true) }
     ensures no_older { keeper.old.desk.commit ≤ keeper.new.desk.commit }
     ensures same_disk { IsSameDisk keeper.old keeper.new }
