@@ -10,8 +10,8 @@ returns-in-Ok-clause-next g c =
     next_found (g.S.Source.left c.args.source.now) (g.S.Source.left c.next.new.source) c.args.lines.now c.next.new.self c.in-Ok.has_line
     c.in-Ok.ensures.next
 
-pub returns-clause-next : goal.returns-clause-next
-returns-clause-next g c =
+pub returns-in-Err-clause-next : goal.returns-clause-next
+returns-in-Err-clause-next g c =
     subst (λ ending. ReadsNext (g.S.Source.left c.args.source.now) (g.S.Source.left c.next.new.source) c.args.lines.now c.next.new.self (Err ending))
     (sym c.from.ensures)
     (next_refused (g.S.Source.left c.args.source.now) (g.S.Source.left c.next.new.source) c.args.lines.now c.next.new.self c.in-Err.refusal

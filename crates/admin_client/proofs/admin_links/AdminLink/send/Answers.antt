@@ -1,13 +1,13 @@
 use Rattle.std.proofs.Common.{Option, Ok, Err, Some, ◌∙◌, refl, subst}
-use Rattle.admin_client.specs.Sending.{State, Begins, Sends, next_number}
+use Rattle.admin_client.specs.Sending.{Kept, with_dial, Begins, Sends, next_number}
 use Rattle.admin_client.proofs.Sending.{counts}
 use Rattle.admin_client.proofs.admin_links.AdminLink.send.Goals as goal
 
 pub returns-in-Ok-exchange : goal.returns-in-Ok-exchange
 returns-in-Ok-exchange g c =
     let dial = c.link_of.new.dial in
-    subst (λ (old : State _ _). Sends g.N.Link.Link.faults g.N.Link.Link.marks g.N.Link.Link.traffic g.N.Dial.faults g.N.Dial.dials
-    g.N.Dial.given_back c.args.message.now (Ok c.in-Ok-exchange.replies.items) old
+    subst (λ (old : Kept _). Sends g.N.Link.Link.faults g.N.Link.Link.marks g.N.Link.Link.traffic g.N.Dial.faults g.N.Dial.dials
+    g.N.Dial.given_back c.args.message.now (Ok c.in-Ok-exchange.replies.items) (with_dial c.args.dial.now old)
     (record { dial = dial; link = Some c.exchange.new.link; sequence = next_number c.self.inside.sequence })) c.self.view_is
     (Sends.talks c.in-Ok.ensures.fits (record {
       base = c.in-Ok-link_of.link;
@@ -15,7 +15,7 @@ returns-in-Ok-exchange g c =
       dial = dial;
       begins =
           subst (λ (entry : Option _). Begins g.N.Link.Link.faults g.N.Link.Link.marks g.N.Link.Link.traffic g.N.Dial.faults g.N.Dial.dials
-          g.N.Dial.given_back entry c.in-Ok-link_of.link c.self.inside.dial dial) c.take.ensures.value c.in-Ok-link_of.ensures.begins;
+          g.N.Dial.given_back entry c.in-Ok-link_of.link c.args.dial.now dial) c.take.ensures.value c.in-Ok-link_of.ensures.begins;
       exchanged = c.in-Ok-exchange.ensures.exchanged;
       ends = (refl, refl);
       sequence = refl;
@@ -25,8 +25,8 @@ pub returns-in-Err : goal.returns-in-Err
 returns-in-Err g c =
     let dial = c.link_of.new.dial in
     let link = c.exchange.new.link in
-    subst (λ (old : State _ _). Sends g.N.Link.Link.faults g.N.Link.Link.marks g.N.Link.Link.traffic g.N.Dial.faults g.N.Dial.dials
-    g.N.Dial.given_back c.args.message.now (Err c.in-Err.refusal) old
+    subst (λ (old : Kept _). Sends g.N.Link.Link.faults g.N.Link.Link.marks g.N.Link.Link.traffic g.N.Dial.faults g.N.Dial.dials
+    g.N.Dial.given_back c.args.message.now (Err c.in-Err.refusal) (with_dial c.args.dial.now old)
     (record { dial = c.give_back.new.self; link = c.take.new.self; sequence = next_number c.self.inside.sequence })) c.self.view_is
     (Sends.talks c.in-Ok.ensures.fits (record {
       base = c.in-Ok-link_of.link;
@@ -34,7 +34,7 @@ returns-in-Err g c =
       dial = dial;
       begins =
           subst (λ (entry : Option _). Begins g.N.Link.Link.faults g.N.Link.Link.marks g.N.Link.Link.traffic g.N.Dial.faults g.N.Dial.dials
-          g.N.Dial.given_back entry c.in-Ok-link_of.link c.self.inside.dial dial) c.take.ensures.value c.in-Ok-link_of.ensures.begins;
+          g.N.Dial.given_back entry c.in-Ok-link_of.link c.args.dial.now dial) c.take.ensures.value c.in-Ok-link_of.ensures.begins;
       exchanged = c.in-Err.ensures.exchanged;
       ends = (
         c.take.ensures.after,
