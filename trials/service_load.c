@@ -1,5 +1,5 @@
 // What `service_load.py` times a service with.
-//   load SOCKET LINKS MILLISECONDS DEPTH FRAMES: asks over so many links at once, for so long, so many frames at a time. FRAMES is a
+//   load SOCKET LINKS MILLISECONDS DEPTH FRAMES: asks over so many links at once, for so long and at least once, so many frames at a time. FRAMES is a
 //     file of frames, which are asked in turn. A link that is hung up is dialled anew, and what was not answered on it is asked again
 //     within the same time. Prints the frames a second, the middle and the 99th of 100 times of a round in microseconds, how many
 //     links were hung up, the bytes of all replies by their frames, and the frames that are no verdict.
@@ -104,7 +104,7 @@ static int ask(struct one *one, int first, int count) {
 
 static void *work(void *given) {
     struct one *one = given;
-    for (uint64_t start = now(); start < until; one->count++) {
+    for (uint64_t start = now(); !one->count || start < until; one->count++) {
         int done = 0;
         while ((done += ask(one, one->next + done, depth - done)) < depth) {
             close(one->link);

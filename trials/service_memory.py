@@ -8,8 +8,9 @@ ones fail too, each answer that is given is right, and connections end without o
 the folder afterwards has the last acknowledged commit, or the one behind it where that was begun. Ends with status 1 at any other
 change. Needs `gcc`.
 
-What the C library asks for to make a thread is spared: where a thread cannot be made, the toolchain runs the workers one after the
-other, and the first of them waits for ever."""
+Where a thread cannot be made, the toolchain runs its work before or behind that of others, so that those who wait for one another
+stand still: a service whose start finds no memory for a thread may leave a door without answers, and its stop. That is counted
+apart, and may come of the requests of the start alone. What the C library asks for to make a thread is spared."""
 
 import argparse
 import pathlib
@@ -53,7 +54,7 @@ from service import (
 HERE = pathlib.Path(__file__).resolve().parent
 WORKERS, KIND = 2, 10
 KEY, ASKED, OF_AGENT = (b"c", b"*", b"p"), (b"c", b"u", b"p"), (b"a", b"u", b"p")
-STARTS, PATIENCE = 20, 10
+PATIENCE, PATIENCE_AT_START = 20, 2
 
 
 class Wrong(Exception):
@@ -64,13 +65,19 @@ class Ended(Exception):
     """The service has ended, or goes on without giving any answer."""
 
 
+class Still(Exception):
+    """A door gives no answer, since a thread could not be made."""
+
+
 class Talk:
     """One service, what it is asked in turn, and what came of it."""
 
-    def __init__(self, folder, path, shim, **failing):
+    def __init__(self, folder, path, shim, of_start, **failing):
         kept = {"LD_PRELOAD": str(shim), "FAIL_ALLOC_COUNT": str(folder / "count"), "FAIL_ALLOC_SPARE": "1", **failing}
         self.service = Service(folder, path, WORKERS, **kept)
         self.all_later = "FAIL_ALLOC_ON" in failing
+        self.may_stand_still = 0 < int(failing.get("FAIL_ALLOC", 0)) <= of_start
+        self.patience = PATIENCE_AT_START if self.may_stand_still else PATIENCE
         self.acknowledged, self.begun, self.ends = 0, 0, 0
 
     def start(self):
@@ -91,19 +98,23 @@ class Talk:
                 if self.service.process.poll() is not None:
                     raise Ended from None
             except TimeoutError:
-                raise (Ended if self.all_later else Wrong("nobody answers")) from None
+                raise self.stand_still("nobody answers") from None
         raise Ended
 
     def expect(self, what, found, want):
         if found != want:
             raise Wrong(f"{what}: {found}, and {want} is wanted")
 
+    def stand_still(self, what):
+        """What it is that a door gives no answer."""
+        return Still() if self.may_stand_still else Ended() if self.all_later else Wrong(what)
+
     # ---- the steps
 
     def asks(self, question, kinds):
         """Several checks on one connection, which are answered at the last acknowledged commit, or one that was begun."""
         def step():
-            with Link(self.service.folder, "client", PATIENCE) as link:
+            with Link(self.service.folder, "client", self.patience) as link:
                 link.send(b"".join(check(question, place) for place in range(len(kinds))))
                 return [link.read() for _ in kinds]
         for place, (sequence, operation, fields) in enumerate(self.again(step)):
@@ -117,7 +128,7 @@ class Talk:
     def found(self):
         """The commit that the administrators' door tells."""
         def step():
-            with Link(self.service.folder, "admin", PATIENCE) as link:
+            with Link(self.service.folder, "admin", self.patience) as link:
                 return link.ask(frame(1, ADMIN_CHECK, text(b"") + b"\1" + texts(ASKED)))
         _, operation, fields = self.again(step)
         self.expect("an administrator's check", operation, JUDGED)
@@ -128,7 +139,7 @@ class Talk:
         for _ in range(4):
             self.begun = self.acknowledged + 1
             try:
-                with Link(self.service.folder, "admin", PATIENCE) as link:
+                with Link(self.service.folder, "admin", self.patience) as link:
                     _, operation, fields = link.ask(data)
             except HungUp:
                 self.ends += 1
@@ -141,6 +152,8 @@ class Talk:
                     self.acknowledged = commit
                     return
                 continue
+            except TimeoutError:
+                raise self.stand_still("an administrator is not answered") from None
             self.expect("a command", (operation, number(fields, 0, 8)), (DONE, self.begun))
             self.acknowledged = self.begun
             return
@@ -148,7 +161,7 @@ class Talk:
 
     def lists(self, count):
         def step():
-            with Link(self.service.folder, "admin", PATIENCE) as link:
+            with Link(self.service.folder, "admin", self.patience) as link:
                 link.send(frame(1, LISTING, text(b"") + text(b"#") * 3))
                 operations = [link.read()[1]]
                 while operations[-1] == ROW:
@@ -158,14 +171,14 @@ class Talk:
 
     def agent_answers(self):
         def step():
-            with Link(self.service.folder, "agent", PATIENCE) as agent, Link(self.service.folder, "client", PATIENCE) as client:
+            with Link(self.service.folder, "agent", self.patience) as agent, Link(self.service.folder, "client", self.patience) as client:
                 first = agent.ask(frame(0, REGISTER, struct.pack(">H", KIND)))
                 if first[1] != REGISTERED:
                     # the one before, whose connection ended, is not noticed yet
                     return None
                 client.send(check(OF_AGENT, 7))
                 # a client whose question was not put is hung up, and the agent is not asked
-                readable, _, _ = select.select([agent.socket, client.socket], [], [], PATIENCE)
+                readable, _, _ = select.select([agent.socket, client.socket], [], [], self.patience)
                 answered = self.question(agent) if agent.socket in readable else None
                 return answered, client.read()
         found = self.again(step)
@@ -189,13 +202,13 @@ class Talk:
     def wrong_frames(self):
         for door in "client", "admin", "agent":
             try:
-                with Link(self.service.folder, door, PATIENCE) as link:
+                with Link(self.service.folder, door, self.patience) as link:
                     link.ask(bytes(4))
                 raise Wrong(f"a frame that is too short is answered at the door {door}")
             except HungUp:
                 pass
             except TimeoutError:
-                raise (Ended if self.all_later else Wrong(f"a wrong frame holds the door {door}")) from None
+                raise self.stand_still(f"a wrong frame holds the door {door}") from None
 
     def talk(self):
         self.asks(ASKED, [DENY] * 3)
@@ -214,18 +227,18 @@ class Talk:
         """The status of a stop, or None where it gives none."""
         for _ in range(4):
             try:
-                with Link(self.service.folder, "admin", PATIENCE) as link:
+                with Link(self.service.folder, "admin", self.patience) as link:
                     operation = link.ask(frame(1, STOP))[1]
                 self.expect("a stop", operation, DONE)
                 break
             except HungUp:
                 self.ends += 1
             except TimeoutError:
-                raise Ended from None
+                raise self.stand_still("a stop is not answered") from None
         try:
-            return self.service.process.wait(PATIENCE)
+            return self.service.process.wait(self.patience)
         except subprocess.TimeoutExpired:
-            raise (Ended if self.all_later else Wrong("the service does not end")) from None
+            raise self.stand_still("the service does not end") from None
 
 
 def look_at_folder(folder, path, talk):
@@ -240,11 +253,11 @@ def look_at_folder(folder, path, talk):
         service.kill()
 
 
-def run(path, shim, **failing):
+def run(path, shim, of_start=0, **failing):
     """What came of one talk, in a word, and how many requests there were."""
     with room() as name:
         folder = pathlib.Path(name)
-        talk = Talk(folder, path, shim, **failing)
+        talk = Talk(folder, path, shim, of_start, **failing)
         try:
             if not talk.start():
                 if talk.service.process.returncode != 1:
@@ -256,17 +269,28 @@ def run(path, shim, **failing):
         except Ended:
             status = talk.service.process.poll()
             came, status = "no more answers", 1 if status is None else status
+        except Still:
+            came, status = "a thread could not be made", 1
         finally:
             if talk.service.process.poll() is None:
                 talk.service.kill()
         if status not in (0, 1):
             raise Wrong(f"status {status}")
-        if talk.ends > 1 and not talk.all_later:
+        if talk.ends > 1 and not talk.all_later and not talk.may_stand_still:
             raise Wrong(f"{talk.ends} connections ended")
         count = folder / "count"
         requests = int(count.read_text()) if count.exists() else 0
         look_at_folder(folder, path, talk)
         return came, requests
+
+
+def requests_of_start(path, shim):
+    """How many requests a service makes at most until it answers: with those of a stop."""
+    with room() as name:
+        talk = Talk(pathlib.Path(name), path, shim, 0)
+        talk.start()
+        talk.stop()
+        return int((talk.service.folder / "count").read_text())
 
 
 def main():
@@ -284,11 +308,12 @@ def main():
         came, requests = run(path, shim)
         if came != "no change" or not requests:
             sys.exit(f"without a failure: {came}, {requests} requests")
+        of_start = requests_of_start(path, shim)
         for more in {}, {"FAIL_ALLOC_ON": "1"}:
             counts, start = {}, time.monotonic()
             for place in range(options.first, requests + 1, options.every):
                 try:
-                    came, _ = run(path, shim, FAIL_ALLOC=str(place), **more)
+                    came, _ = run(path, shim, of_start, FAIL_ALLOC=str(place), **more)
                 except Wrong as wrong:
                     sys.exit(f"request {place} of {requests}{' and all later ones' if more else ''}: {wrong}")
                 counts[came] = counts.get(came, 0) + 1
