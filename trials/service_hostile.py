@@ -237,7 +237,8 @@ def peer(folder, door, count, seed):
         data = b"".join(harmless(door, draw) for _ in range(some - 1))
         if door == "agent" and draw.random() < 0.8:
             data = register(draw.choice(KINDS[:BUSY])) + data
-        last = draw.choice((bent(harmless(door, draw), draw), draw.randbytes(draw.randint(1, 64)), harmless(door, draw)[: draw.randint(1, 9)]))
+        front = harmless(door, draw)[: draw.randint(1, 9)]
+        last = draw.choice((bent(harmless(door, draw), draw), draw.randbytes(draw.randint(1, 64)), front))
         if is_spared(door, last):
             continue
         count -= some

@@ -1,6 +1,6 @@
 // What `service_load.py` times a service with.
-//   load SOCKET LINKS MILLISECONDS DEPTH FRAMES: asks over so many links at once, for so long and at least once, so many frames at a time. FRAMES is a
-//     file of frames, which are asked in turn. A link that is hung up is dialled anew, and what was not answered on it is asked again
+//   load SOCKET LINKS MILLISECONDS DEPTH FRAMES: asks over so many links at once, for so long and at least once, so many frames at a
+//     time. FRAMES is a file of frames, which are asked in turn. A link that is hung up is dialled anew, and what was not answered on it is asked again
 //     within the same time. Prints the frames a second, the middle and the 99th of 100 times of a round in microseconds, how many
 //     links were hung up, the bytes of all replies by their frames, and the frames that are no verdict.
 //   echo SOCKET WORKERS REPLY: answers each frame with the one in the file REPLY, under the number of the frame. It reads what has

@@ -1,9 +1,9 @@
 #!/usr/bin/env python3
-"""service_load.py [--peer PATH] [--program PATH] [--seconds N] [--rounds N]: times a service over real sockets, in turn with an echo
-of frames of the same lengths (`service_load.c`) and, where its program is named, with a peer: `PEER serve DIRECTORY WORKERS SCRIPT
-[MILLISECONDS]`, a client's door without proofs that publishes a copy so often. All of them have the device of `sample 200`, which
-`sample_model.py` writes, with four workers, and are asked its 800 questions by one loader. Minutes; other work stops meanwhile, or
-the quotients say little. Wanted are
+"""service_load.py [--peer PATH] [--program PATH] [--seconds N] [--rounds N] [--policies N]: times a service over real sockets, in
+turn with an echo of frames of the same lengths (`service_load.c`) and, where its program is named, with a peer: `PEER serve DIRECTORY
+WORKERS SCRIPT [MILLISECONDS]`, a client's door without proofs that publishes a copy so often. All of them have the device of `sample
+200`, which `sample_model.py` writes, or else so many policies in one bucket, with four workers, and are asked its 800 questions, or
+1,000, by one loader. Minutes; other work stops meanwhile, or the quotients say little. Wanted are
 - checks a second over one link and over four at least 0.90 of the echo's, the 99th of 100 times at most 1.3 of the echo's;
 - over four links, 16 frames at a time, at least as many as the peer's;
 - each of these within a tenth while an administrator commits every 100 milliseconds, and each commit hangs up all links;
@@ -44,14 +44,29 @@ def say(text):
     print(text, file=sys.stderr, flush=True)
 
 
+def one_bucket(count):
+    """The lines of a batch of so many policies in the root bucket, of four shapes, and of 1,000 questions."""
+    def texts(place):
+        return f"c{place}", f"u{place % 64}", f"p{place % 50}"
+
+    def key(place):
+        client, user, privilege = texts(place)
+        shapes = (client, "*", privilege), (client, user, "*"), ("*", user, f"q{place}"), (client, user, privilege)
+        return " ".join(shapes[place % 4])
+
+    policies = [f"set . {key(place)} {'deny' if place % 10 == 0 else 'allow'}" for place in range(count)]
+    asked = [texts(number * count // 1000) for number in range(1000)]
+    return ["batch", *policies, "end"], [" ".join(["check", *question]) for question in asked]
+
+
 class Loader:
-    def __init__(self, scratch):
+    def __init__(self, scratch, policies=0):
         self.tool = scratch / "service_load"
         subprocess.run(["gcc", "-O2", "-o", self.tool, HERE / "service_load.c", "-lpthread"], check=True)
         self.script = scratch / "script"
-        lines = commands_of(APPLICATIONS) + questions_of(APPLICATIONS)
-        self.script.write_text("".join(line + "\n" for line in lines))
-        questions = [line.encode().split()[1:] for line in questions_of(APPLICATIONS)]
+        commands, checks = one_bucket(policies) if policies else (commands_of(APPLICATIONS), questions_of(APPLICATIONS))
+        self.script.write_text("".join(line + "\n" for line in commands + checks))
+        questions = [line.encode().split()[1:] for line in checks]
         self.frames = scratch / "frames"
         self.frames.write_bytes(b"".join(check(question, place % 65536) for place, question in enumerate(questions)))
         self.first = questions[0]
@@ -77,7 +92,7 @@ class Administrator(threading.Thread):
         with Link(self.service.folder, "admin") as link:
             while not self.ended.wait(COMMIT_SECONDS):
                 start = time.monotonic()
-                link.ask(setting(b"ADMIN", (b"x", b"*", b"y"), (ALLOW, DENY)[len(self.times) % 2]))
+                link.ask(setting(b"", (b"x", b"*", b"y"), (ALLOW, DENY)[len(self.times) % 2]))
                 self.times.append(time.monotonic() - start)
 
     def __enter__(self):
@@ -248,15 +263,16 @@ def main():
     words.add_argument("--program", type=pathlib.Path)
     words.add_argument("--seconds", type=float, default=2)
     words.add_argument("--rounds", type=int, default=7)
+    words.add_argument("--policies", type=int, default=0)
     options = words.parse_args()
     if not options.program:
         program.build()
     with room() as name:
         scratch = pathlib.Path(name)
-        loader = Loader(scratch)
+        loader = Loader(scratch, options.policies)
         (scratch / "service").mkdir()
         turns = Turns(scratch, loader, options)
-        print("| asked over | | checks a second | middle, us | 99th of 100, us | of the echo's | of the peer's | 99th, of the echo's | hang-ups |")
+        print("| asked over | | checks a second | middle, us | 99th of 100, us | of echo | of peer | 99th, of echo | hang-ups |")
         print("|---|---|---|---|---|---|---|---|---|", flush=True)
         try:
             for way, (links, depth) in WAYS.items():

@@ -318,7 +318,8 @@ def main():
                     sys.exit(f"request {place} of {requests}{' and all later ones' if more else ''}: {wrong}")
                 counts[came] = counts.get(came, 0) + 1
             said = ", ".join(f"{what} {count} times" for what, count in sorted(counts.items()))
-            print(f"{requests} requests, each failed {'with all later ones' if more else 'alone'}: {said}; {time.monotonic() - start:.0f} s", flush=True)
+            how = "with all later ones" if more else "alone"
+            print(f"{requests} requests, each failed {how}: {said}; {time.monotonic() - start:.0f} s", flush=True)
 
 
 if __name__ == "__main__":

@@ -9,29 +9,8 @@ import struct
 import sys
 import time
 
-from service import (
-    AGENT_FULL,
-    AGENT_GONE,
-    ANSWER,
-    CHECK,
-    FROM_AGENT,
-    JUDGED,
-    NO_AGENT,
-    NOT_RESOLVED,
-    QUESTION,
-    REGISTER,
-    REGISTERED,
-    SIMPLE,
-    TAKEN,
-    UNKNOWN,
-    HungUp,
-    Link,
-    check,
-    frame,
-    number,
-    text,
-    texts,
-)
+import service
+from service import HungUp, Link, check, frame, number, text, texts
 from service_history import KIND, QUESTIONS, History
 
 ACKNOWLEDGED, BEGUN, STOPPED, FAULTS = range(4)
@@ -121,7 +100,7 @@ class Client:
             self.count(KEPT)
             return
         operation, fields = self.ask([(asked, False)], floor)[0]
-        if operation == JUDGED and number(fields, 8, 2) in (0, 0xFFFF):
+        if operation == service.JUDGED and number(fields, 8, 2) in (0, 0xFFFF):
             self.kept[asked] = operation, fields
 
     def ask_many(self, count):
@@ -133,7 +112,7 @@ class Client:
         """The replies to questions that are sent together."""
         sent, first = b"", self.sequence
         for question, simple in asked:
-            sent += check(QUESTIONS[question], self.sequence, SIMPLE if simple else CHECK)
+            sent += check(QUESTIONS[question], self.sequence, service.SIMPLE if simple else service.CHECK)
             self.sequence = (self.sequence + 1) % 65536
         self.link.send(sent)
         replies = []
@@ -164,19 +143,20 @@ class Client:
         start = struct.pack(">H", kind)
         if kind != KIND:
             decided = bytes([key is not None]) + texts(key or ())
-            return start + text(metadata) + text(bucket) + decided if operation == JUDGED else None
+            return start + text(metadata) + text(bucket) + decided if operation == service.JUDGED else None
         if simple:
-            return start if operation == NOT_RESOLVED else None
+            return start if operation == service.NOT_RESOLVED else None
         match operation:
-            case 0x82:  # FROM_AGENT
+            case service.FROM_AGENT:
                 self.count(BY_AGENT)
                 asked = number(fields, 10, 4)
                 return start + struct.pack(">IB", asked, granted(question, asked))
-            case 0x84:  # NO_AGENT
+            case service.NO_AGENT:
                 return start
-            case 0x85:  # AGENT_GONE, with the number of the question
+            case service.AGENT_GONE:
+                # whose number nobody else knows
                 return fields[8:12]
-            case 0x86:  # AGENT_FULL
+            case service.AGENT_FULL:
                 return start + struct.pack(">I", 1024)
         return None
 
@@ -197,14 +177,14 @@ def agent(folder, place, seed):
 
 
 def serve(link, draw, words, base):
-    _, operation, fields = link.ask(frame(0, REGISTER, struct.pack(">H", KIND)))
-    if operation == TAKEN:
+    _, operation, fields = link.ask(frame(0, service.REGISTER, struct.pack(">H", KIND)))
+    if operation == service.TAKEN:
         return
-    if operation != REGISTERED or fields != struct.pack(">H", KIND):
+    if operation != service.REGISTERED or fields != struct.pack(">H", KIND):
         words.fault(f"an agent that registers is answered {operation:#x} {fields}")
     for left in reversed(range(draw.choice((1, 10, 100)))):
         sequence, operation, fields = link.read()
-        while operation == UNKNOWN:
+        while operation == service.UNKNOWN:
             sequence, operation, fields = link.read()
         asked, found = number(fields, 0, 4), 4
         question = []
@@ -213,11 +193,11 @@ def serve(link, draw, words, base):
             question.append(fields[found + 2 : found + 2 + size])
             found += 2 + size
         rest = [struct.pack(">H", KIND) + text(metadata) for metadata in (b"ask", b"")]
-        if operation != QUESTION or sequence != asked % 65536 or tuple(question) not in QUESTIONS or fields[found:] not in rest:
+        if operation != service.QUESTION or sequence != asked % 65536 or tuple(question) not in QUESTIONS or fields[found:] not in rest:
             words.fault(f"an agent is asked {sequence} {operation:#x} {fields}")
         time.sleep(draw.choice((0, 0, 0.001, 0.02)))
         if left or draw.random() < 0.5:
-            link.send(frame(sequence, ANSWER, struct.pack(">IB", asked, granted(question, asked))))
+            link.send(frame(sequence, service.ANSWER, struct.pack(">IB", asked, granted(question, asked))))
             words[base + ANSWERED] += 1
 
 
