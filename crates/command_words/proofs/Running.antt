@@ -10,10 +10,11 @@ use Rattle.smack_rules.specs.Rule.{is_label}
 use Rattle.smack_rules.specs.Modes.{modes_of, is_request}
 use Rattle.smack_rules.specs.declared.modes.Modes.{Modes}
 use Rattle.command_words.specs.Numbers.{number_within}
-use Rattle.command_words.specs.Commands.{access_asked, access_of, serve_of, sample_of, single_of, of_two, of_three, of_four, of_five, named, is_run, is_option, begins_with_run, command_of, ReadsCommand, RunsNow, agent_of, names_of}
+use Rattle.command_words.specs.Commands.{access_asked, access_of, serve_of, watch_of, sample_of, single_of, of_two, of_three, of_four, of_five, named, is_run, is_option, begins_with_run, command_of, ReadsCommand, RunsNow, agent_asked, agent_of, allowed_of, names_of}
+use Rattle.command_words.specs.declared.commands.AskedNames.{AskedNames}
 use Rattle.command_words.specs.declared.commands.Command.{Command}
 use Rattle.command_words.specs.declared.commands.CommandRefusal.{CommandRefusal}
-use Rattle.command_words.specs.declared.commands.Command.TheVariants.{Local, Serve, Check, Simple, Admin, Agent, SmackAccess, SmackLoad, Sample}
+use Rattle.command_words.specs.declared.commands.Command.TheVariants.{Local, Serve, Watch, Check, Simple, Admin, Agent, SmackAccess, SmackLoad, Sample}
 
 -- a word that does not run is no word that does
 not-run : (word text : List ℕ) → is_run text ≡ false → same_text word text ≡ true → is_run word ≡ true → ⊥
@@ -37,16 +38,24 @@ module _ (word : List ℕ) (runs : is_run word ≡ true) (command : Command) whe
   counted None is = cc
   counted (Some count) is = runs-as command (Sample count) is tt
 
-  two : (number : List ℕ) (a b : Bool) → same_text word (codes "serve") ≡ a
-      → cond a (serve_of number) (cond b (sample_of number) None) ≡ Some command → RunsNow command
-  two number true b serve is = absurd (not-run word (codes "serve") refl serve runs)
-  two number false true serve is = counted (number_within 1 1000 number) is
-  two number false false serve is = cc
+  two : (number : List ℕ) (a b c : Bool) → same_text word (codes "serve") ≡ a → same_text word (codes "watch") ≡ b
+      → cond a (serve_of number) (cond b (watch_of number) (cond c (sample_of number) None)) ≡ Some command → RunsNow command
+  two number true b c serve watch is = absurd (not-run word (codes "serve") refl serve runs)
+  two number false true c serve watch is = absurd (not-run word (codes "watch") refl watch runs)
+  two number false false true serve watch is = counted (number_within 1 1000 number) is
+  two number false false false serve watch is = cc
 
-  three : (found : Option Command) (a : Bool) → same_text word (codes "agent") ≡ a → cond a found None ≡ Some command
-      → RunsNow command
-  three found true agent is = absurd (not-run word (codes "agent") refl agent runs)
-  three found false agent is = cc
+  answered : (kind : ℕ) (allowed : Option Bool) → agent_asked (Some kind) allowed ≡ Some command → RunsNow command
+  answered kind None is = cc
+  answered kind (Some allowed) is = runs-as command (Agent (record { 0 = kind }) allowed) is tt
+
+  agent : (kind : Option ℕ) (allowed : Option Bool) → agent_asked kind allowed ≡ Some command → RunsNow command
+  agent None allowed is = cc
+  agent (Some kind) allowed is = answered kind allowed is
+
+  three : (kind answer : List ℕ) (a : Bool) → cond a (agent_of kind answer) None ≡ Some command → RunsNow command
+  three kind answer true is = agent (number_within 2 65533 kind) (allowed_of answer) is
+  three kind answer false is = cc
 
   asked : (subject object : List ℕ) (modes : Option Modes) → access_asked subject object modes ≡ Some command → RunsNow command
   asked subject object None is = cc
@@ -62,25 +71,31 @@ module _ (word : List ℕ) (runs : is_run word ≡ true) (command : Command) whe
   four subject object modes true false is = cc
   four subject object modes false b is = cc
 
-  five : (checked simple : Option Command) (a b : Bool) → same_text word (codes "check") ≡ a → same_text word (codes "simple") ≡ b
-      → cond a checked (cond b simple None) ≡ Some command → RunsNow command
-  five checked simple true b check is_simple is = absurd (not-run word (codes "check") refl check runs)
-  five checked simple false true check is_simple is = absurd (not-run word (codes "simple") refl is_simple runs)
-  five checked simple false false check is_simple is = cc
+  check : (names : Option AskedNames) → option_map Check names ≡ Some command → RunsNow command
+  check None is = cc
+  check (Some asked) is = runs-as command (Check asked) is tt
+
+  simple : (names : Option AskedNames) → option_map Simple names ≡ Some command → RunsNow command
+  simple None is = cc
+  simple (Some asked) is = runs-as command (Simple asked) is tt
+
+  five : (names : Option AskedNames) (a b : Bool)
+      → cond a (option_map Check names) (cond b (option_map Simple names) None) ≡ Some command → RunsNow command
+  five names true b is = check names is
+  five names false true is = simple names is
+  five names false false is = cc
 
 pub named-runs : (words : List (String Global)) (command : Command) → begins_with_run words ≡ true → named words ≡ Some command
     → RunsNow command
 named-runs [] command runs is = cc
 named-runs (word ∷ []) command runs is = single (string_bytes word) runs command _ _ _ refl is
-named-runs (word ∷ a ∷ []) command runs is = two (string_bytes word) runs command (string_bytes a) _ _ refl is
+named-runs (word ∷ a ∷ []) command runs is = two (string_bytes word) runs command (string_bytes a) _ _ _ refl refl is
 named-runs (word ∷ a ∷ b ∷ []) command runs is =
-    three (string_bytes word) runs command (agent_of (string_bytes a) (string_bytes b)) _ refl is
+    three (string_bytes word) runs command (string_bytes a) (string_bytes b) _ is
 named-runs (word ∷ a ∷ b ∷ c ∷ []) command runs is =
     four (string_bytes word) runs command (string_bytes a) (string_bytes b) (string_bytes c) _ _ is
 named-runs (word ∷ a ∷ b ∷ c ∷ d ∷ []) command runs is =
-    five (string_bytes word) runs command
-    (option_map Check (names_of (string_bytes a) (string_bytes b) (string_bytes c) (string_bytes d)))
-    (option_map Simple (names_of (string_bytes a) (string_bytes b) (string_bytes c) (string_bytes d))) _ _ refl refl is
+    five (string_bytes word) runs command (names_of (string_bytes a) (string_bytes b) (string_bytes c) (string_bytes d)) _ _ is
 named-runs (word ∷ a ∷ b ∷ c ∷ d ∷ other ∷ words) command runs is = cc
 
 pub command_of-runs : (words : List (String Global)) (command : Command) → command_of words ≡ Some command → RunsNow command

@@ -7,13 +7,19 @@ use run_endings::{MOST_SHOWN_BYTES, note_text};
 use std::alloc::{AllocError, Global};
 
 /// The forms of the command line.
-const FORMS: [&str; 8] = [
+const FORMS: [&str; 14] = [
     "usage: privilege local",
     "           answers the commands and questions on standard input, a line each, over the folder",
     "       privilege smack-load",
     "           writes the Smack rules of all packages of the folder",
     "       privilege smack-access SUBJECT OBJECT MODES",
     "           decides one request under the rules on standard input",
+    "       privilege check CLIENT SESSION USER PRIVILEGE",
+    "           asks the service; the privilege may be one that an agent decides",
+    "       privilege simple CLIENT SESSION USER PRIVILEGE",
+    "           asks the service, and no agent",
+    "       privilege agent KIND allow, or deny",
+    "           answers the service's questions of this kind",
     "The folder is `store`, in the directory that PRIVILEGE_DIR names or else in the working directory.",
     "docs/GUIDE.md tells more.",
 ];

@@ -1,6 +1,8 @@
 -- What a run of the program reads, says and keeps: one line for each command.
-use Rattle.std.specs.Prelude.{◌≡◌, ◌⊎◌, ℕ, List, [], Option, Some, None, Ok}
+use Rattle.std.specs.Prelude.{◌≡◌, ◌⊎◌, ℕ, true, false, List, [], Option, Some, None, Ok}
 use Rattle.desk_ports.specs.Content.{Appended}
+use Rattle.link_ports.specs.Traffic.{Traffic}
+use Rattle.link_ports.specs.LinkMarks.{LinkMarks}
 use Rattle.smack_rules.specs.declared.rule.Rule.{Rule}
 use Rattle.smack_rules.specs.Effective.{effective}
 use Rattle.smack_rules.specs.Decision.{decision}
@@ -11,7 +13,7 @@ use Rattle.run_endings.specs.Saying.{Said, silence, Writes}
 use Rattle.run_endings.specs.declared.endings.Ending.{Ending}
 use Rattle.run_endings.specs.declared.endings.Ending.TheVariants.{Words}
 use Rattle.command_words.specs.declared.commands.Command.{Command}
-use Rattle.command_words.specs.declared.commands.Command.TheVariants.{Local, SmackAccess, SmackLoad, Sample}
+use Rattle.command_words.specs.declared.commands.Command.TheVariants.{Local, SmackAccess, SmackLoad, Sample, Check, Simple, Agent}
 use Rattle.script_replies.specs.Script.{wrong_line, replies}
 use Rattle.script_replies.specs.Reply.{decided_text}
 use Rattle.folder_runs.specs.Folder.{StandsFor}
@@ -20,26 +22,57 @@ use Rattle.local_runs.specs.LocalRun.{read_local, RunsLocal}
 use Rattle.access_runs.specs.AccessRun.{rules_read, RunsAccess}
 use Rattle.sample_runs.specs.Sample.{Outcome, outcome, sample_text}
 use Rattle.sample_runs.specs.SampleRun.{RunsSample}
+use Rattle.client_runs.specs.CheckRun.{RunsCheck, IsCounted}
+use Rattle.agent_runs.specs.LinkSeen.{link_seen, dial_seen}
+use Rattle.agent_runs.specs.AgentRun.{RunsAgent, DialCounts}
 
--- What the command that words name says, and how it ends, over a source and a disk before and after. Words name no other
--- command yet.
-abbrev pub RunsCommand : Option Command → Said → Ending → SourceSeen → SourceSeen → DiskSeen → DiskSeen → Type 0
-RunsCommand None said ending source source_after disk disk_after = (ending ≡ Words) × (said ≡ silence)
-RunsCommand (Some Local) said ending source source_after disk disk_after = RunsLocal said ending source source_after disk disk_after
-RunsCommand (Some SmackLoad) said ending source source_after disk disk_after = RunsLoad said ending disk disk_after
-RunsCommand (Some (SmackAccess subject object asked)) said ending source source_after disk disk_after =
-    RunsAccess subject object asked said ending source source_after
-RunsCommand (Some (Sample count)) said ending source source_after disk disk_after = RunsSample count said ending
-RunsCommand (Some command) said ending source source_after disk disk_after = ⊥
+-- What a net tells of itself and of its links, as functions of its type.
+pub record NetTells (N L : Type 0) : Type 0 where
+  pub faults : N → ℕ
+  pub dials : N → ℕ
+  pub given_back : N → Option (List L)
+  pub link_faults : L → ℕ
+  pub marks : L → LinkMarks
+  pub traffic : L → Option Traffic
+
+module _ {N L : Type 0} (tells : NetTells N L) where
+  -- What the command that words name says, and how it ends, over a source, a disk and a net before and after. Words name no
+  -- other command yet.
+  abbrev pub RunsCommand : Option Command → Said → Ending → SourceSeen → SourceSeen → DiskSeen → DiskSeen → N → N → Type 0
+  RunsCommand None said ending source source_after disk disk_after net net_after = (ending ≡ Words) × (said ≡ silence)
+  RunsCommand (Some Local) said ending source source_after disk disk_after net net_after =
+      RunsLocal said ending source source_after disk disk_after
+  RunsCommand (Some SmackLoad) said ending source source_after disk disk_after net net_after = RunsLoad said ending disk disk_after
+  RunsCommand (Some (SmackAccess subject object asked)) said ending source source_after disk disk_after net net_after =
+      RunsAccess subject object asked said ending source source_after
+  RunsCommand (Some (Sample count)) said ending source source_after disk disk_after net net_after = RunsSample count said ending
+  RunsCommand (Some (Check asked)) said ending source source_after disk disk_after net net_after =
+      RunsCheck tells.link_faults tells.marks tells.traffic tells.faults tells.dials tells.given_back asked false said ending net net_after
+  RunsCommand (Some (Simple asked)) said ending source source_after disk disk_after net net_after =
+      RunsCheck tells.link_faults tells.marks tells.traffic tells.faults tells.dials tells.given_back asked true said ending net net_after
+  RunsCommand (Some (Agent kind allowed)) said ending source source_after disk disk_after net net_after =
+      RunsAgent kind allowed said ending
+      (dial_seen tells.given_back tells.dials tells.faults (link_seen tells.traffic tells.marks tells.link_faults) net)
+      (dial_seen tells.given_back tells.dials tells.faults (link_seen tells.traffic tells.marks tells.link_faults) net_after)
+  RunsCommand (Some command) said ending source source_after disk disk_after net net_after = ⊥
+
+-- How often calls of the net failed by the end of a run.
+abbrev pub CountsNet : Option Command → Ending → ℕ → ℕ → Type 0
+CountsNet (Some (Check asked)) ending before after = IsCounted ending before after
+CountsNet (Some (Simple asked)) ending before after = IsCounted ending before after
+CountsNet (Some (Agent kind allowed)) ending before after = DialCounts ending before after
+CountsNet command ending before after = after ≡ before
 
 -- How a run ends, with the words' command and a status.
-pub record Ends (command : Option Command) (status : ℕ) (before after : Outside) : Type 0 where
+pub record Ends {N L : Type 0} (tells : NetTells N L) (command : Option Command) (status : ℕ) (before after : Outside)
+    (net net_after : N) : Type 0 where
   pub ending : Ending
   pub said : Said
   pub status_is : status ≡ status_of ending
-  pub runs : RunsCommand command said ending before.source after.source before.disk after.disk
+  pub runs : RunsCommand tells command said ending before.source after.source before.disk after.disk net net_after
   pub writes : Writes ending said before.sink after.sink
   pub counts : CountsFaults ending before after
+  pub net_counts : CountsNet command ending before.net.faults after.net.faults
 
 -- ---- a run that no failing call stops
 

@@ -1,16 +1,14 @@
-use Rattle.run_endings.specs.Outside.{Outside, source_seen, sink_seen, disk_seen, no_net, seen}
+use Rattle.run_endings.specs.Outside.{source_seen, sink_seen, disk_seen, seen}
 use Rattle.command_words.specs.Commands.{command_of}
-use Rattle.privilege_cli.specs.Program.{Ends}
-use Rattle.privilege_cli.proofs.Refusing.{net-still}
+use Rattle.privilege_cli.specs.Program.{NetTells, Ends}
 use Rattle.privilege_cli.proofs.Completing.{Ends-completes}
 use Rattle.privilege_cli.proofs.program.run.Goals as goal
 
 pub returns-clause-run : goal.returns-clause-run
 returns-clause-run g c =
     let run = c.run_words-ending.ensures.run in
-    let ending = c.run_words-ending.result in
     record {
-      ending = ending;
+      ending = c.run_words-ending.result;
       said = run.0;
       status_is = c.status.ensures;
       runs = run.1;
@@ -18,22 +16,31 @@ returns-clause-run g c =
       counts = record {
         source = c.run_words-ending.ensures.source_count;
         disk = c.run_words-ending.ensures.disk_count;
-        net = net-still _ _ _ _ run.0 (command_of c.args.words.now) ending run.1;
       };
+      net_counts = c.run_words-ending.ensures.net_count;
     }
 
 pub returns-clause-complete : goal.returns-clause-complete
 returns-clause-complete g c =
     let run = c.run_words-ending.ensures.run in
-    let ending = c.run_words-ending.result in
     let before = seen (source_seen g.S.Source.left g.S.Source.faults c.args.source.now)
     (sink_seen g.K.Sink.taken g.K.Sink.faults c.args.sink.now)
-    (disk_seen g.D.Disk.state g.D.Disk.moment g.D.Disk.left_since g.D.Disk.faults c.args.disk.now) no_net in
+    (disk_seen g.D.Disk.state g.D.Disk.moment g.D.Disk.left_since g.D.Disk.faults c.args.disk.now)
+    (record { faults = g.N.Dial.faults c.args.net.now }) in
     let after = seen (source_seen g.S.Source.left g.S.Source.faults c.run_words-ending.new.source)
     (sink_seen g.K.Sink.taken g.K.Sink.faults c.write_last_line.new.sink)
-    (disk_seen g.D.Disk.state g.D.Disk.moment g.D.Disk.left_since g.D.Disk.faults c.run_words-ending.new.disk) no_net in
-    let ends : Ends (command_of c.args.words.now) c.status.result before after = record {
-      ending = ending;
+    (disk_seen g.D.Disk.state g.D.Disk.moment g.D.Disk.left_since g.D.Disk.faults c.run_words-ending.new.disk)
+    (record { faults = g.N.Dial.faults c.run_words-ending.new.net }) in
+    let tells : NetTells _ _ = record {
+      faults = g.N.Dial.faults;
+      dials = g.N.Dial.dials;
+      given_back = g.N.Dial.given_back;
+      link_faults = g.N.Dial.Link.faults;
+      marks = g.N.Dial.Link.marks;
+      traffic = g.N.Dial.Link.traffic;
+    } in
+    let ends : Ends tells (command_of c.args.words.now) c.status.result before after c.args.net.now c.run_words-ending.new.net = record {
+      ending = c.run_words-ending.result;
       said = run.0;
       status_is = c.status.ensures;
       runs = run.1;
@@ -41,7 +48,7 @@ returns-clause-complete g c =
       counts = record {
         source = c.run_words-ending.ensures.source_count;
         disk = c.run_words-ending.ensures.disk_count;
-        net = net-still _ _ _ _ run.0 (command_of c.args.words.now) ending run.1;
       };
+      net_counts = c.run_words-ending.ensures.net_count;
     } in
-    Ends-completes (command_of c.args.words.now) c.status.result before after ends
+    Ends-completes tells (command_of c.args.words.now) c.status.result before after c.args.net.now c.run_words-ending.new.net ends
