@@ -6,4 +6,4 @@
 
 mod serving;
 
-pub use serving::{serve_agent, serve_client};
+pub use serving::{serve_admin, serve_agent, serve_client};
