@@ -1,7 +1,7 @@
 // A link in memory whose bytes come in pieces of given sizes.
 ghost use Rattle.std.specs.Prelude.{None, ◌≤◌};
 
-use crate::desks::numbers;
+use crate::numbers;
 use case_words::{Failure, fails, frame_bytes};
 use desk_ports::{Bytes, Failed, PortFault};
 use link_ports::{Link, MemEnd, MemLink};
@@ -16,8 +16,14 @@ pub struct CutLink {
 }
 
 impl CutLink {
-    /// The link of these words, over which these bytes are to come.
+    /// The link of these words, over which the bytes of a frame's words are to come.
     pub fn of(alloc: Global, words: &str, bytes: &str) -> Result<CutLink, Failure> {
+        CutLink::over(alloc, words, frame_bytes(alloc, bytes)?)
+    }
+
+    /// The link of these words, over which these bytes are to come: after how many calls it reads as closed, which calls
+    /// fail, and into which sizes the bytes are cut, each with commas, or `-` for none.
+    pub fn over(alloc: Global, words: &str, bytes: Vec<u8>) -> Result<CutLink, Failure> {
         let parts: Vec<&str> = words.trim().split(' ').collect(alloc)?;
         let [closed_after, failing, sizes] = parts.as_slice() else {
             return Err(Failure::Words);
@@ -30,7 +36,7 @@ impl CutLink {
                 Err(_) => return Err(Failure::Words),
             }
         };
-        let to_come = Bytes::of(frame_bytes(alloc, bytes)?);
+        let to_come = Bytes::of(bytes);
         Ok(CutLink {
             link: MemLink::new(alloc, to_come, closed_after, fails(alloc, failing)?)?,
             sizes: numbers(alloc, sizes)?,
