@@ -198,24 +198,32 @@ impl Talk {
                     Err(ended) => Err(ended),
                 }
             }
-            Found::Unresolved => match self.put_reply() {
-                Ok(()) => Ok(()),
-                Err(ended) => Err(ended),
-            },
+            Found::Unresolved => {
+                drop(check);
+                match self.put_reply() {
+                    Ok(()) => Ok(()),
+                    Err(ended) => Err(ended),
+                }
+            }
             Found::Due {
                 commit,
                 kind,
                 metadata,
             } => {
                 let number = seat.number();
-                match self.answer_by_agent(
+                let answered = self.answer_by_agent(
                     hall, link, gate, recorder, number, &check, commit, kind, metadata,
-                ) {
+                );
+                drop(check);
+                match answered {
                     Ok(()) => Ok(()),
                     Err(ended) => Err(ended),
                 }
             }
-            Found::Memory => Err(Ended::Memory),
+            Found::Memory => {
+                drop(check);
+                Err(Ended::Memory)
+            }
         }
     }
 

@@ -17,21 +17,21 @@ returns-in_default g c before fits = (
 
 pub returns-in-Hung : goal.returns-in-Hung
 returns-in-Hung g c before fits =
-    let told = c.answer_all.ensures before fits in
+    let told = c.answer_all-ended.ensures before fits in
     (told.0, told.1, Serves.served (search rules))
 
 pub returns-in-Stopped : goal.returns-in-Stopped
 returns-in-Stopped g c before fits =
-    let told = c.answer_all.ensures before fits in
+    let told = c.answer_all-ended.ensures before fits in
     (told.0, told.1, Serves.served (search rules))
 
 pub returns-in-Still : goal.returns-in-Still
 returns-in-Still g c before fits =
-    let told = c.answer_all.ensures before fits in
+    let told = c.answer_all-ended.ensures before fits in
     (told.0, told.1, Serves.served (search rules))
 
-pub returns-in-Failed : goal.returns-in-Failed
-returns-in-Failed g c before fits = (before, fits, search rules)
+pub returns-in-Err-Failed : goal.returns-in-Err-Failed
+returns-in-Err-Failed g c before fits = (before, fits, search rules)
 
-pub returns-in-Memory : goal.returns-in-Memory
-returns-in-Memory g c before fits = (before, fits, search rules)
+pub returns-in-Err-Memory : goal.returns-in-Err-Memory
+returns-in-Err-Memory g c before fits = (before, fits, search rules)

@@ -1,4 +1,4 @@
-use Rattle.std.proofs.Common.{◌≡◌, ◌∙◌, List, ℕ, [], ◌++◌, refl, sym, ap, subst}
+use Rattle.std.proofs.Common.{◌∙◌, List, ℕ, [], ◌++◌, refl, sym, ap, subst}
 use Rattle.wire_messages.specs.Stream.{Feeding}
 use Rattle.desk_world.specs.declared.replies.Reply.TheVariants.{Judged, NotResolved}
 use Rattle.client_door.specs.Serving.{recorded_side}
@@ -92,10 +92,10 @@ returns-in-Memory-clause-talk g c before fits =
           read.1 refl c.requires,
     )
 
-pub returns-in-Ok-answer_by_agent-clause-talk : goal.returns-in-Ok-answer_by_agent-clause-talk
-returns-in-Ok-answer_by_agent-clause-talk g c before fits =
+pub returns-in-Ok-answered-clause-talk : goal.returns-in-Ok-answered-clause-talk
+returns-in-Ok-answered-clause-talk g c before fits =
     let read = c.in-Due.ensures.read in
-    let then = c.in-Ok-answer_by_agent.ensures.talk c.read.new.seat read.0 read.1 read.2 before fits in (
+    let then = c.in-Ok-answered.ensures.talk c.read.new.seat read.0 read.1 read.2 before fits in (
       then.0,
       then.1,
       λ start s. then.2 start
@@ -106,10 +106,10 @@ returns-in-Ok-answer_by_agent-clause-talk g c before fits =
           c.read.ensures.same c.read.ensures.seen read.1 c.read.ensures.feeder c.read.ensures.outbox start s),
     )
 
-pub returns-in-Err-answer_by_agent-clause-talk : goal.returns-in-Err-answer_by_agent-clause-talk
-returns-in-Err-answer_by_agent-clause-talk g c before fits =
+pub returns-in-Err-answered-clause-talk : goal.returns-in-Err-answered-clause-talk
+returns-in-Err-answered-clause-talk g c before fits =
     let read = c.in-Due.ensures.read in
-    let then = c.in-Err-answer_by_agent.ensures.talk c.read.new.seat read.0 read.1 read.2 before fits in (
+    let then = c.in-Err-answered.ensures.talk c.read.new.seat read.0 read.1 read.2 before fits in (
       then.0,
       then.1,
       λ start s. then.2 start
