@@ -39,9 +39,27 @@ impl<L: Link + Drop> NamedLinks<L> {
 
     fn place(&self, name: &str) -> Result<usize, Failure> {
         match self.names.iter().position(|own| own.as_str() == name) {
-            Some(place) if place < self.links.len() => Ok(place),
-            _ => Err(Failure::Words),
+            Some(place) => Ok(place),
+            None => Err(Failure::Words),
         }
+    }
+
+    fn link(&mut self, name: &str) -> Result<&mut L, Failure> {
+        let place = self.place(name)?;
+        match self.links.get_mut(place) {
+            Some(link) => Ok(link),
+            None => Err(Failure::Words),
+        }
+    }
+
+    fn drop_link(&mut self, name: &str) -> Result<(), Failure> {
+        let place = self.place(name)?;
+        if place >= self.names.len() || place >= self.links.len() {
+            return Err(Failure::Words);
+        }
+        drop(self.names.remove(place));
+        drop(self.links.remove(place));
+        Ok(())
     }
 
     /// `X>` sends the bytes of a frame over the link of the name X, `X<` receives a frame and adds it to the text, or `end` or
@@ -54,21 +72,16 @@ impl<L: Link + Drop> NamedLinks<L> {
         told: &mut String,
     ) -> Result<(), Failure> {
         if let Some(name) = word.strip_suffix(">") {
-            let place = self.place(name)?;
             let bytes = frame_bytes(alloc, rest)?;
-            let _ = self.links[place].send(&bytes);
+            let _ = self.link(name)?.send(&bytes);
             return Ok(());
         }
         if let Some(name) = word.strip_suffix("<") {
-            let place = self.place(name)?;
-            let text = read_frame(alloc, &mut self.links[place])?;
+            let text = read_frame(alloc, self.link(name)?)?;
             return Ok(put_word(told, text.as_str())?);
         }
         if let Some(name) = word.strip_suffix("-") {
-            let place = self.place(name)?;
-            let _ = self.names.remove(place);
-            let _ = self.links.remove(place);
-            return Ok(());
+            return self.drop_link(name);
         }
         Err(Failure::Words)
     }
