@@ -10,7 +10,7 @@ const DIGITS: &[u8; 16] = b"0123456789abcdef";
 
 /// Links, each with a name.
 #[derive(Drop)]
-pub struct NamedLinks<L: Link + Drop> {
+pub struct NamedLinks<L> {
     names: Vec<String>,
     links: Vec<L>,
 }
@@ -63,7 +63,7 @@ impl<L: Link + Drop> NamedLinks<L> {
     }
 
     /// `X>` sends the bytes of a frame over the link of the name X, `X<` receives a frame and adds it to the text, or `end` or
-    /// `cut` where the input ends before or within it, and `X-` lets the link go. It may wait for a frame.
+    /// `cut` where the input ends before or within it, or `long` where it has too many bytes, and `X-` lets the link go. It may wait for a frame.
     pub fn speak(
         &mut self,
         alloc: Global,
@@ -119,7 +119,11 @@ fn read_frame<L: Link>(alloc: Global, link: &mut L) -> Result<String, AllocError
     if !receive_all(link, &mut head) {
         return String::from_str(alloc, "end");
     }
-    let length = u32::from_be_bytes(head).min(MOST_BYTES) as usize;
+    let length = u32::from_be_bytes(head);
+    if length > MOST_BYTES {
+        return String::from_str(alloc, "long");
+    }
+    let length = length as usize;
     if !receive_all(link, &mut room[..length]) {
         return String::from_str(alloc, "cut");
     }

@@ -53,7 +53,10 @@ fn with_seats<'a, D: Disk, R: Threads + Wait + Sync>(
     let mut seats = seats;
     let roll = Mutex::new(roll);
     let questions = QuestionDesk::new(alloc);
-    let (Some(second), Some(first)) = (seats.pop(), seats.pop()) else {
+    let Some(second) = seats.pop() else {
+        return Err(Failure::Refused);
+    };
+    let Some(first) = seats.pop() else {
         return Err(Failure::Refused);
     };
     let mut net = JoinedNet::new(rt, alloc)?;

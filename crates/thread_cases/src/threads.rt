@@ -113,14 +113,14 @@ fn served<S: Place + Send + Drop, L: Link + Send + Drop, R: Threads + Wait + Syn
 where
     L::End: Send,
 {
-    let (clients, agent) = join(
+    let (ended, other) = join(
         rt,
         || clients(rt, alloc, first, second, roll, questions, x, y),
         || agent(rt, alloc, roll, questions, a),
     );
-    let clients = clients?;
-    let agent = agent?;
-    format!(in alloc; "{clients} a {agent}")
+    let ended = ended?;
+    let other = other?;
+    format!(in alloc; "{ended} a {other}")
 }
 
 // Those who are served, and those who speak with them.
@@ -171,7 +171,7 @@ pub fn all<S: Place + Send + Drop, L: Link + Send + Drop, D: Disk, R: Threads + 
 where
     L::End: Send,
 {
-    let (told, administrator) = join(
+    let (told, ended) = join(
         rt,
         || crowd(
             rt, alloc, first, second, roll, questions, x, y, a, links, steps,
@@ -179,6 +179,6 @@ where
         || administrator(rt, alloc, keeper, publisher, roll, questions, m),
     );
     let told = told?;
-    let administrator = administrator?;
-    Ok(format!(in alloc; "{told} m {administrator}")?)
+    let ended = ended?;
+    Ok(format!(in alloc; "{told} m {ended}")?)
 }
