@@ -107,7 +107,7 @@ fn with_client<R: Wait, D: Disk>(
 }
 
 // Whether the client was let in.
-fn enters<L: Link, A: Hall<End = L::End>>(
+fn enters<A: Hall, L: Link<End = A::End>>(
     hall: &mut A,
     seat: &mut Seat,
     client: &mut L,

@@ -37,10 +37,6 @@ impl WornDisk {
         self.made
     }
 
-    fn count(&mut self) {
-        self.made = self.made.saturating_add(1);
-    }
-
     // What a read finds in place of what is there.
     fn worn(&self, found: Option<Bytes>) -> Option<Bytes> {
         let Some(mut bytes) = found else {
@@ -72,12 +68,12 @@ impl Disk for WornDisk {
     ghost only_now = { λ worn left. untold _ };
 
     fn names(&mut self) -> Result<Vec<FileName>, PortFault> {
-        self.count();
+        self.made = self.made.saturating_add(1);
         self.disk.names()
     }
 
     fn read(&mut self, name: &FileName) -> Result<Option<Bytes>, PortFault> {
-        self.count();
+        self.made = self.made.saturating_add(1);
         match self.disk.read(name) {
             Ok(found) => Ok(self.worn(found)),
             Err(fault) => Err(fault),
@@ -85,17 +81,17 @@ impl Disk for WornDisk {
     }
 
     fn write(&mut self, name: &FileName, bytes: &[u8]) -> Result<(), Failed> {
-        self.count();
+        self.made = self.made.saturating_add(1);
         self.disk.write(name, bytes)
     }
 
     fn remove(&mut self, name: &FileName) -> Result<(), Failed> {
-        self.count();
+        self.made = self.made.saturating_add(1);
         self.disk.remove(name)
     }
 
     fn sync(&mut self) -> Result<(), Failed> {
-        self.count();
+        self.made = self.made.saturating_add(1);
         self.disk.sync()
     }
 
