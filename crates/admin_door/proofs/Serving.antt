@@ -86,7 +86,7 @@ module _ (start old : AdminTalk) (feeder fed : Feeding) (bytes : List ℕ) (fram
   abbrev between : AdminTalk
   between = talk_of old.side traffic marks faults
 
-  abbrev asked : List Message → Exchange
+  abbrev pub asked : List Message → Exchange
   asked replies = exchange_of framed told replies
 
   -- what was said of the frames before is said of this one with them, where it is answered, and where it is not
