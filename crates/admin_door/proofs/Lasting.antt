@@ -12,13 +12,13 @@ use Rattle.admin_door.specs.Serving.{Exchange}
 use Rattle.admin_door.specs.Running.{Standing, Makes, IsBehind, LeadsTo, LeadsWithin, StandsSince, HasCommit}
 use Rattle.admin_door.proofs.Running.{leads-split}
 
-same-desk : (one other : DeskState) → Ok one ≡ Ok other → one ≡ other
-same-desk one other same = cc
+same-desk : (found : Standing) (one other : DeskState) → found ≡ Ok one → found ≡ Ok other → one ≡ other
+same-desk found one other first second = let same = sym first ∙ second in cc
 
 -- a command's state has the next commit
 grows : (desk : DeskState) (message : Message) (after : DeskState) → Makes (Ok desk) message after → desk.commit ≤ after.commit
 grows desk message after makes =
-    let same : desk.commit ≡ makes.desk.commit = ap (λ (desk : DeskState). desk.commit) (same-desk desk makes.desk makes.stood) in
+    let same : desk.commit ≡ makes.desk.commit = ap (λ (desk : DeskState). desk.commit) (same-desk (Ok desk) desk makes.desk refl makes.stood) in
     let next : after.commit ≡ makes.desk.commit + 1 = ap (λ (desk : DeskState). desk.commit) makes.makes in
     omega (arith, same, next)
 
@@ -29,14 +29,15 @@ within-commit : (desk : DeskState) (es : List Exchange) (left : Standing) → Le
 within-commit desk [] left is = (desk, is, omega arith)
 within-commit desk (e ∷ es) left (inl (inl is)) = (desk, is, omega arith)
 within-commit desk (e ∷ es) left (inl (inr (after, makes, is))) = (after, is, grows desk e.framed.message after makes)
-within-commit desk (e ∷ es) left (inr (between, behind, rest)) = by_behind behind
+within-commit desk (e ∷ es) left (inr (between, behind, rest)) =
+    by_behind behind (λ (at : DeskState) within. within-commit at es left within)
   where
-    by_behind : IsBehind (Ok desk) e between → HasCommit desk.commit left
-    by_behind (inl (not_done, is)) =
-        within-commit desk es left (subst (λ (at : Standing). LeadsWithin at es left) is rest)
-    by_behind (inr (after, makes, tells, is)) =
+    by_behind : IsBehind (Ok desk) e between
+        → ((at : DeskState) → LeadsWithin (Ok at) es left → HasCommit at.commit left) → HasCommit desk.commit left
+    by_behind (inl (not_done, is)) again = again desk (subst (λ (at : Standing). LeadsWithin at es left) is rest)
+    by_behind (inr (after, makes, tells, is)) again =
         more-commits desk.commit after left (grows desk e.framed.message after makes)
-        (within-commit after es left (subst (λ (at : Standing). LeadsWithin at es left) is rest))
+        (again after (subst (λ (at : Standing). LeadsWithin at es left) is rest))
 
 -- behind a command that was answered as done stands a state with its commit
 done-commit : (found : Standing) (exchange : Exchange) (left : Standing) (command : Command) (commit erased : ℕ)

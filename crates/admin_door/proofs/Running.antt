@@ -18,19 +18,16 @@ split : {X : Type 0} (es fs front back : List X) → es ++ fs ≡ front ++ back
     → ((rest : List X) × (front ≡ es ++ rest) × (fs ≡ rest ++ back)) ⊎ ((rest : List X) × (es ≡ front ++ rest) × (back ≡ rest ++ fs))
 split [] fs front back is = inl (front, refl, is)
 split (x ∷ es) fs [] back is = inr (x ∷ es, refl, sym is)
-split {X} (x ∷ es) fs (y ∷ front) back is = both cc cc
+split {X} (x ∷ es) fs (y ∷ front) back is =
+    let same : x ≡ y = cc in
+    let rest_is : es ++ fs ≡ front ++ back = cc in
+    with_head same (split es fs front back rest_is)
   where
-    both : x ≡ y → es ++ fs ≡ front ++ back
+    with_head : x ≡ y → ((rest : List X) × (front ≡ es ++ rest) × (fs ≡ rest ++ back)) ⊎ ((rest : List X) × (es ≡ front ++ rest) × (back ≡ rest ++ fs))
         → ((rest : List X) × (y ∷ front ≡ (x ∷ es) ++ rest) × (fs ≡ rest ++ back))
         ⊎ ((rest : List X) × (x ∷ es ≡ (y ∷ front) ++ rest) × (back ≡ rest ++ fs))
-    both same rest_is = with_head same (split es fs front back rest_is)
-      where
-        with_head : x ≡ y
-            → ((rest : List X) × (front ≡ es ++ rest) × (fs ≡ rest ++ back)) ⊎ ((rest : List X) × (es ≡ front ++ rest) × (back ≡ rest ++ fs))
-            → ((rest : List X) × (y ∷ front ≡ (x ∷ es) ++ rest) × (fs ≡ rest ++ back))
-            ⊎ ((rest : List X) × (x ∷ es ≡ (y ∷ front) ++ rest) × (back ≡ rest ++ fs))
-        with_head same (inl (rest, one, two)) = inl (rest, (λ i. sym same i ∷ one i), two)
-        with_head same (inr (rest, one, two)) = inr (rest, (λ i. same i ∷ one i), two)
+    with_head same (inl (rest, one, two)) = inl (rest, (λ i. sym same i ∷ one i), two)
+    with_head same (inr (rest, one, two)) = inr (rest, (λ i. same i ∷ one i), two)
 
 -- ---- what frames lead to
 
