@@ -5,7 +5,7 @@ use Rattle.client_door.proofs.client_loops.client_loop.Goals as goal
 
 pub returns : goal.returns
 returns g c =
-    let told = c.recorded_loop.ensures None refl in
+    let told = c.recorded_loop.ensures (record {}) None refl in
     subst (λ (recording : Option Recording). Serves c.recorded_loop.result
     (client_side c.args.seat.now (g.A.Hall.tally c.args.hall.now) (g.A.Hall.calls c.args.hall.now) (g.L.Link.traffic c.args.link.now)
     (g.L.Link.marks c.args.link.now) (g.L.Link.faults c.args.link.now))
