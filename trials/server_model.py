@@ -1,6 +1,6 @@
 """What a service answers on one connection, from the definitions: a client's checks, and an agent's answers, over a hall that
 gives a list of answers. A model of its own, which shares nothing with the product. `server_model.py [COUNT [SEED]]` writes random
-cases of `door_cases`, half of each door, with the answers that are due."""
+cases of `door_cases`, half of each door, with the answers that are due; `with_answer` answers a case, if no call of its link fails."""
 
 import random
 import struct
@@ -108,14 +108,30 @@ def evaluate(policies, question):
     return kind, metadata, key
 
 
+# ---- a hall: a list of answers, which is used up where the next one is none to the call, or none is left
+
+
+class Hall:
+    def __init__(self, answers):
+        self.left, self.used_up = list(answers), False
+
+    def take(self, words, otherwise):
+        if self.left and self.left[0][0] in words:
+            return self.left.pop(0)
+        self.left, self.used_up = [], True
+        return (otherwise,)
+
+
+OF_ASK, OF_JOIN, OF_NEXT, OF_ANSWER = ("a", "n", "g", "f", "p", "l", "m", "x"), ("j", "jt", "jx", "jm"), ("q", "qx", "qm"), ("k", "ku")
+
+
 # ---- a client's connection
 
 
 def client(policies, commits, answers, stream):
     """How it ends, what is sent, and the counts of asks, stops and losses, and how many answers are left."""
-    left, sent = list(answers), b""
+    hall, sent = Hall(answers), b""
     asks = stops = losses = 0
-    used_up = False
     found, ending = messages("client", stream)
     for sequence, (_, simple, question) in found:
         kind, metadata, key = evaluate(policies, question)
@@ -130,9 +146,7 @@ def client(policies, commits, answers, stream):
             sent += frame(sequence, 0x83, of_kind)
             continue
         asks += 1
-        if not left:
-            used_up = True
-        answer = left.pop(0) if left else ("x",)
+        answer = hall.take(OF_ASK, "x")
         if answer[0] == "a":
             if answer[2] != question:
                 ending = "strayed %d %s" % (answer[1], b"".join(answer[2]).decode())
@@ -156,20 +170,20 @@ def client(policies, commits, answers, stream):
             stops += 1
             ending = "stopped"
             break
-    return ending, sent, dict(asks=asks, stops=stops, losses=losses, left=len(left)), used_up
+    return ending, sent, dict(asks=asks, stops=stops, losses=losses, left=len(hall.left)), hall.used_up
 
 
 # ---- an agent's connection
 
 
 def agent(answers, stream):
-    left, sent = list(answers), b""
+    hall, sent = Hall(answers), b""
     counts = dict(joins=0, nexts=0, answers=0, parts=0, stops=0)
     found, ending = messages("agent", stream)
 
     def done(ended):
-        counts["left"] = len(left)
-        return ended, sent, counts, False
+        counts["left"] = len(hall.left)
+        return ended, sent, counts, hall.used_up
 
     if not found:
         return done(ending)
@@ -178,7 +192,7 @@ def agent(answers, stream):
         return done("bad BadOperation(33)")
     kind = message[1]
     counts["joins"] = 1
-    answer = left.pop(0)
+    answer = hall.take(OF_JOIN, "jx")
     if answer == ("jt",):
         sent += frame(sequence, 0xA1, struct.pack(">H", kind))
         return done("closed")
@@ -191,7 +205,7 @@ def agent(answers, stream):
     sent += frame(sequence, 0xA0, struct.pack(">H", kind))
     while True:
         counts["nexts"] += 1
-        answer = left.pop(0)
+        answer = hall.take(OF_NEXT, "qx")
         if answer == ("qx",):
             counts["stops"] += 1
             return done("stopped")
@@ -208,7 +222,7 @@ def agent(answers, stream):
             if message[0] == "register":
                 return done("bad BadOperation(32)")
             counts["answers"] += 1
-            if left.pop(0) == ("ku",):
+            if hall.take(OF_ANSWER, "ku") == ("ku",):
                 sent += frame(sequence, 0xA3, struct.pack(">I", message[1]))
             if message[1] == number:
                 break
@@ -302,18 +316,63 @@ def agent_case(draw):
     if draw.random() < 0.1:
         stream += frame(1, 0x20, b"\0\n")
     line = "agent %s | - - %s | %s" % (" ".join(told), cuts(draw, len(stream)), stream.hex())
-    try:
-        return line, agent(answers, stream)
-    except IndexError:
-        # the list of answers is used up: another case
-        return agent_case(draw)
+    return line, agent(answers, stream)
+
+
+def answer_text(due):
+    ending, sent, counts, used_up = due
+    return f"{ending} | {sent.hex()} | {counts_text(counts, used_up)}"
 
 
 def cases(count, seed):
     draw = random.Random(seed)
     for at in range(count):
-        line, (ending, sent, counts, used_up) = (client_case if at % 2 else agent_case)(draw)
-        yield "%s => %s | %s | %s" % (line, ending, sent.hex(), counts_text(counts, used_up))
+        line, due = (client_case if at % 2 else agent_case)(draw)
+        yield f"{line} => {answer_text(due)}"
+
+
+# ---- cases as lines
+
+
+def question_of(word):
+    return tuple(letter.encode() for letter in word)
+
+
+def hall_answer(word):
+    if word.startswith("a") and len(word) > 1:
+        sign = "+" if "+" in word else "-"
+        number, question = word[1:].split(sign)
+        return "a", int(number), question_of(question), sign == "+"
+    if word[0] in "gl" and word[1:]:
+        return word[0], int(word[1:])
+    if word[0] == "q" and ":" in word:
+        number, question, metadata = word[1:].split(":")
+        return "q", int(number), question_of(question), metadata.encode()
+    return (word,)
+
+
+def policies_of(words):
+    policies = []
+    for word in words:
+        key, result = question_of(word.partition("=")[0]), word.partition("=")[2]
+        kind, _, metadata = result.partition(":")
+        policies = [policy for policy in policies if policy[0] != key] + [(key, int(kind), metadata.encode())]
+    return policies
+
+
+def with_answer(line):
+    """The line with the answer that is due; without one where the link is to fail or to close, of which this model knows nothing."""
+    word, _, rest = line.partition(" ")
+    *front, link, bytes_ = rest.split("|")
+    parts = bytes_.split("'")
+    stream = b"".join(part.encode() if at % 2 else bytes.fromhex(part) for at, part in enumerate(parts))
+    if link.split()[:2] != ["-", "-"]:
+        return line
+    answers = [hall_answer(part) for part in front[-1].split()]
+    if word == "agent":
+        return f"{line} => {answer_text(agent(answers, stream))}"
+    policies = front[0].split()
+    return f"{line} => {answer_text(client(policies_of(policies), len(policies), answers, stream))}"
 
 
 if __name__ == "__main__":

@@ -4,10 +4,11 @@ use Rattle.std.proofs.lemmas.List.{map-append}
 use Rattle.std.specs.List.{AllByRecursion}
 use Rattle.desk_ports.specs.Faults.{next_count}
 use Rattle.link_ports.specs.Traffic.{Traffic}
+use Rattle.link_ports.specs.Told.{ChangesTold}
 use Rattle.link_ports.specs.LinkMarks.{LinkMarks}
 use Rattle.cynara_keys.specs.declared.results.Kind.{Kind}
 use Rattle.desk_state.specs.DeskState.{DeskState}
-use Rattle.live_desk.specs.History.{GoesOn}
+use Rattle.live_desk.specs.History.{GoesOn, last_commit}
 use Rattle.live_desk.specs.Seat.{SeatState}
 use Rattle.desk_world.specs.declared.links.Reading.{Reading}
 use Rattle.desk_world.specs.declared.links.Reading.TheVariants.{Ready as IsReady, Due as IsDue}
@@ -32,12 +33,14 @@ use Rattle.client_door.specs.Check.{framed_of, message_of, reply_of}
 use Rattle.client_door.specs.Asking.{AsksOnce, AsksInVain, Asked, IsInVain, ask_made}
 use Rattle.client_door.specs.Reading.{reading}
 use Rattle.client_door.specs.Answered.{Answered, Answers, calls_for, after_asks, replies_bytes, frames_of, AreReadIn}
-use Rattle.client_door.specs.Serving.{ClientSide, client_side, with_link, EndsAsking, IsCallFor, Talks}
-use Rattle.client_door.specs.parts.Talk.{Stands, IsReadNow}
+use Rattle.client_door.specs.Recording.{Recording, with_all_recorded, judged_by}
+use Rattle.client_door.specs.Serving.{ClientSide, recorded_side, with_link, EndsAsking, IsCallFor, Talks}
+use Rattle.client_door.specs.parts.Talk.{Stands, IsReadNow, Notes, with_sent}
 use Rattle.client_door.specs.declared.checks.Check.{Check}
 use Rattle.client_door.specs.declared.agent_replies.AgentReply.{AgentReply}
 use Rattle.client_door.proofs.Calls.{after_asks_more, calls_same, calls_more, calls_for_more, front_right}
-use Rattle.client_door.proofs.Published.{stands_last}
+use Rattle.client_door.proofs.Recorded.{notes_nothing, no_judgement, has_recorded}
+use Rattle.client_door.proofs.Published.{stands_last, commit_of_last, reads_between}
 use Rattle.client_door.proofs.Unsent.{back_right, back_read, all_calls, unsent_calls}
 use Rattle.client_door.proofs.Steps.{answered_with, answered_by_policies, reseated, flushed, heard_more}
 
@@ -70,12 +73,12 @@ unanswered start now feeder waiting taken side s =
 -- the answering ends, after these calls of `ask` more
 pub ends_with : (start now after : ClientSide) (feeder : Feeding) (waiting : List ℕ) (taken : List Check) (ended : Ended) (extra : List AskMade)
     → (s : Stands start now feeder waiting taken)
-    → after.seat ≡ now.seat → after.tally ≡ after_asks extra now.tally → AppendsCalls now.calls (map Ask extra) after.calls
+    → after.seat ≡ now.seat → after.recording ≡ now.recording → after.tally ≡ after_asks extra now.tally → AppendsCalls now.calls (map Ask extra) after.calls
     → Carried now.traffic after.traffic [] [] → after.faults ≡ faults_after ended now.faults → IsAtEnd ended after.marks
     → after.marks.ends ≡ now.marks.ends → EndsAsking ended (calls_for s.unsent ++ extra) → feeder.heard ≡ AtClient
     → AllByRecursion (IsCallFor now.seat s.received s.sent) extra
     → EndsBytes AtClient s.received (frames_of s.sent) ended → Talks start after ended
-ends_with start now after feeder waiting taken ended extra s seat tally told carried faults at_end ends asking side for_extra bytes =
+ends_with start now after feeder waiting taken ended extra s seat recording tally told carried faults at_end ends asking side for_extra bytes =
     let read = back_read now.seat.seen now.seat.note s.sent s.unsent s.read in
     let made : calls_for (s.sent ++ s.unsent) ++ extra ≡ calls_for s.sent ++ (calls_for s.unsent ++ extra) =
     ap (λ list. list ++ extra) (calls_for_more s.sent s.unsent) ∙ append_assoc (calls_for s.sent) (calls_for s.unsent) extra in
@@ -107,6 +110,7 @@ ends_with start now after feeder waiting taken ended extra s seat tally told car
       faults = faults ∙ ap (λ count. faults_after ended count) s.faults;
       at_end = at_end;
       ends = ends ∙ s.ends;
+      recorded = has_recorded start.recording now.recording after.recording s.sent s.unsent s.kept recording;
     }
 
 -- for want of memory
@@ -114,18 +118,18 @@ pub ends_for_memory : (start now : ClientSide) (feeder : Feeding) (waiting : Lis
     → feeder.heard ≡ AtClient → Stands start now feeder waiting taken → Talks start now ended
 ends_for_memory start now feeder waiting taken ended is side s =
     subst (λ (e : Ended). Talks start now e) (sym is)
-    (ends_with start now now feeder waiting taken Memory [] s refl refl (calls_same now.calls) (carried_same now.traffic) refl tt refl
+    (ends_with start now now feeder waiting taken Memory [] s refl refl refl (calls_same now.calls) (carried_same now.traffic) refl tt refl
     (subst (λ (list : List AskMade). length list ≤ 1) (sym (append-nil (calls_for s.unsent))) s.few) side tt
     (unanswered start now feeder waiting taken side s))
 
 -- for a fault of the link
-pub ends_for_fault : (start now : ClientSide) (traffic : Option Traffic) (marks : LinkMarks) (faults : ℕ) (feeder : Feeding) (waiting : List ℕ)
-    (taken : List Check) (ended : Ended) → ended ≡ LinkFault → feeder.heard ≡ AtClient → Carried now.traffic traffic [] []
-    → marks.ends ≡ now.marks.ends → faults ≡ next_count now.faults
-    → Stands start now feeder waiting taken → Talks start (with_link now traffic marks faults) ended
-ends_for_fault start now traffic marks faults feeder waiting taken ended is side carried same rose s =
-    subst (λ (e : Ended). Talks start (with_link now traffic marks faults) e) (sym is)
-    (ends_with start now (with_link now traffic marks faults) feeder waiting taken LinkFault [] s refl refl (calls_same now.calls)
+pub ends_for_fault : (start now : ClientSide) (traffic : Option Traffic) (marks : LinkMarks) (faults : ℕ) (recording : Option Recording)
+    (feeder : Feeding) (waiting : List ℕ) (taken : List Check) (ended : Ended) → ended ≡ LinkFault → feeder.heard ≡ AtClient
+    → Carried now.traffic traffic [] [] → marks.ends ≡ now.marks.ends → faults ≡ next_count now.faults → recording ≡ now.recording
+    → Stands start now feeder waiting taken → Talks start (with_sent now traffic marks faults recording) ended
+ends_for_fault start now traffic marks faults recording feeder waiting taken ended is side carried same rose kept s =
+    subst (λ (e : Ended). Talks start (with_sent now traffic marks faults recording) e) (sym is)
+    (ends_with start now (with_sent now traffic marks faults recording) feeder waiting taken LinkFault [] s refl kept refl (calls_same now.calls)
     carried rose tt same
     (subst (λ (list : List AskMade). length list ≤ 1) (sym (append-nil (calls_for s.unsent))) s.few) side tt
     (unanswered start now feeder waiting taken side s))
@@ -154,12 +158,12 @@ pub ends_reading : (start now : ClientSide) (traffic : Option Traffic) (marks : 
     → (s : Stands start now feeder waiting []) → s.unsent ≡ [] → Talks start (with_link now traffic marks faults) ended
 ends_reading start now traffic marks faults feeder waiting Closed side none carried same (sound, empty, mark, still) s sent =
     let behind : s.heard.behind ≡ [] = (s.heard.sound sound).0 ∙ empty in
-    ends_with start now (with_link now traffic marks faults) feeder waiting [] Closed [] s refl refl (calls_same now.calls) carried still mark same
+    ends_with start now (with_link now traffic marks faults) feeder waiting [] Closed [] s refl refl refl (calls_same now.calls) carried still mark same
     (no_calls start now feeder waiting s sent) side tt
     (subst (λ rest. Hears AtClient s.received (frames_of s.sent) rest) behind (all_answered start now feeder waiting side none s sent))
 ends_reading start now traffic marks faults feeder waiting (Cut count) side none carried same (sound, is, some, mark, still) s sent =
     let at = s.heard.sound sound in
-    ends_with start now (with_link now traffic marks faults) feeder waiting [] (Cut count) [] s refl refl (calls_same now.calls) carried still mark same
+    ends_with start now (with_link now traffic marks faults) feeder waiting [] (Cut count) [] s refl refl refl (calls_same now.calls) carried still mark same
     (no_calls start now feeder waiting s sent) side tt (
       s.heard.behind,
       all_answered start now feeder waiting side none s sent,
@@ -168,9 +172,9 @@ ends_reading start now traffic marks faults feeder waiting (Cut count) side none
       some,
     )
 ends_reading start now traffic marks faults feeder waiting LinkFault side none carried same rose s sent =
-    ends_for_fault start now traffic marks faults feeder waiting [] LinkFault refl side carried same rose s
+    ends_for_fault start now traffic marks faults now.recording feeder waiting [] LinkFault refl side carried same rose refl s
 ends_reading start now traffic marks faults feeder waiting (BadFrame refusal) side none carried same (failed, of_bytes, still) s sent =
-    ends_with start now (with_link now traffic marks faults) feeder waiting [] (BadFrame refusal) [] s refl refl (calls_same now.calls)
+    ends_with start now (with_link now traffic marks faults) feeder waiting [] (BadFrame refusal) [] s refl refl refl (calls_same now.calls)
     carried still tt same (no_calls start now feeder waiting s sent) side tt (
       s.heard.behind,
       all_answered start now feeder waiting side none s sent,
@@ -178,7 +182,7 @@ ends_reading start now traffic marks faults feeder waiting (BadFrame refusal) si
       of_bytes,
     )
 ends_reading start now traffic marks faults feeder waiting Memory side none carried same still s sent =
-    ends_with start now (with_link now traffic marks faults) feeder waiting [] Memory [] s refl refl (calls_same now.calls)
+    ends_with start now (with_link now traffic marks faults) feeder waiting [] Memory [] s refl refl refl (calls_same now.calls)
     carried still tt same
     (subst (λ (list : List AskMade). length list ≤ 1) (sym (append-nil (calls_for s.unsent))) s.few) side tt
     (unanswered start now feeder waiting [] side s)
@@ -198,10 +202,11 @@ pub asked_once : (start now : ClientSide) (tally : Tally) (calls : Option (List 
     → Stands start (record now { tally = tally; calls = calls }) feeder after []
 asked_once start now tally calls feeder frame after check desk commit kind metadata reply now_read is (result, asked, leads) spelled put s sent =
     let call : AskMade = ask_made kind check.question metadata result in
-    answered_with start now tally calls feeder [] after check desk (Some call) (reply_of reply) s now_read
+    answered_with start now tally calls now.recording feeder [] after check desk (Some call) (reply_of reply) s now_read
     (subst (λ (seen : Reading). Answers seen check.question (Some call) (reply_of reply)) (sym is) (result, refl, leads))
     asked.counted asked.told
     (subst (λ (list : List Answered). length (calls_for list ++ call ∷ []) ≤ 1) (sym sent) (omega arith))
+    (notes_nothing now.recording (judged_by check.question (reply_of reply)) (no_judgement check.question reply))
     (put ∙ spelled)
 
 -- the call that is made for a check that was taken
@@ -215,7 +220,8 @@ made_for start now feeder check desk commit kind metadata result side now_read d
   read = due;
   question = refl;
   stands = stands_last desk now.seat.seen now_read.last;
-  fresh = now_read.fresh;
+  fresh = reads_between now.seat.note (last_commit 0 now.seat.seen) desk.commit now_read.fresh
+      (let top = commit_of_last now.seat.seen desk now_read.last in omega (arith, top));
   heard = (frames_of s.unsent, feeder.waiting, s.heard.behind, heard_behind start now feeder [] (check ∷ []) side s);
 }
 
@@ -229,7 +235,7 @@ asked_for_nothing start now tally calls feeder check desk commit kind metadata r
     let call : AskMade = ask_made kind check.question metadata result in
     let after : ClientSide = record now { tally = tally; calls = calls } in
     subst (λ (e : Ended). Talks start after e) (sym is)
-    (ends_with start now after feeder [] (check ∷ []) Memory (call ∷ []) s refl asked.counted asked.told (carried_same now.traffic) refl tt refl
+    (ends_with start now after feeder [] (check ∷ []) Memory (call ∷ []) s refl refl asked.counted asked.told (carried_same now.traffic) refl tt refl
     (subst (λ (list : List Answered). length (calls_for list ++ call ∷ []) ≤ 1) (sym sent) (omega arith)) side
     (made_for start now feeder check desk commit kind metadata result side now_read due s, tt)
     (unanswered start now feeder [] (check ∷ []) side s))
@@ -243,7 +249,7 @@ vain : (start now after : ClientSide) (feeder : Feeding) (check : Check) (desk :
     → (s : Stands start now feeder [] (check ∷ [])) → s.unsent ≡ [] → Talks start after ended
 vain start now after feeder check desk commit kind metadata result Stopped now_read due side same asked stop s sent =
     let call : AskMade = ask_made kind check.question metadata result in
-    ends_with start now after feeder [] (check ∷ []) Stopped (call ∷ []) s (ap (λ (x : ClientSide). x.seat) same) asked.counted asked.told
+    ends_with start now after feeder [] (check ∷ []) Stopped (call ∷ []) s (ap (λ (x : ClientSide). x.seat) same) (ap (λ (x : ClientSide). x.recording) same) asked.counted asked.told
     (subst (λ (x : ClientSide). Carried now.traffic x.traffic [] []) (sym same) (carried_same now.traffic))
     (ap (λ (x : ClientSide). x.faults) same) tt (ap (λ (x : ClientSide). x.marks.ends) same)
     (call, ap (λ (list : List Answered). calls_for list ++ call ∷ []) sent, stop) side
@@ -251,7 +257,7 @@ vain start now after feeder check desk commit kind metadata result Stopped now_r
     (unanswered start now feeder [] (check ∷ []) side s)
 vain start now after feeder check desk commit kind metadata result Memory now_read due side same asked free s sent =
     let call : AskMade = ask_made kind check.question metadata result in
-    ends_with start now after feeder [] (check ∷ []) Memory (call ∷ []) s (ap (λ (x : ClientSide). x.seat) same) asked.counted asked.told
+    ends_with start now after feeder [] (check ∷ []) Memory (call ∷ []) s (ap (λ (x : ClientSide). x.seat) same) (ap (λ (x : ClientSide). x.recording) same) asked.counted asked.told
     (subst (λ (x : ClientSide). Carried now.traffic x.traffic [] []) (sym same) (carried_same now.traffic))
     (ap (λ (x : ClientSide). x.faults) same) tt (ap (λ (x : ClientSide). x.marks.ends) same)
     (subst (λ (list : List Answered). length (calls_for list ++ call ∷ []) ≤ 1) (sym sent) (omega arith)) side
@@ -259,7 +265,7 @@ vain start now after feeder check desk commit kind metadata result Memory now_re
     (unanswered start now feeder [] (check ∷ []) side s)
 vain start now after feeder check desk commit kind metadata result (Strayed number found) now_read due side same asked strays s sent =
     let call : AskMade = ask_made kind check.question metadata result in
-    ends_with start now after feeder [] (check ∷ []) (Strayed number found) (call ∷ []) s (ap (λ (x : ClientSide). x.seat) same) asked.counted asked.told
+    ends_with start now after feeder [] (check ∷ []) (Strayed number found) (call ∷ []) s (ap (λ (x : ClientSide). x.seat) same) (ap (λ (x : ClientSide). x.recording) same) asked.counted asked.told
     (subst (λ (x : ClientSide). Carried now.traffic x.traffic [] []) (sym same) (carried_same now.traffic))
     (ap (λ (x : ClientSide). x.faults) same) tt (ap (λ (x : ClientSide). x.marks.ends) same)
     (call, ap (λ (list : List Answered). calls_for list ++ call ∷ []) sent, strays) side
@@ -281,7 +287,7 @@ asked_in_vain start now tally calls feeder check desk commit kind metadata ended
       | AsksInVain.unasked is same_tally same_calls ↦
           let after : ClientSide = record now { tally = tally; calls = calls } in
           subst (λ (e : Ended). Talks start after e) (sym is)
-          (ends_with start now after feeder [] (check ∷ []) Memory [] s refl same_tally
+          (ends_with start now after feeder [] (check ∷ []) Memory [] s refl refl same_tally
           (subst (λ told. AppendsCalls now.calls [] told) (sym same_calls) (calls_same now.calls))
           (carried_same now.traffic) refl tt refl
           (subst (λ (list : List AskMade). length list ≤ 1) (sym (append-nil (calls_for s.unsent))) s.few) side tt
@@ -293,93 +299,94 @@ asked_in_vain start now tally calls feeder check desk commit kind metadata ended
 -- ---- the parts of a turn
 
 -- a check was read and put behind those that wait, by the policies alone
-pub reads_and_puts : (old new : ClientSide) (seat : SeatState) (feeder : Feeding) (waiting frame after : List ℕ) (check : Check)
-    (desk : DeskState) (reply : Reply) → seat ≡ record old.seat { seen = seat.seen } → GoesOn old.seat.seen seat.seen
-    → new ≡ record old { seat = seat } → IsReadNow desk seat → reading desk check ≡ IsReady reply
-    → frame ≡ spelling (with_sequence check.sequence (message_of reply)) → after ≡ waiting ++ frame
+pub reads_and_puts : (old new : ClientSide) (seat : SeatState) (recording : Option Recording) (feeder : Feeding) (waiting frame after : List ℕ)
+    (check : Check) (desk : DeskState) (reply : Reply) → seat ≡ record old.seat { seen = seat.seen } → GoesOn old.seat.seen seat.seen
+    → new ≡ record old { seat = seat; recording = recording } → IsReadNow desk seat → reading desk check ≡ IsReady reply
+    → frame ≡ spelling (with_sequence check.sequence (message_of reply)) → Notes old.recording (judged_by check.question reply) recording
+    → after ≡ waiting ++ frame
     → (start : ClientSide) → Stands start old feeder waiting (check ∷ []) → Stands start new feeder after []
-reads_and_puts old new seat feeder waiting frame after check desk reply same goes_on is now_read read spelled put start s =
+reads_and_puts old new seat recording feeder waiting frame after check desk reply same goes_on is now_read read spelled noted put start s =
     subst (λ (x : ClientSide). Stands start x feeder after []) (sym is)
-    (answered_by_policies start (record old { seat = seat }) feeder waiting frame after check desk reply now_read read spelled put
-    (reseated start old seat feeder waiting (check ∷ []) same goes_on s))
+    (answered_by_policies start (record old { seat = seat }) recording feeder waiting frame after check desk reply now_read read spelled noted put
+    (reseated start old seat desk feeder waiting (check ∷ []) same goes_on now_read s))
 
 -- a check was read, and memory was wanting
-pub reads_for_nothing : (old new : ClientSide) (seat : SeatState) (feeder : Feeding) (waiting : List ℕ) (check : Check) (ended : Ended)
+pub reads_for_nothing : (old new : ClientSide) (seat : SeatState) (desk : DeskState) (feeder : Feeding) (waiting : List ℕ) (check : Check) (ended : Ended)
     → seat ≡ record old.seat { seen = seat.seen } → GoesOn old.seat.seen seat.seen → new ≡ record old { seat = seat }
-    → ended ≡ Memory → feeder.heard ≡ AtClient
+    → IsReadNow desk seat → ended ≡ Memory → feeder.heard ≡ AtClient
     → (start : ClientSide) → Stands start old feeder waiting (check ∷ []) → Talks start new ended
-reads_for_nothing old new seat feeder waiting check ended same goes_on is memory side start s =
+reads_for_nothing old new seat desk feeder waiting check ended same goes_on is now_read memory side start s =
     subst (λ (x : ClientSide). Talks start x ended) (sym is)
     (ends_for_memory start (record old { seat = seat }) feeder waiting (check ∷ []) ended memory side
-    (reseated start old seat feeder waiting (check ∷ []) same goes_on s))
+    (reseated start old seat desk feeder waiting (check ∷ []) same goes_on now_read s))
 
 -- replies were sent, and more was received
-pub sends_and_receives : (side : ClientSide) (before : Option Traffic) (marks : LinkMarks) (faults : ℕ) (sent : Option Traffic) (marks_sent : LinkMarks)
-    (faults_sent : ℕ) (after : Option Traffic) (marks_after : LinkMarks) (faults_after : ℕ) (feeder fed : Feeding) (waiting bytes : List ℕ)
-    → Carried before sent [] waiting → marks_sent ≡ marks → faults_sent ≡ faults
+pub sends_and_receives : (side : ClientSide) (before : Option Traffic) (marks : LinkMarks) (faults : ℕ) (noted recording : Option Recording)
+    (sent : Option Traffic) (marks_sent : LinkMarks) (faults_sent : ℕ) (after : Option Traffic) (marks_after : LinkMarks) (faults_after : ℕ) (feeder fed : Feeding) (waiting bytes : List ℕ)
+    → Carried before sent [] waiting → marks_sent ≡ marks → faults_sent ≡ faults → ChangesTold noted with_all_recorded recording
     → Carried sent after bytes [] → HearsMore bytes feeder fed → marks_after.ends ≡ marks_sent.ends → faults_after ≡ faults_sent
-    → (start : ClientSide) → Stands start (with_link side before marks faults) feeder waiting []
-    → Stands start (with_link side after marks_after faults_after) fed [] []
-sends_and_receives side before marks faults sent marks_sent faults_sent after marks_after faults_after feeder fed waiting bytes carried same still received hears ends rest start s =
-    let first = flushed start (with_link side before marks faults) sent marks_sent faults_sent feeder waiting [] carried same still s in
-    (heard_more start (with_link side sent marks_sent faults_sent) after marks_after faults_after feeder fed [] bytes received hears ends rest first.0).0
+    → (start : ClientSide) → Stands start (with_sent side before marks faults noted) feeder waiting []
+    → Stands start (with_sent side after marks_after faults_after recording) fed [] []
+sends_and_receives side before marks faults noted recording sent marks_sent faults_sent after marks_after faults_after feeder fed waiting bytes carried same still recorded received hears ends rest start s =
+    let first = flushed start (with_sent side before marks faults noted) sent marks_sent faults_sent recording feeder waiting [] carried same still recorded s in
+    (heard_more start (with_sent side sent marks_sent faults_sent recording) after marks_after faults_after feeder fed [] bytes received hears ends rest first.0).0
 
 -- replies were sent, and no more comes
-pub sends_and_ends : (side : ClientSide) (before : Option Traffic) (marks : LinkMarks) (faults : ℕ) (sent : Option Traffic) (marks_sent : LinkMarks)
-    (faults_sent : ℕ) (after : Option Traffic) (marks_after : LinkMarks) (faults_now : ℕ) (feeder fed : Feeding) (waiting bytes : List ℕ) (ended : Ended)
-    → Carried before sent [] waiting → marks_sent ≡ marks → faults_sent ≡ faults
+pub sends_and_ends : (side : ClientSide) (before : Option Traffic) (marks : LinkMarks) (faults : ℕ) (noted recording : Option Recording)
+    (sent : Option Traffic) (marks_sent : LinkMarks) (faults_sent : ℕ) (after : Option Traffic) (marks_after : LinkMarks) (faults_now : ℕ) (feeder fed : Feeding) (waiting bytes : List ℕ) (ended : Ended)
+    → Carried before sent [] waiting → marks_sent ≡ marks → faults_sent ≡ faults → ChangesTold noted with_all_recorded recording
     → Carried sent after bytes [] → HearsMore bytes feeder fed → marks_after.ends ≡ marks_sent.ends
     → fed.heard ≡ AtClient → fed.waiting ≡ [] → EndsReading ended fed marks_after faults_sent faults_now
-    → (start : ClientSide) → Stands start (with_link side before marks faults) feeder waiting []
-    → Talks start (with_link side after marks_after faults_now) ended
-sends_and_ends side before marks faults sent marks_sent faults_sent after marks_after faults_now feeder fed waiting bytes ended carried same still received hears ends heard none reading start s =
-    let first = flushed start (with_link side before marks faults) sent marks_sent faults_sent feeder waiting [] carried same still s in
-    let then = heard_more start (with_link side sent marks_sent faults_sent) after marks_sent faults_sent feeder fed [] bytes received hears refl refl first.0 in
-    ends_reading start (with_link side after marks_sent faults_sent) after marks_after faults_now fed [] ended heard none (carried_same after) ends reading
+    → (start : ClientSide) → Stands start (with_sent side before marks faults noted) feeder waiting []
+    → Talks start (with_sent side after marks_after faults_now recording) ended
+sends_and_ends side before marks faults noted recording sent marks_sent faults_sent after marks_after faults_now feeder fed waiting bytes ended carried same still recorded received hears ends heard none reading start s =
+    let first = flushed start (with_sent side before marks faults noted) sent marks_sent faults_sent recording feeder waiting [] carried same still recorded s in
+    let then = heard_more start (with_sent side sent marks_sent faults_sent recording) after marks_sent faults_sent feeder fed [] bytes received hears refl refl first.0 in
+    ends_reading start (with_sent side after marks_sent faults_sent recording) after marks_after faults_now fed [] ended heard none (carried_same after) ends reading
     then.0 (then.1 ∙ first.1)
 
 -- replies were sent, an agent was asked, and the reply waits
-pub sends_and_asks : (old : ClientSide) (sent : Option Traffic) (marks : LinkMarks) (faults : ℕ) (tally : Tally) (calls : Option (List HallCall))
+pub sends_and_asks : (old : ClientSide) (sent : Option Traffic) (marks : LinkMarks) (faults : ℕ) (recording : Option Recording) (tally : Tally) (calls : Option (List HallCall))
     (feeder : Feeding) (waiting between frame after : List ℕ) (check : Check) (desk : DeskState) (commit : ℕ) (kind : Kind) (metadata : List ℕ) (reply : AgentReply)
-    → Carried old.traffic sent [] waiting → marks ≡ old.marks → faults ≡ old.faults → between ≡ []
+    → Carried old.traffic sent [] waiting → marks ≡ old.marks → faults ≡ old.faults → ChangesTold old.recording with_all_recorded recording → between ≡ []
     → IsReadNow desk old.seat → reading desk check ≡ IsDue commit kind metadata
     → AsksOnce commit kind check.question metadata old.tally old.calls tally calls reply
     → after ≡ between ++ spelling (with_sequence check.sequence (message_of (reply_of reply)))
     → (start : ClientSide) → Stands start old feeder waiting (check ∷ [])
-    → Stands start (client_side old.seat tally calls sent marks faults) feeder after []
-sends_and_asks old sent marks faults tally calls feeder waiting between frame after check desk commit kind metadata reply carried same still none now_read is asks put start s =
-    let first = flushed start old sent marks faults feeder waiting (check ∷ []) carried same still s in
-    asked_once start (with_link old sent marks faults) tally calls feeder (spelling (with_sequence check.sequence (message_of (reply_of reply)))) after
+    → Stands start (recorded_side old.seat tally calls sent marks faults recording) feeder after []
+sends_and_asks old sent marks faults recording tally calls feeder waiting between frame after check desk commit kind metadata reply carried same still recorded none now_read is asks put start s =
+    let first = flushed start old sent marks faults recording feeder waiting (check ∷ []) carried same still recorded s in
+    asked_once start (with_sent old sent marks faults recording) tally calls feeder (spelling (with_sequence check.sequence (message_of (reply_of reply)))) after
     check desk commit kind metadata reply now_read is asks refl
     (put ∙ ap (λ list. list ++ spelling (with_sequence check.sequence (message_of (reply_of reply)))) none) first.0 first.1
 
 -- the same, and memory was wanting for the reply
-pub sends_and_asks_for_nothing : (old : ClientSide) (sent : Option Traffic) (marks : LinkMarks) (faults : ℕ) (tally : Tally) (calls : Option (List HallCall))
+pub sends_and_asks_for_nothing : (old : ClientSide) (sent : Option Traffic) (marks : LinkMarks) (faults : ℕ) (recording : Option Recording) (tally : Tally) (calls : Option (List HallCall))
     (feeder : Feeding) (waiting : List ℕ) (check : Check) (desk : DeskState) (commit : ℕ) (kind : Kind) (metadata : List ℕ) (reply : AgentReply) (ended : Ended)
-    → Carried old.traffic sent [] waiting → marks ≡ old.marks → faults ≡ old.faults → ended ≡ Memory → feeder.heard ≡ AtClient
+    → Carried old.traffic sent [] waiting → marks ≡ old.marks → faults ≡ old.faults → ChangesTold old.recording with_all_recorded recording → ended ≡ Memory → feeder.heard ≡ AtClient
     → IsReadNow desk old.seat → reading desk check ≡ IsDue commit kind metadata → AsksOnce commit kind check.question metadata old.tally old.calls tally calls reply
     → (start : ClientSide) → Stands start old feeder waiting (check ∷ [])
-    → Talks start (client_side old.seat tally calls sent marks faults) ended
-sends_and_asks_for_nothing old sent marks faults tally calls feeder waiting check desk commit kind metadata reply ended carried same still is side now_read due asks start s =
-    let first = flushed start old sent marks faults feeder waiting (check ∷ []) carried same still s in
-    asked_for_nothing start (with_link old sent marks faults) tally calls feeder check desk commit kind metadata reply ended is side now_read due asks first.0 first.1
+    → Talks start (recorded_side old.seat tally calls sent marks faults recording) ended
+sends_and_asks_for_nothing old sent marks faults recording tally calls feeder waiting check desk commit kind metadata reply ended carried same still recorded is side now_read due asks start s =
+    let first = flushed start old sent marks faults recording feeder waiting (check ∷ []) carried same still recorded s in
+    asked_for_nothing start (with_sent old sent marks faults recording) tally calls feeder check desk commit kind metadata reply ended is side now_read due asks first.0 first.1
 
 -- the same, and no reply comes of it
-pub sends_and_asks_in_vain : (old : ClientSide) (sent : Option Traffic) (marks : LinkMarks) (faults : ℕ) (tally : Tally) (calls : Option (List HallCall))
+pub sends_and_asks_in_vain : (old : ClientSide) (sent : Option Traffic) (marks : LinkMarks) (faults : ℕ) (recording : Option Recording) (tally : Tally) (calls : Option (List HallCall))
     (feeder : Feeding) (waiting : List ℕ) (check : Check) (desk : DeskState) (commit : ℕ) (kind : Kind) (metadata : List ℕ) (ended : Ended)
-    → Carried old.traffic sent [] waiting → marks ≡ old.marks → faults ≡ old.faults → feeder.heard ≡ AtClient
+    → Carried old.traffic sent [] waiting → marks ≡ old.marks → faults ≡ old.faults → ChangesTold old.recording with_all_recorded recording → feeder.heard ≡ AtClient
     → IsReadNow desk old.seat → reading desk check ≡ IsDue commit kind metadata → AsksInVain kind check.question metadata old.tally old.calls tally calls ended
     → (start : ClientSide) → Stands start old feeder waiting (check ∷ [])
-    → Talks start (client_side old.seat tally calls sent marks faults) ended
-sends_and_asks_in_vain old sent marks faults tally calls feeder waiting check desk commit kind metadata ended carried same still side now_read due made start s =
-    let first = flushed start old sent marks faults feeder waiting (check ∷ []) carried same still s in
-    asked_in_vain start (with_link old sent marks faults) tally calls feeder check desk commit kind metadata ended now_read due side made first.0 first.1
+    → Talks start (recorded_side old.seat tally calls sent marks faults recording) ended
+sends_and_asks_in_vain old sent marks faults recording tally calls feeder waiting check desk commit kind metadata ended carried same still recorded side now_read due made start s =
+    let first = flushed start old sent marks faults recording feeder waiting (check ∷ []) carried same still recorded s in
+    asked_in_vain start (with_sent old sent marks faults recording) tally calls feeder check desk commit kind metadata ended now_read due side made first.0 first.1
 
 -- a check was read, and an agent is to be asked
-pub reads_on : (old : ClientSide) (seat : SeatState) (feeder fed : Feeding) (waiting after : List ℕ) (check : Check)
-    → seat ≡ record old.seat { seen = seat.seen } → GoesOn old.seat.seen seat.seen → fed ≡ feeder → after ≡ waiting
+pub reads_on : (old : ClientSide) (seat : SeatState) (desk : DeskState) (feeder fed : Feeding) (waiting after : List ℕ) (check : Check)
+    → seat ≡ record old.seat { seen = seat.seen } → GoesOn old.seat.seen seat.seen → IsReadNow desk seat → fed ≡ feeder → after ≡ waiting
     → (start : ClientSide) → Stands start old feeder waiting (check ∷ []) → Stands start (record old { seat = seat }) fed after (check ∷ [])
-reads_on old seat feeder fed waiting after check same goes_on feeder_is waiting_is start s =
+reads_on old seat desk feeder fed waiting after check same goes_on now_read feeder_is waiting_is start s =
     subst (λ (x : Feeding). Stands start (record old { seat = seat }) x after (check ∷ [])) (sym feeder_is)
     (subst (λ list. Stands start (record old { seat = seat }) feeder list (check ∷ [])) (sym waiting_is)
-    (reseated start old seat feeder waiting (check ∷ []) same goes_on s))
+    (reseated start old seat desk feeder waiting (check ∷ []) same goes_on now_read s))

@@ -1,5 +1,6 @@
 pub mod Published
 pub mod Calls
+pub mod Recorded
 pub mod Questions
 pub mod Reading
 pub mod Steps

@@ -1,5 +1,5 @@
 -- What an answer of the policies is for a check.
-use Rattle.std.proofs.Common.{◌≡◌, ◌∙◌, ℕ, Bool, true, false, List, refl, sym, ap, subst}
+use Rattle.std.proofs.Common.{◌≡◌, ◌∙◌, ℕ, Bool, true, false, ◌==◌, List, refl, sym, ap, subst}
 use Rattle.cynara_keys.specs.PolicyResult.{is_agent}
 use Rattle.cynara_keys.specs.declared.results.Kind.{Kind}
 use Rattle.bucket_eval.specs.declared.lending.BorrowedAnswer.{BorrowedAnswer}
@@ -14,26 +14,30 @@ use Rattle.desk_world.specs.declared.links.Reading.TheVariants.{Ready, Due}
 use Rattle.desk_world.specs.declared.replies.Reply.TheVariants.{Judged, NotResolved}
 use Rattle.client_door.specs.Reading.{Finds, TellsNotResolved}
 use Rattle.client_door.specs.declared.readings.Found.{Found}
-use Rattle.client_door.specs.declared.readings.Found.TheVariants.{Ready as FoundReady, Due as FoundDue, Memory as FoundMemory}
+use Rattle.client_door.specs.declared.readings.Found.TheVariants.{Judged as FoundJudged, Unresolved as FoundUnresolved, Due as FoundDue, Memory as FoundMemory}
 
 -- the policies decide
-pub reads_judged : (sequence : ℕ) (simple : Bool) (commit : ℕ) (lent : BorrowedAnswer) (frame : List ℕ)
+pub reads_judged : (sequence : ℕ) (simple : Bool) (commit : ℕ) (lent : BorrowedAnswer) (frame : List ℕ) (allowed : Bool)
     → is_agent (outcome_lent lent).result.kind ≡ false → frame ≡ spelling (with_sequence sequence (judged commit lent))
-    → Finds sequence (reading_of commit simple (outcome_lent lent)) frame FoundReady
-reads_judged sequence simple commit lent frame no_agent spelled = (
-  Judged (record { commit = commit; answer = answer_of (outcome_lent lent) }),
+    → allowed ≡ ((outcome_lent lent).result.kind == 65535)
+    → Finds sequence (reading_of commit simple (outcome_lent lent)) frame (FoundJudged commit allowed)
+reads_judged sequence simple commit lent frame allowed no_agent spelled is_allow = (
+  record { commit = commit; answer = answer_of (outcome_lent lent) },
   ap (λ agent. read_as agent commit simple (outcome_lent lent)) no_agent,
   spelled,
+  refl,
+  is_allow,
 )
 
 -- an agent would decide, and none may be asked
 pub reads_simple : (sequence : ℕ) (simple : Bool) (commit : ℕ) (lent : BorrowedAnswer) (kind : Kind) (frame : List ℕ)
     → is_agent (outcome_lent lent).result.kind ≡ true → simple ≡ true → kind.0 ≡ (outcome_lent lent).result.kind
     → frame ≡ spelling (with_sequence sequence (message.NotResolved commit kind))
-    → Finds sequence (reading_of commit simple (outcome_lent lent)) frame FoundReady
+    → Finds sequence (reading_of commit simple (outcome_lent lent)) frame FoundUnresolved
 reads_simple sequence simple commit lent kind frame agent is same spelled =
     let kinds : record { 0 = (outcome_lent lent).result.kind } ≡ kind = λ i. record { 0 = sym same i } in (
-      NotResolved commit kind,
+      commit,
+      kind,
       ap (λ a. read_as a commit simple (outcome_lent lent)) agent ∙ (ap (λ s. read_as true commit s (outcome_lent lent)) is
           ∙ ap (λ (k : Kind). Ready (NotResolved commit k)) kinds),
       spelled,
@@ -44,8 +48,9 @@ pub reads_not_resolved : (sequence : ℕ) (simple : Bool) (commit : ℕ) (lent :
     → is_agent (outcome_lent lent).result.kind ≡ true → simple ≡ true → kind.0 ≡ (outcome_lent lent).result.kind
     → TellsNotResolved sequence commit kind frame found
     → Finds sequence (reading_of commit simple (outcome_lent lent)) frame found
-reads_not_resolved sequence simple commit lent kind frame FoundReady agent is same told =
+reads_not_resolved sequence simple commit lent kind frame FoundUnresolved agent is same told =
     reads_simple sequence simple commit lent kind frame agent is same told
+reads_not_resolved sequence simple commit lent kind frame (FoundJudged at allowed) agent is same told = absurd told
 reads_not_resolved sequence simple commit lent kind frame (FoundDue other due metadata) agent is same told = absurd told
 reads_not_resolved sequence simple commit lent kind frame FoundMemory agent is same told = tt
 

@@ -3,6 +3,7 @@ use Rattle.std.proofs.Common.{◌≡◌, ◌∙◌, ◌≤◌, ℕ, List, [], �
 use Rattle.std.proofs.lemmas.List.{map-append}
 use Rattle.std.specs.List.{AllByRecursion}
 use Rattle.link_ports.specs.Traffic.{Traffic}
+use Rattle.link_ports.specs.Told.{ChangesTold}
 use Rattle.link_ports.specs.LinkMarks.{LinkMarks}
 use Rattle.desk_state.specs.DeskState.{DeskState}
 use Rattle.live_desk.specs.History.{GoesOn}
@@ -26,9 +27,11 @@ use Rattle.client_door.specs.Check.{framed_of, message_of}
 use Rattle.client_door.specs.Reading.{reading}
 use Rattle.client_door.specs.Answered.{Answered, Answers, IsRight, call_list, calls_for, after_asks, reply_bytes, replies_bytes, frames_of, AreReadIn}
 use Rattle.client_door.specs.Serving.{ClientSide, with_link}
-use Rattle.client_door.specs.parts.Talk.{Stands, IsReadNow}
+use Rattle.client_door.specs.Recording.{Recording, with_all_recorded, judged_by}
+use Rattle.client_door.specs.parts.Talk.{Stands, IsReadNow, Notes, with_sent}
 use Rattle.client_door.specs.declared.checks.Check.{Check}
-use Rattle.client_door.proofs.Published.{stands_last, not_above, read_in_more, read_in_snoc}
+use Rattle.client_door.proofs.Published.{not_above, read_in_more, read_in_snoc}
+use Rattle.client_door.proofs.Recorded.{keeps_nothing, keeps_noted, keeps_recorded}
 use Rattle.client_door.proofs.Calls.{after_asks_more, calls_same, calls_more, calls_for_snoc, replies_snoc, replies_more, all_right_more}
 
 -- ---- the start
@@ -48,6 +51,7 @@ begins side = record {
   tally = refl;
   calls = calls_same side.calls;
   few = omega arith;
+  kept = keeps_nothing side.recording;
   faults = refl;
   ends = refl;
 }
@@ -76,16 +80,17 @@ takes_check start now old new waiting check handed s =
       tally = s.tally;
       calls = s.calls;
       few = s.few;
+      kept = s.kept;
       faults = s.faults;
       ends = s.ends;
     }
 
 -- ---- the seat has seen more
 
-pub reseated : (start now : ClientSide) (seat : SeatState) (feeder : Feeding) (waiting : List ℕ) (taken : List Check)
-    → seat ≡ record now.seat { seen = seat.seen } → GoesOn now.seat.seen seat.seen
+pub reseated : (start now : ClientSide) (seat : SeatState) (desk : DeskState) (feeder : Feeding) (waiting : List ℕ) (taken : List Check)
+    → seat ≡ record now.seat { seen = seat.seen } → GoesOn now.seat.seen seat.seen → IsReadNow desk seat
     → Stands start now feeder waiting taken → Stands start (record now { seat = seat }) feeder waiting taken
-reseated start now seat feeder waiting taken same goes_on s =
+reseated start now seat desk feeder waiting taken same goes_on read_now s =
     let note : now.seat.note ≡ seat.note = sym (ap (λ (x : SeatState). x.note) same) in
     record {
       received = s.received;
@@ -96,12 +101,13 @@ reseated start now seat feeder waiting taken same goes_on s =
       carried = s.carried;
       waits = s.waits;
       read = subst (λ low. AreReadIn seat.seen low (s.sent ++ s.unsent)) note
-          (read_in_more now.seat.seen seat.seen goes_on now.seat.note (s.sent ++ s.unsent) s.read);
+          (read_in_more now.seat.seen seat.seen desk goes_on read_now.rising read_now.last now.seat.note (s.sent ++ s.unsent) s.read);
       seen = goes_on_more start.seat.seen now.seat.seen seat.seen s.seen goes_on;
       same_seat = same ∙ ap (λ (x : SeatState). record x { seen = seat.seen }) s.same_seat;
       tally = s.tally;
       calls = s.calls;
       few = s.few;
+      kept = s.kept;
       faults = s.faults;
       ends = s.ends;
     }
@@ -111,15 +117,16 @@ reseated start now seat feeder waiting taken same goes_on s =
 
 -- ---- a check that was taken is answered
 
-pub answered_with : (start now : ClientSide) (tally : Tally) (calls : Option (List HallCall)) (feeder : Feeding) (waiting after : List ℕ)
+pub answered_with : (start now : ClientSide) (tally : Tally) (calls : Option (List HallCall)) (recording : Option Recording) (feeder : Feeding) (waiting after : List ℕ)
     (check : Check) (desk : DeskState) (call : Option AskMade) (reply : Reply)
     → (s : Stands start now feeder waiting (check ∷ [])) → IsReadNow desk now.seat
     → Answers (reading desk check) check.question call reply
     → tally ≡ after_asks (call_list call) now.tally → AppendsCalls now.calls (map Ask (call_list call)) calls
     → length (calls_for s.unsent ++ call_list call) ≤ 1
+    → Notes now.recording (judged_by check.question reply) recording
     → after ≡ waiting ++ spelling (with_sequence check.sequence (message_of reply))
-    → Stands start (record now { tally = tally; calls = calls }) feeder after []
-answered_with start now tally calls feeder waiting after check desk call reply s now_read answers counted told few put =
+    → Stands start (record now { tally = tally; calls = calls; recording = recording }) feeder after []
+answered_with start now tally calls recording feeder waiting after check desk call reply s now_read answers counted told few noted put =
     let next : Answered = record { check = check; desk = desk; call = call; reply = reply } in
     let all : (s.sent ++ s.unsent) ++ next ∷ [] ≡ s.sent ++ (s.unsent ++ next ∷ []) = append_assoc s.sent s.unsent (next ∷ []) in
     let made : calls_for (s.sent ++ (s.unsent ++ next ∷ [])) ≡ calls_for (s.sent ++ s.unsent) ++ call_list call =
@@ -138,7 +145,7 @@ answered_with start now tally calls feeder waiting after check desk call reply s
       carried = s.carried;
       waits = put ∙ (ap (λ bytes. bytes ++ reply_bytes next) s.waits ∙ sym (replies_snoc s.unsent next));
       read = subst (λ (list : List Answered). AreReadIn now.seat.seen now.seat.note list) all
-          (read_in_snoc now.seat.seen next (stands_last desk now.seat.seen now_read.last)
+          (read_in_snoc now.seat.seen next now_read.last
           (λ other there. not_above other desk now.seat.seen now_read.rising now_read.last there)
           now.seat.note (s.sent ++ s.unsent) now_read.fresh s.read);
       seen = s.seen;
@@ -151,28 +158,31 @@ answered_with start now tally calls feeder waiting after check desk call reply s
           (sym (map-append Ask (calls_for (s.sent ++ s.unsent)) (call_list call)))
           (calls_more (map Ask (calls_for (s.sent ++ s.unsent))) (map Ask (call_list call)) start.calls now.calls calls s.calls told));
       few = subst (λ (list : List AskMade). length list ≤ 1) (sym (calls_for_snoc s.unsent next)) few;
+      kept = keeps_noted start.recording now.recording recording s.sent s.unsent next s.kept noted;
       faults = s.faults;
       ends = s.ends;
     }
 
 -- by the policies alone
-pub answered_by_policies : (start now : ClientSide) (feeder : Feeding) (waiting frame after : List ℕ)
+pub answered_by_policies : (start now : ClientSide) (recording : Option Recording) (feeder : Feeding) (waiting frame after : List ℕ)
     (check : Check) (desk : DeskState) (reply : Reply) → IsReadNow desk now.seat → reading desk check ≡ IsReady reply
-    → frame ≡ spelling (with_sequence check.sequence (message_of reply)) → after ≡ waiting ++ frame
-    → Stands start now feeder waiting (check ∷ []) → Stands start now feeder after []
-answered_by_policies start now feeder waiting frame after check desk reply now_read is spelled put s =
-    answered_with start now now.tally now.calls feeder waiting after check desk None reply s now_read
+    → frame ≡ spelling (with_sequence check.sequence (message_of reply)) → Notes now.recording (judged_by check.question reply) recording
+    → after ≡ waiting ++ frame
+    → Stands start now feeder waiting (check ∷ []) → Stands start (record now { recording = recording }) feeder after []
+answered_by_policies start now recording feeder waiting frame after check desk reply now_read is spelled noted put s =
+    answered_with start now now.tally now.calls recording feeder waiting after check desk None reply s now_read
     (subst (λ (seen : Reading). Answers seen check.question None reply) (sym is) (refl, refl))
     refl (calls_same now.calls)
     (subst (λ (list : List AskMade). length list ≤ 1) (sym (append-nil (calls_for s.unsent))) s.few)
-    (put ∙ ap (λ bytes. waiting ++ bytes) spelled)
+    noted (put ∙ ap (λ bytes. waiting ++ bytes) spelled)
 
 -- ---- replies are sent
 
-pub flushed : (start now : ClientSide) (traffic : Option Traffic) (marks : LinkMarks) (faults : ℕ) (feeder : Feeding) (waiting : List ℕ)
-    (taken : List Check) → Carried now.traffic traffic [] waiting → marks ≡ now.marks → faults ≡ now.faults
-    → Stands start now feeder waiting taken → (s : Stands start (with_link now traffic marks faults) feeder [] taken) × (s.unsent ≡ [])
-flushed start now traffic marks faults feeder waiting taken sent_now same still s =
+pub flushed : (start now : ClientSide) (traffic : Option Traffic) (marks : LinkMarks) (faults : ℕ) (recording : Option Recording) (feeder : Feeding)
+    (waiting : List ℕ) (taken : List Check) → Carried now.traffic traffic [] waiting → marks ≡ now.marks → faults ≡ now.faults
+    → ChangesTold now.recording with_all_recorded recording → Stands start now feeder waiting taken
+    → (s : Stands start (with_sent now traffic marks faults recording) feeder [] taken) × (s.unsent ≡ [])
+flushed start now traffic marks faults recording feeder waiting taken sent_now same still recorded s =
     let all : s.sent ++ s.unsent ≡ (s.sent ++ s.unsent) ++ [] = sym (append-nil (s.sent ++ s.unsent)) in
     let bytes : replies_bytes s.sent ++ waiting ≡ replies_bytes (s.sent ++ s.unsent) =
     ap (λ list. replies_bytes s.sent ++ list) s.waits ∙ sym (replies_more s.sent s.unsent) in (
@@ -192,6 +202,7 @@ flushed start now traffic marks faults feeder waiting taken sent_now same still 
         tally = s.tally ∙ ap (λ list. after_asks (calls_for list) start.tally) all;
         calls = subst (λ (list : List Answered). AppendsCalls start.calls (map Ask (calls_for list)) now.calls) all s.calls;
         few = omega arith;
+        kept = keeps_recorded start.recording now.recording recording s.sent s.unsent s.kept recorded;
         faults = still ∙ s.faults;
         ends = ap (λ (m : LinkMarks). m.ends) same ∙ s.ends;
       },
@@ -220,6 +231,7 @@ heard_more start now traffic marks faults feeder fed waiting bytes carried heard
     tally = s.tally;
     calls = s.calls;
     few = s.few;
+    kept = s.kept;
     faults = still ∙ s.faults;
     ends = same ∙ s.ends;
   },

@@ -1,8 +1,10 @@
 -- The calls that were made for checks whose replies were not sent.
-use Rattle.std.proofs.Common.{◌≡◌, ◌≤◌, ℕ, List, [], ◌∷◌, ◌++◌, Option, refl, sym, subst, append_assoc, arith}
+use Rattle.std.proofs.Common.{◌≡◌, ◌≤◌, ℕ, true, List, [], ◌∷◌, ◌++◌, Option, refl, sym, subst, append_assoc, arith}
 use Rattle.std.specs.List.{AllByRecursion}
 use Rattle.desk_state.specs.DeskState.{DeskState}
+use Rattle.live_desk.specs.History.{last_commit}
 use Rattle.live_desk.specs.Seat.{SeatState}
+use Rattle.desk_world.specs.Links.{may_read}
 use Rattle.desk_world.specs.declared.links.Reading.{Reading}
 use Rattle.desk_world.specs.declared.links.Reading.TheVariants.{Nothing, Ready, Due, Waiting}
 use Rattle.desk_world.specs.declared.replies.Reply.{Reply}
@@ -15,6 +17,7 @@ use Rattle.client_door.specs.Reading.{reading}
 use Rattle.client_door.specs.Answered.{Answered, Answers, IsRight, call_list, calls_for, frames_of, StandsIn, AreReadIn}
 use Rattle.client_door.specs.Serving.{IsCallFor}
 use Rattle.client_door.specs.declared.checks.Check.{Check}
+use Rattle.client_door.proofs.Published.{reads_between, read_from, read_to}
 
 pub back_right : (answered more : List Answered) → AllByRecursion IsRight (answered ++ more) → AllByRecursion IsRight more
 back_right [] more all = all
@@ -25,7 +28,7 @@ pub back_read : (seen : List DeskState) (low : ℕ) (answered more : List Answer
 back_read seen low [] more read = (low, omega arith, read)
 back_read seen low (one ∷ answered) more (there, fresh, others) =
     let back = back_read seen one.desk.commit answered more others in
-    (back.0, omega (arith, fresh, back.1), back.2)
+    (back.0, omega (arith, read_from low (last_commit 0 seen) one.desk.commit fresh, back.1), back.2)
 
 pub all_calls : (P : AskMade → Type 0) (calls more : List AskMade) → AllByRecursion P calls → AllByRecursion P more
     → AllByRecursion P (calls ++ more)
@@ -35,7 +38,8 @@ all_calls P (call ∷ calls) more (first, rest) others = (first, all_calls P cal
 -- the call that was made for one check, if one was
 call_of : (seat : SeatState) (received : List ℕ) (sent : List Answered) (between behind : List Framed) (rest : List ℕ) (check : Check)
     (desk : DeskState) (call : Option AskMade) (reply : Reply) (seen : Reading) → reading desk check ≡ seen
-    → Answers seen check.question call reply → StandsIn desk seat.seen → seat.note ≤ desk.commit
+    → Answers seen check.question call reply → StandsIn desk seat.seen
+    → may_read seat.note (last_commit 0 seat.seen) desk.commit ≡ true
     → Hears AtClient received (frames_of sent ++ (between ++ framed_of check ∷ behind)) rest
     → AllByRecursion (IsCallFor seat received sent) (call_list call)
 call_of seat received sent between behind rest check desk call reply (Ready read) is (none, said) there fresh heard =
@@ -64,9 +68,12 @@ pub unsent_calls : (seat : SeatState) (received : List ℕ) (sent : List Answere
     → AllByRecursion (IsCallFor seat received sent) (calls_for more)
 unsent_calls seat received sent between [] behind rest low note right read heard = tt
 unsent_calls seat received sent between (one ∷ more) behind rest low note (right, others) (there, fresh, read) heard =
+    let up : low ≤ one.desk.commit = read_from low (last_commit 0 seat.seen) one.desk.commit fresh in
+    let may : may_read seat.note (last_commit 0 seat.seen) one.desk.commit ≡ true =
+    reads_between seat.note (last_commit 0 seat.seen) one.desk.commit (omega (arith, note, up)) (read_to low (last_commit 0 seat.seen) one.desk.commit fresh) in
     all_calls (IsCallFor seat received sent) (call_list one.call) (calls_for more)
     (call_of seat received sent between (frames_of more ++ behind) rest one.check one.desk one.call one.reply
-    (reading one.desk one.check) refl right there (omega (arith, note, fresh)) heard)
-    (unsent_calls seat received sent (between ++ framed_of one.check ∷ []) more behind rest one.desk.commit (omega (arith, note, fresh)) others read
+    (reading one.desk one.check) refl right there may heard)
+    (unsent_calls seat received sent (between ++ framed_of one.check ∷ []) more behind rest one.desk.commit (omega (arith, note, up)) others read
     (subst (λ (list : List Framed). Hears AtClient received (frames_of sent ++ list) rest)
     (sym (append_assoc between (framed_of one.check ∷ []) (frames_of more ++ behind))) heard))

@@ -1,10 +1,12 @@
 -- A check that was answered: at which state, by which call for an agent, and with which reply.
-use Rattle.std.specs.Prelude.{◌≡◌, ◌≤◌, ℕ, List, [], ◌∷◌, ◌++◌, map, Option, Some, None}
+use Rattle.std.specs.Prelude.{◌≡◌, ℕ, List, [], ◌∷◌, ◌++◌, map, Option, Some, None, IsTrue}
 use Rattle.std.specs.List.{flat_map}
 use Rattle.cynara_keys.specs.Key.{Question}
 use Rattle.desk_state.specs.DeskState.{DeskState}
 use Rattle.wire_messages.specs.Frame.{spelling, with_sequence}
 use Rattle.wire_messages.specs.declared.messages.Framed.{Framed}
+use Rattle.live_desk.specs.History.{last_commit}
+use Rattle.desk_world.specs.Links.{may_read}
 use Rattle.desk_world.specs.declared.links.Reading.{Reading}
 use Rattle.desk_world.specs.declared.links.Reading.TheVariants.{Ready, Due}
 use Rattle.desk_world.specs.declared.replies.Reply.{Reply}
@@ -66,8 +68,9 @@ after_asks (call ∷ calls) tally = after_asks calls (after_ask call tally)
 abbrev pub StandsIn : DeskState → List DeskState → Type 0
 StandsIn desk seen = (front : List DeskState) × (back : List DeskState) × (seen ≡ front ++ desk ∷ back)
 
--- Each was read at a state of the list, whose commit is not below the number, and not below that of the check before.
+-- Each was read at a state of the list, which might be read behind this commit, and that of the check before, while the last
+-- of the list is published.
 abbrev pub AreReadIn : List DeskState → ℕ → List Answered → Type 0
 AreReadIn seen low [] = Unit {0}
 AreReadIn seen low (one ∷ more) =
-    StandsIn one.desk seen × (low ≤ one.desk.commit) × AreReadIn seen one.desk.commit more
+    StandsIn one.desk seen × IsTrue (may_read low (last_commit 0 seen) one.desk.commit) × AreReadIn seen one.desk.commit more

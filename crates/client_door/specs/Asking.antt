@@ -1,14 +1,15 @@
 -- What comes of a question that the policies of a commit leave to the agent of a kind.
-use Rattle.std.specs.Prelude.{◌≡◌, ℕ, List, [], ◌∷◌, Option, Some, None, Ok, Err}
+use Rattle.std.specs.Prelude.{◌≡◌, ℕ, true, false, List, [], ◌∷◌, Option, Some, None, Ok, Err}
 use Rattle.cynara_keys.specs.Key.{Question}
 use Rattle.cynara_keys.specs.declared.results.Kind.{Kind}
 use Rattle.agent_table.specs.declared.refusals.PutRefusal.{PutRefusal}
 use Rattle.agent_table.specs.declared.refusals.PutRefusal.TheVariants.{NoAgent as NoneThere, Full, Spent}
+use Rattle.desk_world.specs.Agents.{put_as}
 use Rattle.desk_world.specs.Links.{settled}
 use Rattle.desk_world.specs.Limits.{most_waiting, most_entries}
 use Rattle.desk_world.specs.declared.agent_entries.EntryState.TheVariants.{Gone as HasGone, Answered as IsAnswered}
 use Rattle.desk_world.specs.declared.replies.Reply.{Reply}
-use Rattle.desk_world.specs.declared.replies.Reply.TheVariants.{NoAgent, AgentFull}
+use Rattle.desk_world.specs.declared.links.Reading.TheVariants.{Ready}
 use Rattle.server_hall.specs.Call.{AskResult, AskMade}
 use Rattle.server_hall.specs.Tally.{Tally, after_ask}
 use Rattle.server_hall.specs.Told.{AppendsCalls}
@@ -20,11 +21,11 @@ use Rattle.door_frames.specs.declared.endings.Ended.TheVariants.{Stopped, Memory
 use Rattle.client_door.specs.Check.{reply_of}
 use Rattle.client_door.specs.declared.agent_replies.AgentReply.{AgentReply}
 
--- The question was not put, which leads to this reply.
+-- The question was not put, which leads to this reply: the one that the world of events reads then.
 abbrev pub LeadsToReply : ℕ → Kind → PutRefusal → Reply → Type 0
-LeadsToReply commit kind (NoneThere other) reply = reply ≡ NoAgent commit kind
-LeadsToReply commit kind Full reply = reply ≡ AgentFull commit kind most_waiting
-LeadsToReply commit kind Spent reply = reply ≡ AgentFull commit kind most_entries
+LeadsToReply commit kind (NoneThere other) reply = Ready reply ≡ put_as false None 0 commit kind
+LeadsToReply commit kind Full reply = Ready reply ≡ put_as true (Some most_waiting) 0 commit kind
+LeadsToReply commit kind Spent reply = Ready reply ≡ put_as true (Some most_entries) 0 commit kind
 LeadsToReply commit kind refusal reply = ⊥
 
 -- The call of `ask` for the question gave what leads to this reply. An answer and an agent that left lead to what the world

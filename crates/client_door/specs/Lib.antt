@@ -2,6 +2,7 @@ pub mod Check
 pub mod Asking
 pub mod Reading
 pub mod Answered
+pub mod Recording
 pub mod Message
 pub mod Serving
 pub mod Complete

@@ -1,7 +1,8 @@
 -- What a check reads of the policies of a published state.
-use Rattle.std.specs.Prelude.{◌≡◌, ◌≤◌, ℕ, Bool, List}
+use Rattle.std.specs.Prelude.{◌≡◌, ◌==◌, ◌≤◌, ℕ, Bool, List}
 use Rattle.bucket_eval.specs.Evaluation.{Outcome}
 use Rattle.bucket_eval.specs.Root.{root_outcome}
+use Rattle.bucket_eval.specs.declared.answers.Verdict.{Verdict}
 use Rattle.desk_state.specs.DeskState.{DeskState}
 use Rattle.live_desk.specs.History.{IsLast, Rises}
 use Rattle.live_desk.specs.Seat.{SeatState}
@@ -11,30 +12,39 @@ use Rattle.desk_world.specs.declared.links.Reading.{Reading}
 use Rattle.desk_world.specs.declared.links.Reading.TheVariants.{Ready as IsReady, Due as IsDue}
 use Rattle.cynara_keys.specs.declared.results.Kind.{Kind}
 use Rattle.desk_world.specs.declared.replies.Reply.{Reply}
-use Rattle.desk_world.specs.declared.replies.Reply.TheVariants.{NotResolved}
+use Rattle.desk_world.specs.declared.replies.Reply.TheVariants.{Judged as IsJudged, NotResolved}
 use Rattle.client_door.specs.Check.{message_of}
 use Rattle.client_door.specs.declared.checks.Check.{Check}
 use Rattle.client_door.specs.declared.readings.Read.{Read}
 use Rattle.client_door.specs.declared.readings.Found.{Found}
-use Rattle.client_door.specs.declared.readings.Found.TheVariants.{Ready, Due, Memory}
+use Rattle.client_door.specs.declared.readings.Found.TheVariants.{Judged, Unresolved, Due, Memory}
 
 -- what a check reads at a state: what the world of events reads there
 abbrev pub reading : DeskState → Check → Reading
 reading desk check = reading_of desk.commit check.simple (root_outcome desk.database check.question)
 
+-- the buffer holds the frame of this reply
+abbrev pub Spells : ℕ → List ℕ → Reply → Type 0
+Spells sequence frame reply = frame ≡ spelling (with_sequence sequence (message_of reply))
+
 -- what was read is this reading; of a reply the buffer holds the frame
 abbrev pub Finds : ℕ → Reading → List ℕ → Found → Type 0
-Finds sequence seen frame Ready =
-    (reply : Reply) × (seen ≡ IsReady reply) × (frame ≡ spelling (with_sequence sequence (message_of reply)))
+Finds sequence seen frame (Judged commit allowed) = (verdict : Verdict)
+    × (seen ≡ IsReady (IsJudged verdict))
+    × Spells sequence frame (IsJudged verdict)
+    × (commit ≡ verdict.commit)
+    × (allowed ≡ (verdict.answer.kind.0 == 65535))
+Finds sequence seen frame Unresolved = (commit : ℕ) × (kind : Kind)
+    × (seen ≡ IsReady (NotResolved commit kind))
+    × Spells sequence frame (NotResolved commit kind)
 Finds sequence seen frame (Due commit kind metadata) = seen ≡ IsDue commit kind metadata
 Finds sequence seen frame Memory = Unit {0}
 
 -- the buffer holds the reply that an agent would decide, unless memory was wanting
 abbrev pub TellsNotResolved : ℕ → ℕ → Kind → List ℕ → Found → Type 0
-TellsNotResolved sequence commit kind frame Ready =
-    frame ≡ spelling (with_sequence sequence (message_of (NotResolved commit kind)))
-TellsNotResolved sequence commit kind frame (Due other due metadata) = ⊥
+TellsNotResolved sequence commit kind frame Unresolved = Spells sequence frame (NotResolved commit kind)
 TellsNotResolved sequence commit kind frame Memory = Unit {0}
+TellsNotResolved sequence commit kind frame other = ⊥
 
 abbrev pub Reads : ℕ → Bool → ℕ → Outcome → Read → Type 0
 Reads sequence simple commit outcome read = Finds sequence (reading_of commit simple outcome) read.frame read.found

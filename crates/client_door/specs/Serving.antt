@@ -1,12 +1,13 @@
 -- What a connection of a client is answered, and how it ends.
-use Rattle.std.specs.Prelude.{◌≡◌, ◌≤◌, ℕ, List, [], ◌∷◌, ◌++◌, map, length, Option, Ok, Err}
+use Rattle.std.specs.Prelude.{◌≡◌, ◌≤◌, ℕ, List, [], ◌∷◌, ◌++◌, map, length, Option, None, Ok, Err, IsTrue}
 use Rattle.std.specs.List.{AllByRecursion}
 use Rattle.desk_ports.specs.Faults.{next_count}
 use Rattle.link_ports.specs.Traffic.{Traffic}
 use Rattle.link_ports.specs.LinkMarks.{LinkMarks, with_end_taken}
 use Rattle.desk_state.specs.DeskState.{DeskState}
+use Rattle.desk_world.specs.Links.{may_read}
 use Rattle.desk_world.specs.declared.links.Reading.TheVariants.{Due}
-use Rattle.live_desk.specs.History.{GoesOn}
+use Rattle.live_desk.specs.History.{GoesOn, last_commit}
 use Rattle.live_desk.specs.Seat.{SeatState, with_note}
 use Rattle.live_roll.specs.declared.answers.Left.{Left}
 use Rattle.live_roll.specs.declared.answers.Left.TheVariants.{Still, Hung as LeftHung, Stopped as LeftStopped}
@@ -28,8 +29,10 @@ use Rattle.client_door.specs.Reading.{reading}
 use Rattle.client_door.specs.declared.checks.Check.{Check}
 use Rattle.client_door.specs.Asking.{FindsStop, Strays}
 use Rattle.client_door.specs.Answered.{Answered, IsRight, frames_of, replies_bytes, calls_for, after_asks, StandsIn, AreReadIn}
+use Rattle.client_door.specs.Recording.{Recording, judged_in, HasRecorded}
 
--- what a connection of a client is served with: the seat, the hall's tally and calls, and the link
+-- what a connection of a client is served with: the seat, the hall's tally and calls, the link, and where its checks are
+-- recorded, what the recorder tells
 pub record ClientSide : Type 0 where
   pub seat : SeatState
   pub tally : Tally
@@ -37,16 +40,22 @@ pub record ClientSide : Type 0 where
   pub traffic : Option Traffic
   pub marks : LinkMarks
   pub faults : ℕ
+  pub recording : Option Recording
 
-abbrev pub client_side : SeatState → Tally → Option (List HallCall) → Option Traffic → LinkMarks → ℕ → ClientSide
-client_side seat tally calls traffic marks faults = record {
+abbrev pub recorded_side : SeatState → Tally → Option (List HallCall) → Option Traffic → LinkMarks → ℕ → Option Recording → ClientSide
+recorded_side seat tally calls traffic marks faults recording = record {
   seat = seat;
   tally = tally;
   calls = calls;
   traffic = traffic;
   marks = marks;
   faults = faults;
+  recording = recording;
 }
+
+-- nothing is recorded
+abbrev pub client_side : SeatState → Tally → Option (List HallCall) → Option Traffic → LinkMarks → ℕ → ClientSide
+client_side seat tally calls traffic marks faults = recorded_side seat tally calls traffic marks faults None
 
 -- with the link as it stands then
 abbrev pub with_link : ClientSide → Option Traffic → LinkMarks → ℕ → ClientSide
@@ -76,7 +85,7 @@ pub record IsCallFor (seat : SeatState) (received : List ℕ) (answered : List A
   pub read : reading desk check ≡ Due commit call.kind call.metadata
   pub question : call.question ≡ check.question
   pub stands : StandsIn desk seat.seen
-  pub fresh : seat.note ≤ desk.commit
+  pub fresh : IsTrue (may_read seat.note (last_commit 0 seat.seen) desk.commit)
   pub heard : (between behind : List Framed) × (rest : List ℕ)
       × Hears AtClient received (frames_of answered ++ (between ++ framed_of check ∷ behind)) rest
 
@@ -103,6 +112,8 @@ pub record Talks (start now : ClientSide) (ended : Ended) : Type 0 where
   pub faults : now.faults ≡ faults_after ended start.faults
   pub at_end : IsAtEnd ended now.marks
   pub ends : now.marks.ends ≡ start.marks.ends
+  -- the judged checks of those that were answered were recorded, each once
+  pub recorded : HasRecorded start.recording (judged_in answered) now.recording
 
 -- how a connection ends that leaves so, after the answering ended so
 abbrev pub ended_by_leaving : ℕ → Left → Ended → Ended
@@ -118,10 +129,11 @@ IsUnbegun LinkFault before after = after ≡ next_count before
 IsUnbegun Memory before after = after ≡ before
 IsUnbegun other before after = ⊥
 
--- nothing was heard, answered or called
+-- nothing was heard, answered, called or recorded
 pub record IsIdle (start now : ClientSide) : Type 0 where
   pub seat : now.seat ≡ start.seat
   pub calls : now.calls ≡ start.calls
+  pub recording : now.recording ≡ start.recording
   pub carried : Carried start.traffic now.traffic [] []
 
 -- the connection entered at this commit, was served, and left
@@ -138,6 +150,7 @@ pub record Served (result : Ended) (start now : ClientSide) : Type 0 where
   pub opened : Carried start.traffic first.traffic [] []
   pub marks : first.marks ≡ with_end_taken start.marks
   pub faults : first.faults ≡ start.faults
+  pub recording : first.recording ≡ start.recording
   pub talks : Talks first last inner
   pub leaving : now ≡ record last { tally = after_leave left last.tally }
   pub raised : IsRaised entered left

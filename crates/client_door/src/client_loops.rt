@@ -1,6 +1,9 @@
 ghost use Rattle.std.specs.Prelude.{◌≡◌};
-ghost use Rattle.client_door.specs.Serving.{client_side, Serves, Talks};
+ghost use Rattle.client_door.specs.Recording.{Leads};
+ghost use Rattle.client_door.specs.Serving.{client_side, recorded_side, Serves, Talks};
 
+use crate::Records;
+use crate::recording::Unrecorded;
 use crate::talking::Talk;
 use desk_ports::PortFault;
 use door_frames::{Ended, MOST_PIECE};
@@ -26,6 +29,25 @@ pub fn client_loop<R: Wait, A: Hall, L: Link<End = A::End>, G: Gate>(
         (client_side seat.old (A.tally hall.old) (A.calls hall.old) (L.traffic link.old) (L.marks link.old) (L.faults link.old))
         (client_side seat.new (A.tally hall.new) (A.calls hall.new) (L.traffic link.new) (L.marks link.new) (L.faults link.new)) }
 {
+    let mut recorder = Unrecorded;
+    recorded_loop(rt, alloc, seat, hall, link, gate, &mut recorder)
+}
+
+/// The same, and each check that the policies judged is recorded once its reply was sent: each once, in their order. Where
+/// one cannot be noted for want of memory, the connection ends.
+pub fn recorded_loop<R: Wait, A: Hall, L: Link<End = A::End>, G: Gate, M: Records>(
+    rt: &R,
+    alloc: Global,
+    seat: &mut Seat,
+    hall: &mut A,
+    link: &mut L,
+    gate: &G,
+    recorder: &mut M,
+) -> Ended
+    ensures { Leads (M.fits recorder.old) (M.fits recorder.new) (λ before after. Serves result
+        (recorded_side seat.old (A.tally hall.old) (A.calls hall.old) (L.traffic link.old) (L.marks link.old) (L.faults link.old) before)
+        (recorded_side seat.new (A.tally hall.new) (A.calls hall.new) (L.traffic link.new) (L.marks link.new) (L.faults link.new) after)) }
+{
     let end = match link.hang_end() {
         Ok(end) => end,
         Err(PortFault::Failed) => return Ended::LinkFault,
@@ -35,7 +57,7 @@ pub fn client_loop<R: Wait, A: Hall, L: Link<End = A::End>, G: Gate>(
         return Ended::Stopped;
     };
     gate.pass(seat.number(), GateStep::Entered);
-    let ended = answer_all(rt, alloc, seat, hall, link, gate);
+    let ended = answer_all(rt, alloc, seat, hall, link, gate, recorder);
     match hall.leave(seat.number(), entered) {
         Left::Hung { now } => Ended::Hung { entered, now },
         Left::Stopped { .. } => Ended::Stopped,
@@ -44,23 +66,24 @@ pub fn client_loop<R: Wait, A: Hall, L: Link<End = A::End>, G: Gate>(
 }
 
 // Answers the checks of a connection that has entered.
-fn answer_all<R: Wait, A: Hall, L: Link, G: Gate>(
+fn answer_all<R: Wait, A: Hall, L: Link, G: Gate, M: Records>(
     rt: &R,
     alloc: Global,
     seat: &mut Seat,
     hall: &mut A,
     link: &mut L,
     gate: &G,
+    recorder: &mut M,
 ) -> Ended
-    ensures { Talks
-        (client_side seat.old (A.tally hall.old) (A.calls hall.old) (L.traffic link.old) (L.marks link.old) (L.faults link.old))
-        (client_side seat.new (A.tally hall.new) (A.calls hall.new) (L.traffic link.new) (L.marks link.new) (L.faults link.new))
-        result }
+    ensures { Leads (M.fits recorder.old) (M.fits recorder.new) (λ before after. Talks
+        (recorded_side seat.old (A.tally hall.old) (A.calls hall.old) (L.traffic link.old) (L.marks link.old) (L.faults link.old) before)
+        (recorded_side seat.new (A.tally hall.new) (A.calls hall.new) (L.traffic link.new) (L.marks link.new) (L.faults link.new) after)
+        result) }
 {
     let mut talk = Talk::new(alloc);
     let mut room = [0u8; MOST_PIECE];
     for _ in rt.forever() {
-        if let Err(ended) = talk.turn(rt, seat, hall, link, gate, &mut room) {
+        if let Err(ended) = talk.turn(rt, seat, hall, link, gate, recorder, &mut room) {
             return ended;
         }
     }

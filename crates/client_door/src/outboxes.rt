@@ -1,8 +1,11 @@
 ghost use Rattle.std.specs.Prelude.{◌≡◌, ◌++◌, [], MatchResult, OnOk, OnErr};
 ghost use Rattle.desk_ports.specs.Faults.{next_count};
+ghost use Rattle.link_ports.specs.Told.{ChangesTold};
+ghost use Rattle.client_door.specs.Recording.{Leads, with_all_recorded};
 ghost use Rattle.door_frames.specs.Carried.{Carried};
 ghost use Rattle.door_frames.specs.declared.endings.Ended.TheVariants.{LinkFault};
 
+use crate::Records;
 use desk_ports::Bytes;
 use door_frames::Ended;
 use link_ports::{Gate, GateStep, Link};
@@ -45,14 +48,36 @@ impl Outbox {
         Ok(())
     }
 
-    /// Sends the replies that wait, if there are any, with one call of the link; and then passes the gate once for each. May
-    /// wait.
-    pub fn flush<L: Link, G: Gate>(
+    /// Sends the replies that wait, and then records the checks that were noted. May wait.
+    pub fn flush<L: Link, G: Gate, M: Records>(
         &mut self,
         link: &mut L,
         seat: u32,
         gate: &G,
+        recorder: &mut M,
     ) -> Result<(), Ended>
+        ensures sent { OnOk result (Carried (L.traffic link.old) (L.traffic link.new) [] self.old) }
+        ensures empty { OnOk result (self.new ≡ []) }
+        ensures faults { OnOk result (L.faults link.new ≡ L.faults link.old) }
+        ensures recorded { OnOk result
+            (Leads (M.fits recorder.old) (M.fits recorder.new) (λ before after. ChangesTold before with_all_recorded after)) }
+        ensures unsent { OnErr result (Carried (L.traffic link.old) (L.traffic link.new) [] []) }
+        ensures unrecorded { OnErr result (recorder.new ≡ recorder.old) }
+        ensures ended { MatchResult result (λ _. L.faults link.new ≡ L.faults link.old)
+            (λ ended. (ended ≡ LinkFault) × (L.faults link.new ≡ next_count (L.faults link.old))) }
+        ensures marks { L.marks link.new ≡ L.marks link.old }
+    {
+        match self.send_all(link, seat, gate) {
+            Ok(()) => {
+                recorder.record_noted();
+                Ok(())
+            }
+            Err(ended) => Err(ended),
+        }
+    }
+
+    // Sends the replies that wait, if there are any, with one call of the link; and then passes the gate once for each.
+    fn send_all<L: Link, G: Gate>(&mut self, link: &mut L, seat: u32, gate: &G) -> Result<(), Ended>
         ensures sent { OnOk result (Carried (L.traffic link.old) (L.traffic link.new) [] self.old) }
         ensures empty { OnOk result (self.new ≡ []) }
         ensures faults { OnOk result (L.faults link.new ≡ L.faults link.old) }

@@ -3,7 +3,7 @@ ghost use Rattle.std.specs.Prelude.{◌≡◌};
 ghost use Rattle.bucket_eval.specs.Lent.{outcome_lent};
 ghost use Rattle.live_desk.specs.History.{GoesOn};
 ghost use Rattle.client_door.specs.Reading.{Reads, ReadsAtLast, TellsNotResolved};
-ghost use Rattle.client_door.specs.declared.readings.Found.TheVariants.{Ready, Memory};
+ghost use Rattle.client_door.specs.declared.readings.Found.TheVariants.{Judged, Unresolved, Memory};
 
 use crate::Check;
 use crate::spelling::spell;
@@ -24,8 +24,13 @@ pub(crate) struct Read {
 /// What was read for a check.
 #[derive(Drop)]
 pub(crate) enum Found {
-    /// The reply, whose frame the buffer holds.
-    Ready,
+    /// A verdict of the policies, whose reply the buffer holds: its commit, and whether it is ALLOW.
+    Judged {
+        commit: u64,
+        allowed: bool,
+    },
+    /// An agent would decide, and none may be asked; the buffer holds the reply.
+    Unresolved,
     /// An agent of the kind is to be asked.
     Due {
         commit: u64,
@@ -67,7 +72,7 @@ fn read_answer(
     let mut frame = frame;
     if !kind.is_agent() {
         return match encode_judged_into(&mut frame, sequence, commit, answer) {
-            Ok(()) => ready(frame),
+            Ok(()) => judged(frame, commit, kind == Kind::ALLOW),
             Err(_) => out_of_memory(frame),
         };
     }
@@ -93,17 +98,26 @@ fn not_resolved(frame: Bytes, sequence: u16, commit: u64, kind: Kind) -> Read
 {
     let mut frame = frame;
     match spell(&mut frame, sequence, Message::NotResolved { commit, kind }) {
-        Ok(()) => ready(frame),
+        Ok(()) => unresolved(frame),
         Err(_) => out_of_memory(frame),
     }
 }
 
-fn ready(frame: Bytes) -> Read
-    ensures { result ≡ record { frame = frame; found = Ready } }
+fn judged(frame: Bytes, commit: u64, allowed: bool) -> Read
+    ensures { result ≡ record { frame = frame; found = Judged commit allowed } }
 {
     Read {
         frame,
-        found: Found::Ready,
+        found: Found::Judged { commit, allowed },
+    }
+}
+
+fn unresolved(frame: Bytes) -> Read
+    ensures { result ≡ record { frame = frame; found = Unresolved } }
+{
+    Read {
+        frame,
+        found: Found::Unresolved,
     }
 }
 

@@ -1,5 +1,5 @@
 // The checks of a connection, answered in turn.
-ghost use Rattle.std.specs.Prelude.{◌≡◌, ◌<◌, ◌∷◌, [], ◌++◌, length, IsTrue, MatchResult, OnOk, OnErr};
+ghost use Rattle.std.specs.Prelude.{◌≡◌, ◌<◌, ◌∷◌, [], ◌++◌, length, IsTrue, MatchResult, IfErr, OnOk, OnErr};
 ghost use Rattle.cynara_keys.specs.PolicyResult.{is_agent};
 ghost use Rattle.desk_state.specs.DeskState.{DeskState};
 ghost use Rattle.desk_world.specs.declared.links.Reading.TheVariants.{Due as IsDue};
@@ -12,15 +12,17 @@ ghost use Rattle.door_frames.specs.Hearing.{IsSound};
 ghost use Rattle.door_frames.specs.declared.endings.Ended.TheVariants.{Memory};
 ghost use Rattle.client_door.specs.Check.{message_of, reply_of};
 ghost use Rattle.client_door.specs.Reading.{reading, Finds};
-ghost use Rattle.client_door.specs.Serving.{ClientSide, client_side, with_link};
-ghost use Rattle.client_door.specs.parts.Talk.{Goes, Ends, IsReadNow};
+ghost use Rattle.link_ports.specs.Told.{ChangesTold};
+ghost use Rattle.client_door.specs.Recording.{Leads, with_noted};
+ghost use Rattle.client_door.specs.Serving.{ClientSide, recorded_side};
+ghost use Rattle.client_door.specs.parts.Talk.{Goes, Ends, IsReadNow, with_sent};
 
-use crate::AgentReply;
 use crate::asking::ask_agent;
 use crate::checks::{Check, take_check};
 use crate::outboxes::Outbox;
 use crate::readings::{Found, Read, read_check};
 use crate::spelling::spell;
+use crate::{AgentReply, Judgement, Records};
 use core::mem::replace;
 use cynara_keys::{Kind, Metadata};
 use desk_ports::Bytes;
@@ -57,13 +59,14 @@ impl Talk {
     }
 
     /// Answers all checks that were heard, sends the replies, and receives more. It may wait.
-    pub fn turn<R: Wait, A: Hall, L: Link, G: Gate>(
+    pub fn turn<R: Wait, A: Hall, L: Link, G: Gate, M: Records>(
         &mut self,
         rt: &R,
         seat: &mut Seat,
         hall: &mut A,
         link: &mut L,
         gate: &G,
+        recorder: &mut M,
         room: &mut [u8],
     ) -> Result<(), Ended>
         requires some { 0 < length room.old }
@@ -72,31 +75,32 @@ impl Talk {
         ensures side { OnOk result (self.new.feeder.heard ≡ AtClient) }
         ensures sound { OnOk result (IsSound self.new.feeder) }
         ensures talk { MatchResult result
-            (λ _. Goes
-            (client_side seat.old (A.tally hall.old) (A.calls hall.old) (L.traffic link.old) (L.marks link.old) (L.faults link.old))
+            (λ _. Leads (M.fits recorder.old) (M.fits recorder.new) (λ before after. Goes
+            (recorded_side seat.old (A.tally hall.old) (A.calls hall.old) (L.traffic link.old) (L.marks link.old) (L.faults link.old) before)
             (record { feeder = self.old.feeder; waiting = self.old.outbox; taken = [] })
-            (client_side seat.new (A.tally hall.new) (A.calls hall.new) (L.traffic link.new) (L.marks link.new) (L.faults link.new))
-            (record { feeder = self.new.feeder; waiting = self.new.outbox; taken = [] }))
-            (Ends
-            (client_side seat.old (A.tally hall.old) (A.calls hall.old) (L.traffic link.old) (L.marks link.old) (L.faults link.old))
+            (recorded_side seat.new (A.tally hall.new) (A.calls hall.new) (L.traffic link.new) (L.marks link.new) (L.faults link.new) after)
+            (record { feeder = self.new.feeder; waiting = self.new.outbox; taken = [] })))
+            (λ ended. Leads (M.fits recorder.old) (M.fits recorder.new) (λ before after. Ends
+            (recorded_side seat.old (A.tally hall.old) (A.calls hall.old) (L.traffic link.old) (L.marks link.old) (L.faults link.old) before)
             (record { feeder = self.old.feeder; waiting = self.old.outbox; taken = [] })
-            (client_side seat.new (A.tally hall.new) (A.calls hall.new) (L.traffic link.new) (L.marks link.new) (L.faults link.new))) }
+            (recorded_side seat.new (A.tally hall.new) (A.calls hall.new) (L.traffic link.new) (L.marks link.new) (L.faults link.new) after) ended)) }
     {
-        if let Err(ended) = self.answer_waiting(rt, seat, hall, link, gate) {
+        if let Err(ended) = self.answer_waiting(rt, seat, hall, link, gate, recorder) {
             return Err(ended);
         }
-        match self.send_and_receive(link, seat.number(), gate, room) {
+        match self.send_and_receive(link, seat.number(), gate, recorder, room) {
             Ok(()) => Ok(()),
             Err(ended) => Err(ended),
         }
     }
 
     // Sends the replies that wait, and receives more.
-    fn send_and_receive<L: Link, G: Gate>(
+    fn send_and_receive<L: Link, G: Gate, M: Records>(
         &mut self,
         link: &mut L,
         seat: u32,
         gate: &G,
+        recorder: &mut M,
         room: &mut [u8],
     ) -> Result<(), Ended>
         requires some { 0 < length room.old }
@@ -106,15 +110,15 @@ impl Talk {
         ensures side { self.new.feeder.heard ≡ AtClient }
         ensures sound { OnOk result (IsSound self.new.feeder) }
         ensures talk { (side : ClientSide) → MatchResult result
-            (λ _. Goes (with_link side (L.traffic link.old) (L.marks link.old) (L.faults link.old))
+            (λ _. Leads (M.fits recorder.old) (M.fits recorder.new) (λ before after. Goes (with_sent side (L.traffic link.old) (L.marks link.old) (L.faults link.old) before)
             (record { feeder = self.old.feeder; waiting = self.old.outbox; taken = [] })
-            (with_link side (L.traffic link.new) (L.marks link.new) (L.faults link.new))
-            (record { feeder = self.new.feeder; waiting = self.new.outbox; taken = [] }))
-            (Ends (with_link side (L.traffic link.old) (L.marks link.old) (L.faults link.old))
+            (with_sent side (L.traffic link.new) (L.marks link.new) (L.faults link.new) after)
+            (record { feeder = self.new.feeder; waiting = self.new.outbox; taken = [] })))
+            (λ ended. Leads (M.fits recorder.old) (M.fits recorder.new) (λ before after. Ends (with_sent side (L.traffic link.old) (L.marks link.old) (L.faults link.old) before)
             (record { feeder = self.old.feeder; waiting = self.old.outbox; taken = [] })
-            (with_link side (L.traffic link.new) (L.marks link.new) (L.faults link.new))) }
+            (with_sent side (L.traffic link.new) (L.marks link.new) (L.faults link.new) after) ended)) }
     {
-        if let Err(ended) = self.outbox.flush(link, seat, gate) {
+        if let Err(ended) = self.outbox.flush(link, seat, gate, recorder) {
             return Err(ended);
         }
         match receive_more(link, &mut self.feeder, room) {
@@ -124,13 +128,14 @@ impl Talk {
     }
 
     // Answers all checks that were heard. Some replies may not be sent yet.
-    fn answer_waiting<R: Wait, A: Hall, L: Link, G: Gate>(
+    fn answer_waiting<R: Wait, A: Hall, L: Link, G: Gate, M: Records>(
         &mut self,
         rt: &R,
         seat: &mut Seat,
         hall: &mut A,
         link: &mut L,
         gate: &G,
+        recorder: &mut M,
     ) -> Result<(), Ended>
         requires side { self.old.feeder.heard ≡ AtClient }
         requires sound { IsSound self.old.feeder }
@@ -138,18 +143,18 @@ impl Talk {
         ensures sound { OnOk result (IsSound self.new.feeder) }
         ensures all { OnOk result (self.new.feeder.waiting ≡ []) }
         ensures talk { MatchResult result
-            (λ _. Goes
-            (client_side seat.old (A.tally hall.old) (A.calls hall.old) (L.traffic link.old) (L.marks link.old) (L.faults link.old))
+            (λ _. Leads (M.fits recorder.old) (M.fits recorder.new) (λ before after. Goes
+            (recorded_side seat.old (A.tally hall.old) (A.calls hall.old) (L.traffic link.old) (L.marks link.old) (L.faults link.old) before)
             (record { feeder = self.old.feeder; waiting = self.old.outbox; taken = [] })
-            (client_side seat.new (A.tally hall.new) (A.calls hall.new) (L.traffic link.new) (L.marks link.new) (L.faults link.new))
-            (record { feeder = self.new.feeder; waiting = self.new.outbox; taken = [] }))
-            (Ends
-            (client_side seat.old (A.tally hall.old) (A.calls hall.old) (L.traffic link.old) (L.marks link.old) (L.faults link.old))
+            (recorded_side seat.new (A.tally hall.new) (A.calls hall.new) (L.traffic link.new) (L.marks link.new) (L.faults link.new) after)
+            (record { feeder = self.new.feeder; waiting = self.new.outbox; taken = [] })))
+            (λ ended. Leads (M.fits recorder.old) (M.fits recorder.new) (λ before after. Ends
+            (recorded_side seat.old (A.tally hall.old) (A.calls hall.old) (L.traffic link.old) (L.marks link.old) (L.faults link.old) before)
             (record { feeder = self.old.feeder; waiting = self.old.outbox; taken = [] })
-            (client_side seat.new (A.tally hall.new) (A.calls hall.new) (L.traffic link.new) (L.marks link.new) (L.faults link.new))) }
+            (recorded_side seat.new (A.tally hall.new) (A.calls hall.new) (L.traffic link.new) (L.marks link.new) (L.faults link.new) after) ended)) }
     {
         while let Some(check) = take_check(&mut self.feeder) {
-            if let Err(ended) = self.answer_check(rt, seat, hall, link, gate, &check) {
+            if let Err(ended) = self.answer_check(rt, seat, hall, link, gate, recorder, check) {
                 return Err(ended);
             }
         }
@@ -157,47 +162,68 @@ impl Talk {
     }
 
     // Answers a check that was taken. The replies before it are sent before an agent is waited for.
-    fn answer_check<R: Wait, A: Hall, L: Link, G: Gate>(
+    fn answer_check<R: Wait, A: Hall, L: Link, G: Gate, M: Records>(
         &mut self,
         rt: &R,
         seat: &mut Seat,
         hall: &mut A,
         link: &mut L,
         gate: &G,
-        check: &Check,
+        recorder: &mut M,
+        check: Check,
     ) -> Result<(), Ended>
         requires { self.old.feeder.heard ≡ AtClient }
         ensures feeder { self.new.feeder ≡ self.old.feeder }
         ensures talk { MatchResult result
-            (λ _. Goes
-            (client_side seat.old (A.tally hall.old) (A.calls hall.old) (L.traffic link.old) (L.marks link.old) (L.faults link.old))
-            (record { feeder = self.old.feeder; waiting = self.old.outbox; taken = check.now ∷ [] })
-            (client_side seat.new (A.tally hall.new) (A.calls hall.new) (L.traffic link.new) (L.marks link.new) (L.faults link.new))
-            (record { feeder = self.new.feeder; waiting = self.new.outbox; taken = [] }))
-            (Ends
-            (client_side seat.old (A.tally hall.old) (A.calls hall.old) (L.traffic link.old) (L.marks link.old) (L.faults link.old))
-            (record { feeder = self.old.feeder; waiting = self.old.outbox; taken = check.now ∷ [] })
-            (client_side seat.new (A.tally hall.new) (A.calls hall.new) (L.traffic link.new) (L.marks link.new) (L.faults link.new))) }
+            (λ _. Leads (M.fits recorder.old) (M.fits recorder.new) (λ before after. Goes
+            (recorded_side seat.old (A.tally hall.old) (A.calls hall.old) (L.traffic link.old) (L.marks link.old) (L.faults link.old) before)
+            (record { feeder = self.old.feeder; waiting = self.old.outbox; taken = check ∷ [] })
+            (recorded_side seat.new (A.tally hall.new) (A.calls hall.new) (L.traffic link.new) (L.marks link.new) (L.faults link.new) after)
+            (record { feeder = self.new.feeder; waiting = self.new.outbox; taken = [] })))
+            (λ ended. Leads (M.fits recorder.old) (M.fits recorder.new) (λ before after. Ends
+            (recorded_side seat.old (A.tally hall.old) (A.calls hall.old) (L.traffic link.old) (L.marks link.old) (L.faults link.old) before)
+            (record { feeder = self.old.feeder; waiting = self.old.outbox; taken = check ∷ [] })
+            (recorded_side seat.new (A.tally hall.new) (A.calls hall.new) (L.traffic link.new) (L.marks link.new) (L.faults link.new) after) ended)) }
     {
-        match self.read(rt, seat, check) {
-            Found::Ready => match self.put_reply() {
-                Ok(()) => Ok(()),
-                Err(ended) => Err(ended),
-            },
+        match self.read(rt, seat, &check) {
+            Found::Judged { commit, allowed } => {
+                let question = check.question;
+                let judgement = Judgement {
+                    question,
+                    commit,
+                    allowed,
+                };
+                match self.put_judged(recorder, judgement) {
+                    Ok(()) => Ok(()),
+                    Err(ended) => Err(ended),
+                }
+            }
+            Found::Unresolved => {
+                drop(check);
+                match self.put_reply() {
+                    Ok(()) => Ok(()),
+                    Err(ended) => Err(ended),
+                }
+            }
             Found::Due {
                 commit,
                 kind,
                 metadata,
             } => {
                 let number = seat.number();
-                match self.answer_by_agent(
-                    hall, link, gate, number, check, commit, kind, metadata,
-                ) {
+                let answered = self.answer_by_agent(
+                    hall, link, gate, recorder, number, &check, commit, kind, metadata,
+                );
+                drop(check);
+                match answered {
                     Ok(()) => Ok(()),
                     Err(ended) => Err(ended),
                 }
             }
-            Found::Memory => Err(Ended::Memory),
+            Found::Memory => {
+                drop(check);
+                Err(Ended::Memory)
+            }
         }
     }
 
@@ -217,11 +243,12 @@ impl Talk {
     }
 
     // Answers a check that the policies of the commit leave to an agent.
-    fn answer_by_agent<A: Hall, L: Link, G: Gate>(
+    fn answer_by_agent<A: Hall, L: Link, G: Gate, M: Records>(
         &mut self,
         hall: &mut A,
         link: &mut L,
         gate: &G,
+        recorder: &mut M,
         seat: u32,
         check: &Check,
         commit: u64,
@@ -233,17 +260,17 @@ impl Talk {
         ensures feeder { self.new.feeder ≡ self.old.feeder }
         ensures talk { (reader : SeatState) (desk : DeskState) → IsReadNow desk reader
             → reading desk check.now ≡ IsDue commit kind metadata → MatchResult result
-            (λ _. Goes
-            (client_side reader (A.tally hall.old) (A.calls hall.old) (L.traffic link.old) (L.marks link.old) (L.faults link.old))
+            (λ _. Leads (M.fits recorder.old) (M.fits recorder.new) (λ before after. Goes
+            (recorded_side reader (A.tally hall.old) (A.calls hall.old) (L.traffic link.old) (L.marks link.old) (L.faults link.old) before)
             (record { feeder = self.old.feeder; waiting = self.old.outbox; taken = check.now ∷ [] })
-            (client_side reader (A.tally hall.new) (A.calls hall.new) (L.traffic link.new) (L.marks link.new) (L.faults link.new))
-            (record { feeder = self.new.feeder; waiting = self.new.outbox; taken = [] }))
-            (Ends
-            (client_side reader (A.tally hall.old) (A.calls hall.old) (L.traffic link.old) (L.marks link.old) (L.faults link.old))
+            (recorded_side reader (A.tally hall.new) (A.calls hall.new) (L.traffic link.new) (L.marks link.new) (L.faults link.new) after)
+            (record { feeder = self.new.feeder; waiting = self.new.outbox; taken = [] })))
+            (λ ended. Leads (M.fits recorder.old) (M.fits recorder.new) (λ before after. Ends
+            (recorded_side reader (A.tally hall.old) (A.calls hall.old) (L.traffic link.old) (L.marks link.old) (L.faults link.old) before)
             (record { feeder = self.old.feeder; waiting = self.old.outbox; taken = check.now ∷ [] })
-            (client_side reader (A.tally hall.new) (A.calls hall.new) (L.traffic link.new) (L.marks link.new) (L.faults link.new))) }
+            (recorded_side reader (A.tally hall.new) (A.calls hall.new) (L.traffic link.new) (L.marks link.new) (L.faults link.new) after) ended)) }
     {
-        if let Err(ended) = self.outbox.flush(link, seat, gate) {
+        if let Err(ended) = self.outbox.flush(link, seat, gate, recorder) {
             return Err(ended);
         }
         match ask_agent(hall, commit, kind, &check.question, metadata) {
@@ -265,6 +292,28 @@ impl Talk {
         match spell(&mut self.frame, sequence, reply.message()) {
             Ok(()) => self.put_reply(),
             Err(ended) => Err(ended),
+        }
+    }
+
+    // Puts the reply that was spelled behind those that wait, and notes the check that it judges.
+    fn put_judged<M: Records>(
+        &mut self,
+        recorder: &mut M,
+        judgement: Judgement,
+    ) -> Result<(), Ended>
+        ensures feeder { self.new.feeder ≡ self.old.feeder }
+        ensures put { OnOk result (self.new.outbox ≡ self.old.outbox ++ self.old.frame) }
+        ensures noted { OnOk result
+            (Leads (M.fits recorder.old) (M.fits recorder.new) (λ before after. ChangesTold before (with_noted judgement) after)) }
+        ensures ended { IfErr result (λ ended. ended ≡ Memory) }
+        ensures kept { OnErr result (Leads (M.fits recorder.old) (M.fits recorder.new) (λ before after. after ≡ before)) }
+    {
+        if let Err(ended) = self.put_reply() {
+            return Err(ended);
+        }
+        match recorder.note(judgement) {
+            Ok(()) => Ok(()),
+            Err(_) => Err(Ended::Memory),
         }
     }
 

@@ -4,6 +4,8 @@
 //! The clauses are those of the loops. That these very locks are handed to them no clause says.
 #![tactic(auto)]
 
+mod monitoring;
 mod serving;
 
-pub use serving::{serve_agent, serve_client};
+pub use monitoring::serve_monitored;
+pub use serving::{serve_admin, serve_agent, serve_client};

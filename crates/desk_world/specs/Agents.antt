@@ -45,13 +45,23 @@ is_waiting (Waiting commit kind number) = true
 abbrev pub waiting_in : ℕ → List Link → ℕ
 waiting_in run links = count_by (λ (link : Link). link.run == run && is_waiting link.reading) links
 
--- The table takes the question, or refuses it at a limit: of questions that wait, or of numbers in a run. The limit of
--- those that wait may bite or not, since the table counts a question until its worker takes the answer.
+-- Where so many questions wait and so many numbers were given, the table takes a question, or refuses it at this limit: of
+-- questions that wait, or of numbers in a run. The limit of those that wait may bite or not, since the table counts a
+-- question until its worker takes the answer.
+abbrev pub may_put : Option ℕ → ℕ → ℕ → Bool
+may_put None waiting given = nat_lt given most_entries
+may_put (Some most) waiting given =
+    (most == most_waiting && nat_le most_waiting waiting) || (most == most_entries && given == most_entries)
+
 abbrev pub fits : Option ℕ → World → Bool
-fits None world = nat_lt (count_of world.run world.entries) most_entries
-fits (Some most) world =
-    (most == most_waiting && nat_le most_waiting (waiting_in world.run world.links))
-    || (most == most_entries && count_of world.run world.entries == most_entries)
+fits full world = may_put full (waiting_in world.run world.links) (count_of world.run world.entries)
+
+-- What a link has read once its question was put: that no agent is there, or that the table refused it at a limit, or that
+-- an entry with this number is waited for.
+abbrev pub put_as : Bool → Option ℕ → ℕ → ℕ → Kind → Reading
+put_as false full number commit kind = Ready (NoAgent commit kind)
+put_as true (Some most) number commit kind = Ready (AgentFull commit kind most)
+put_as true None number commit kind = Waiting commit kind number
 
 abbrev pub new_entry : ℕ → Question → Kind → ℕ → World → AgentEntry
 new_entry ask question kind commit world = record {
@@ -67,18 +77,18 @@ new_entry ask question kind commit world = record {
 -- a new entry, for which the link waits
 abbrev pub put_down : ℕ → Link → ℕ → Question → ℕ → Kind → World → World
 put_down link found ask question commit kind world =
-    with_link link (record found { reading = Waiting commit kind (count_of world.run world.entries) })
+    with_link link (record found { reading = put_as true None (count_of world.run world.entries) commit kind })
     (record world { entries = world.entries ++ new_entry ask question kind commit world ∷ [] })
 
 abbrev pub put_with : ℕ → Link → ℕ → Question → Option ℕ → ℕ → Kind → World → World
 put_with link found ask question None commit kind world = put_down link found ask question commit kind world
 put_with link found ask question (Some most) commit kind world =
-    with_link link (record found { reading = Ready (AgentFull commit kind most) }) world
+    with_link link (record found { reading = put_as true (Some most) (count_of world.run world.entries) commit kind }) world
 
 abbrev pub put_to : ℕ → Link → ℕ → Question → Option ℕ → ℕ → Kind → World → World
 put_to link found ask question full commit kind world =
     if has_agent kind.0 world then put_with link found ask question full commit kind world
-    else with_link link (record found { reading = Ready (NoAgent commit kind) }) world
+    else with_link link (record found { reading = put_as false full (count_of world.run world.entries) commit kind }) world
 
 abbrev pub put_due : ℕ → Link → ℕ → Question → Option ℕ → Reading → World → Option World
 put_due link found ask question full (Due commit kind metadata) world =

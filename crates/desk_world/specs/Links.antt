@@ -46,10 +46,14 @@ read_as true commit false outcome = Due commit (record { 0 = outcome.result.kind
 abbrev pub reading_of : ℕ → Bool → Outcome → Reading
 reading_of commit simple outcome = read_as (is_agent outcome.result.kind) commit simple outcome
 
+-- Where one commit was seen last, at first that of the entry, and another one is published, these may be read: those from the
+-- one to the other.
+abbrev pub may_read : ℕ → ℕ → ℕ → Bool
+may_read seen published commit = nat_le seen commit && nat_le commit published
+
 abbrev pub read_at : ℕ → Link → ℕ → Asked → DeskState → World → Option World
 read_at link found commit asked desk world =
-    when (is_some found.entered
-    && (is_nothing found.reading && (nat_le found.seen commit && nat_le commit world.published)))
+    when (is_some found.entered && (is_nothing found.reading && may_read found.seen world.published commit))
     (with_link link
     (record found { seen = commit; reading = reading_of commit asked.simple (root_outcome desk asked.question) }) world)
 

@@ -1,7 +1,7 @@
 // What the workers of links do, and how links close.
-ghost use Rattle.std.specs.Prelude.{◌≡◌, ◌<◌, ◌&&◌, nat_le, length, map, slice_get, is_some, Some, None, MatchOption};
+ghost use Rattle.std.specs.Prelude.{◌≡◌, ◌<◌, ◌&&◌, length, map, slice_get, is_some, Some, None, MatchOption};
 ghost use Rattle.desk_world.specs.World.{entry_at, with_link};
-ghost use Rattle.desk_world.specs.Links.{enter, is_nothing, read, outgoing, write, lose};
+ghost use Rattle.desk_world.specs.Links.{enter, is_nothing, may_read, read, outgoing, write, lose};
 ghost use Rattle.desk_world.specs.Commits.{entered_before, hung_up, closed};
 ghost use Rattle.desk_world.specs.parts.Parts.{world_of, Becomes};
 
@@ -61,7 +61,7 @@ pub fn read(world: &mut Parts, link: u32, commit: u64) -> bool
 // It has entered and read nothing, and the commit is from the last one seen to the published one.
 fn may_read(found: &Link, commit: u64, published: u64) -> bool
     ensures { result ≡ (is_some found.now.entered
-        && (is_nothing found.now.reading && (nat_le found.now.seen commit && nat_le commit published))) }
+        && (is_nothing found.now.reading && may_read found.now.seen published commit)) }
 {
     found.entered.is_some()
         && is_nothing(&found.reading)

@@ -23,6 +23,7 @@ use line_script::{LineRefusal, Place, Reader, Step};
 use policy_levels::level_command;
 use private_sharing::Shares;
 use run_endings::Ending;
+use script_notes::LineNotes;
 use script_replies::{
     FoldedRules, note_past_limit, note_script_line, print_done, print_level_refusal, print_refusal,
 };
@@ -30,7 +31,7 @@ use std::alloc::Global;
 use text_lines::LineReader;
 
 /// Where the reading of a script stands, the answers that the sink hasn't taken yet, the shares that are open, and the rules of
-/// the policy state and of these shares.
+/// the policy state and of these shares; and what is to be told of its lines beside their answers.
 #[derive(Drop)]
 pub struct LocalScript {
     alloc: Global,
@@ -38,6 +39,7 @@ pub struct LocalScript {
     rules: FoldedRules,
     shares: Shares,
     pub answers: Bytes,
+    notes: LineNotes,
 }
 
 impl LocalScript {
@@ -61,6 +63,7 @@ impl LocalScript {
             rules: FoldedRules::unasked(),
             shares: Shares::new(alloc),
             answers: Bytes::new(alloc),
+            notes: LineNotes::new(alloc),
         }
     }
 
@@ -142,6 +145,8 @@ impl LocalScript {
     {
         if let Some(question) = self.reader.check(line) {
             self.answer_check(keeper.desk(), &question)?;
+            self.notes
+                .tell_of_check(number, &question, keeper.desk(), sink);
             return Ok(());
         }
         self.answer_other(line, number, keeper, sink)
@@ -174,7 +179,13 @@ impl LocalScript {
     {
         let spot = self.reader.spot();
         match self.reader.line(line) {
-            Ok(step) => self.answer_step(&step, keeper, sink),
+            Ok(step) => match self.answer_step(&step, keeper, sink) {
+                Ok(()) => {
+                    self.notes.tell(number, &step, keeper.desk(), sink);
+                    Ok(())
+                }
+                Err(ending) => Err(ending),
+            },
             Err(LineRefusal::Syntax) => {
                 note_script_line(self.alloc, number, spot, line, sink);
                 Err(Ending::Line(number))
@@ -297,6 +308,7 @@ impl LocalScript {
             Ok(command) => command,
             Err(refusal) => {
                 print_level_refusal(&refusal, &mut self.answers)?;
+                self.notes.keep_level_refusal(refusal);
                 return Ok(());
             }
         };
@@ -334,6 +346,7 @@ impl LocalScript {
             Ok(prepared) => prepared,
             Err(refusal) => {
                 print_refusal(&refusal, &mut self.answers)?;
+                self.notes.keep_refusal(refusal);
                 return Ok(());
             }
         };

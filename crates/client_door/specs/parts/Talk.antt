@@ -1,6 +1,9 @@
 -- How the answering of checks stands between two calls.
-use Rattle.std.specs.Prelude.{◌≡◌, ◌≤◌, ℕ, List, ◌++◌, map, length}
+use Rattle.std.specs.Prelude.{◌≡◌, ◌≤◌, ℕ, List, ◌++◌, map, length, Option, Some}
 use Rattle.std.specs.List.{AllByRecursion}
+use Rattle.link_ports.specs.LinkMarks.{LinkMarks}
+use Rattle.link_ports.specs.Told.{ChangesTold}
+use Rattle.link_ports.specs.Traffic.{Traffic}
 use Rattle.live_desk.specs.History.{GoesOn, IsLast, Rises}
 use Rattle.live_desk.specs.Seat.{SeatState}
 use Rattle.desk_state.specs.DeskState.{DeskState}
@@ -12,8 +15,25 @@ use Rattle.door_frames.specs.Carried.{Carried}
 use Rattle.door_frames.specs.Hearing.{HasHeard}
 use Rattle.client_door.specs.Answered.{Answered, IsRight, frames_of, replies_bytes, calls_for, after_asks, AreReadIn}
 use Rattle.client_door.specs.Check.{framed_of}
+use Rattle.client_door.specs.declared.judgements.Judgement.{Judgement}
+use Rattle.client_door.specs.Recording.{Recording, with_none_waiting, judged_in}
 use Rattle.client_door.specs.Serving.{ClientSide, Talks}
 use Rattle.client_door.specs.declared.checks.Check.{Check}
+
+-- Since nothing waited these judged checks were recorded, and those wait until their replies are sent.
+abbrev pub IsKept : Option Recording → List Judgement → List Judgement → Option Recording → Type 0
+IsKept before recorded waiting after = (old : List Judgement) → before ≡ Some (with_none_waiting old)
+    → after ≡ Some (record { recorded = old ++ recorded; waiting = waiting })
+
+-- what a reply judges, if it does, was noted behind what waits
+abbrev pub Notes : Option Recording → List Judgement → Option Recording → Type 0
+Notes before judged after =
+    ChangesTold before (λ (recording : Recording). record recording { waiting = recording.waiting ++ judged }) after
+
+-- with the link and the recording as they stand then
+abbrev pub with_sent : ClientSide → Option Traffic → LinkMarks → ℕ → Option Recording → ClientSide
+with_sent side traffic marks faults recording =
+    record side { traffic = traffic; marks = marks; faults = faults; recording = recording }
 
 -- Since the start some checks were answered, of which the replies to the first were sent and those to the others wait; of
 -- the latter one at most was answered by way of an agent. These checks were taken behind them.
@@ -31,6 +51,7 @@ pub record Stands (start now : ClientSide) (feeder : Feeding) (waiting : List �
   pub tally : now.tally ≡ after_asks (calls_for (sent ++ unsent)) start.tally
   pub calls : AppendsCalls start.calls (map Ask (calls_for (sent ++ unsent))) now.calls
   pub few : length (calls_for unsent) ≤ 1
+  pub kept : IsKept start.recording (judged_in sent) (judged_in unsent) now.recording
   pub faults : now.faults ≡ start.faults
   pub ends : now.marks.ends ≡ start.marks.ends
 

@@ -1,7 +1,8 @@
 use Rattle.std.proofs.Common.{◌≡◌, []}
 use Rattle.wire_messages.specs.declared.operations.Heard.TheVariants.{AtClient}
 use Rattle.door_frames.specs.Hearing.{IsSound}
-use Rattle.client_door.specs.Serving.{client_side}
+use Rattle.client_door.specs.Recording.{Leads}
+use Rattle.client_door.specs.Serving.{recorded_side}
 use Rattle.client_door.specs.parts.Talk.{Stands}
 use Rattle.client_door.proofs.client_loops.answer_all.Given as goal
 
@@ -12,7 +13,9 @@ invariant-loop g l =
     × ((goal.iterator-loop g).is_finite l.iterator'
     × ((l.talk.feeder.heard ≡ AtClient)
     × (IsSound l.talk.feeder
-    × Stands
-    (client_side l.fn.seat (g.A.Hall.tally l.fn.hall) (g.A.Hall.calls l.fn.hall) (g.L.Link.traffic l.fn.link) (g.L.Link.marks l.fn.link) (g.L.Link.faults l.fn.link))
-    (client_side l.seat (g.A.Hall.tally l.hall) (g.A.Hall.calls l.hall) (g.L.Link.traffic l.link) (g.L.Link.marks l.link) (g.L.Link.faults l.link))
-    l.talk.feeder l.talk.outbox [])))
+    × Leads (g.M.Records.fits l.fn.recorder) (g.M.Records.fits l.recorder) (λ before after. Stands
+    (recorded_side l.fn.seat (g.A.Hall.tally l.fn.hall) (g.A.Hall.calls l.fn.hall) (g.L.Link.traffic l.fn.link) (g.L.Link.marks l.fn.link)
+    (g.L.Link.faults l.fn.link) before)
+    (recorded_side l.seat (g.A.Hall.tally l.hall) (g.A.Hall.calls l.hall) (g.L.Link.traffic l.link) (g.L.Link.marks l.link)
+    (g.L.Link.faults l.link) after)
+    l.talk.feeder l.talk.outbox []))))

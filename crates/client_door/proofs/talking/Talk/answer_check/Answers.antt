@@ -1,62 +1,123 @@
-use Rattle.std.proofs.Common.{◌∙◌, List, ℕ, [], ◌++◌, refl, sym, ap, subst}
+use Rattle.std.proofs.Common.{◌∙◌, List, ℕ, [], ◌++◌, Option, refl, sym, ap, subst}
 use Rattle.wire_messages.specs.Stream.{Feeding}
-use Rattle.client_door.specs.Serving.{client_side}
+use Rattle.desk_world.specs.declared.replies.Reply.TheVariants.{Judged, NotResolved}
+use Rattle.client_door.specs.Recording.{Recording}
+use Rattle.client_door.specs.Serving.{recorded_side}
 use Rattle.client_door.specs.parts.Talk.{Stands}
+use Rattle.client_door.proofs.Recorded.{notes_judged, notes_nothing}
 use Rattle.client_door.proofs.Ending.{reads_and_puts, reads_for_nothing, reads_on}
 use Rattle.client_door.proofs.talking.Talk.answer_check.Goals as goal
 
 pub returns-in-Ok-clause-talk : goal.returns-in-Ok-clause-talk
-returns-in-Ok-clause-talk g c start s =
-    let read = c.in-Ready.ensures.read in
-    subst (λ (feeder : Feeding). Stands start
-    (client_side c.read.new.seat (g.A.Hall.tally c.args.hall.now) (g.A.Hall.calls c.args.hall.now) (g.L.Link.traffic c.args.link.now)
-    (g.L.Link.marks c.args.link.now) (g.L.Link.faults c.args.link.now)) feeder c.put_reply.new.self.outbox [])
-    (sym (c.put_reply.ensures.feeder ∙ c.read.ensures.feeder))
-    (reads_and_puts
-    (client_side c.args.seat.now (g.A.Hall.tally c.args.hall.now) (g.A.Hall.calls c.args.hall.now) (g.L.Link.traffic c.args.link.now)
-    (g.L.Link.marks c.args.link.now) (g.L.Link.faults c.args.link.now))
-    (client_side c.read.new.seat (g.A.Hall.tally c.args.hall.now) (g.A.Hall.calls c.args.hall.now) (g.L.Link.traffic c.args.link.now)
-    (g.L.Link.marks c.args.link.now) (g.L.Link.faults c.args.link.now))
-    c.read.new.seat c.args.self.now.feeder c.args.self.now.outbox c.read.new.self.frame c.put_reply.new.self.outbox c.args.check.now
-    read.0 read.2.0 c.read.ensures.same c.read.ensures.seen refl read.1 read.2.1 read.2.2
-    (c.in-Ok.ensures.put ∙ ap (λ (list : List ℕ). list ++ c.read.new.self.frame) c.read.ensures.outbox) start s)
+returns-in-Ok-clause-talk g c since before fits =
+    let read = c.in-Judged.ensures.read in
+    let (verdict, is, spelled, at, allowed) = read.2 in
+    let told = c.in-Ok.ensures.noted since before fits in (
+      told.0,
+      told.1,
+      λ start s. subst (λ (feeder : Feeding). Stands start
+          (recorded_side c.read.new.seat (g.A.Hall.tally c.args.hall.now) (g.A.Hall.calls c.args.hall.now) (g.L.Link.traffic c.args.link.now) (g.L.Link.marks c.args.link.now)
+          (g.L.Link.faults c.args.link.now) told.0) feeder c.put_judged.new.self.outbox [])
+          (sym (c.put_judged.ensures.feeder ∙ c.read.ensures.feeder))
+          (reads_and_puts
+          (recorded_side c.args.seat.now (g.A.Hall.tally c.args.hall.now) (g.A.Hall.calls c.args.hall.now) (g.L.Link.traffic c.args.link.now) (g.L.Link.marks c.args.link.now)
+          (g.L.Link.faults c.args.link.now) before)
+          (recorded_side c.read.new.seat (g.A.Hall.tally c.args.hall.now) (g.A.Hall.calls c.args.hall.now) (g.L.Link.traffic c.args.link.now) (g.L.Link.marks c.args.link.now)
+          (g.L.Link.faults c.args.link.now) told.0)
+          c.read.new.seat told.0 c.args.self.now.feeder c.args.self.now.outbox c.read.new.self.frame c.put_judged.new.self.outbox c.args.check
+          read.0 (Judged verdict) c.read.ensures.same c.read.ensures.seen refl read.1 is spelled
+          (notes_judged before told.0 c.args.check.question verdict c.in-Judged.commit c.in-Judged.allowed at allowed told.2)
+          (c.in-Ok.ensures.put ∙ ap (λ (list : List ℕ). list ++ c.read.new.self.frame) c.read.ensures.outbox) start s),
+    )
 
 pub returns-in-Err-clause-talk : goal.returns-in-Err-clause-talk
-returns-in-Err-clause-talk g c start s =
-    reads_for_nothing
-    (client_side c.args.seat.now (g.A.Hall.tally c.args.hall.now) (g.A.Hall.calls c.args.hall.now) (g.L.Link.traffic c.args.link.now)
-    (g.L.Link.marks c.args.link.now) (g.L.Link.faults c.args.link.now))
-    (client_side c.read.new.seat (g.A.Hall.tally c.args.hall.now) (g.A.Hall.calls c.args.hall.now) (g.L.Link.traffic c.args.link.now)
-    (g.L.Link.marks c.args.link.now) (g.L.Link.faults c.args.link.now))
-    c.read.new.seat c.args.self.now.feeder c.args.self.now.outbox c.args.check.now c.in-Err.ended c.read.ensures.same c.read.ensures.seen refl
-    c.in-Err.ensures.put.0 c.requires start s
+returns-in-Err-clause-talk g c since before fits =
+    let read = c.in-Judged.ensures.read in
+    let told = c.in-Err.ensures.kept since before fits in (
+      before,
+      subst (λ (recording : Option Recording). g.M.Records.fits c.put_judged.new.recorder since recording) told.2 told.1,
+      reads_for_nothing
+          (recorded_side c.args.seat.now (g.A.Hall.tally c.args.hall.now) (g.A.Hall.calls c.args.hall.now) (g.L.Link.traffic c.args.link.now) (g.L.Link.marks c.args.link.now)
+          (g.L.Link.faults c.args.link.now) before)
+          (recorded_side c.read.new.seat (g.A.Hall.tally c.args.hall.now) (g.A.Hall.calls c.args.hall.now) (g.L.Link.traffic c.args.link.now) (g.L.Link.marks c.args.link.now)
+          (g.L.Link.faults c.args.link.now) before)
+          c.read.new.seat read.0 c.args.self.now.feeder c.args.self.now.outbox c.args.check c.in-Err.ended c.read.ensures.same c.read.ensures.seen refl
+          read.1 c.in-Err.ensures.ended c.requires,
+    )
+
+pub returns-in-Ok-put_reply-clause-talk : goal.returns-in-Ok-put_reply-clause-talk
+returns-in-Ok-put_reply-clause-talk g c since before fits =
+    let read = c.in-Unresolved.ensures.read in
+    let (commit, kind, is, spelled) = read.2 in (
+      before,
+      fits,
+      λ start s. subst (λ (feeder : Feeding). Stands start
+          (recorded_side c.read.new.seat (g.A.Hall.tally c.args.hall.now) (g.A.Hall.calls c.args.hall.now) (g.L.Link.traffic c.args.link.now) (g.L.Link.marks c.args.link.now)
+          (g.L.Link.faults c.args.link.now) before) feeder c.put_reply.new.self.outbox [])
+          (sym (c.put_reply.ensures.feeder ∙ c.read.ensures.feeder))
+          (reads_and_puts
+          (recorded_side c.args.seat.now (g.A.Hall.tally c.args.hall.now) (g.A.Hall.calls c.args.hall.now) (g.L.Link.traffic c.args.link.now) (g.L.Link.marks c.args.link.now)
+          (g.L.Link.faults c.args.link.now) before)
+          (recorded_side c.read.new.seat (g.A.Hall.tally c.args.hall.now) (g.A.Hall.calls c.args.hall.now) (g.L.Link.traffic c.args.link.now) (g.L.Link.marks c.args.link.now)
+          (g.L.Link.faults c.args.link.now) before)
+          c.read.new.seat before c.args.self.now.feeder c.args.self.now.outbox c.read.new.self.frame c.put_reply.new.self.outbox c.args.check
+          read.0 (NotResolved commit kind) c.read.ensures.same c.read.ensures.seen refl read.1 is spelled
+          (notes_nothing before [] refl)
+          (c.in-Ok-put_reply.ensures.put ∙ ap (λ (list : List ℕ). list ++ c.read.new.self.frame) c.read.ensures.outbox) start s),
+    )
+
+pub returns-in-Err-put_reply-clause-talk : goal.returns-in-Err-put_reply-clause-talk
+returns-in-Err-put_reply-clause-talk g c since before fits =
+    let read = c.in-Unresolved.ensures.read in (
+      before,
+      fits,
+      reads_for_nothing
+          (recorded_side c.args.seat.now (g.A.Hall.tally c.args.hall.now) (g.A.Hall.calls c.args.hall.now) (g.L.Link.traffic c.args.link.now) (g.L.Link.marks c.args.link.now)
+          (g.L.Link.faults c.args.link.now) before)
+          (recorded_side c.read.new.seat (g.A.Hall.tally c.args.hall.now) (g.A.Hall.calls c.args.hall.now) (g.L.Link.traffic c.args.link.now) (g.L.Link.marks c.args.link.now)
+          (g.L.Link.faults c.args.link.now) before)
+          c.read.new.seat read.0 c.args.self.now.feeder c.args.self.now.outbox c.args.check c.in-Err-put_reply.ended c.read.ensures.same c.read.ensures.seen refl
+          read.1 c.in-Err-put_reply.ensures.put.0 c.requires,
+    )
 
 pub returns-in-Memory-clause-talk : goal.returns-in-Memory-clause-talk
-returns-in-Memory-clause-talk g c start s =
-    reads_for_nothing
-    (client_side c.args.seat.now (g.A.Hall.tally c.args.hall.now) (g.A.Hall.calls c.args.hall.now) (g.L.Link.traffic c.args.link.now)
-    (g.L.Link.marks c.args.link.now) (g.L.Link.faults c.args.link.now))
-    (client_side c.read.new.seat (g.A.Hall.tally c.args.hall.now) (g.A.Hall.calls c.args.hall.now) (g.L.Link.traffic c.args.link.now)
-    (g.L.Link.marks c.args.link.now) (g.L.Link.faults c.args.link.now))
-    c.read.new.seat c.args.self.now.feeder c.args.self.now.outbox c.args.check.now _ c.read.ensures.same c.read.ensures.seen refl
-    refl c.requires start s
+returns-in-Memory-clause-talk g c since before fits =
+    let read = c.in-Memory.ensures.read in (
+      before,
+      fits,
+      reads_for_nothing
+          (recorded_side c.args.seat.now (g.A.Hall.tally c.args.hall.now) (g.A.Hall.calls c.args.hall.now) (g.L.Link.traffic c.args.link.now) (g.L.Link.marks c.args.link.now)
+          (g.L.Link.faults c.args.link.now) before)
+          (recorded_side c.read.new.seat (g.A.Hall.tally c.args.hall.now) (g.A.Hall.calls c.args.hall.now) (g.L.Link.traffic c.args.link.now) (g.L.Link.marks c.args.link.now)
+          (g.L.Link.faults c.args.link.now) before)
+          c.read.new.seat read.0 c.args.self.now.feeder c.args.self.now.outbox c.args.check _ c.read.ensures.same c.read.ensures.seen refl
+          read.1 refl c.requires,
+    )
 
-pub returns-in-Ok-answer_by_agent-clause-talk : goal.returns-in-Ok-answer_by_agent-clause-talk
-returns-in-Ok-answer_by_agent-clause-talk g c start s =
+pub returns-in-Ok-answered-clause-talk : goal.returns-in-Ok-answered-clause-talk
+returns-in-Ok-answered-clause-talk g c since before fits =
     let read = c.in-Due.ensures.read in
-    c.in-Ok-answer_by_agent.ensures.talk c.read.new.seat read.0 read.1 read.2 start
-    (reads_on
-    (client_side c.args.seat.now (g.A.Hall.tally c.args.hall.now) (g.A.Hall.calls c.args.hall.now) (g.L.Link.traffic c.args.link.now)
-    (g.L.Link.marks c.args.link.now) (g.L.Link.faults c.args.link.now))
-    c.read.new.seat c.args.self.now.feeder c.read.new.self.feeder c.args.self.now.outbox c.read.new.self.outbox c.args.check.now
-    c.read.ensures.same c.read.ensures.seen c.read.ensures.feeder c.read.ensures.outbox start s)
+    let then = c.in-Ok-answered.ensures.talk c.read.new.seat read.0 read.1 read.2 since before fits in (
+      then.0,
+      then.1,
+      λ start s. then.2 start
+          (reads_on
+          (recorded_side c.args.seat.now (g.A.Hall.tally c.args.hall.now) (g.A.Hall.calls c.args.hall.now) (g.L.Link.traffic c.args.link.now) (g.L.Link.marks c.args.link.now)
+          (g.L.Link.faults c.args.link.now) before)
+          c.read.new.seat read.0 c.args.self.now.feeder c.read.new.self.feeder c.args.self.now.outbox c.read.new.self.outbox c.args.check
+          c.read.ensures.same c.read.ensures.seen read.1 c.read.ensures.feeder c.read.ensures.outbox start s),
+    )
 
-pub returns-in-Err-answer_by_agent-clause-talk : goal.returns-in-Err-answer_by_agent-clause-talk
-returns-in-Err-answer_by_agent-clause-talk g c start s =
+pub returns-in-Err-answered-clause-talk : goal.returns-in-Err-answered-clause-talk
+returns-in-Err-answered-clause-talk g c since before fits =
     let read = c.in-Due.ensures.read in
-    c.in-Err-answer_by_agent.ensures.talk c.read.new.seat read.0 read.1 read.2 start
-    (reads_on
-    (client_side c.args.seat.now (g.A.Hall.tally c.args.hall.now) (g.A.Hall.calls c.args.hall.now) (g.L.Link.traffic c.args.link.now)
-    (g.L.Link.marks c.args.link.now) (g.L.Link.faults c.args.link.now))
-    c.read.new.seat c.args.self.now.feeder c.read.new.self.feeder c.args.self.now.outbox c.read.new.self.outbox c.args.check.now
-    c.read.ensures.same c.read.ensures.seen c.read.ensures.feeder c.read.ensures.outbox start s)
+    let then = c.in-Err-answered.ensures.talk c.read.new.seat read.0 read.1 read.2 since before fits in (
+      then.0,
+      then.1,
+      λ start s. then.2 start
+          (reads_on
+          (recorded_side c.args.seat.now (g.A.Hall.tally c.args.hall.now) (g.A.Hall.calls c.args.hall.now) (g.L.Link.traffic c.args.link.now) (g.L.Link.marks c.args.link.now)
+          (g.L.Link.faults c.args.link.now) before)
+          c.read.new.seat read.0 c.args.self.now.feeder c.read.new.self.feeder c.args.self.now.outbox c.read.new.self.outbox c.args.check
+          c.read.ensures.same c.read.ensures.seen read.1 c.read.ensures.feeder c.read.ensures.outbox start s),
+    )

@@ -1,0 +1,5 @@
+pub mod Visit
+pub mod Clients
+pub mod Agents
+pub mod Administrators
+pub mod parts

@@ -1,0 +1,105 @@
+-- What records add up to.
+use Rattle.std.proofs.Common.{◌≡◌, ◌∙◌, ◌≤◌, ◌⊎◌, inl, inr, ℕ, suc, ◌+◌, List, [], ◌∷◌, ◌++◌, length, refl, sym, ap, subst, append_assoc, append-nil, arith}
+use Rattle.std.proofs.lemmas.List.{length-append}
+use Rattle.desk_ports.specs.Faults.{next_count, last_count}
+use Rattle.monitor_rule.specs.declared.entries.Entry.{Entry}
+use Rattle.check_monitor.specs.Monitor.{RecorderState, Records, with_entry, with_miss}
+use Rattle.check_monitor.specs.declared.recording.Recorded.{Recorded}
+use Rattle.check_monitor.specs.declared.recording.Recorded.TheVariants.{Put, Full, Spent}
+use Rattle.client_door.specs.declared.judgements.Judgement.{Judgement}
+use Rattle.monitor_door.specs.Monitoring.{entry_for, entries_from, RecordsEach, IsPart}
+
+-- ---- counts
+
+-- a record leaves both counts but one, which it raises, unless the count of misses is at its last value
+one_more : (old new : RecorderState) (entry : Entry) (recorded : Recorded) → old.missed ≤ last_count → Records old entry recorded new
+    → (new.missed ≤ last_count)
+    × ((length new.put + new.missed ≡ suc (length old.put + old.missed)) ⊎ (new.missed ≡ last_count))
+    × (old.missed ≤ new.missed)
+one_more old new entry (Put number) fits (below, is, same) =
+    let put : length new.put ≡ length old.put + 1 =
+    ap (λ (x : RecorderState). length x.put) same ∙ length-append old.put (entry ∷ []) in
+    let missed : new.missed ≡ old.missed = ap (λ (x : RecorderState). x.missed) same in
+    (omega (arith, missed, fits), inl (omega (arith, put, missed)), omega (arith, missed))
+one_more old new entry (Full number) fits (below, is, same, full) =
+    let put : length new.put ≡ length old.put = ap (λ (x : RecorderState). length x.put) same in
+    let missed : new.missed ≡ next_count old.missed = ap (λ (x : RecorderState). x.missed) same in
+    missed_one (length new.put) (length old.put) new.missed old.missed fits put missed
+  where
+    missed_one : (put put' missed missed' : ℕ) → missed' ≤ last_count → put ≡ put' → missed ≡ next_count missed'
+        → (missed ≤ last_count) × ((put + missed ≡ suc (put' + missed')) ⊎ (missed ≡ last_count)) × (missed' ≤ missed)
+    missed_one put put' missed missed' fits same is = omega (arith, fits, same, is)
+one_more old new entry (Spent number) fits (at, is, same) =
+    let put : length new.put ≡ length old.put = ap (λ (x : RecorderState). length x.put) same in
+    let missed : new.missed ≡ next_count old.missed = ap (λ (x : RecorderState). x.missed) same in
+    missed_one (length new.put) (length old.put) new.missed old.missed fits put missed
+  where
+    missed_one : (put put' missed missed' : ℕ) → missed' ≤ last_count → put ≡ put' → missed ≡ next_count missed'
+        → (missed ≤ last_count) × ((put + missed ≡ suc (put' + missed')) ⊎ (missed ≡ last_count)) × (missed' ≤ missed)
+    missed_one put put' missed missed' fits same is = omega (arith, fits, same, is)
+
+pub adds_up : (judged : List Judgement) (old new : RecorderState) → old.missed ≤ last_count → RecordsEach old judged new
+    → (length new.put + new.missed ≡ length old.put + old.missed + length judged) ⊎ (new.missed ≡ last_count)
+adds_up [] old new fits same = inl (ap (λ (x : RecorderState). length x.put + x.missed) same ∙ omega arith)
+adds_up (judgement ∷ more) old new fits (recorded, between, one, rest) =
+    let first = one_more old between (entry_for old.worker (length old.put) judgement) recorded fits one in
+    join (length old.put + old.missed) (length between.put + between.missed) (length new.put + new.missed) (length more) between.missed new.missed
+    first.1 (adds_up more between new first.0 rest) (stays more between new first.0 rest)
+  where
+    join : (a b c n m k : ℕ) → (b ≡ suc a) ⊎ (m ≡ last_count) → (c ≡ b + n) ⊎ (k ≡ last_count) → (m ≤ k) × (k ≤ last_count)
+        → (c ≡ a + suc n) ⊎ (k ≡ last_count)
+    join a b c n m k one then low = omega (arith, one, then, low.0, low.1)
+
+    stays : (judged : List Judgement) (old new : RecorderState) → old.missed ≤ last_count → RecordsEach old judged new
+        → (old.missed ≤ new.missed) × (new.missed ≤ last_count)
+    stays [] old new fits same =
+        let missed : new.missed ≡ old.missed = ap (λ (x : RecorderState). x.missed) same in
+        (omega (arith, missed), omega (arith, missed, fits))
+    stays (judgement ∷ more) old new fits (recorded, between, one, rest) =
+        let first = one_more old between (entry_for old.worker (length old.put) judgement) recorded fits one in
+        let then = stays more between new first.0 rest in
+        (omega (arith, first.2, then.0), then.1)
+
+-- ---- entries
+
+-- a recorder stays its worker's
+same_worker : (old new : RecorderState) (entry : Entry) (recorded : Recorded) → Records old entry recorded new → new.worker ≡ old.worker
+same_worker old new entry (Put number) (below, is, same) = ap (λ (x : RecorderState). x.worker) same
+same_worker old new entry (Full number) (below, is, same, full) = ap (λ (x : RecorderState). x.worker) same
+same_worker old new entry (Spent number) (at, is, same) = ap (λ (x : RecorderState). x.worker) same
+
+left_out : (judgement : Judgement) (put more : List Judgement) → IsPart put more → IsPart put (judgement ∷ more)
+left_out judgement [] more part = part
+left_out judgement (one ∷ put) more part = inr part
+
+-- a check that was missed
+after_miss : (judgement : Judgement) (more : List Judgement) (old between new : RecorderState) → between.put ≡ old.put → between.worker ≡ old.worker
+    → ((put : List Judgement) × IsPart put more × (new.put ≡ between.put ++ entries_from between.worker (length between.put) put))
+    → (put : List Judgement) × IsPart put (judgement ∷ more) × (new.put ≡ old.put ++ entries_from old.worker (length old.put) put)
+after_miss judgement more old between new same worker (put, part, is) = (
+  put,
+  left_out judgement put more part,
+  is ∙ λ i. same i ++ entries_from (worker i) (length (same i)) put,
+)
+
+pub is_judged : (judged : List Judgement) (old new : RecorderState) → RecordsEach old judged new
+    → (put : List Judgement) × IsPart put judged × (new.put ≡ old.put ++ entries_from old.worker (length old.put) put)
+is_judged [] old new same = ([], tt, ap (λ (x : RecorderState). x.put) same ∙ sym (append-nil old.put))
+is_judged (judgement ∷ more) old new (Put number, between, (below, is, same), rest) =
+    let (put, part, then) = is_judged more between new rest in
+    let entry = entry_for old.worker (length old.put) judgement in
+    let put_is : between.put ≡ old.put ++ entry ∷ [] = ap (λ (x : RecorderState). x.put) same in
+    let worker : between.worker ≡ old.worker = ap (λ (x : RecorderState). x.worker) same in
+    let count : length between.put ≡ suc (length old.put) =
+    ap (λ (list : List Entry). length list) put_is ∙ (length-append old.put (entry ∷ []) ∙ omega arith) in (
+      judgement ∷ put,
+      inl (refl, part),
+      then ∙ ((λ i. put_is i ++ entries_from (worker i) (count i) put)
+          ∙ append_assoc old.put (entry ∷ []) (entries_from old.worker (suc (length old.put)) put)),
+    )
+is_judged (judgement ∷ more) old new (Full number, between, (below, is, same, full), rest) =
+    after_miss judgement more old between new (ap (λ (x : RecorderState). x.put) same) (ap (λ (x : RecorderState). x.worker) same)
+    (is_judged more between new rest)
+is_judged (judgement ∷ more) old new (Spent number, between, (at, is, same), rest) =
+    after_miss judgement more old between new (ap (λ (x : RecorderState). x.put) same) (ap (λ (x : RecorderState). x.worker) same)
+    (is_judged more between new rest)
