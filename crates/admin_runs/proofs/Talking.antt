@@ -137,8 +137,8 @@ module _ {N L : Type 0} (link_faults : L → ℕ) (marks : L → LinkMarks) (tra
       → Talk old new before after (first ++ second) ending
   talk_then old between new before mid after first second ending one two =
       let all : first ≡ map (λ (exchange : Exchange). exchange.message) one.answered =
-          one.sent ∙ (ap (λ last. map (λ (exchange : Exchange). exchange.message) one.answered ++ last) one.ends.0
-          ∙ append-nil (map (λ (exchange : Exchange). exchange.message) one.answered)) in
+      one.sent ∙ (ap (λ last. map (λ (exchange : Exchange). exchange.message) one.answered ++ last) one.ends.0
+      ∙ append-nil (map (λ (exchange : Exchange). exchange.message) one.answered)) in
       record {
         said = record { due = one.said.due ++ two.said.due; written = one.said.due ++ two.said.written };
         answered = one.answered ++ two.answered;
