@@ -1,6 +1,6 @@
 // A service over a net in memory, whose doors are used up in time.
 use crate::answers::ending_text;
-use case_links::put_hex;
+use case_outside::put_hex;
 use case_words::{Failure, fails, first_number, first_word, frame_bytes, put_word};
 use desk_ports::{Bytes, FileSet, MemDisk};
 use door_workers::Unheard;

@@ -3,7 +3,7 @@ use crate::answers::{check_text, replies_text};
 use crate::gates::HoldingGate;
 use crate::words::{question_of, set_of};
 use admin_client::AdminClient;
-use case_links::NamedLinks;
+use case_outside::NamedLinks;
 use case_words::{Failure, first_word, put_word};
 use cynara_client::Client;
 use cynara_keys::Name;

@@ -1,6 +1,6 @@
 // A service over an empty folder, with the connections that it serves.
 use crate::threads::all;
-use case_links::NamedLinks;
+use case_outside::NamedLinks;
 use case_words::{Failure, fails, files};
 use desk_keeper::Keeper;
 use desk_ports::{Disk, MemDisk};

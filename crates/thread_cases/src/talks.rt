@@ -1,5 +1,5 @@
 // Those who speak with the service.
-use case_links::NamedLinks;
+use case_outside::NamedLinks;
 use case_words::{Failure, first_word};
 use link_ports::Link;
 use std::alloc::Global;

@@ -1,7 +1,7 @@
 // The serving calls, each on a thread of its own. The threads know a seat by its type's parameter alone.
 use crate::endings::first_text;
 use crate::talks::talk;
-use case_links::NamedLinks;
+use case_outside::NamedLinks;
 use case_words::Failure;
 use desk_keeper::Keeper;
 use desk_ports::Disk;

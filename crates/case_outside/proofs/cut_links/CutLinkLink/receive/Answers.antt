@@ -1,7 +1,7 @@
 use Rattle.std.proofs.Common.{◌∙◌, length, take, arith}
 use Rattle.std.proofs.lemmas.List.{length-take-le}
-use Rattle.case_links.proofs.Marks.{some_room}
-use Rattle.case_links.proofs.cut_links.CutLinkLink.receive.Goals as goal
+use Rattle.case_outside.proofs.Marks.{some_room}
+use Rattle.case_outside.proofs.cut_links.CutLinkLink.receive.Goals as goal
 
 pub returns-clause-marks : goal.returns-clause-marks
 returns-clause-marks c =

@@ -1,8 +1,8 @@
 // A disk in memory on which files are found absent, or in part, at given calls.
-ghost use Rattle.std.specs.Prelude.{None, Unit};
-ghost use Rattle.admin_cases.specs.Untold.{untold};
+ghost use Rattle.std.specs.Prelude.{None};
+ghost use Rattle.case_outside.specs.Untold.{untold};
 
-use case_links::numbers;
+use crate::numbers;
 use case_words::{Failure, fails, files};
 use desk_ports::{Bytes, Disk, Failed, FileName, MemDisk, PortFault};
 use std::alloc::Global;
@@ -16,6 +16,12 @@ pub struct WornDisk {
     made: u64,
 }
 
+fn disk_of(alloc: Global, words: &str, failing: &str) -> Result<MemDisk, Failure> {
+    let words = if words.trim() == "-" { "" } else { words };
+    let fails = fails(alloc, failing)?;
+    Ok(MemDisk::new(alloc, files(alloc, words)?, fails)?)
+}
+
 impl WornDisk {
     /// The disk with these files, and the calls at which it fails, finds no file, and finds a half.
     pub fn of(alloc: Global, words: &str, lists: &str) -> Result<WornDisk, Failure> {
@@ -23,13 +29,17 @@ impl WornDisk {
         let [failing, gone, halved] = parts.as_slice() else {
             return Err(Failure::Words);
         };
-        let words = if words.trim() == "-" { "" } else { words };
-        Ok(WornDisk {
-            disk: MemDisk::new(alloc, files(alloc, words)?, fails(alloc, failing)?)?,
-            gone: numbers(alloc, gone)?,
-            halved: numbers(alloc, halved)?,
-            made: 0,
-        })
+        let gone = numbers(alloc, gone)?;
+        let halved = numbers(alloc, halved)?;
+        match disk_of(alloc, words, failing) {
+            Ok(disk) => Ok(WornDisk {
+                disk,
+                gone,
+                halved,
+                made: 0,
+            }),
+            Err(failure) => Err(failure),
+        }
     }
 
     /// How many calls were made.
