@@ -47,7 +47,7 @@ EndsUnopened ending net net_now = ⊥
 
 -- what the first administrator meets: the state of the folder is kept, and published
 abbrev pub opening : DeskState → ℕ → Office
-opening desk faults = record { desk = desk; decided = true; published = desk ∷ []; faults = faults }
+opening desk faults = record { desk = desk; decided = true; published = desk ∷ []; faults = faults; frames = [] }
 
 -- these doors were closed behind those that were closed before, where the net still tells them
 abbrev pub ClosesDoors : {E : Type 0} → Option (List E) → List E → Option (List E) → Type 0

@@ -46,7 +46,7 @@ where
     requires some { 0 < workers }
     requires most { workers ≤ 64 }
     ensures served { MatchResult result
-        (λ lacked. Staffs D.faults N.Door.Link.traffic N.Door.Link.marks N.Door.Link.faults N.Door.given_back N.Door.faults lacked
+        (λ lacked. Staffs D.faults D.state D.moment D.left_since N.Door.Link.traffic N.Door.Link.marks N.Door.Link.faults N.Door.given_back N.Door.faults lacked
         keeper.old keeper.new (N.faults net.old) (N.faults net.new) (N.closed net.old) (N.closed net.new))
         (λ ending. EndsUnopened ending (N.faults net.old) (N.faults net.new)) }
     ensures kept { OnErr result (keeper.new ≡ keeper.old) }
@@ -91,7 +91,7 @@ where
     <<N::Door as Door>::Link as Link>::End: Send,
     requires published { publisher.old ≡ keeper.old.desk ∷ [] }
     ensures served { MatchResult result
-        (λ lacked. Staffs D.faults N.Door.Link.traffic N.Door.Link.marks N.Door.Link.faults N.Door.given_back N.Door.faults lacked
+        (λ lacked. Staffs D.faults D.state D.moment D.left_since N.Door.Link.traffic N.Door.Link.marks N.Door.Link.faults N.Door.given_back N.Door.faults lacked
         keeper.old keeper.new (N.faults net.old) (N.faults net.new) (N.closed net.old) (N.closed net.new))
         (λ ending. EndsUnopened ending (N.faults net.old) (N.faults net.new)) }
     ensures kept { OnErr result (keeper.new ≡ keeper.old) }
@@ -125,7 +125,7 @@ where
     <<N::Door as Door>::Link as Link>::End: Send,
     requires published { publisher.old ≡ keeper.old.desk ∷ [] }
     ensures served { MatchResult result
-        (λ lacked. Staffs D.faults N.Door.Link.traffic N.Door.Link.marks N.Door.Link.faults N.Door.given_back N.Door.faults lacked
+        (λ lacked. Staffs D.faults D.state D.moment D.left_since N.Door.Link.traffic N.Door.Link.marks N.Door.Link.faults N.Door.given_back N.Door.faults lacked
         keeper.old keeper.new (N.faults net.old) (N.faults net.new) (N.closed net.old) (N.closed net.new))
         (λ ending. EndsUnopened ending (N.faults net.old) (N.faults net.new)) }
     ensures kept { OnErr result (keeper.new ≡ keeper.old) }
@@ -173,7 +173,7 @@ where
     E::Link: Send,
     <E::Link as Link>::End: Send,
     requires { last_commit 0 publisher.old ≤ keeper.old.desk.commit }
-    ensures { Officiates D.faults E.Link.traffic E.Link.marks E.Link.faults E.given_back E.faults N.faults N.closed result
+    ensures { Officiates D.faults D.state D.moment D.left_since E.Link.traffic E.Link.marks E.Link.faults E.given_back E.faults N.faults N.closed result
         keeper.old keeper.new publisher.old publisher.new door.old door.new net.old net.new }
 {
     let roll = Mutex::new(roll);

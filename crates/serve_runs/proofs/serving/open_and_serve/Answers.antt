@@ -13,14 +13,14 @@ returns-clause-served g c =
     let works_so = subst (λ (published : List DeskState). Works
     (VisitsOffice g.N.Door.Link.Link.traffic g.N.Door.Link.Link.marks g.N.Door.Link.Link.faults) EndsOffice
     g.N.Door.Link.Link.marks g.N.Door.Link.Link.faults c.serve-end.result
-    (office_of g.D.Disk.faults c.args.keeper.now published) (office_of g.D.Disk.faults c.serve-end.new.keeper c.serve-end.new.publisher)
+    (office_of g.D.Disk.faults c.args.keeper.now published []) (office_of g.D.Disk.faults c.serve-end.new.keeper c.serve-end.new.publisher c.serve-end.ensures.frames)
     (g.N.Door.Door.given_back c.in-Ok.door) (g.N.Door.Door.given_back c.serve-end.new.door)
     (g.N.Door.Door.faults c.in-Ok.door) (g.N.Door.Door.faults c.serve-end.new.door))
     c.requires.published c.serve-end.ensures.works in
     let works = subst (λ (count : ℕ). Works
     (VisitsOffice g.N.Door.Link.Link.traffic g.N.Door.Link.Link.marks g.N.Door.Link.Link.faults) EndsOffice
     g.N.Door.Link.Link.marks g.N.Door.Link.Link.faults c.serve-end.result
-    (office_of g.D.Disk.faults c.args.keeper.now (c.args.keeper.now.desk ∷ [])) (office_of g.D.Disk.faults c.serve-end.new.keeper c.serve-end.new.publisher)
+    (office_of g.D.Disk.faults c.args.keeper.now (c.args.keeper.now.desk ∷ []) []) (office_of g.D.Disk.faults c.serve-end.new.keeper c.serve-end.new.publisher c.serve-end.ensures.frames)
     (g.N.Door.Door.given_back c.in-Ok.door) (g.N.Door.Door.given_back c.serve-end.new.door)
     count (g.N.Door.Door.faults c.serve-end.new.door))
     c.in-Ok.ensures.fresh works_so in
@@ -34,7 +34,9 @@ returns-clause-served g c =
       door = c.serve-end.new.door;
       others = others;
       unused = c.in-Ok.ensures.unused;
+      frames = c.serve-end.ensures.frames;
       works = works;
+      runs = c.serve-end.ensures.runs;
       doors = closes_then (g.N.Net.closed c.args.net.now) (g.N.Net.closed c.close-2.new.self) (g.N.Net.closed c.close_doors-2.new.net)
           (c.serve-end.new.door ∷ []) others
           (subst (λ (told : Option (List g.row.N-Door.Denot)). AppendsTold told c.serve-end.new.door (g.N.Net.closed c.close-2.new.self))
