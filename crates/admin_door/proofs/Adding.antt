@@ -15,7 +15,6 @@ use Rattle.admin_door.specs.Settling.{IsFound, Settles, Unsettles}
 use Rattle.admin_door.specs.Answering.{Commits, LacksMemory, Obeys, IsUnanswered, AnswersQuestion, AnswersBy, RefusesBy}
 use Rattle.admin_door.specs.Adding.{Adds, AddsAtMost, AddsSome, IsAcknowledged}
 use Rattle.admin_door.specs.Serving.{AdminTalk, Exchange, AreAnswered, EndsAnswering, Serves}
-use Rattle.wire_messages.specs.declared.messages.Framed.{Framed}
 use Rattle.admin_door.specs.declared.settling.Unsettled.{Unsettled}
 use Rattle.admin_door.specs.declared.settling.Unsettled.TheVariants as why
 use Rattle.admin_door.proofs.Showing.{last-behind}
@@ -178,7 +177,7 @@ refuses-two told None old now is = at-most 0 2 old now (omega arith) (still old 
 
 -- ---- an acknowledged command
 
-done-of : (commit erased other count : ℕ) (replies : List Message) → replies ≡ Done commit erased ∷ [] → replies ≡ Done other count ∷ []
+pub done-of : (commit erased other count : ℕ) (replies : List Message) → replies ≡ Done commit erased ∷ [] → replies ≡ Done other count ∷ []
     → commit ≡ other
 done-of commit erased other count replies one two = let same = sym one ∙ two in cc
 
@@ -228,16 +227,17 @@ answered-some start (exchange ∷ more) now (between, one, others) =
     (answers-two exchange.told (command_of exchange.framed.message) exchange.framed.message start between exchange.replies one))
     (answered-some between more now others)
 
-ending-some : (ended : Ended) (between now : AdminSide) (frames : List Framed) (bytes : List ℕ)
-    → EndsAnswering ended between now frames bytes → AddsSome between now
-ending-some ended between now frames bytes (inl (no_frame, no_byte, is)) = some-of 0 between now (still between now is)
-ending-some ended between now frames bytes (inr (inl (framed, told, frame, byte, refuses))) =
-    some-of 2 between now (refuses-two told (command_of framed.message) between now refuses.1)
-ending-some ended between now frames bytes (inr (inr (exchange, sent, frame, byte, answered, broken))) =
+ending-some : (ended : Ended) (between now : AdminSide) (last : List Exchange) (bytes : List ℕ)
+    → EndsAnswering ended between now last bytes → AddsSome between now
+ending-some ended between now last bytes (inl (no_frame, no_byte, is)) = some-of 0 between now (still between now is)
+ending-some ended between now last bytes (inr (inl (exchange, frame, byte, reply, refuses))) =
+    some-of 2 between now (refuses-two exchange.told (command_of exchange.framed.message) between now refuses.1)
+ending-some ended between now last bytes (inr (inr (exchange, sent, frame, byte, answered, broken))) =
     some-of 2 between now
     (answers-two exchange.told (command_of exchange.framed.message) exchange.framed.message between now exchange.replies answered)
 
-pub serves-some : (start now : AdminTalk) (ended : Ended) → Serves start now ended → AddsSome start.side now.side
-serves-some start now ended serves =
+pub serves-some : (start now : AdminTalk) (ended : Ended) (Keeps : List Exchange → Type 0) → Serves start now ended Keeps
+    → AddsSome start.side now.side
+serves-some start now ended Keeps serves =
     some-then start.side serves.between now.side (answered-some start.side serves.answered serves.between serves.in_turn)
-    (ending-some ended serves.between now.side serves.last_frames serves.last_bytes serves.ending)
+    (ending-some ended serves.between now.side serves.last serves.last_bytes serves.ending)

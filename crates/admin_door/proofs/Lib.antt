@@ -3,5 +3,11 @@ pub mod Showing
 pub mod Answering
 pub mod Adding
 pub mod Stopping
+pub mod Running
+pub mod Behind
+pub mod Framing
 pub mod Sending
 pub mod Serving
+pub mod Complete
+pub mod Lasting
+pub mod Damage

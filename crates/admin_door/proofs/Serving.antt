@@ -7,6 +7,7 @@ use Rattle.link_ports.specs.Traffic.{Traffic}
 use Rattle.link_ports.specs.LinkMarks.{LinkMarks}
 use Rattle.wire_messages.specs.Stream.{Feeding, Hears, BeginsWrong, IsOpen, unfed}
 use Rattle.wire_messages.specs.declared.messages.Framed.{Framed}
+use Rattle.wire_messages.specs.declared.messages.Message.{Message}
 use Rattle.wire_messages.specs.declared.messages.Message.TheVariants.{Stop}
 use Rattle.wire_messages.specs.declared.operations.Heard.{Heard}
 use Rattle.wire_messages.specs.declared.operations.Heard.TheVariants.{AtAdmin}
@@ -18,7 +19,8 @@ use Rattle.door_frames.specs.declared.endings.Ended.TheVariants.{Closed, Cut, Hu
 use Rattle.door_frames.proofs.Carrying.{carried_more, carried_same}
 use Rattle.door_frames.proofs.Hearing.{unfed_heard}
 use Rattle.admin_door.specs.Side.{AdminSide}
-use Rattle.admin_door.specs.Serving.{AdminTalk, talk_of, Exchange, exchange_bytes, exchanges_bytes, frames_of, replies_bytes, IsAnswered, AreAnswered, IsNoStop, AreNoStops, StopsAt, IsUnsent, Serves}
+use Rattle.admin_door.specs.Answering.{Answers, Refuses}
+use Rattle.admin_door.specs.Serving.{AdminTalk, talk_of, Exchange, exchange_of, exchange_bytes, exchanges_bytes, frames_of, replies_bytes, IsAnswered, AreAnswered, IsNoStop, AreNoStops, StopsAt, IsUnsent, Serves}
 use Rattle.admin_door.specs.parts.Talk.{Stands, IsWhole, IsUnheeded, IsHalfSent, EndsAt}
 
 -- ---- lists of frames
@@ -62,8 +64,8 @@ carried-heard : (received bytes sent : List ℕ) (start old now : Option Traffic
 carried-heard received bytes sent start old now before hears = carried_more received bytes sent [] start old now before hears
 
 -- before the first byte
-pub stands-first : (start : AdminTalk) → Stands start start (unfed AtAdmin)
-stands-first start = record {
+pub stands-first : (start : AdminTalk) (Keeps : List Exchange → Type 0) → Keeps [] → Stands start start (unfed AtAdmin) Keeps
+stands-first start Keeps keeps = record {
   received = [];
   answered = [];
   in_turn = refl;
@@ -72,21 +74,33 @@ stands-first start = record {
   carried = carried_same start.traffic;
   faults = refl;
   ends = refl;
+  keeps = keeps;
 }
 
 -- ---- one frame more
 
 module _ (start old : AdminTalk) (feeder fed : Feeding) (bytes : List ℕ) (framed : Framed) (told : Option DiskState)
-    (traffic : Option Traffic) (marks : LinkMarks) (faults : ℕ) (now : AdminTalk)
-    (s : Stands start old feeder) (hears : Carried old.traffic traffic bytes []) (hands : HandsOut bytes framed feeder fed)
+    (traffic : Option Traffic) (marks : LinkMarks) (faults : ℕ) (now : AdminTalk) (Was Is : List Exchange → Type 0)
+    (s : Stands start old feeder Was) (hears : Carried old.traffic traffic bytes []) (hands : HandsOut bytes framed feeder fed)
     (same_faults : faults ≡ old.faults) (same_ends : marks.ends ≡ old.marks.ends) where
   abbrev between : AdminTalk
   between = talk_of old.side traffic marks faults
 
+  abbrev pub asked : List Message → Exchange
+  asked replies = exchange_of framed told replies
+
+  -- what was said of the frames before is said of this one with them, where it is answered, and where it is not
+  abbrev pub AnsweredMore : Type 0
+  AnsweredMore = (replies : List Message) → Answers told framed.message old.side now.side replies
+      → (list : List Exchange) → Was list → Is (list ++ asked replies ∷ [])
+
+  abbrev pub RefusedMore : Ended → Type 0
+  RefusedMore ended = Refuses told framed.message old.side now.side ended → (list : List Exchange) → Was list → Is (list ++ asked [] ∷ [])
+
   -- it is answered, and the talk goes on
-  pub stands-more : IsNoStop framed.message → IsWhole told framed between now → Stands start now fed
-  stands-more no_stop whole =
-      let exchange : Exchange = record { framed = framed; told = told; replies = whole.replies } in
+  pub stands-more : IsNoStop framed.message → IsWhole told framed between now → AnsweredMore → Stands start now fed Is
+  stands-more no_stop whole more =
+      let exchange : Exchange = asked whole.replies in
       record {
         received = s.received ++ bytes;
         answered = s.answered ++ exchange ∷ [];
@@ -99,6 +113,7 @@ module _ (start old : AdminTalk) (feeder fed : Feeding) (bytes : List ℕ) (fram
             now.traffic s.carried hears whole.sends.carried);
         faults = whole.faults ∙ (same_faults ∙ s.faults);
         ends = ap (λ (m : LinkMarks). m.ends) whole.sends.marks ∙ (same_ends ∙ s.ends);
+        keeps = more whole.replies whole.answers s.answered s.keeps;
       }
 
   module _ (at_admin : fed.heard ≡ AtAdmin) where
@@ -112,17 +127,18 @@ module _ (start old : AdminTalk) (feeder fed : Feeding) (bytes : List ℕ) (fram
         )
 
     -- it has no answer
-    ends-unheeded : (ended : Ended) → IsUnheeded told framed between now ended → ended ≡ Memory → Serves start now ended
-    ends-unheeded ended unheeded is =
+    ends-unheeded : (ended : Ended) → IsUnheeded told framed between now ended → ended ≡ Memory → RefusedMore ended
+        → Serves start now ended Is
+    ends-unheeded ended unheeded is more =
         let heard = hears-framed in
         record {
           received = s.received ++ bytes;
           answered = s.answered;
           between = old.side;
-          last_frames = framed ∷ [];
+          last = asked [] ∷ [];
           last_bytes = [];
           in_turn = s.in_turn;
-          ending = inr (inl (framed, told, refl, refl, unheeded.refuses));
+          ending = inr (inl (asked [], refl, refl, refl, unheeded.refuses));
           stopping = subst (λ (e : Ended). StopsAt e s.answered) (sym is) s.no_stops;
           bytes = subst (λ (e : Ended). EndsBytes AtAdmin (s.received ++ bytes) (frames_of s.answered ++ framed ∷ []) e) (sym is)
               (fed.waiting, heard.0, heard.1);
@@ -131,19 +147,20 @@ module _ (start old : AdminTalk) (feeder fed : Feeding) (bytes : List ℕ) (fram
           faults = unheeded.faults ∙ (same_faults ∙ (s.faults ∙ ap (λ (e : Ended). faults_after e start.faults) (sym is)));
           at_end = subst (λ (e : Ended). IsAtEnd e now.marks) (sym is) tt;
           ends = ap (λ (m : LinkMarks). m.ends) unheeded.sends.marks ∙ (same_ends ∙ s.ends);
+          keeps = more unheeded.refuses s.answered s.keeps;
         }
 
     -- its answer is not sent whole
     half-sent : (ended : Ended) (half : IsHalfSent told framed between now ended) → IsUnsent ended → StopsAt ended s.answered
         → EndsBytes AtAdmin (s.received ++ bytes) (frames_of s.answered ++ framed ∷ []) ended
-        → now.faults ≡ faults_after ended faults → IsAtEnd ended now.marks → Serves start now ended
-    half-sent ended half unsent stopping heard counted at_end =
-        let exchange : Exchange = record { framed = framed; told = told; replies = half.replies } in
+        → now.faults ≡ faults_after ended faults → IsAtEnd ended now.marks → AnsweredMore → Serves start now ended Is
+    half-sent ended half unsent stopping heard counted at_end more =
+        let exchange : Exchange = asked half.replies in
         record {
           received = s.received ++ bytes;
           answered = s.answered;
           between = old.side;
-          last_frames = framed ∷ [];
+          last = exchange ∷ [];
           last_bytes = replies_bytes framed.sequence half.cut_off.sent;
           in_turn = s.in_turn;
           ending = inr (inr (
@@ -161,22 +178,26 @@ module _ (start old : AdminTalk) (feeder fed : Feeding) (bytes : List ℕ) (fram
           faults = counted ∙ ap (faults_after ended) (same_faults ∙ s.faults);
           at_end = at_end;
           ends = ap (λ (m : LinkMarks). m.ends) half.marks ∙ (same_ends ∙ s.ends);
+          keeps = more half.replies half.answers s.answered s.keeps;
         }
 
-    ends-half : (ended : Ended) → IsHalfSent told framed between now ended → Serves start now ended
-    ends-half Memory half = half-sent Memory half tt s.no_stops (fed.waiting, hears-framed.0, hears-framed.1) half.cut_off.faults tt
-    ends-half LinkFault half = half-sent LinkFault half tt s.no_stops (fed.waiting, hears-framed.0, hears-framed.1) half.cut_off.faults tt
-    ends-half Closed half = absurd half.cut_off.faults
-    ends-half (Cut count) half = absurd half.cut_off.faults
-    ends-half (Hung entered later) half = absurd half.cut_off.faults
-    ends-half (BadFrame refusal) half = absurd half.cut_off.faults
-    ends-half Stopped half = absurd half.cut_off.faults
-    ends-half (Strayed number found) half = absurd half.cut_off.faults
+    ends-half : (ended : Ended) → IsHalfSent told framed between now ended → AnsweredMore → Serves start now ended Is
+    ends-half Memory half more =
+        half-sent Memory half tt s.no_stops (fed.waiting, hears-framed.0, hears-framed.1) half.cut_off.faults tt more
+    ends-half LinkFault half more =
+        half-sent LinkFault half tt s.no_stops (fed.waiting, hears-framed.0, hears-framed.1) half.cut_off.faults tt more
+    ends-half Closed half more = absurd half.cut_off.faults
+    ends-half (Cut count) half more = absurd half.cut_off.faults
+    ends-half (Hung entered later) half more = absurd half.cut_off.faults
+    ends-half (BadFrame refusal) half more = absurd half.cut_off.faults
+    ends-half Stopped half more = absurd half.cut_off.faults
+    ends-half (Strayed number found) half more = absurd half.cut_off.faults
 
     -- it is a stop
-    ends-stopped : (ended : Ended) → IsWhole told framed between now → framed.message ≡ Stop → ended ≡ Stopped → Serves start now ended
-    ends-stopped ended whole stop is =
-        let exchange : Exchange = record { framed = framed; told = told; replies = whole.replies } in
+    ends-stopped : (ended : Ended) → IsWhole told framed between now → framed.message ≡ Stop → ended ≡ Stopped → AnsweredMore
+        → Serves start now ended Is
+    ends-stopped ended whole stop is more =
+        let exchange : Exchange = asked whole.replies in
         let heard = hears-framed in
         let frames : (frames_of s.answered ++ framed ∷ []) ++ fed.waiting ≡ (frames_of (s.answered ++ exchange ∷ []) ++ []) ++ fed.waiting =
         ap (λ list. list ++ fed.waiting) (frames-more s.answered exchange ∙ sym (append-nil (frames_of (s.answered ++ exchange ∷ [])))) in
@@ -184,7 +205,7 @@ module _ (start old : AdminTalk) (feeder fed : Feeding) (bytes : List ℕ) (fram
           received = s.received ++ bytes;
           answered = s.answered ++ exchange ∷ [];
           between = now.side;
-          last_frames = [];
+          last = [];
           last_bytes = [];
           in_turn = answered-more start.side s.answered old.side exchange now.side s.in_turn whole.answers;
           ending = inl (refl, refl, refl);
@@ -201,17 +222,18 @@ module _ (start old : AdminTalk) (feeder fed : Feeding) (bytes : List ℕ) (fram
           faults = whole.faults ∙ (same_faults ∙ (s.faults ∙ ap (λ (e : Ended). faults_after e start.faults) (sym is)));
           at_end = subst (λ (e : Ended). IsAtEnd e now.marks) (sym is) tt;
           ends = ap (λ (m : LinkMarks). m.ends) whole.sends.marks ∙ (same_ends ∙ s.ends);
+          keeps = subst Is (sym (append-nil (s.answered ++ exchange ∷ []))) (more whole.replies whole.answers s.answered s.keeps);
         }
 
-    pub ends-at : (ended : Ended) → EndsAt told framed between now ended → Serves start now ended
-    ends-at ended (inl unheeded) = ends-unheeded ended unheeded unheeded.refuses.0
-    ends-at ended (inr (inl half)) = ends-half ended half
-    ends-at ended (inr (inr (whole, stop, is))) = ends-stopped ended whole stop is
+    pub ends-at : (ended : Ended) → EndsAt told framed between now ended → AnsweredMore → RefusedMore ended → Serves start now ended Is
+    ends-at ended (inl unheeded) answered refused = ends-unheeded ended unheeded unheeded.refuses.0 refused
+    ends-at ended (inr (inl half)) answered refused = ends-half ended half answered
+    ends-at ended (inr (inr (whole, stop, is))) answered refused = ends-stopped ended whole stop is answered
 
 -- ---- no frame more
 
 module _ (start old : AdminTalk) (feeder fed : Feeding) (bytes : List ℕ) (traffic : Option Traffic) (marks : LinkMarks) (faults : ℕ)
-    (s : Stands start old feeder) (hears : Carried old.traffic traffic bytes []) (more : HearsMore bytes feeder fed)
+    (Keeps : List Exchange → Type 0) (s : Stands start old feeder Keeps) (hears : Carried old.traffic traffic bytes []) (more : HearsMore bytes feeder fed)
     (at_admin : fed.heard ≡ AtAdmin) (none : fed.waiting ≡ []) (same_ends : marks.ends ≡ old.marks.ends) where
   abbrev behind : List ℕ
   behind = (more s.received (frames_of s.answered) s.heard).behind
@@ -230,12 +252,12 @@ module _ (start old : AdminTalk) (feeder fed : Feeding) (bytes : List ℕ) (traf
   )
 
   read-to : (ended : Ended) → StopsAt ended s.answered → EndsBytes AtAdmin (s.received ++ bytes) (frames_of s.answered ++ []) ended
-      → faults ≡ faults_after ended old.faults → IsAtEnd ended marks → Serves start (talk_of old.side traffic marks faults) ended
+      → faults ≡ faults_after ended old.faults → IsAtEnd ended marks → Serves start (talk_of old.side traffic marks faults) ended Keeps
   read-to ended stopping heard counted at_end = record {
     received = s.received ++ bytes;
     answered = s.answered;
     between = old.side;
-    last_frames = [];
+    last = [];
     last_bytes = [];
     in_turn = s.in_turn;
     ending = inl (refl, refl, refl);
@@ -245,10 +267,11 @@ module _ (start old : AdminTalk) (feeder fed : Feeding) (bytes : List ℕ) (traf
     faults = counted ∙ ap (faults_after ended) s.faults;
     at_end = at_end;
     ends = same_ends ∙ s.ends;
+    keeps = subst Keeps (sym (append-nil s.answered)) s.keeps;
   }
 
   pub ends-reading : (ended : Ended) → EndsReading ended fed marks old.faults faults
-      → Serves start (talk_of old.side traffic marks faults) ended
+      → Serves start (talk_of old.side traffic marks faults) ended Keeps
   ends-reading Closed (sound, empty, mark, still) =
       let at = (more s.received (frames_of s.answered) s.heard).sound sound in
       read-to Closed s.no_stops (subst (λ rest. Hears AtAdmin (s.received ++ bytes) (frames_of s.answered ++ []) rest) (at.0 ∙ empty) hears-all)

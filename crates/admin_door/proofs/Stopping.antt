@@ -1,7 +1,7 @@
 -- What stops leave, put together from what each part of a command leaves.
-use Rattle.std.proofs.Common.{◌≡◌, ◌∙◌, inl, inr, ⊎_elim, ℕ, List, [], ◌∷◌, ◌++◌, Option, Some, None, Result, Ok, ◌≤◌, refl, sym, ap, subst}
+use Rattle.std.proofs.Common.{◌≡◌, ◌∙◌, inl, inr, ⊎_elim, ℕ, List, Option, Some, None, Ok, refl, sym, ap}
 use Rattle.desk_ports.specs.FileMap.{FileMap}
-use Rattle.desk_ports.specs.Disk.{DiskState, MayLeave, WhereTold, IsTouchedOnly}
+use Rattle.desk_ports.specs.Disk.{DiskState, MayLeave, IsTouchedOnly}
 use Rattle.desk_ports.specs.Moments.{LeavesOnly}
 use Rattle.desk_ports.specs.declared.file_sets.SetFile.{SetFile}
 use Rattle.desk_ports.proofs.Moments.{AddsOnly-none, LeavesOnly-from, LeavesOnly-then, LeavesOnly-more}
@@ -11,13 +11,7 @@ use Rattle.desk_state.specs.Rules.{fault}
 use Rattle.desk_state.specs.declared.commands.Command.{Command}
 use Rattle.desk_keeper.specs.Kept.{kept}
 use Rattle.desk_keeper.specs.Keeping.{IsKept, StandsAsAllowed, IsBeforeOrAfter}
-use Rattle.desk_state.specs.History.{Follows, IsChain, latest_of}
-use Rattle.set_text.specs.Fault.{Fault}
-use Rattle.desk_keeper.specs.Keeper.{disk_of, held_of}
-use Rattle.desk_keeper.specs.declared.keeper.Keeper.{Keeper}
-use Rattle.admin_door.specs.Side.{decided_of}
-use Rattle.admin_door.specs.Stops.{StandsAsAt, Allows, IsApplied, IsBeforeOrApplied, StandsBy, StandsAlong, KeepsKnown, RunsOver}
-use Rattle.admin_door.specs.parts.Step.{StepsOver}
+use Rattle.admin_door.specs.Stops.{StandsAsAt, Allows, IsBeforeOrApplied, StandsBy}
 
 -- what is durable at a state that keeps a policy state stands for it
 pub allows-kept : (before : DiskState) (desk : DeskState) (held : Option (List SetFile)) → IsKept desk held before → Allows before desk
@@ -83,86 +77,6 @@ module _ {D : Type 0} (moment : D → ℕ) (left_since : D → ℕ → FileMap �
       (LeavesOnly-more moment left_since mid new (IsBeforeOrApplied desk command) (StandsBy (Some command) before)
       (applied-allowed before desk command allowed) then)
 
--- ---- commands in a row
-
-chain-more : (desk : DeskState) (later : List DeskState) (after : DeskState) → IsChain desk later → Follows (latest_of desk later) after
-    → IsChain desk (later ++ after ∷ [])
-chain-more desk [] after chain follows = (follows, tt)
-chain-more desk (next ∷ later) after (first, rest) follows = (first, chain-more next later after rest follows)
-
-latest-more : (desk : DeskState) (later : List DeskState) (after : DeskState) → latest_of desk (later ++ after ∷ []) ≡ after
-latest-more desk [] after = refl
-latest-more desk (next ∷ later) after = latest-more next later after
-
-same-desk : (found : Result DeskState Fault) (one other : DeskState) → found ≡ Ok one → found ≡ Ok other → one ≡ other
-same-desk found one other first second = let same = sym first ∙ second in cc
-
-same-state : (told : Option DiskState) (one other : DiskState) → told ≡ Some one → told ≡ Some other → one ≡ other
+-- what a disk tells is one state
+pub same-state : (told : Option DiskState) (one other : DiskState) → told ≡ Some one → told ≡ Some other → one ≡ other
 same-state told one other first second = let same = sym first ∙ second in cc
-
-alike-along : (before : DiskState) (left other : FileMap) → kept left ≡ kept other → StandsAlong before other → StandsAlong before left
-alike-along before left other same (inl (near, may, is)) = inl (near, may, same ∙ is)
-alike-along before left other same (inr (desk, later, allows, chain, is)) = inr (desk, later, allows, chain, same ∙ is)
-
-next-along : (before : DiskState) (left other : FileMap) (desk : DeskState) (command : Command) → kept other ≡ Ok desk
-    → IsApplied desk command left → StandsAlong before other → StandsAlong before left
-next-along before left other desk command stands (accepted, is) (inl (near, may, same)) =
-    inr (
-      desk,
-      next desk command ∷ [],
-      (near, may, sym same ∙ stands),
-      (record { command = command; accepted = accepted; next = refl }, tt),
-      is,
-    )
-next-along before left other desk command stands (accepted, is) (inr (first, later, allows, chain, ends)) =
-    let last : latest_of first later ≡ desk = same-desk (kept other) (latest_of first later) desk ends stands in
-    let follows : Follows desk (next desk command) = record { command = command; accepted = accepted; next = refl } in
-    inr (
-      first,
-      later ++ next desk command ∷ [],
-      allows,
-      chain-more first later (next desk command) chain (subst (λ (d : DeskState). Follows d (next desk command)) (sym last) follows),
-      is ∙ ap Ok (sym (latest-more first later (next desk command))),
-    )
-
-along : (before mid : DiskState) (found : Option Command) → ((other : FileMap) → MayLeave mid other → StandsAlong before other)
-    → (left : FileMap) → StandsBy found mid left → StandsAlong before left
-along before mid found all left (inl (other, may, same)) = alike-along before left other same (all other may)
-along before mid (Some command) all left (inr (desk, (other, may, stands), applied)) =
-    next-along before left other desk command stands applied (all other may)
-along before mid None all left (inr none) = absurd none
-
-module _ {D : Type 0} (state : D → Option DiskState) (moment : D → ℕ) (left_since : D → ℕ → FileMap → Type 0) where
-  -- before the first frame
-  pub runs-first : (keeper : Keeper D)
-      → ((left : FileMap) → WhereTold (state (disk_of keeper))
-      (λ now. left_since (disk_of keeper) (moment (disk_of keeper)) left → MayLeave now left))
-      → RunsOver state moment left_since keeper keeper
-  runs-first keeper only_now tells before told known = (
-    LeavesOnly-more moment left_since (disk_of keeper) (disk_of keeper) (StandsAsAt before) (StandsAlong before) (λ left is. inl is)
-        (rests-as moment left_since (disk_of keeper) before (λ left was. only_now left before told was)),
-    λ decided. (before, told, known decided),
-  )
-
-  -- one frame more
-  pub runs-then : (start mid now : Keeper D)
-      → ((t : ℕ) (left : FileMap) → t ≤ moment (disk_of mid)
-      → WhereTold (state (disk_of mid)) (λ now. MayLeave now left → left_since (disk_of mid) t left))
-      → RunsOver state moment left_since start mid → StepsOver state moment left_since mid now
-      → RunsOver state moment left_since start now
-  runs-then start mid now counts_now runs steps tells before told known =
-      let so_far = runs tells before told known in
-      let between = tells (disk_of mid) in
-      let known_mid : KeepsKnown (decided_of mid) mid.desk (held_of mid) between.0 = λ decided.
-      let rests = so_far.1 decided in
-      subst (λ (at : DiskState). IsKept mid.desk (held_of mid) at) (same-state (state (disk_of mid)) rests.0 between.0 rests.1 between.1)
-      rests.2 in
-      let step = steps between.0 between.1 known_mid in
-      let one = step.0 in (
-        LeavesOnly-then moment left_since (disk_of start) (disk_of mid) (disk_of now) (StandsAlong before) so_far.0
-            (LeavesOnly-more moment left_since (disk_of mid) (disk_of now) (StandsBy one.0 between.0) (StandsAlong before)
-            (along before between.0 one.0
-            (λ other may. so_far.0.each other (counts_now (moment (disk_of start)) other so_far.0.adds.later between.0 between.1 may)))
-            one.1),
-        step.1,
-      )

@@ -5,4 +5,6 @@ pub mod Answering
 pub mod Adding
 pub mod Stops
 pub mod Serving
+pub mod Running
+pub mod Complete
 pub mod parts

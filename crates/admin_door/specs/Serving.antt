@@ -24,6 +24,9 @@ pub record Exchange : Type 0 where
   pub told : Option DiskState
   pub replies : List Message
 
+abbrev pub exchange_of : Framed → Option DiskState → List Message → Exchange
+exchange_of framed told replies = record { framed = framed; told = told; replies = replies }
+
 -- the bytes of replies: each a frame with the sequence number of the one that asked
 abbrev pub replies_bytes : ℕ → List Message → List ℕ
 replies_bytes sequence replies = flat_map (λ reply. spelling (with_sequence sequence reply)) replies
@@ -81,12 +84,12 @@ pub record IsBrokenOff (ended : Ended) (exchange : Exchange) (sent : List Messag
 
 -- What came behind the frames whose replies were all sent, and which bytes were sent for it: nothing; a frame that had no
 -- answer; or a frame whose answer was not sent whole.
-abbrev pub EndsAnswering : Ended → AdminSide → AdminSide → List Framed → List ℕ → Type 0
-EndsAnswering ended between now frames bytes =
-    ((frames ≡ []) × (bytes ≡ []) × (now ≡ between))
-    ⊎ (((framed : Framed) × (told : Option DiskState) × (frames ≡ framed ∷ []) × (bytes ≡ [])
-    × Refuses told framed.message between now ended)
-    ⊎ ((exchange : Exchange) × (sent : List Message) × (frames ≡ exchange.framed ∷ [])
+abbrev pub EndsAnswering : Ended → AdminSide → AdminSide → List Exchange → List ℕ → Type 0
+EndsAnswering ended between now last bytes =
+    ((last ≡ []) × (bytes ≡ []) × (now ≡ between))
+    ⊎ (((exchange : Exchange) × (last ≡ exchange ∷ []) × (bytes ≡ []) × (exchange.replies ≡ [])
+    × Refuses exchange.told exchange.framed.message between now ended)
+    ⊎ ((exchange : Exchange) × (sent : List Message) × (last ≡ exchange ∷ [])
     × (bytes ≡ replies_bytes exchange.framed.sequence sent) × IsAnswered exchange between now × IsBrokenOff ended exchange sent))
 
 -- ---- a whole connection
@@ -101,18 +104,20 @@ pub record AdminTalk : Type 0 where
 abbrev pub talk_of : AdminSide → Option Traffic → LinkMarks → ℕ → AdminTalk
 talk_of side traffic marks faults = record { side = side; traffic = traffic; marks = marks; faults = faults }
 
--- The frames received were answered in turn, with the replies in order, up to how it ended.
-pub record Serves (start now : AdminTalk) (ended : Ended) : Type 0 where
+-- The frames received were answered in turn, with the replies in order, up to how it ended. What these frames, the last one
+-- with them, left elsewhere is as `Keeps` says.
+pub record Serves (start now : AdminTalk) (ended : Ended) (Keeps : List Exchange → Type 0) : Type 0 where
   pub received : List ℕ
   pub answered : List Exchange
   pub between : AdminSide
-  pub last_frames : List Framed
+  pub last : List Exchange
   pub last_bytes : List ℕ
   pub in_turn : AreAnswered start.side answered between
-  pub ending : EndsAnswering ended between now.side last_frames last_bytes
+  pub ending : EndsAnswering ended between now.side last last_bytes
   pub stopping : StopsAt ended answered
-  pub bytes : EndsBytes AtAdmin received (frames_of answered ++ last_frames) ended
+  pub bytes : EndsBytes AtAdmin received (frames_of answered ++ frames_of last) ended
   pub carried : Carried start.traffic now.traffic received (exchanges_bytes answered ++ last_bytes)
   pub faults : now.faults ≡ faults_after ended start.faults
   pub at_end : IsAtEnd ended now.marks
   pub ends : now.marks.ends ≡ start.marks.ends
+  pub keeps : Keeps (answered ++ last)

@@ -1,19 +1,14 @@
 -- What a stop during the answering of a message may leave in the folder.
-use Rattle.std.specs.Prelude.{◌≡◌, ◌⊎◌, ℕ, true, Bool, List, Option, Some, None, Ok}
+use Rattle.std.specs.Prelude.{◌≡◌, ◌⊎◌, true, Bool, List, Option, Some, None, Ok}
 use Rattle.desk_ports.specs.FileMap.{FileMap}
-use Rattle.desk_ports.specs.Disk.{DiskState, MayLeave, WhereTold}
-use Rattle.desk_ports.specs.Moments.{LeavesOnly}
+use Rattle.desk_ports.specs.Disk.{DiskState, MayLeave}
 use Rattle.desk_ports.specs.declared.file_sets.SetFile.{SetFile}
 use Rattle.desk_state.specs.DeskState.{DeskState}
 use Rattle.desk_state.specs.Next.{next}
 use Rattle.desk_state.specs.Rules.{fault}
-use Rattle.desk_state.specs.History.{IsChain, latest_of}
 use Rattle.desk_state.specs.declared.commands.Command.{Command}
 use Rattle.desk_keeper.specs.Kept.{kept}
-use Rattle.desk_keeper.specs.Keeping.{IsKept, EndsKept}
-use Rattle.desk_keeper.specs.Keeper.{disk_of, held_of}
-use Rattle.desk_keeper.specs.declared.keeper.Keeper.{Keeper}
-use Rattle.admin_door.specs.Side.{decided_of}
+use Rattle.desk_keeper.specs.Keeping.{IsKept}
 
 -- where it is known what the folder keeps, it keeps this state
 abbrev pub KeepsKnown : Bool → DeskState → Option (List SetFile) → DiskState → Type 0
@@ -42,24 +37,3 @@ AppliesOne (Some command) before left = (desk : DeskState) × Allows before desk
 -- Such a map stands for what a stop before the message may leave, or for what its command makes of that.
 abbrev pub StandsBy : Option Command → DiskState → FileMap → Type 0
 StandsBy found before left = StandsAsAt before left ⊎ AppliesOne found before left
-
--- ---- a whole connection
-
--- each disk of this kind tells its state
-abbrev pub AlwaysTells : {D : Type 0} → (D → Option DiskState) → Type 0
-AlwaysTells {D} state = (disk : D) → (now : DiskState) × (state disk ≡ Some now)
-
--- The map stands for what a stop at the first disk's state may leave, or for what commands that were accepted in a row make of
--- that.
-abbrev pub StandsAlong : DiskState → FileMap → Type 0
-StandsAlong before left = StandsAsAt before left
-    ⊎ ((desk : DeskState) × (later : List DeskState) × Allows before desk × IsChain desk later
-    × (kept left ≡ Ok (latest_of desk later)))
-
--- What a stop at any moment between two keepers may leave in the folder, and what the folder keeps behind it, over a disk that
--- always tells its state.
-abbrev pub RunsOver : {D : Type 0} → (D → Option DiskState) → (D → ℕ) → (D → ℕ → FileMap → Type 0) → Keeper D → Keeper D → Type 0
-RunsOver state moment left_since start now = AlwaysTells state
-    → WhereTold (state (disk_of start)) (λ before. KeepsKnown (decided_of start) start.desk (held_of start) before
-    → LeavesOnly moment left_since (disk_of start) (disk_of now) (StandsAlong before)
-    × (decided_of now ≡ true → EndsKept now.desk (held_of now) (state (disk_of now))))

@@ -1,4 +1,3 @@
 pub mod Asking
 pub mod Showing
-pub mod Step
 pub mod Talk

@@ -1,6 +1,7 @@
 ghost use Rattle.std.specs.Prelude.{◌≡◌, ◌≤◌, ◌<◌, [], true, false, length, Some, MatchResult, OnOk};
 ghost use Rattle.desk_ports.specs.Disk.{WhereTold};
 ghost use Rattle.desk_ports.specs.Moments.{LeavesOnly};
+ghost use Rattle.guard_files.specs.Telling.{StillTells};
 ghost use Rattle.desk_keeper.specs.Keeper.{disk_of, held_of, IsSameDisk};
 ghost use Rattle.desk_keeper.specs.Keeping.{EndsKept};
 ghost use Rattle.wire_messages.specs.Commands.{command_of};
@@ -13,10 +14,10 @@ ghost use Rattle.wire_messages.specs.declared.messages.Message.TheVariants.{Stop
 ghost use Rattle.door_frames.specs.Carried.{Carried};
 ghost use Rattle.door_frames.specs.Hearing.{IsSound};
 ghost use Rattle.admin_door.specs.Side.{side_of, decided_of};
-ghost use Rattle.admin_door.specs.Stops.{KeepsKnown, StandsBy, RunsOver};
+ghost use Rattle.admin_door.specs.Stops.{KeepsKnown, StandsBy};
+ghost use Rattle.admin_door.specs.Running.{RunsOver};
 ghost use Rattle.admin_door.specs.Adding.{AddsSome};
 ghost use Rattle.admin_door.specs.Serving.{talk_of, Serves, replies_bytes, IsNoStop};
-ghost use Rattle.admin_door.specs.parts.Step.{StepsOver};
 ghost use Rattle.admin_door.specs.parts.Talk.{Goes, Ends, IsWhole, EndsAt, IsCutOff};
 
 use crate::commands::answer_command;
@@ -30,7 +31,9 @@ use std::alloc::Global;
 use std::sync::Wait;
 use wire_messages::{Feeder, Framed, Heard, Message};
 
-/// Serves one connection of an administrator: each message is answered in turn, and `Stop` is the last. It may wait.
+/// Serves one connection of an administrator: each message is answered in turn, and `Stop` is the last. What a stop at any
+/// moment may leave in the folder, and what the folder keeps behind the connection, is told of its frames (`RunsOver`). It may
+/// wait.
 pub fn admin_loop<R: Wait, D: Disk, A: Hall, L: Link>(
     rt: &R,
     alloc: Global,
@@ -44,13 +47,11 @@ pub fn admin_loop<R: Wait, D: Disk, A: Hall, L: Link>(
         (talk_of (side_of D.faults keeper.old publisher.old (A.tally hall.old) (A.calls hall.old))
         (L.traffic link.old) (L.marks link.old) (L.faults link.old))
         (talk_of (side_of D.faults keeper.new publisher.new (A.tally hall.new) (A.calls hall.new))
-        (L.traffic link.new) (L.marks link.new) (L.faults link.new)) result }
+        (L.traffic link.new) (L.marks link.new) (L.faults link.new)) result
+        (RunsOver D.state D.moment D.left_since keeper.old keeper.new) }
     ensures adds { AddsSome
         (side_of D.faults keeper.old publisher.old (A.tally hall.old) (A.calls hall.old))
         (side_of D.faults keeper.new publisher.new (A.tally hall.new) (A.calls hall.new)) }
-
-    // What a stop at any moment of the connection may leave in the folder, and what the folder keeps behind it.
-    ensures stops { RunsOver D.state D.moment D.left_since keeper.old keeper.new }
     ensures behind { last_commit 0 publisher.new ≤ keeper.new.desk.commit }
     ensures same_disk { IsSameDisk keeper.old keeper.new }
 {
@@ -72,8 +73,8 @@ fn serve<R: Wait, D: Disk, A: Hall, L: Link>(
         (talk_of (side_of D.faults keeper.old publisher.old (A.tally hall.old) (A.calls hall.old))
         (L.traffic link.old) (L.marks link.old) (L.faults link.old))
         (talk_of (side_of D.faults keeper.new publisher.new (A.tally hall.new) (A.calls hall.new))
-        (L.traffic link.new) (L.marks link.new) (L.faults link.new)) result }
-    ensures stops { RunsOver D.state D.moment D.left_since keeper.old keeper.new }
+        (L.traffic link.new) (L.marks link.new) (L.faults link.new)) result
+        (RunsOver D.state D.moment D.left_since keeper.old keeper.new) }
     ensures behind { last_commit 0 publisher.new ≤ keeper.new.desk.commit }
     ensures same_disk { IsSameDisk keeper.old keeper.new }
 {
@@ -116,20 +117,19 @@ fn turn<R: Wait, D: Disk, A: Hall, L: Link>(
     requires sound { IsSound feeder.old }
     requires behind { last_commit 0 publisher.old ≤ keeper.old.desk.commit }
     ensures talk { MatchResult result
-        (λ _. Goes
+        (λ _. Goes D.state D.moment D.left_since keeper.old
         (talk_of (side_of D.faults keeper.old publisher.old (A.tally hall.old) (A.calls hall.old))
-        (L.traffic link.old) (L.marks link.old) (L.faults link.old)) feeder.old
+        (L.traffic link.old) (L.marks link.old) (L.faults link.old)) feeder.old keeper.new
         (talk_of (side_of D.faults keeper.new publisher.new (A.tally hall.new) (A.calls hall.new))
         (L.traffic link.new) (L.marks link.new) (L.faults link.new)) feeder.new)
-        (Ends
+        (Ends D.state D.moment D.left_since keeper.old
         (talk_of (side_of D.faults keeper.old publisher.old (A.tally hall.old) (A.calls hall.old))
-        (L.traffic link.old) (L.marks link.old) (L.faults link.old)) feeder.old
+        (L.traffic link.old) (L.marks link.old) (L.faults link.old)) feeder.old keeper.new
         (talk_of (side_of D.faults keeper.new publisher.new (A.tally hall.new) (A.calls hall.new))
         (L.traffic link.new) (L.marks link.new) (L.faults link.new))) }
     ensures side { OnOk result (feeder.new.heard ≡ AtAdmin) }
     ensures sound { OnOk result (IsSound feeder.new) }
     ensures room { length room.new ≡ length room.old }
-    ensures stops { StepsOver D.state D.moment D.left_since keeper.old keeper.new }
     ensures behind { last_commit 0 publisher.new ≤ keeper.new.desk.commit }
     ensures same_disk { IsSameDisk keeper.old keeper.new }
 {
@@ -172,6 +172,7 @@ fn answer_frame<R: Wait, D: Disk, A: Hall, L: Link>(
     ensures kept { WhereTold (D.state (disk_of keeper.old)) (λ before.
         KeepsKnown (decided_of keeper.old) keeper.old.desk (held_of keeper.old) before
         → decided_of keeper.new ≡ true → EndsKept keeper.new.desk (held_of keeper.new) (D.state (disk_of keeper.new))) }
+    ensures tells { StillTells (D.state (disk_of keeper.old)) (D.state (disk_of keeper.new)) }
     ensures behind { last_commit 0 publisher.new ≤ keeper.new.desk.commit }
     ensures same_disk { IsSameDisk keeper.old keeper.new }
 {

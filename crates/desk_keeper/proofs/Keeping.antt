@@ -2,7 +2,7 @@
 use Rattle.std.proofs.Common.{◌≡◌, ℕ, List, Option, Some, Ok, Err, ◌⊎◌, ◌<◌, ap, sym, ◌∙◌, inl, inr}
 use Rattle.desk_ports.specs.declared.file_sets.SetFile.{SetFile}
 use Rattle.desk_ports.specs.FileMap.{FileMap}
-use Rattle.desk_ports.specs.Disk.{DiskState, WhereTold, with_all_durable}
+use Rattle.desk_ports.specs.Disk.{DiskState, WhereTold, IsTouchedOnly, with_all_durable}
 use Rattle.desk_ports.specs.Moments.{LeavesOnly}
 use Rattle.desk_ports.proofs.Moments.{LeavesOnly-more}
 use Rattle.guard_files.specs.Mounted.{RecoversAsAllowed, EndsAtRest, IfDamaged as IfStoreDamaged}
@@ -134,3 +134,27 @@ set-unchanged told now held refusal found = λ before said file is. absurd (whol
   where
     whole_or_damaged : {file : List ℕ} → Ok held ≡ Err file → ⊥
     whole_or_damaged same = cc
+
+-- ---- what is read behind a refused mount
+
+same-told : (told : Option DiskState) (one other : DiskState) → told ≡ Some one → told ≡ Some other → one ≡ other
+same-told told one other first second = let same = sym first ∙ second in cc
+
+pub store-still : (told now : Option DiskState) (refusal : VaultRefusal)
+    → IfStoreDamaged refusal
+    (λ file. WhereTold told (λ before. (recover before.current ≡ Err file) × (now ≡ Some (with_all_durable before))))
+    → WhereTold told (λ before. IfDamaged (refused refusal) (λ fault. WhereTold now (λ after. kept after.current ≡ Err fault)))
+store-still told now vault.StoreFault damaged before said = tt
+store-still told now (vault.Damaged file) damaged before said =
+    λ after is.
+    let left = damaged before said in
+    kept-of after.current (Err file)
+    (ap (λ (at : DiskState). recover at.current) (same-told now after (with_all_durable before) is left.1) ∙ left.0)
+store-still told now (vault.Memory error) damaged before said = tt
+
+-- a store at rest reads as what it holds
+pub at-rest-current : (held : Option (List SetFile)) (now : Option DiskState) → EndsAtRest held now → WhereTold now IsTouchedOnly
+    → WhereTold now (λ after. recover after.current ≡ Ok held)
+at-rest-current held now (rest, is, left) touched after now_is =
+    ap (λ (at : DiskState). recover at.current) (same-told now after rest now_is is)
+    ∙ settled_leaves held rest left.settled rest.current (touched rest is)

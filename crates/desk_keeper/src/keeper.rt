@@ -3,6 +3,7 @@ ghost use Rattle.desk_ports.specs.Disk.{WhereTold};
 ghost use Rattle.desk_ports.specs.Faults.{next_count};
 ghost use Rattle.desk_ports.specs.Moments.{LeavesOnly};
 ghost use Rattle.guard_files.specs.Settled.{gone_names};
+ghost use Rattle.guard_files.specs.Telling.{StillTells};
 ghost use Rattle.desk_state.specs.Next.{next, erased_by};
 ghost use Rattle.desk_state.specs.Rules.{Refuses, fault};
 ghost use Rattle.set_text.specs.Files.{files};
@@ -105,6 +106,12 @@ impl<'d, D: Disk> Keeper<'d, D> {
             ⊎ IsOlder self.old.desk before.current fault))) }
         ensures unchanged { IfErr result (λ refusal. WhereTold (D.state self.old.vault.disk.now)
             (λ before. LeavesDamaged refusal before (D.state self.new.vault.disk.now))) }
+
+        // What is read behind the call is damaged as it was told.
+        ensures still_damaged { IfErr result (λ refusal. WhereTold (D.state self.old.vault.disk.now)
+            (λ before. IfDamaged refusal (λ fault. WhereTold (D.state self.new.vault.disk.now)
+            (λ after. (kept after.current ≡ Err fault) ⊎ IsOlder self.old.desk after.current fault)))) }
+        ensures tells { StillTells (D.state self.old.vault.disk.now) (D.state self.new.vault.disk.now) }
         ensures count { D.faults self.new.vault.disk.now ≡ count_after_mount result (D.faults self.old.vault.disk.now) }
         ensures same_disk { self.new.vault.disk.ghost_name ≡ self.old.vault.disk.ghost_name }
     {
@@ -202,6 +209,9 @@ impl<'d, D: Disk> Keeper<'d, D> {
             (λ before. IsKept self.old.desk self.old.vault.held before
             → LeavesOnly D.moment D.left_since self.old.vault.disk.now self.new.vault.disk.now
             (IsBeforeOrAfter self.old.desk prepared.desk)) }
+
+        // A disk that told its state tells it behind the call, also where it failed.
+        ensures tells { StillTells (D.state self.old.vault.disk.now) (D.state self.new.vault.disk.now) }
 
         // It fails only where a call of the disk did, once.
         ensures count { OnOk result (D.faults self.new.vault.disk.now ≡ D.faults self.old.vault.disk.now) }

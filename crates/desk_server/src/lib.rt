@@ -8,4 +8,4 @@ mod monitoring;
 mod serving;
 
 pub use monitoring::serve_monitored;
-pub use serving::{serve_agent, serve_client};
+pub use serving::{serve_admin, serve_agent, serve_client};

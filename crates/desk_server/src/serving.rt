@@ -1,14 +1,22 @@
-ghost use Rattle.std.specs.Prelude.{List, None, Option};
+ghost use Rattle.std.specs.Prelude.{◌≤◌, List, None, Option};
+ghost use Rattle.desk_keeper.specs.Keeper.{IsSameDisk};
+ghost use Rattle.live_desk.specs.History.{last_commit};
 ghost use Rattle.server_hall.specs.Tally as counted;
 ghost use Rattle.server_hall.specs.declared.calls.HallCall as call;
 ghost use Rattle.client_door.specs.Serving.{client_side, Serves as ServesClient};
 ghost use Rattle.agent_door.specs.Serving.{agent_side, Serves as ServesAgent};
+ghost use Rattle.admin_door.specs.Side.{side_of};
+ghost use Rattle.admin_door.specs.Serving.{talk_of, Serves as ServesAdmin};
+ghost use Rattle.admin_door.specs.Running.{RunsOver};
 
+use admin_door::admin_loop;
 use agent_door::agent_loop;
 use client_door::client_loop;
+use desk_keeper::Keeper;
+use desk_ports::Disk;
 use door_frames::Ended;
 use link_ports::{Gate, HangEnd, Link};
-use live_desk::Seat;
+use live_desk::{Publisher, Seat};
 use live_roll::Roll;
 use locked_hall::{Locked, QuestionDesk};
 use std::alloc::Global;
@@ -46,4 +54,28 @@ pub fn serve_agent<R: Wait, H: HangEnd, L: Link>(
 {
     let mut hall = Locked::new(rt, roll, questions);
     agent_loop(rt, alloc, &mut hall, link)
+}
+
+/// Serves one connection of an administrator, as `admin_loop` does. It may wait.
+pub fn serve_admin<R: Wait, D: Disk, H: HangEnd, L: Link>(
+    rt: &R,
+    alloc: Global,
+    keeper: &mut Keeper<'_, D>,
+    publisher: &mut Publisher,
+    roll: &Mutex<Roll<H>>,
+    questions: &QuestionDesk,
+    link: &mut L,
+) -> Ended
+    requires behind { last_commit 0 publisher.old ≤ keeper.old.desk.commit }
+    ensures served { (tally : counted.Tally) × ServesAdmin
+        (talk_of (side_of D.faults keeper.old publisher.old counted.no_calls None)
+        (L.traffic link.old) (L.marks link.old) (L.faults link.old))
+        (talk_of (side_of D.faults keeper.new publisher.new tally None)
+        (L.traffic link.new) (L.marks link.new) (L.faults link.new)) result
+        (RunsOver D.state D.moment D.left_since keeper.old keeper.new) }
+    ensures behind { last_commit 0 publisher.new ≤ keeper.new.desk.commit }
+    ensures same_disk { IsSameDisk keeper.old keeper.new }
+{
+    let mut hall = Locked::new(rt, roll, questions);
+    admin_loop(rt, alloc, keeper, publisher, &mut hall, link)
 }

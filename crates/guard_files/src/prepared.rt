@@ -7,6 +7,7 @@ ghost use Rattle.std.specs.List.{AllPass};
 ghost use Rattle.desk_ports.specs.FileMap.{NamesRise, names_of};
 ghost use Rattle.guard_files.specs.OwnName.{is_listable};
 ghost use Rattle.guard_files.specs.ListFile.{are_listable};
+ghost use Rattle.guard_files.specs.Telling.{StillTells};
 ghost use Rattle.guard_files.specs.Settled.{IsSettled, gone_names, IsInSave, EndsSettled};
 
 use crate::list_files::{backups_of, list_bytes, names_without};
@@ -66,6 +67,7 @@ impl Prepared {
         ensures moments { WhereTold (D.state disk.old) (λ before. (held : Option (List SetFile))
             → IsSettled held before → self.gone ≡ gone_names held self.set
             → LeavesOnly D.moment D.left_since disk.old disk.new (IsInSave before held self.set)) }
+        ensures tells { StillTells (D.state disk.old) (D.state disk.new) }
         ensures count { D.faults disk.new ≡ count_after_call result (D.faults disk.old) }
     {
         let Prepared {

@@ -7,6 +7,7 @@ ghost use Rattle.desk_ports.specs.Disk.{DiskState, WhereTold};
 ghost use Rattle.desk_ports.specs.Moments.{AddsOnly, LeavesOnly};
 ghost use Rattle.guard_files.specs.OwnName.{guard_name, list_name, backup_name};
 ghost use Rattle.guard_files.specs.ListFile.{saved_list, are_listable};
+ghost use Rattle.guard_files.specs.Telling.{StillTells};
 ghost use Rattle.guard_files.specs.Settled.{IsSettled, gone_names, IsInSave, EndsSettled};
 
 use crate::steps::{drop_backups, lower_guard, raise_guard, save_backups, save_primaries};
@@ -37,6 +38,7 @@ pub fn save_set<D: Disk>(
     ensures moments { WhereTold (D.state disk.old) (λ before. (held : Option (List SetFile)) → IsSettled held before
         → gone.now ≡ gone_names held set.now
         → LeavesOnly D.moment D.left_since disk.old disk.new (IsInSave before held set.now)) }
+    ensures tells { StillTells (D.state disk.old) (D.state disk.new) }
     ensures count { D.faults disk.new ≡ count_after_call result (D.faults disk.old) }
 {
     save_backups(disk, backups, set, &names.list_backup, list)?;

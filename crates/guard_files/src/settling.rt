@@ -8,6 +8,7 @@ ghost use Rattle.desk_ports.specs.Disk.{DiskState, WhereTold, MayLeave, with_all
 ghost use Rattle.desk_ports.specs.Moments.{AddsOnly, LeavesOnly};
 ghost use Rattle.guard_files.specs.OwnName.{guard_name, backup_name};
 ghost use Rattle.guard_files.specs.ListFile.{IsCurrent, are_listable, saved_list};
+ghost use Rattle.guard_files.specs.Telling.{StillTells};
 ghost use Rattle.guard_files.specs.Recovery.{backup_set, primary_set, recover};
 ghost use Rattle.guard_files.specs.Holding.{is_among};
 ghost use Rattle.guard_files.specs.Mounted.{IfDamaged, count_after_mount, RecoversAsAllowed, StandsFor, Rests, EndsAtRest, IsSurvey};
@@ -100,6 +101,7 @@ fn tidy<D: Disk>(disk: &mut D, rest: &[FileName]) -> Result<(), Failed>
         → D.state disk.new ≡ Some (with_all_durable (after (removals rest.now) (with_all_durable base)))) }
     ensures moments { WhereTold (D.state disk.old)
         (λ before. AddsOnly D.moment D.left_since disk.old disk.new (MayLeave (after (removals rest.now) before))) }
+    ensures tells { StillTells (D.state disk.old) (D.state disk.new) }
     ensures count { D.faults disk.new ≡ count_after_call result (D.faults disk.old) }
 {
     remove_files(disk, rest)?;
@@ -129,6 +131,7 @@ fn restore<D: Disk>(
         → base.current guard_name ≡ Some bytes
         → backup_set base.current ≡ Ok (Some set.now) → AddsOnly D.moment D.left_since disk.old disk.new
         (StandsFor base.current (Some set.now)) }
+    ensures tells { StillTells (D.state disk.old) (D.state disk.new) }
     ensures count { D.faults disk.new ≡ count_after_mount result (D.faults disk.old) }
 {
     let gone = match going(alloc, held, listing) {
@@ -168,6 +171,7 @@ fn finish_guarded<D: Disk>(
         → base.current guard_name ≡ Some bytes
         → backup_set base.current ≡ Ok (Some set.now) → AreNamesOf base.current listing.now
         → AddsOnly D.moment D.left_since disk.old disk.new (StandsFor base.current (Some set.now)) }
+    ensures tells { StillTells (D.state disk.old) (D.state disk.new) }
     ensures count { D.faults disk.new ≡ count_after_mount result (D.faults disk.old) }
 {
     let rest = match leftover(alloc, true, held, listing) {
@@ -204,6 +208,7 @@ fn finish<D: Disk>(
         → base.current guard_name ≡ None
         → primary_set base.current ≡ Ok held.now → AreNamesOf base.current listing.now
         → AddsOnly D.moment D.left_since disk.old disk.new (StandsFor base.current held.now) }
+    ensures tells { StillTells (D.state disk.old) (D.state disk.new) }
     ensures count { D.faults disk.new ≡ count_after_mount result (D.faults disk.old) }
 {
     let rest = match leftover(alloc, false, held, listing) {
@@ -231,6 +236,7 @@ fn renew<D: Disk>(
         → EndsAtRest (Some set.now) (D.state disk.new)) }
     ensures moments { (files : FileMap) → Rests files (Some set.now) (D.state disk.old)
         → AddsOnly D.moment D.left_since disk.old disk.new (StandsFor files (Some set.now)) }
+    ensures tells { StillTells (D.state disk.old) (D.state disk.new) }
     ensures count { D.faults disk.new ≡ count_after_call result (D.faults disk.old) }
 {
     save_set(disk, names, set, backups, &[], list)?;
@@ -257,6 +263,7 @@ fn finish_old<D: Disk>(
         → base.current guard_name ≡ None
         → primary_set base.current ≡ Ok (Some set.now) → AreNamesOf base.current listing.now
         → AddsOnly D.moment D.left_since disk.old disk.new (StandsFor base.current (Some set.now)) }
+    ensures tells { StillTells (D.state disk.old) (D.state disk.new) }
     ensures count { D.faults disk.new ≡ count_after_mount result (D.faults disk.old) }
 {
     let backups = match backups_of(alloc, set.as_slice()) {
@@ -303,6 +310,7 @@ fn survey_of<D: Disk>(
         × (D.state disk.new ≡ Some (with_all_durable before))))) }
     ensures moments { WhereTold (D.state disk.old)
         (λ before. AddsOnly D.moment D.left_since disk.old disk.new (MayLeave before)) }
+    ensures tells { StillTells (D.state disk.old) (D.state disk.new) }
     ensures count { D.faults disk.new ≡ count_after_mount result (D.faults disk.old) }
 {
     match disk.sync() {
@@ -345,6 +353,7 @@ pub fn settle<D: Disk>(
     // A stop at any moment leaves what recovers as something that a stop at entry may leave.
     ensures moments { WhereTold (D.state disk.old)
         (λ before. LeavesOnly D.moment D.left_since disk.old disk.new (RecoversAsAllowed before)) }
+    ensures tells { StillTells (D.state disk.old) (D.state disk.new) }
     ensures count { D.faults disk.new ≡ count_after_mount result (D.faults disk.old) }
 {
     let found = match survey_of(alloc, disk, names) {

@@ -8,6 +8,7 @@ ghost use Rattle.desk_ports.specs.Disk.{WhereTold, MayLeave, with_all_durable};
 ghost use Rattle.desk_ports.specs.Moments.{AddsOnly};
 ghost use Rattle.guard_files.specs.OwnName.{guard_name, list_name, primary_name, backup_name};
 ghost use Rattle.guard_files.specs.ListFile.{saved_list};
+ghost use Rattle.guard_files.specs.Telling.{StillTells};
 ghost use Rattle.guard_files.specs.parts.Changes.{after, writes, removals, set_writes, primary_changes};
 ghost use Rattle.guard_files.specs.parts.Changes.{guard_up, guard_down, backups_away};
 
@@ -19,6 +20,7 @@ pub fn remove_files<D: Disk>(disk: &mut D, names: &[FileName]) -> Result<(), Fai
         (λ before. D.state disk.new ≡ Some (after (removals names.now) before))) }
     ensures moments { WhereTold (D.state disk.old)
         (λ before. AddsOnly D.moment D.left_since disk.old disk.new (MayLeave (after (removals names.now) before))) }
+    ensures tells { StillTells (D.state disk.old) (D.state disk.new) }
     ensures count { D.faults disk.new ≡ count_after_call result (D.faults disk.old) }
 {
     for name in names {
@@ -34,6 +36,7 @@ pub fn write_primaries<D: Disk>(disk: &mut D, files: &[SetFile]) -> Result<(), F
     ensures moments { WhereTold (D.state disk.old)
         (λ before. AddsOnly D.moment D.left_since disk.old disk.new (MayLeave
         (after (writes primary_name files.now) before))) }
+    ensures tells { StillTells (D.state disk.old) (D.state disk.new) }
     ensures count { D.faults disk.new ≡ count_after_call result (D.faults disk.old) }
 {
     for file in files {
@@ -55,6 +58,7 @@ pub fn write_backups<D: Disk>(
     ensures moments { WhereTold (D.state disk.old)
         (λ before. AddsOnly D.moment D.left_since disk.old disk.new (MayLeave
         (after (writes backup_name files.now) before))) }
+    ensures tells { StillTells (D.state disk.old) (D.state disk.new) }
     ensures count { D.faults disk.new ≡ count_after_call result (D.faults disk.old) }
 {
     for i in 0..files.len() {
@@ -70,6 +74,7 @@ pub fn raise_guard<D: Disk>(disk: &mut D, guard: &FileName) -> Result<(), Failed
         (λ before. D.state disk.new ≡ Some (with_all_durable (after guard_up before)))) }
     ensures moments { WhereTold (D.state disk.old)
         (λ before. AddsOnly D.moment D.left_since disk.old disk.new (MayLeave (after guard_up before))) }
+    ensures tells { StillTells (D.state disk.old) (D.state disk.new) }
     ensures count { D.faults disk.new ≡ count_after_call result (D.faults disk.old) }
 {
     disk.write(guard, &[])?;
@@ -83,6 +88,7 @@ pub fn lower_guard<D: Disk>(disk: &mut D, guard: &FileName) -> Result<(), Failed
         (λ before. D.state disk.new ≡ Some (with_all_durable (after guard_down before)))) }
     ensures moments { WhereTold (D.state disk.old)
         (λ before. AddsOnly D.moment D.left_since disk.old disk.new (MayLeave (after guard_down before))) }
+    ensures tells { StillTells (D.state disk.old) (D.state disk.new) }
     ensures count { D.faults disk.new ≡ count_after_call result (D.faults disk.old) }
 {
     disk.remove(guard)?;
@@ -106,6 +112,7 @@ pub fn save_backups<D: Disk>(
     ensures moments { WhereTold (D.state disk.old)
         (λ before. AddsOnly D.moment D.left_since disk.old disk.new (MayLeave
         (after (set_writes backup_name files.now) before))) }
+    ensures tells { StillTells (D.state disk.old) (D.state disk.new) }
     ensures count { D.faults disk.new ≡ count_after_call result (D.faults disk.old) }
 {
     write_backups(disk, backups, files)?;
@@ -130,6 +137,7 @@ pub fn save_primaries<D: Disk>(
     ensures moments { WhereTold (D.state disk.old)
         (λ before. AddsOnly D.moment D.left_since disk.old disk.new (MayLeave
         (after (primary_changes gone.now files.now) before))) }
+    ensures tells { StillTells (D.state disk.old) (D.state disk.new) }
     ensures count { D.faults disk.new ≡ count_after_call result (D.faults disk.old) }
 {
     remove_files(disk, gone)?;
@@ -151,6 +159,7 @@ pub fn drop_backups<D: Disk>(
     ensures moments { WhereTold (D.state disk.old)
         (λ before. AddsOnly D.moment D.left_since disk.old disk.new (MayLeave
         (after (backups_away backups.now) before))) }
+    ensures tells { StillTells (D.state disk.old) (D.state disk.new) }
     ensures count { D.faults disk.new ≡ count_after_call result (D.faults disk.old) }
 {
     disk.remove(list_backup)?;

@@ -6,6 +6,7 @@ ghost use Rattle.desk_ports.specs.FileMap.{names_of};
 ghost use Rattle.desk_ports.specs.Disk.{WhereTold, with_all_durable};
 ghost use Rattle.desk_ports.specs.Moments.{LeavesOnly};
 ghost use Rattle.guard_files.specs.OwnName.{is_listable};
+ghost use Rattle.guard_files.specs.Telling.{StillTells};
 ghost use Rattle.guard_files.specs.Recovery.{recover};
 ghost use Rattle.guard_files.specs.Mounted.{IfDamaged, count_after_mount, RecoversAsAllowed, EndsAtRest, IsLeftRefused};
 ghost use Rattle.guard_files.specs.Settled.{IsSettled, gone_names, IsInSave, EndsSettled};
@@ -102,6 +103,7 @@ impl<'d, D: Disk> Vault<'d, D> {
         ensures damaged { IfErr result (λ refusal. IfDamaged refusal (λ file. WhereTold (D.state self.old.disk.now)
             (λ before. (recover before.current ≡ Err file)
             × (D.state self.new.disk.now ≡ Some (with_all_durable before))))) }
+        ensures tells { StillTells (D.state self.old.disk.now) (D.state self.new.disk.now) }
         ensures count { D.faults self.new.disk.now ≡ count_after_mount result (D.faults self.old.disk.now) }
         ensures same_disk { self.new.disk.ghost_name ≡ self.old.disk.ghost_name }
     {
@@ -166,6 +168,9 @@ impl<'d, D: Disk> Vault<'d, D> {
         ensures moments { WhereTold (D.state self.old.disk.now) (λ before. IsSettled self.old.held before
             → LeavesOnly D.moment D.left_since self.old.disk.now self.new.disk.now (IsInSave before self.old.held
             prepared.set)) }
+
+        // A disk that told its state tells it behind the call, also where it failed.
+        ensures tells { StillTells (D.state self.old.disk.now) (D.state self.new.disk.now) }
 
         // It fails only where a call of the disk did, once.
         ensures count { OnOk result (D.faults self.new.disk.now ≡ D.faults self.old.disk.now) }

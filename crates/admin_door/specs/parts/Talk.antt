@@ -1,6 +1,8 @@
 -- How the answering of frames stands between two of them.
 use Rattle.std.specs.Prelude.{◌≡◌, ◌⊎◌, ℕ, List, [], ◌∷◌, ◌++◌, Option}
+use Rattle.desk_ports.specs.FileMap.{FileMap}
 use Rattle.desk_ports.specs.Disk.{DiskState}
+use Rattle.desk_keeper.specs.declared.keeper.Keeper.{Keeper}
 use Rattle.link_ports.specs.Traffic.{Traffic}
 use Rattle.wire_messages.specs.Stream.{Feeding}
 use Rattle.wire_messages.specs.declared.messages.Framed.{Framed}
@@ -13,9 +15,10 @@ use Rattle.door_frames.specs.declared.endings.Ended.{Ended}
 use Rattle.door_frames.specs.declared.endings.Ended.TheVariants.{Stopped}
 use Rattle.admin_door.specs.Answering.{Answers, Refuses}
 use Rattle.admin_door.specs.Serving.{AdminTalk, Exchange, AreAnswered, AreNoStops, exchanges_bytes, frames_of, replies_bytes, Serves}
+use Rattle.admin_door.specs.Running.{RunsOver}
 
 -- since the start these frames were answered, and their replies are all sent
-pub record Stands (start now : AdminTalk) (feeder : Feeding) : Type 0 where
+pub record Stands (start now : AdminTalk) (feeder : Feeding) (Keeps : List Exchange → Type 0) : Type 0 where
   pub received : List ℕ
   pub answered : List Exchange
   pub in_turn : AreAnswered start.side answered now.side
@@ -24,14 +27,21 @@ pub record Stands (start now : AdminTalk) (feeder : Feeding) : Type 0 where
   pub carried : Carried start.traffic now.traffic received (exchanges_bytes answered)
   pub faults : now.faults ≡ start.faults
   pub ends : now.marks.ends ≡ start.marks.ends
+  pub keeps : Keeps answered
 
 -- from whatever start it stood so before, it stands so after
-abbrev pub Goes : AdminTalk → Feeding → AdminTalk → Feeding → Type 0
-Goes old before new after = (start : AdminTalk) → Stands start old before → Stands start new after
+abbrev pub Goes : {D : Type 0} → (D → Option DiskState) → (D → ℕ) → (D → ℕ → FileMap → Type 0) → Keeper D → AdminTalk → Feeding
+    → Keeper D → AdminTalk → Feeding → Type 0
+Goes {D} state moment left_since was old before is new after =
+    (first : Keeper D) (start : AdminTalk) → Stands start old before (RunsOver state moment left_since first was)
+    → Stands start new after (RunsOver state moment left_since first is)
 
 -- from whatever start it stood so before, the connection has ended so
-abbrev pub Ends : AdminTalk → Feeding → AdminTalk → Ended → Type 0
-Ends old before new ended = (start : AdminTalk) → Stands start old before → Serves start new ended
+abbrev pub Ends : {D : Type 0} → (D → Option DiskState) → (D → ℕ) → (D → ℕ → FileMap → Type 0) → Keeper D → AdminTalk → Feeding
+    → Keeper D → AdminTalk → Ended → Type 0
+Ends {D} state moment left_since was old before is new ended =
+    (first : Keeper D) (start : AdminTalk) → Stands start old before (RunsOver state moment left_since first was)
+    → Serves start new ended (RunsOver state moment left_since first is)
 
 -- ---- one frame
 

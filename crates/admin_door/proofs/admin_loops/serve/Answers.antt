@@ -1,13 +1,14 @@
-use Rattle.std.proofs.Common.{rules, refl, sym, ap, subst}
+use Rattle.std.proofs.Common.{List, refl, sym, ap, subst}
 use Rattle.wire_messages.specs.Stream.{Feeding}
 use Rattle.wire_messages.specs.declared.operations.Heard.TheVariants.{AtAdmin}
 use Rattle.door_frames.specs.Hearing.{IsSound}
 use Rattle.door_frames.proofs.Hearing.{unfed_sound}
 use Rattle.admin_door.specs.Side.{side_of}
-use Rattle.admin_door.specs.Serving.{talk_of}
+use Rattle.admin_door.specs.Serving.{Exchange, talk_of}
+use Rattle.admin_door.specs.Running.{RunsOver}
 use Rattle.admin_door.specs.parts.Talk.{Stands}
 use Rattle.desk_keeper.specs.Keeper.{disk_of}
-use Rattle.admin_door.proofs.Stopping.{runs-first, runs-then}
+use Rattle.admin_door.proofs.Running.{runs-none}
 use Rattle.admin_door.proofs.Serving.{stands-first}
 use Rattle.admin_door.proofs.admin_loops.serve.Goals as goal
 
@@ -15,29 +16,15 @@ pub loop-init : goal.loop-init
 loop-init g c =
     let start = talk_of
     (side_of g.D.Disk.faults c.args.keeper.now c.args.publisher.now (g.A.Hall.tally c.args.hall.now) (g.A.Hall.calls c.args.hall.now))
-    (g.L.Link.traffic c.args.link.now) (g.L.Link.marks c.args.link.now) (g.L.Link.faults c.args.link.now) in (
-      subst (λ (feeder : Feeding). Stands start start feeder) (sym c.new-feeder.ensures) (stands-first start),
+    (g.L.Link.traffic c.args.link.now) (g.L.Link.marks c.args.link.now) (g.L.Link.faults c.args.link.now) in
+    let Keeps : List Exchange → Type 0 =
+    RunsOver g.D.Disk.state g.D.Disk.moment g.D.Disk.left_since c.args.keeper.now c.args.keeper.now in (
+      subst (λ (feeder : Feeding). Stands start start feeder Keeps) (sym c.new-feeder.ensures)
+          (stands-first start Keeps (runs-none g.D.Disk.state g.D.Disk.moment g.D.Disk.left_since c.args.keeper.now
+          (λ left at. g.met.D.Disk.only_now (disk_of c.args.keeper.now) left at))),
       ap (λ (feeder : Feeding). feeder.heard) c.new-feeder.ensures,
       subst (λ (feeder : Feeding). IsSound feeder) (sym c.new-feeder.ensures) (unfed_sound AtAdmin),
       refl,
       c.requires,
       refl,
-      runs-first g.D.Disk.state g.D.Disk.moment g.D.Disk.left_since c.args.keeper.now (g.met.D.Disk.only_now (disk_of c.args.keeper.now)),
     )
-
-pub returns-in-Err-clause-stops : goal.returns-in-Err-clause-stops
-returns-in-Err-clause-stops g c =
-    runs-then g.D.Disk.state g.D.Disk.moment g.D.Disk.left_since c.args.keeper.now c.loop.keeper c.turn-turn.new.keeper
-    (g.met.D.Disk.counts_now (disk_of c.loop.keeper)) c.loop.invariant.6 c.turn-turn.ensures.stops
-
-pub loop-preserved : goal.loop-preserved
-loop-preserved g c = (
-  search rules,
-  search rules,
-  search rules,
-  search rules,
-  search rules,
-  search rules,
-  runs-then g.D.Disk.state g.D.Disk.moment g.D.Disk.left_since c.args.keeper.now c.loop.keeper c.turn-turn.new.keeper
-      (g.met.D.Disk.counts_now (disk_of c.loop.keeper)) c.loop.invariant.6 c.turn-turn.ensures.stops,
-)

@@ -4,7 +4,7 @@ use Rattle.live_desk.specs.History.{last_commit}
 use Rattle.desk_keeper.specs.Keeper.{IsSameDisk}
 use Rattle.door_frames.specs.Hearing.{IsSound}
 use Rattle.admin_door.specs.Side.{side_of}
-use Rattle.admin_door.specs.Stops.{RunsOver}
+use Rattle.admin_door.specs.Running.{RunsOver}
 use Rattle.admin_door.specs.Serving.{talk_of}
 use Rattle.admin_door.specs.parts.Talk.{Stands}
 use Rattle.admin_door.proofs.admin_loops.serve.Given as goal
@@ -17,9 +17,9 @@ invariant-loop g l =
     (g.L.Link.traffic l.fn.link) (g.L.Link.marks l.fn.link) (g.L.Link.faults l.fn.link))
     (talk_of (side_of g.D.Disk.faults l.keeper l.publisher (g.A.Hall.tally l.hall) (g.A.Hall.calls l.hall))
     (g.L.Link.traffic l.link) (g.L.Link.marks l.link) (g.L.Link.faults l.link)) l.feeder
+    (RunsOver g.D.Disk.state g.D.Disk.moment g.D.Disk.left_since l.fn.keeper l.keeper)
     × (l.feeder.heard ≡ AtAdmin)
     × IsSound l.feeder
     × (length l.room ≡ 4096)
     × (last_commit 0 l.publisher ≤ l.keeper.desk.commit)
     × IsSameDisk l.fn.keeper l.keeper
-    × RunsOver g.D.Disk.state g.D.Disk.moment g.D.Disk.left_since l.fn.keeper l.keeper

@@ -28,3 +28,8 @@ loop-name-preserved g c =
           c.loop-name.invariant.row c.in_ok-remove.ensures.removed c.remove.ensures.time);
       count = c.in_ok-remove.ensures.count ∙ c.loop-name.invariant.count;
     }
+
+pub returns-in_err-remove-clause-tells : goal.returns-in_err-remove-clause-tells
+returns-in_err-remove-clause-tells g c before told =
+    let failed = c.in_err-remove.ensures.disturbed _ (c.loop-name.invariant.row.reached before told) in
+    (failed.0, failed.1)

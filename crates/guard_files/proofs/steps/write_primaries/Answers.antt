@@ -34,3 +34,8 @@ loop-file-preserved g c =
           c.write.ensures.time);
       count = c.in_ok-write.ensures.count ∙ c.loop-file.invariant.count;
     }
+
+pub returns-in_err-write-clause-tells : goal.returns-in_err-write-clause-tells
+returns-in_err-write-clause-tells g c before told =
+    let failed = c.in_err-write.ensures.disturbed _ (c.loop-file.invariant.row.reached before told) in
+    (failed.0, failed.1)

@@ -3,7 +3,7 @@ use Rattle.std.proofs.lemmas.Bool.Decides.{nat_tests}
 use Rattle.desk_keeper.specs.parts.Reading.{RefusesSet}
 use Rattle.desk_keeper.specs.Kept.{desk_of_set}
 use Rattle.desk_keeper.proofs.Keeping.{moments-stand, store-damage, set-damage, older-damage, first-damage}
-use Rattle.desk_keeper.proofs.Keeping.{at-rest-kept, kept-of, store-unchanged, set-unchanged}
+use Rattle.desk_keeper.proofs.Keeping.{at-rest-kept, at-rest-current, kept-of, store-unchanged, store-still, set-unchanged}
 use Rattle.desk_keeper.proofs.keeper.Keeper.remount.Goals as goal
 
 pub returns-in-Err-clause-moments : goal.returns-in-Err-clause-moments
@@ -71,3 +71,27 @@ pub returns-then-commit-clause-unchanged : goal.returns-then-commit-clause-uncha
 returns-then-commit-clause-unchanged g c =
     set-unchanged (g.D.Disk.state c.args.self.now.vault.disk.now) (g.D.Disk.state c.remount.new.self.disk.now)
     c.remount.new.self.held c.older.result c.in_default.ensures.held
+
+pub returns-in-Err-clause-still_damaged : goal.returns-in-Err-clause-still_damaged
+returns-in-Err-clause-still_damaged g c before told =
+    rw c.refusal_of.ensures (first-damage (g.D.Disk.state c.remount.new.self.disk.now) c.args.self.now.desk _
+    (store-still (g.D.Disk.state c.args.self.now.vault.disk.now) (g.D.Disk.state c.remount.new.self.disk.now) c.in-Err.refusal
+    c.in-Err.ensures.damaged before told))
+
+pub returns-in-Err-desk_of-clause-still_damaged : goal.returns-in-Err-desk_of-clause-still_damaged
+returns-in-Err-desk_of-clause-still_damaged g c before told =
+    first-damage (g.D.Disk.state c.remount.new.self.disk.now) c.args.self.now.desk _
+    (set-damage (g.D.Disk.state c.remount.new.self.disk.now) c.remount.new.self.held c.in-Err-desk_of.refusal
+    (subst (λ held. RefusesSet held c.in-Err-desk_of.refusal) c.held.ensures c.in-Err-desk_of.ensures.refused)
+    (at-rest-current c.remount.new.self.held (g.D.Disk.state c.remount.new.self.disk.now) (c.in_default.ensures.settled before told)
+    (g.met.D.Disk.touched_only c.remount.new.self.disk.now)))
+
+pub returns-then-commit-clause-still_damaged : goal.returns-then-commit-clause-still_damaged
+returns-then-commit-clause-still_damaged g c before told =
+    older-damage (g.D.Disk.state c.remount.new.self.disk.now) c.args.self.now.desk c.in-Ok.desk c.older.result
+    c.older.ensures
+    (grind (arith, c.if-commit.true, c.commit.ensures.commit, c.commit-2.ensures.commit, nat_tests))
+    (λ after now_told. kept-of after.current (Ok c.remount.new.self.held)
+    (at-rest-current c.remount.new.self.held (g.D.Disk.state c.remount.new.self.disk.now) (c.in_default.ensures.settled before told)
+    (g.met.D.Disk.touched_only c.remount.new.self.disk.now) after now_told)
+    ∙ ap desk_of_set (sym c.held.ensures) ∙ c.in-Ok.ensures.desk)

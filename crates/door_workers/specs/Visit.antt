@@ -1,0 +1,61 @@
+-- The connections that a worker serves, one after the other.
+use Rattle.std.specs.Prelude.{◌≡◌, ℕ, List, [], ◌∷◌, ◌++◌, map, Option, Some}
+use Rattle.std.specs.List.{AllByRecursion}
+use Rattle.desk_ports.specs.Faults.{next_count}
+use Rattle.link_ports.specs.LinkMarks.{LinkMarks, fresh_marks}
+use Rattle.link_ports.specs.Told.{IfTold}
+use Rattle.door_frames.specs.declared.endings.Ended.{Ended}
+use Rattle.door_frames.specs.declared.endings.Ended.TheVariants.{Stopped as EndedByStop}
+use Rattle.door_workers.specs.declared.workers.WorkerEnd.{WorkerEnd}
+use Rattle.door_workers.specs.declared.workers.WorkerEnd.TheVariants.{Stopped, DoorFailed, Memory}
+
+-- a connection: its link as the door accepted it, and as it was given back to the door; and how it ended
+pub record Visit (L : Type 0) : Type 0 where
+  pub accepted : L
+  pub returned : L
+  pub ended : Ended
+
+-- no call of the link has failed, no hang end was taken from it, and it bears no mark
+abbrev pub IsFresh : {L : Type 0} → (L → LinkMarks) → (L → ℕ) → Visit L → Type 0
+IsFresh marks faults visit = (marks visit.accepted ≡ fresh_marks) × (faults visit.accepted ≡ 0)
+
+-- the connections were served one after the other, each from what the one before it left
+abbrev pub InTurn : {S L : Type 0} → (S → Visit L → S → Type 0) → S → List (Visit L) → S → Type 0
+InTurn step start [] now = now ≡ start
+InTurn {S} step start (visit ∷ more) now = (between : S) × step start visit between × InTurn step between more now
+
+-- these links were given back behind those that were there before, where the door still tells them
+abbrev pub GivesBack : {L : Type 0} → Option (List L) → List (Visit L) → Option (List L) → Type 0
+GivesBack {L} old visits new = IfTold new (λ after. (before : List L)
+    × (old ≡ Some before) × (after ≡ before ++ map (λ (visit : Visit L). visit.returned) visits))
+
+-- the connection did not end for a stop of the service
+abbrev pub GoesOn : Ended → Type 0
+GoesOn EndedByStop = ⊥
+GoesOn ended = Unit {0}
+
+abbrev pub AllGoOn : {L : Type 0} → List (Visit L) → Type 0
+AllGoOn {L} visits = AllByRecursion (λ (visit : Visit L). GoesOn visit.ended) visits
+
+-- the count of a door whose worker ended so: one `accept` failed where it ended for that, and else none
+abbrev pub door_faults_after : WorkerEnd → ℕ → ℕ
+door_faults_after DoorFailed count = next_count count
+door_faults_after end count = count
+
+-- A worker that serves until the service is stopped ends behind a connection, and no one before it ended for a stop; or its
+-- door accepts none.
+abbrev pub EndsWorking : {L : Type 0} → WorkerEnd → List (Visit L) → Type 0
+EndsWorking {L} Stopped visits = (front : List (Visit L)) × (last : Visit L)
+    × (visits ≡ front ++ last ∷ []) × AllGoOn front
+EndsWorking end visits = AllGoOn visits
+
+-- What a worker did, with a step for each connection, and what its end says of them.
+pub record Works {S L : Type 0} (step : S → Visit L → S → Type 0) (ends : WorkerEnd → List (Visit L) → Type 0)
+    (marks : L → LinkMarks) (faults : L → ℕ)
+    (end : WorkerEnd) (start now : S) (given given_now : Option (List L)) (count count_now : ℕ) : Type 0 where
+  pub visits : List (Visit L)
+  pub fresh : AllByRecursion (IsFresh marks faults) visits
+  pub in_turn : InTurn step start visits now
+  pub ending : ends end visits
+  pub given_back : GivesBack given visits given_now
+  pub counted : count_now ≡ door_faults_after end count

@@ -1,0 +1,113 @@
+// The worker of administrators.
+ghost use Rattle.std.specs.Prelude.{◌≡◌, ◌≤◌, List, []};
+ghost use Rattle.desk_keeper.specs.Keeper.{IsSameDisk};
+ghost use Rattle.live_desk.specs.History.{last_commit};
+ghost use Rattle.door_workers.specs.Visit.{Works};
+ghost use Rattle.admin_door.specs.Serving.{Exchange};
+ghost use Rattle.admin_door.specs.Running.{RunsOver};
+ghost use Rattle.door_workers.specs.Administrators.{office_of, VisitsOffice, EndsOffice};
+ghost use Rattle.door_workers.specs.parts.Turn.{TurnsOffice};
+
+use crate::notes::{Notes, note_store};
+use crate::workers::{WorkerEnd, accept, is_stop};
+use desk_keeper::Keeper;
+use desk_ports::Disk;
+use desk_server::serve_admin;
+use link_ports::{Door, HangEnd, Link};
+use live_desk::Publisher;
+use live_roll::Roll;
+use locked_hall::{Locked, QuestionDesk};
+use server_hall::Hall;
+use std::alloc::Global;
+use std::sync::{Mutex, Wait};
+
+/// Serves connections of administrators, one after the other, until one of them has stopped the service. Where its door
+/// accepts none it stops the service itself. What a stop at any moment may leave in the folder is told of the frames that came
+/// (`RunsOver`). It may wait.
+pub fn work_for_administrators<R: Wait, D: Disk, H: HangEnd, L: Link, E: Door<Link = L>, T: Notes>(
+    rt: &R,
+    alloc: Global,
+    keeper: &mut Keeper<'_, D>,
+    publisher: &mut Publisher,
+    roll: &Mutex<Roll<H>>,
+    questions: &QuestionDesk,
+    door: &mut E,
+    notes: &T,
+) -> WorkerEnd
+    requires behind { last_commit 0 publisher.old ≤ keeper.old.desk.commit }
+    ensures worked { (frames : List Exchange)
+        × Works (VisitsOffice L.traffic L.marks L.faults) EndsOffice L.marks L.faults result
+        (office_of D.faults keeper.old publisher.old []) (office_of D.faults keeper.new publisher.new frames)
+        (E.given_back door.old) (E.given_back door.new) (E.faults door.old) (E.faults door.new)
+        × RunsOver D.state D.moment D.left_since keeper.old keeper.new frames }
+    ensures same_disk { IsSameDisk keeper.old keeper.new }
+    ensures kind { E.kind door.new ≡ E.kind door.old }
+{
+    let end = serve_administrators(rt, alloc, keeper, publisher, roll, questions, door, notes);
+    if end != WorkerEnd::Stopped {
+        let mut hall = Locked::new(rt, roll, questions);
+        hall.stop();
+    }
+    end
+}
+
+// The same, but for the stop of the service where the door accepts none.
+fn serve_administrators<R: Wait, D: Disk, H: HangEnd, L: Link, E: Door<Link = L>, T: Notes>(
+    rt: &R,
+    alloc: Global,
+    keeper: &mut Keeper<'_, D>,
+    publisher: &mut Publisher,
+    roll: &Mutex<Roll<H>>,
+    questions: &QuestionDesk,
+    door: &mut E,
+    notes: &T,
+) -> WorkerEnd
+    requires behind { last_commit 0 publisher.old ≤ keeper.old.desk.commit }
+    ensures worked { (frames : List Exchange)
+        × Works (VisitsOffice L.traffic L.marks L.faults) EndsOffice L.marks L.faults result
+        (office_of D.faults keeper.old publisher.old []) (office_of D.faults keeper.new publisher.new frames)
+        (E.given_back door.old) (E.given_back door.new) (E.faults door.old) (E.faults door.new)
+        × RunsOver D.state D.moment D.left_since keeper.old keeper.new frames }
+    ensures same_disk { IsSameDisk keeper.old keeper.new }
+    ensures kind { E.kind door.new ≡ E.kind door.old }
+{
+    for _ in rt.forever() {
+        if let Err(end) = serve_next(rt, alloc, keeper, publisher, roll, questions, door, notes) {
+            return end;
+        }
+    }
+    unreachable!()
+}
+
+// Serves the next administrator, and says whether the worker ends behind it.
+fn serve_next<R: Wait, D: Disk, H: HangEnd, L: Link, E: Door<Link = L>, T: Notes>(
+    rt: &R,
+    alloc: Global,
+    keeper: &mut Keeper<'_, D>,
+    publisher: &mut Publisher,
+    roll: &Mutex<Roll<H>>,
+    questions: &QuestionDesk,
+    door: &mut E,
+    notes: &T,
+) -> Result<(), WorkerEnd>
+    requires behind { last_commit 0 publisher.old ≤ keeper.old.desk.commit }
+    ensures worked { TurnsOffice D.faults D.state D.moment D.left_since L.traffic L.marks L.faults result
+        keeper.old publisher.old (E.given_back door.old) (E.faults door.old)
+        keeper.new publisher.new (E.given_back door.new) (E.faults door.new) }
+    ensures behind { last_commit 0 publisher.new ≤ keeper.new.desk.commit }
+    ensures same_disk { IsSameDisk keeper.old keeper.new }
+    ensures kind { E.kind door.new ≡ E.kind door.old }
+{
+    let mut link = match accept(door) {
+        Ok(link) => link,
+        Err(end) => return Err(end),
+    };
+    let was_decided = keeper.is_decided();
+    let ended = serve_admin(rt, alloc, keeper, publisher, roll, questions, &mut link);
+    note_store(notes, was_decided, keeper.is_decided());
+    door.give_back(link);
+    if is_stop(&ended) {
+        return Err(WorkerEnd::Stopped);
+    }
+    Ok(())
+}

@@ -1,0 +1,168 @@
+// Workers of clients and of agents.
+ghost use Rattle.std.specs.Prelude.{◌≡◌, ℕ, List, Option, IfOk, MatchResult};
+ghost use Rattle.std.specs.Bool.{OnTrue, OnFalse};
+ghost use Rattle.link_ports.specs.LinkMarks.{fresh_marks};
+ghost use Rattle.live_desk.specs.Seat.{SeatState};
+ghost use Rattle.door_frames.specs.declared.endings.Ended.TheVariants.{Stopped as EndedByStop};
+ghost use Rattle.door_workers.specs.Visit.{Works, EndsWorking, GoesOn};
+ghost use Rattle.door_workers.specs.Clients.{VisitsClients};
+ghost use Rattle.door_workers.specs.Agents.{VisitsAgents};
+ghost use Rattle.door_workers.specs.parts.Turn.{SoFar, RefusesLink};
+
+use desk_ports::PortFault;
+use desk_server::{serve_agent, serve_client};
+use door_frames::Ended;
+use link_ports::{Door, Gate, HangEnd, Link};
+use live_desk::Seat;
+use live_roll::Roll;
+use locked_hall::QuestionDesk;
+use std::alloc::Global;
+use std::sync::{Mutex, Wait};
+
+/// Why a worker serves no further connection.
+#[derive(Clone, Copy, Debug, PartialEq, Eq)]
+pub enum WorkerEnd {
+    /// The service is stopped.
+    Stopped,
+    /// An `accept` of its door failed.
+    DoorFailed,
+    /// An `accept` of its door found no memory.
+    Memory,
+}
+
+/// Serves connections of clients, one after the other, in the place of the seat. It ends behind one that ended for a stop, or
+/// at whose end the service was stopped, or where its door accepts none. It may wait.
+pub fn work_for_clients<R: Wait, H: HangEnd, L: Link<End = H>, D: Door<Link = L>, G: Gate>(
+    rt: &R,
+    alloc: Global,
+    seat: &mut Seat,
+    roll: &Mutex<Roll<H>>,
+    questions: &QuestionDesk,
+    door: &mut D,
+    gate: &G,
+) -> WorkerEnd
+    ensures worked { Works (VisitsClients L.traffic L.marks L.faults) EndsWorking L.marks L.faults result seat.old seat.new
+        (D.given_back door.old) (D.given_back door.new) (D.faults door.old) (D.faults door.new) }
+    ensures kind { D.kind door.new ≡ D.kind door.old }
+{
+    for _ in rt.forever() {
+        if let Err(end) = serve_next_client(rt, alloc, seat, roll, questions, door, gate) {
+            return end;
+        }
+    }
+    unreachable!()
+}
+
+// Serves the next client, and says whether the worker ends behind it.
+fn serve_next_client<R: Wait, H: HangEnd, L: Link<End = H>, D: Door<Link = L>, G: Gate>(
+    rt: &R,
+    alloc: Global,
+    seat: &mut Seat,
+    roll: &Mutex<Roll<H>>,
+    questions: &QuestionDesk,
+    door: &mut D,
+    gate: &G,
+) -> Result<(), WorkerEnd>
+    ensures worked { (start : SeatState) (given : Option (List L)) (count : ℕ)
+        → SoFar (VisitsClients L.traffic L.marks L.faults) L.marks L.faults start seat.old given (D.given_back door.old)
+        count (D.faults door.old) → MatchResult result
+        (λ _. SoFar (VisitsClients L.traffic L.marks L.faults) L.marks L.faults start seat.new given (D.given_back door.new)
+        count (D.faults door.new))
+        (λ end. Works (VisitsClients L.traffic L.marks L.faults) EndsWorking L.marks L.faults end start seat.new
+        given (D.given_back door.new) count (D.faults door.new)) }
+    ensures kind { D.kind door.new ≡ D.kind door.old }
+{
+    let mut link = match accept(door) {
+        Ok(link) => link,
+        Err(end) => return Err(end),
+    };
+    let ended = serve_client(rt, alloc, seat, roll, questions, &mut link, gate);
+    door.give_back(link);
+    if is_over(rt, questions, &ended) {
+        return Err(WorkerEnd::Stopped);
+    }
+    Ok(())
+}
+
+/// Serves connections of agents, one after the other. It ends as a worker of clients does. It may wait.
+pub fn work_for_agents<R: Wait, H: HangEnd, L: Link, D: Door<Link = L>>(
+    rt: &R,
+    alloc: Global,
+    roll: &Mutex<Roll<H>>,
+    questions: &QuestionDesk,
+    door: &mut D,
+) -> WorkerEnd
+    ensures worked { Works (VisitsAgents L.traffic L.marks L.faults) EndsWorking L.marks L.faults result tt tt
+        (D.given_back door.old) (D.given_back door.new) (D.faults door.old) (D.faults door.new) }
+    ensures kind { D.kind door.new ≡ D.kind door.old }
+{
+    for _ in rt.forever() {
+        if let Err(end) = serve_next_agent(rt, alloc, roll, questions, door) {
+            return end;
+        }
+    }
+    unreachable!()
+}
+
+// Serves the next agent, and says whether the worker ends behind it.
+fn serve_next_agent<R: Wait, H: HangEnd, L: Link, D: Door<Link = L>>(
+    rt: &R,
+    alloc: Global,
+    roll: &Mutex<Roll<H>>,
+    questions: &QuestionDesk,
+    door: &mut D,
+) -> Result<(), WorkerEnd>
+    ensures worked { (given : Option (List L)) (count : ℕ)
+        → SoFar (VisitsAgents L.traffic L.marks L.faults) L.marks L.faults tt tt given (D.given_back door.old)
+        count (D.faults door.old) → MatchResult result
+        (λ _. SoFar (VisitsAgents L.traffic L.marks L.faults) L.marks L.faults tt tt given (D.given_back door.new)
+        count (D.faults door.new))
+        (λ end. Works (VisitsAgents L.traffic L.marks L.faults) EndsWorking L.marks L.faults end tt tt
+        given (D.given_back door.new) count (D.faults door.new)) }
+    ensures kind { D.kind door.new ≡ D.kind door.old }
+{
+    let mut link = match accept(door) {
+        Ok(link) => link,
+        Err(end) => return Err(end),
+    };
+    let ended = serve_agent(rt, alloc, roll, questions, &mut link);
+    door.give_back(link);
+    if is_over(rt, questions, &ended) {
+        return Err(WorkerEnd::Stopped);
+    }
+    Ok(())
+}
+
+/// The next link of the door.
+pub(crate) fn accept<D: Door>(door: &mut D) -> Result<D::Link, WorkerEnd>
+    ensures fresh { IfOk result (λ link. D.Link.faults link ≡ 0) }
+    ensures unmarked { IfOk result (λ link. D.Link.marks link ≡ fresh_marks) }
+    ensures kept { D.given_back door.new ≡ D.given_back door.old }
+    ensures kind { D.kind door.new ≡ D.kind door.old }
+    ensures count { MatchResult result (λ _. D.faults door.new ≡ D.faults door.old)
+        (λ end. RefusesLink end (D.faults door.old) (D.faults door.new)) }
+{
+    match door.accept() {
+        Ok(link) => Ok(link),
+        Err(PortFault::Failed) => Err(WorkerEnd::DoorFailed),
+        Err(PortFault::Memory(_)) => Err(WorkerEnd::Memory),
+    }
+}
+
+// Whether the service is stopped by the time that a connection ended so.
+pub(crate) fn is_over<R: Wait>(rt: &R, questions: &QuestionDesk, ended: &Ended) -> bool
+    ensures { OnFalse result (GoesOn ended.now) }
+{
+    if is_stop(ended) {
+        return true;
+    }
+    questions.is_stopped(rt)
+}
+
+/// Whether a connection ended for a stop of the service.
+pub(crate) fn is_stop(ended: &Ended) -> bool
+    ensures stop { OnTrue result (ended.now ≡ EndedByStop) }
+    ensures other { OnFalse result (GoesOn ended.now) }
+{
+    matches!(ended, Ended::Stopped)
+}

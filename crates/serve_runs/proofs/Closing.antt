@@ -1,0 +1,50 @@
+-- Doors that are closed one after the other, and what that does to the count of their net.
+use Rattle.std.proofs.Common.{◌≡◌, ◌∙◌, ◌≤◌, ℕ, List, [], ◌∷◌, ◌++◌, Option, Some, refl, sym, ap, subst, append_assoc, append-nil, arith}
+use Rattle.desk_ports.specs.Faults.{next_count}
+use Rattle.link_ports.specs.NetCounts.{count_after_close}
+use Rattle.link_ports.specs.Told.{AppendsTold}
+use Rattle.door_workers.specs.Visit.{door_faults_after}
+use Rattle.door_workers.specs.declared.workers.WorkerEnd.{WorkerEnd}
+use Rattle.door_workers.specs.declared.workers.WorkerEnd.TheVariants.{DoorFailed}
+use Rattle.run_endings.specs.declared.endings.Ending.{Ending}
+use Rattle.run_endings.specs.declared.endings.Ending.TheVariants.{Done, Memory, Words, Line, Source, Sink, Disk, Net, Damaged, Reply, TooLong}
+use Rattle.serve_runs.specs.Serving.{ClosesDoors, HasRisen, EndsUnopened}
+
+pub closes_none : {E : Type 0} (told : Option (List E)) → ClosesDoors told [] told
+closes_none told = λ after is. (after, is, sym (append-nil after))
+
+pub closes_one : {E : Type 0} (old new : Option (List E)) (door : E) → AppendsTold old door new → ClosesDoors old (door ∷ []) new
+closes_one old new door appends = appends
+
+pub closes_then : {E : Type 0} (old between new : Option (List E)) (first more : List E) → ClosesDoors old first between
+    → ClosesDoors between more new → ClosesDoors old (first ++ more) new
+closes_then {E} old between new first more some others = λ after told.
+    let (middle, middle_told, after_is) = others after told in
+    let (before, old_told, middle_is) = some middle middle_told in
+    (before, old_told, after_is ∙ (ap (λ (doors : List E). doors ++ more) middle_is ∙ append_assoc before first more))
+
+risen_since : (before between after : ℕ) → before ≤ between → next_count between ≤ after → HasRisen before after
+risen_since before between after no_less risen = omega (arith, no_less, risen)
+
+-- why doors were not opened, seen from earlier on
+pub unopened_since : (ending : Ending) (before between after : ℕ) → before ≤ between → EndsUnopened ending between after
+    → EndsUnopened ending before after
+unopened_since Memory before between after no_less ends = tt
+unopened_since Net before between after no_less ends = risen_since before between after no_less ends
+unopened_since Done before between after no_less ends = absurd ends
+unopened_since Words before between after no_less ends = absurd ends
+unopened_since (Line n) before between after no_less ends = absurd ends
+unopened_since Source before between after no_less ends = absurd ends
+unopened_since Sink before between after no_less ends = absurd ends
+unopened_since Disk before between after no_less ends = absurd ends
+unopened_since (Damaged f l) before between after no_less ends = absurd ends
+unopened_since Reply before between after no_less ends = absurd ends
+unopened_since (TooLong n) before between after no_less ends = absurd ends
+
+-- a door whose `accept` failed raises the count of its net when it is closed
+pub door_failed : (end : WorkerEnd) (faults before opened closed after : ℕ) → before ≤ opened → faults ≡ door_faults_after end 0
+    → closed ≡ count_after_close faults opened → closed ≤ after → end ≡ DoorFailed → HasRisen before after
+door_failed end faults before opened closed after no_less counted closes later is =
+    let faults_is : faults ≡ next_count 0 = subst (λ (e : WorkerEnd). faults ≡ door_faults_after e 0) is counted in
+    let closed_is : closed ≡ next_count opened = subst (λ (n : ℕ). closed ≡ count_after_close n opened) faults_is closes in
+    risen_since before opened after no_less (subst (λ (n : ℕ). n ≤ after) closed_is later)

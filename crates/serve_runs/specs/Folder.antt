@@ -1,0 +1,33 @@
+-- What a stop at any moment of a service may have left in its folder.
+use Rattle.std.specs.Prelude.{◌≡◌, ◌≤◌, ◌⊎◌, ℕ, List, [], ◌++◌, Some, Ok}
+use Rattle.desk_ports.specs.FileMap.{FileMap}
+use Rattle.desk_ports.specs.Disk.{DiskState, MayLeave}
+use Rattle.desk_state.specs.DeskState.{DeskState}
+use Rattle.desk_keeper.specs.Kept.{kept}
+use Rattle.desk_keeper.specs.Keeping.{StandsAsAllowed}
+use Rattle.admin_door.specs.Serving.{Exchange}
+use Rattle.admin_door.specs.Running.{StandsSince, StandsBehind}
+use Rattle.run_endings.specs.Outside.{DiskSeen}
+
+-- A folder was mounted that told this state at entry, and administrators then sent these frames, each with its answer.
+pub record KeepsService (entry : DiskState) (before after : DiskSeen) (start : DeskState) (frames : List Exchange) : Type 0 where
+  pub stood : kept entry.current ≡ Ok start
+  -- what the disk told once the folder was mounted, when a stop left nothing but what stands for the state
+  pub mounted : DiskState
+  pub alone : (map : FileMap) → MayLeave mounted map → kept map ≡ Ok start
+  pub mounted_at : ℕ
+  pub later : before.moment ≤ mounted_at
+  pub within : mounted_at ≤ after.moment
+  -- Until then a stop leaves what one at entry may have left, and from then on what the first few of the frames made of the
+  -- state, or the one that was answered then.
+  pub mounting : (map : FileMap) → after.left_since before.moment map
+      → StandsAsAllowed entry map ⊎ StandsSince mounted [] frames map
+  pub running : (map : FileMap) → after.left_since mounted_at map → StandsSince mounted [] frames map
+  -- From some moment on the first of the frames are answered, and no stop leaves what stood before them.
+  pub since : (front back : List Exchange) → frames ≡ front ++ back
+      → (at : ℕ) × (mounted_at ≤ at) × (at ≤ after.moment)
+      × ((map : FileMap) → after.left_since at map → StandsSince mounted front back map)
+  -- behind the run a stop leaves what all of them made of it
+  pub now : DiskState
+  pub told : after.state ≡ Some now
+  pub behind : (map : FileMap) → MayLeave now map → StandsBehind mounted frames map

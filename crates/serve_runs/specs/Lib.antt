@@ -1,0 +1,4 @@
+pub mod Serving
+pub mod Folder
+pub mod Run
+pub mod parts

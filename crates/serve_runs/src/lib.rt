@@ -1,0 +1,14 @@
+//! `serve W`: the service of a device over its folder, with a worker on a thread of its own for each of W connections of
+//! clients and for each of eight of agents. The calling thread serves the administrators, and each way out ends all of it.
+#![tactic(auto)]
+
+mod beside;
+mod crews;
+mod doors;
+mod endings;
+mod runs;
+mod serving;
+mod telling;
+
+pub use crews::AGENT_WORKERS;
+pub use runs::{MOST_CLIENT_WORKERS, run_serve};
