@@ -128,12 +128,11 @@ fn told_of_two<R: Wait>(rt: &R, alloc: Global, reader: &mut Reader) -> Option<St
 {
     let allowed = reader.next(rt)?;
     let denied = reader.next(rt)?;
-    let names = [allowed.client, allowed.user, allowed.privilege];
     format!(in alloc;
         "an entry: {:?}, {:?}, {:?}; {} at {}, then {} at {}",
-        text(&names[0])?,
-        text(&names[1])?,
-        text(&names[2])?,
+        text(&allowed.client)?,
+        text(&allowed.user)?,
+        text(&allowed.privilege)?,
         allowed.allowed,
         allowed.commit,
         denied.allowed,
