@@ -1,5 +1,6 @@
 pub mod Visit
 pub mod Clients
+pub mod Monitored
 pub mod Agents
 pub mod Administrators
 pub mod parts

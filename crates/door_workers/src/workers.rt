@@ -150,7 +150,7 @@ pub(crate) fn accept<D: Door>(door: &mut D) -> Result<D::Link, WorkerEnd>
 }
 
 // Whether the service is stopped by the time that a connection ended so.
-fn is_over<R: Wait>(rt: &R, questions: &QuestionDesk, ended: &Ended) -> bool
+pub(crate) fn is_over<R: Wait>(rt: &R, questions: &QuestionDesk, ended: &Ended) -> bool
     ensures { OnFalse result (GoesOn ended.now) }
 {
     if is_stop(ended) {

@@ -3,7 +3,8 @@ use Rattle.std.proofs.Common.{◌≡◌, ◌∙◌, ◌<◌, ℕ, zero, suc, Lis
 use Rattle.std.specs.List.{AllZip}
 use Rattle.std.proofs.lemmas.List.Elements.{AllZip-push}
 use Rattle.atomic_table.specs.Seated.{TableId}
-use Rattle.check_monitor.specs.Monitor.{RecorderState, ReaderState, AreAll, IsSame}
+use Rattle.check_monitor.specs.Monitor.{RecorderState, ReaderState, AreAll, IsSame, HandsOut}
+use Rattle.monitor_rule.specs.declared.entries.Entry.{Entry}
 use Rattle.check_monitor.proofs.All.{all_same, same_itself}
 use Rattle.monitor_cases.specs.Cases.{IsSameReader}
 
@@ -20,6 +21,13 @@ pub all_still : (old new : ReaderState) (recorders now : List RecorderState) →
 all_still old new recorders now (queue, made) same all =
     subst (λ (q : TableId). AreAll q new.made now) (sym queue)
     (subst (λ (n : ℕ). AreAll old.queue n now) (sym made) (all_same old.queue old.made recorders now same all))
+
+-- a reader that handed out an entry is still the same
+pub reader_chain : (a b c : ReaderState) → IsSameReader a b → IsSameReader b c → IsSameReader a c
+reader_chain a b c one then = (then.0 ∙ one.0, then.1 ∙ one.1)
+
+pub reader_handed : (a b : ReaderState) (entry : Entry) → HandsOut a entry b → IsSameReader a b
+reader_handed a b entry (is, numbered) = (ap (λ (r : ReaderState). r.queue) is, ap (λ (r : ReaderState). r.made) is)
 
 -- place by place
 pub zip_each : (old new : List RecorderState) → length new ≡ length old

@@ -36,6 +36,7 @@ fn two_record<R: Wait>(
 }
 
 // The first records twice, the second once, and once more after an entry was handed out.
+#[tactic(auto, using(crate::proofs::Same::chain, crate::proofs::Same::reader_handed))]
 fn record_in_turn<R: Wait>(
     rt: &R,
     alloc: Global,
@@ -121,17 +122,17 @@ fn record_two<R: Wait>(rt: &R, alloc: Global, recorders: &mut Vec<Recorder>) -> 
     Some(())
 }
 
+#[tactic(auto, using(crate::proofs::Same::reader_chain, crate::proofs::Same::reader_handed))]
 fn told_of_two<R: Wait>(rt: &R, alloc: Global, reader: &mut Reader) -> Option<String>
     ensures { IsSameReader reader.old reader.new }
 {
     let allowed = reader.next(rt)?;
     let denied = reader.next(rt)?;
-    let names = [allowed.client, allowed.user, allowed.privilege];
     format!(in alloc;
         "an entry: {:?}, {:?}, {:?}; {} at {}, then {} at {}",
-        text(&names[0])?,
-        text(&names[1])?,
-        text(&names[2])?,
+        text(&allowed.client)?,
+        text(&allowed.user)?,
+        text(&allowed.privilege)?,
         allowed.allowed,
         allowed.commit,
         denied.allowed,

@@ -120,6 +120,7 @@ fn fill_on_threads<R: Wait + Threads + Sync>(rt: &R, recorders: &mut [Recorder],
 }
 
 // Takes entries so often as all workers record.
+#[tactic(auto, using(crate::proofs::Same::reader_chain, crate::proofs::Same::reader_handed))]
 fn take_some<R: Wait>(rt: &R, reader: &mut Reader, tally: &mut Tally)
     ensures { IsSameReader reader.old reader.new }
 {

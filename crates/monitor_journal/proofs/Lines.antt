@@ -1,5 +1,5 @@
 -- Lines that are spelled one after the other, and written.
-use Rattle.std.proofs.Common.{◌≡◌, ◌∙◌, ◌≤◌, ℕ, suc, List, [], ◌∷◌, ◌++◌, length, Option, Some, None, refl, sym, ap, subst, append_assoc, append-nil, arith}
+use Rattle.std.proofs.Common.{◌≡◌, ◌∙◌, ◌≤◌, ◌+◌, ℕ, suc, List, [], ◌∷◌, ◌++◌, length, Option, Some, None, refl, sym, ap, subst, append_assoc, append-nil, arith}
 use Rattle.std.proofs.lemmas.List.{length-append}
 use Rattle.std.proofs.lemmas.Grind.{flat_map-append}
 use Rattle.desk_ports.specs.Content.{Appended}
@@ -89,9 +89,11 @@ writes_spelled GoesOn SinkFailed now text room before after one then = absurd on
 writes_spelled GoesOn OutOfMemory now text room before after one (same, still) =
     subst (λ (w : Writing). Writes GoesOn text before w after) (sym same) (
       ap (λ (x : SinkSeen). x.faults) still,
-      0,
-      omega arith,
-      subst (λ (x : SinkSeen). Appended before.taken [] x.taken) (sym still) (takes_none before.taken),
+      (
+        0,
+        omega arith,
+        subst (λ (x : SinkSeen). Appended before.taken [] x.taken) (sym still) (takes_none before.taken),
+      ),
     )
 writes_spelled SinkFailed spelled now text room before after one then = stays spelled now room before after one then
   where

@@ -3,8 +3,8 @@ use Rattle.monitor_journal.specs.parts.Spelling.{SpellsEntries}
 use Rattle.monitor_journal.proofs.journals.spell_entries.Given as goal
 
 -- the entries so far were spelled
-abbrev pub invariant-loop : goal.invariant-loop
-invariant-loop g l = (l.taken ≤ 1024) × SpellsEntries l.taken l.fn.reader l.reader l.fn.writing l.spelled l.fn.room l.room
+abbrev pub invariant-loop-taken : goal.invariant-loop-taken
+invariant-loop-taken g l = (l.taken ≤ 1024) × SpellsEntries l.taken l.fn.reader l.reader l.fn.writing l.spelled l.fn.room l.room
 
-abbrev pub decreases-loop : goal.decreases-loop
-decreases-loop g l = 1024 - l.taken
+abbrev pub decreases-loop-taken : goal.decreases-loop-taken
+decreases-loop-taken g l = 1024 - l.taken
