@@ -253,7 +253,7 @@ class Service:
         self.keeper = Keeper(disk)
         self.published, self.note = self.keeper.desk, self.keeper.desk.commit
         self.cleared = self.stops = 0
-        self.entered = None
+        self.entered = self.client = None
 
     def enter(self):
         self.client = "shut" if self.stops else "up"

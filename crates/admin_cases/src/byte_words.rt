@@ -2,35 +2,31 @@
 use case_words::{Failure, frame_bytes};
 use std::alloc::{AllocError, Global};
 
-fn put_text(bytes: &mut Vec<u8>, text: &[u8]) -> Result<(), AllocError> {
-    bytes.push(0)?;
-    bytes.push(text.len() as u8)?;
-    bytes.extend_from_slice(text)
-}
-
-fn digit(number: u32, unit: u32) -> u8 {
-    b'0' + (number / unit % 10) as u8
+// The last digit.
+fn digit(number: u32) -> u8 {
+    b'0' + (number % 10) as u8
 }
 
 // That the policy of `c`, `u` and the privilege of these five digits is set to ALLOW in the root bucket.
 fn put_row(bytes: &mut Vec<u8>, number: u32) -> Result<(), AllocError> {
     let digits = [
-        digit(number, 10000),
-        digit(number, 1000),
-        digit(number, 100),
-        digit(number, 10),
-        digit(number, 1),
+        digit(number / 10000),
+        digit(number / 1000),
+        digit(number / 100),
+        digit(number / 10),
+        digit(number),
     ];
-    bytes.extend_from_slice(&[1, 0, 0])?;
-    put_text(bytes, b"c")?;
-    put_text(bytes, b"u")?;
-    put_text(bytes, &digits)?;
+    bytes.extend_from_slice(&[1, 0, 0, 0, 1, b'c', 0, 1, b'u', 0, 5])?;
+    bytes.extend_from_slice(&digits)?;
     bytes.extend_from_slice(&[255, 255, 0, 0])
 }
 
 // The message that sets these policies. Each of them takes 20 bytes.
 fn put_rows(bytes: &mut Vec<u8>, first: u32, end: u32) -> Result<(), Failure> {
-    if first > end || end > 65536 {
+    if first > end {
+        return Err(Failure::Words);
+    }
+    if end > 65536 {
         return Err(Failure::Words);
     }
     let count = end - first;

@@ -1,8 +1,8 @@
 // A connection of an administrator.
 use crate::byte_words::bytes_of;
-use crate::shown::{put_ended, put_sent};
+use crate::shown::{put_endings, put_sent};
 use admin_door::admin_loop;
-use case_links::CutLink;
+use case_outside::CutLink;
 use case_words::Failure;
 use desk_keeper::Keeper;
 use desk_ports::Disk;
@@ -23,15 +23,29 @@ pub fn put_served<R: Wait, D: Disk, A: Hall>(
     words: &str,
     text: &mut String,
 ) -> Result<(), Failure> {
-    let Some((link, bytes)) = words.split_once("|") else {
-        return Err(Failure::Words);
-    };
-    let mut link = CutLink::over(alloc, link, bytes_of(alloc, bytes)?)?;
-    let mut endings = Vec::new(alloc);
-    serve(rt, alloc, keeper, publisher, hall, &mut link, &mut endings)?;
-    for ended in &endings {
-        put_ended(alloc, text, ended)?;
+    let mut link = link_of(alloc, words)?;
+    put_connection(rt, alloc, keeper, publisher, hall, &mut link, text)
+}
+
+fn link_of(alloc: Global, words: &str) -> Result<CutLink, Failure> {
+    match words.split_once("|") {
+        Some((link, bytes)) => CutLink::over(alloc, link, bytes_of(alloc, bytes)?),
+        None => Err(Failure::Words),
     }
+}
+
+fn put_connection<R: Wait, D: Disk, A: Hall>(
+    rt: &R,
+    alloc: Global,
+    keeper: &mut Keeper<'_, D>,
+    publisher: &mut Publisher,
+    hall: &mut A,
+    link: &mut CutLink,
+    text: &mut String,
+) -> Result<(), Failure> {
+    let mut endings = Vec::new(alloc);
+    serve(rt, alloc, keeper, publisher, hall, link, &mut endings)?;
+    put_endings(alloc, text, &endings)?;
     put_sent(alloc, text, link.sent())
 }
 

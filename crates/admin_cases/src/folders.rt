@@ -1,7 +1,7 @@
 // A case: a folder is mounted, connections are served over it, and then it is told what it holds.
-use crate::services;
-use crate::shown::{Sum, put_folder_counts, put_refusal};
-use crate::worn_disks::WornDisk;
+use crate::services::with_keeper;
+use crate::shown::{Sum, put_refusal};
+use case_outside::WornDisk;
 use case_words::Failure;
 use desk_keeper::Keeper;
 use desk_ports::{Disk, FileName};
@@ -33,14 +33,8 @@ fn told_over<R: Wait, D: Disk>(
     text: &mut String,
 ) -> Result<bool, Failure> {
     match Keeper::mount(alloc, disk) {
-        Ok(mut keeper) => {
-            services::with_keeper(rt, alloc, &mut keeper, connections, text)?;
-            Ok(true)
-        }
-        Err(unkept) => {
-            put_refusal(alloc, text, &unkept.refusal)?;
-            Ok(false)
-        }
+        Ok(mut keeper) => with_keeper(rt, alloc, &mut keeper, connections, text),
+        Err(unkept) => put_refusal(alloc, text, &unkept.refusal),
     }
 }
 
@@ -49,7 +43,11 @@ fn put_folder(alloc: Global, disk: &mut WornDisk, text: &mut String) -> Result<(
     let faults = disk.faults();
     let names = disk.names()?;
     let sum = sum_of_files(disk, &names)?;
-    put_folder_counts(alloc, text, names.len(), sum, faults, made)
+    let told = format!(in alloc;
+        "{} files, sum {sum}, {faults} failures of {made} calls",
+        names.len()
+    )?;
+    Ok(text.push_str(told.as_str())?)
 }
 
 fn sum_of_files(disk: &mut WornDisk, names: &[FileName]) -> Result<u32, Failure> {

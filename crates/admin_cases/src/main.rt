@@ -23,7 +23,6 @@ mod connections;
 mod folders;
 mod services;
 mod shown;
-mod worn_disks;
 
 use case_words::Failure;
 use std::alloc::{AllocError, Global};

@@ -1,7 +1,6 @@
 // A service over a keeper: what is published, a hall in memory, and one seat.
 use crate::connections::put_served;
-use crate::shown::{Standing, put_standing};
-use case_links::CutLink;
+use case_outside::CutLink;
 use case_words::Failure;
 use cynara_keys::{Name, Question};
 use desk_keeper::Keeper;
@@ -12,14 +11,14 @@ use server_hall::{Hall, ListHall};
 use std::alloc::Global;
 use std::sync::Wait;
 
-/// Serves the connections in turn, and tells of each.
+/// Serves the connections in turn, and tells of each. Answers true: the folder was mounted.
 pub fn with_keeper<R: Wait, D: Disk>(
     rt: &R,
     alloc: Global,
     keeper: &mut Keeper<'_, D>,
     connections: &str,
     text: &mut String,
-) -> Result<(), Failure> {
+) -> Result<bool, Failure> {
     let (mut publisher, seats, roll) = start(rt, alloc, keeper.desk(), 1)?;
     let told = with_seats(
         rt,
@@ -32,7 +31,10 @@ pub fn with_keeper<R: Wait, D: Disk>(
         text,
     );
     publisher.end(rt);
-    told
+    match told {
+        Ok(()) => Ok(true),
+        Err(failure) => Err(failure),
+    }
 }
 
 fn with_seats<R: Wait, D: Disk>(
@@ -46,20 +48,42 @@ fn with_seats<R: Wait, D: Disk>(
     text: &mut String,
 ) -> Result<(), Failure> {
     match seats.pop() {
-        Some(mut seat) => {
-            let mut hall = ListHall::new(alloc, Vec::new(alloc), roll)?;
-            with_hall(
-                rt,
-                alloc,
-                keeper,
-                publisher,
-                &mut hall,
-                &mut seat,
-                connections,
-                text,
-            )
-        }
+        Some(mut seat) => with_seat(
+            rt,
+            alloc,
+            keeper,
+            publisher,
+            &mut seat,
+            roll,
+            connections,
+            text,
+        ),
         None => Err(Failure::Refused),
+    }
+}
+
+fn with_seat<R: Wait, D: Disk>(
+    rt: &R,
+    alloc: Global,
+    keeper: &mut Keeper<'_, D>,
+    publisher: &mut Publisher,
+    seat: &mut Seat,
+    roll: Roll<MemEnd>,
+    connections: &str,
+    text: &mut String,
+) -> Result<(), Failure> {
+    match ListHall::new(alloc, Vec::new(alloc), roll) {
+        Ok(mut hall) => with_hall(
+            rt,
+            alloc,
+            keeper,
+            publisher,
+            &mut hall,
+            seat,
+            connections,
+            text,
+        ),
+        Err(error) => Err(Failure::Memory(error)),
     }
 }
 
@@ -91,23 +115,59 @@ fn with_client<R: Wait, D: Disk>(
     text: &mut String,
 ) -> Result<(), Failure> {
     let mut client = CutLink::of(alloc, "- - -", "")?;
-    let entered = enters(hall, seat, &mut client)?;
+    beside_client(
+        rt,
+        alloc,
+        keeper,
+        publisher,
+        hall,
+        seat,
+        &mut client,
+        words,
+        text,
+    )
+}
+
+fn beside_client<R: Wait, D: Disk>(
+    rt: &R,
+    alloc: Global,
+    keeper: &mut Keeper<'_, D>,
+    publisher: &mut Publisher,
+    hall: &mut ListHall<MemEnd>,
+    seat: &mut Seat,
+    client: &mut CutLink,
+    words: &str,
+    text: &mut String,
+) -> Result<(), Failure> {
+    let entered = enters(hall, seat, client)?;
     put_served(rt, alloc, keeper, publisher, hall, words, text)?;
-    let standing = Standing {
-        commit: keeper.desk().commit(),
-        decided: keeper.is_decided(),
-        published: publisher.commit(),
-        cleared: hall.tally().cleared(),
-        stops: hall.tally().stop_calls(),
-        entered,
-        is_up: client.is_up(),
-    };
-    put_standing(alloc, text, &standing)?;
+    let standing = format!(in alloc;
+        "commit {}{} published {} cleared {} stops {} client {} checked ",
+        keeper.desk().commit(),
+        if keeper.is_decided() {
+            ""
+        } else {
+            " undecided"
+        },
+        publisher.commit(),
+        hall.tally().cleared(),
+        hall.tally().stop_calls(),
+        client_word(entered, client.is_up())
+    )?;
+    text.push_str(standing.as_str())?;
     put_check(rt, alloc, seat, text)
 }
 
+fn client_word(entered: bool, is_up: bool) -> &'static str {
+    match (entered, is_up) {
+        (false, _) => "shut",
+        (true, true) => "up",
+        (true, false) => "hung",
+    }
+}
+
 // Whether the client was let in.
-fn enters<L: Link, A: Hall<End = L::End>>(
+fn enters<A: Hall, L: Link<End = A::End>>(
     hall: &mut A,
     seat: &mut Seat,
     client: &mut L,

@@ -1,22 +1,9 @@
 // How connections ended, and what stands then, as texts.
+use case_outside::put_hex;
 use case_words::{Failure, put_bytes};
 use desk_keeper::KeeperRefusal;
 use door_frames::Ended;
 use std::alloc::{AllocError, Global};
-
-const DIGITS: &[u8; 16] = b"0123456789abcdef";
-
-/// What stands behind a connection.
-#[derive(Drop)]
-pub struct Standing {
-    pub commit: u64,
-    pub decided: bool,
-    pub published: u64,
-    pub cleared: u64,
-    pub stops: u64,
-    pub entered: bool,
-    pub is_up: bool,
-}
 
 /// A sum of bytes, by which many are told: FNV-1a of 32 bits.
 #[derive(Drop)]
@@ -40,11 +27,6 @@ impl Sum {
     }
 }
 
-fn put_byte(text: &mut String, byte: u8) -> Result<(), AllocError> {
-    text.push(char::from(DIGITS[(byte >> 4) as usize]))?;
-    text.push(char::from(DIGITS[(byte & 15) as usize]))
-}
-
 fn ended_text(alloc: Global, ended: &Ended) -> Result<String, AllocError> {
     match ended {
         Ended::Closed => String::from_str(alloc, "closed"),
@@ -57,10 +39,13 @@ fn ended_text(alloc: Global, ended: &Ended) -> Result<String, AllocError> {
     }
 }
 
-/// Adds how a connection ended.
-pub fn put_ended(alloc: Global, text: &mut String, ended: &Ended) -> Result<(), AllocError> {
-    text.push_str(ended_text(alloc, ended)?.as_str())?;
-    text.push(' ')
+/// Adds how each connection ended.
+pub fn put_endings(alloc: Global, text: &mut String, endings: &[Ended]) -> Result<(), AllocError> {
+    for ended in endings {
+        text.push_str(ended_text(alloc, ended)?.as_str())?;
+        text.push(' ')?;
+    }
+    Ok(())
 }
 
 /// Adds the bytes that were sent: each of them, or how many they are and their sum.
@@ -71,47 +56,11 @@ pub fn put_sent(alloc: Global, text: &mut String, sent: &[u8]) -> Result<(), Fai
         let told = format!(in alloc; "{} bytes, sum {} ", sent.len(), sum.total())?;
         return Ok(text.push_str(told.as_str())?);
     }
-    for byte in sent {
-        put_byte(text, *byte)?;
-    }
+    put_hex(text, sent)?;
     Ok(text.push(' ')?)
 }
 
-fn client_word(standing: &Standing) -> &'static str {
-    if !standing.entered {
-        "shut"
-    } else if standing.is_up {
-        "up"
-    } else {
-        "hung"
-    }
-}
-
-/// Adds what stands behind a connection, and then the word for a check.
-pub fn put_standing(
-    alloc: Global,
-    text: &mut String,
-    standing: &Standing,
-) -> Result<(), AllocError> {
-    let decided = if standing.decided { "" } else { " undecided" };
-    let line = format!(in alloc;
-        "commit {}{} published {} cleared {} stops {} client {} checked ",
-        standing.commit,
-        decided,
-        standing.published,
-        standing.cleared,
-        standing.stops,
-        client_word(standing)
-    )?;
-    text.push_str(line.as_str())
-}
-
-/// Adds why a folder was not mounted.
-pub fn put_refusal(
-    alloc: Global,
-    text: &mut String,
-    refusal: &KeeperRefusal,
-) -> Result<(), AllocError> {
+fn put_why(alloc: Global, text: &mut String, refusal: &KeeperRefusal) -> Result<(), AllocError> {
     match refusal {
         KeeperRefusal::StoreFault => text.push_str("store fault"),
         KeeperRefusal::Damaged { file, line } => {
@@ -123,15 +72,14 @@ pub fn put_refusal(
     }
 }
 
-/// Adds what the folder holds, and the calls of its disk.
-pub fn put_folder_counts(
+/// Adds why a folder was not mounted, and answers false.
+pub fn put_refusal(
     alloc: Global,
     text: &mut String,
-    files: usize,
-    sum: u32,
-    faults: u64,
-    made: u64,
-) -> Result<(), Failure> {
-    let told = format!(in alloc; "{files} files, sum {sum}, {faults} failures of {made} calls")?;
-    Ok(text.push_str(told.as_str())?)
+    refusal: &KeeperRefusal,
+) -> Result<bool, Failure> {
+    match put_why(alloc, text, refusal) {
+        Ok(()) => Ok(false),
+        Err(error) => Err(Failure::Memory(error)),
+    }
 }

@@ -83,9 +83,9 @@ carried_so start now received sent before after carried told told_now =
     (sym told_now ∙ carried before told)
 
 -- nothing came behind the frames that were answered whole
-record IsAlone (between now : AdminSide) (last : List Exchange) (bytes : List ℕ) : Type 0 where
+record IsAlone (between now : AdminSide) (last : List Exchange) (sent : List ℕ) : Type 0 where
   frames : last ≡ []
-  bytes : bytes ≡ []
+  bytes : sent ≡ []
   side : now ≡ between
 
 module _ (between now : AdminSide) (last : List Exchange) (bytes : List ℕ) where

@@ -6,6 +6,7 @@ use Rattle.desk_ports.specs.Moments.{LeavesOnly}
 use Rattle.desk_ports.proofs.Moments.{LeavesOnly-more}
 use Rattle.desk_state.specs.DeskState.{DeskState}
 use Rattle.desk_state.specs.Next.{next}
+use Rattle.desk_state.specs.Rules.{fault}
 use Rattle.desk_state.specs.declared.commands.Command.{Command}
 use Rattle.guard_files.specs.Telling.{StillTells}
 use Rattle.desk_keeper.specs.Kept.{kept}
@@ -20,6 +21,7 @@ use Rattle.admin_door.specs.Stops.{KeepsKnown, StandsBy, Allows}
 use Rattle.admin_door.specs.Running.{Standing, Makes, IsNotDone, LeadsTo, StandsSince, StandsBehind, ComesFrom, KeepsThrough, RunsOver}
 use Rattle.admin_door.proofs.Behind.{Did, did-answers, did-refuses}
 use Rattle.admin_door.proofs.Stopping.{allows-kept, same-state}
+use Rattle.admin_door.proofs.Running.{runs-then}
 
 -- two ways to cut a list of one
 cut-one : {X : Type 0} (x : X) (front back : List X) → x ∷ [] ≡ front ++ back
@@ -32,7 +34,7 @@ cut-one x (y ∷ z ∷ front) back is = cc
 module _ (before : DiskState) (exchange : Exchange) where
   -- what the message's command makes of a state that a stop may leave
   makes-one : (desk : DeskState) (command : Command) (other : FileMap) → command_of exchange.framed.message ≡ Some command
-      → kept other ≡ Ok desk → (accepted : _) → Makes (kept other) exchange.framed.message (next desk command)
+      → kept other ≡ Ok desk → fault desk command ≡ None → Makes (kept other) exchange.framed.message (next desk command)
   makes-one desk command other asks stands accepted =
       record { desk = desk; command = command; stood = stands; asks = asks; accepted = accepted; makes = refl }
 
@@ -78,7 +80,7 @@ module _ {D : Type 0} (state : D → Option DiskState) (moment : D → ℕ) (lef
       (old_is : old_side.desk ≡ old.desk) (now_is : now_side.desk ≡ now.desk) (decided_is : now_side.decided ≡ decided_of now) where
     module _ (before : DiskState) (told : state (disk_of old) ≡ Some before)
         (known : KeepsKnown (decided_of old) old.desk (held_of old) before) (did : Did before exchange old_side now_side) where
-      after : DiskState
+      abbrev after : DiskState
       after = (tells before told).0
 
       -- what is known of the folder behind the frame
@@ -172,3 +174,15 @@ module _ {D : Type 0} (state : D → Option DiskState) (moment : D → ℕ) (lef
           keeps-one before told known
           (did-refuses before (touched_only before told) exchange old_side exchange.told (told_is ∙ told) (allowed before known)
           (command_of exchange.framed.message) now_side refl none refuses)
+
+      -- behind whatever frames were answered before
+      pub goes-answered : (first : Keeper D) (list : List Exchange) → RunsOver state moment left_since first old list
+          → IsAnswered exchange old_side now_side → RunsOver state moment left_since first now (list ++ exchange ∷ [])
+      goes-answered first list runs answers =
+          runs-then state moment left_since first old now list (exchange ∷ []) runs (runs-answered answers)
+
+      pub goes-refused : (first : Keeper D) (list : List Exchange) → RunsOver state moment left_since first old list
+          → exchange.replies ≡ [] → RefusesBy exchange.told (command_of exchange.framed.message) old_side now_side
+          → RunsOver state moment left_since first now (list ++ exchange ∷ [])
+      goes-refused first list runs none refuses =
+          runs-then state moment left_since first old now list (exchange ∷ []) runs (runs-refused none refuses)

@@ -9,3 +9,5 @@ pub mod Framing
 pub mod Sending
 pub mod Serving
 pub mod Complete
+pub mod Lasting
+pub mod Damage

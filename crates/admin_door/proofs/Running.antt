@@ -18,27 +18,24 @@ split : {X : Type 0} (es fs front back : List X) → es ++ fs ≡ front ++ back
     → ((rest : List X) × (front ≡ es ++ rest) × (fs ≡ rest ++ back)) ⊎ ((rest : List X) × (es ≡ front ++ rest) × (back ≡ rest ++ fs))
 split [] fs front back is = inl (front, refl, is)
 split (x ∷ es) fs [] back is = inr (x ∷ es, refl, sym is)
-split {X} (x ∷ es) fs (y ∷ front) back is = both cc cc
+split {X} (x ∷ es) fs (y ∷ front) back is =
+    let same : x ≡ y = cc in
+    let rest_is : es ++ fs ≡ front ++ back = cc in
+    with_head same (split es fs front back rest_is)
   where
-    both : x ≡ y → es ++ fs ≡ front ++ back
+    with_head : x ≡ y → ((rest : List X) × (front ≡ es ++ rest) × (fs ≡ rest ++ back)) ⊎ ((rest : List X) × (es ≡ front ++ rest) × (back ≡ rest ++ fs))
         → ((rest : List X) × (y ∷ front ≡ (x ∷ es) ++ rest) × (fs ≡ rest ++ back))
         ⊎ ((rest : List X) × (x ∷ es ≡ (y ∷ front) ++ rest) × (back ≡ rest ++ fs))
-    both same rest_is = with_head same (split es fs front back rest_is)
-      where
-        with_head : x ≡ y
-            → ((rest : List X) × (front ≡ es ++ rest) × (fs ≡ rest ++ back)) ⊎ ((rest : List X) × (es ≡ front ++ rest) × (back ≡ rest ++ fs))
-            → ((rest : List X) × (y ∷ front ≡ (x ∷ es) ++ rest) × (fs ≡ rest ++ back))
-            ⊎ ((rest : List X) × (x ∷ es ≡ (y ∷ front) ++ rest) × (back ≡ rest ++ fs))
-        with_head same (inl (rest, one, two)) = inl (rest, (λ i. sym same i ∷ one i), two)
-        with_head same (inr (rest, one, two)) = inr (rest, (λ i. same i ∷ one i), two)
+    with_head same (inl (rest, one, two)) = inl (rest, (λ i. sym same i ∷ one i), two)
+    with_head same (inr (rest, one, two)) = inr (rest, (λ i. same i ∷ one i), two)
 
 -- ---- what frames lead to
 
-leads-then : (a : Standing) (es fs : List Exchange) (b c : Standing) → LeadsTo a es b → LeadsTo b fs c → LeadsTo a (es ++ fs) c
+pub leads-then : (a : Standing) (es fs : List Exchange) (b c : Standing) → LeadsTo a es b → LeadsTo b fs c → LeadsTo a (es ++ fs) c
 leads-then a [] fs b c is then = subst (λ (at : Standing). LeadsTo at fs c) is then
 leads-then a (e ∷ es) fs b c (between, one, rest) then = (between, one, leads-then between es fs b c rest then)
 
-leads-split : (a : Standing) (front back : List Exchange) (c : Standing) → LeadsTo a (front ++ back) c
+pub leads-split : (a : Standing) (front back : List Exchange) (c : Standing) → LeadsTo a (front ++ back) c
     → (b : Standing) × LeadsTo a front b × LeadsTo b back c
 leads-split a [] back c leads = (a, refl, leads)
 leads-split a (e ∷ front) back c (between, one, rest) =
@@ -49,13 +46,13 @@ within-still a [] left is = is
 within-still a (e ∷ es) left is = inl (inl is)
 
 -- a front of the frames
-within-front : (a : Standing) (es fs : List Exchange) (left : Standing) → LeadsWithin a es left → LeadsWithin a (es ++ fs) left
+pub within-front : (a : Standing) (es fs : List Exchange) (left : Standing) → LeadsWithin a es left → LeadsWithin a (es ++ fs) left
 within-front a [] fs left is = within-still a fs left is
 within-front a (e ∷ es) fs left (inl way) = inl way
 within-front a (e ∷ es) fs left (inr (between, one, rest)) = inr (between, one, within-front between es fs left rest)
 
 -- behind a front of them
-within-behind : (a : Standing) (es fs : List Exchange) (b left : Standing) → LeadsTo a es b → LeadsWithin b fs left
+pub within-behind : (a : Standing) (es fs : List Exchange) (b left : Standing) → LeadsTo a es b → LeadsWithin b fs left
     → LeadsWithin a (es ++ fs) left
 within-behind a [] fs b left is within = subst (λ (at : Standing). LeadsWithin at fs left) is within
 within-behind a (e ∷ es) fs b left (between, one, rest) within = inr (between, one, within-behind between es fs b left rest within)

@@ -20,7 +20,7 @@ use Rattle.door_frames.proofs.Carrying.{carried_more, carried_same}
 use Rattle.door_frames.proofs.Hearing.{unfed_heard}
 use Rattle.admin_door.specs.Side.{AdminSide}
 use Rattle.admin_door.specs.Answering.{Answers, Refuses}
-use Rattle.admin_door.specs.Serving.{AdminTalk, talk_of, Exchange, exchange_bytes, exchanges_bytes, frames_of, replies_bytes, IsAnswered, AreAnswered, IsNoStop, AreNoStops, StopsAt, IsUnsent, Serves}
+use Rattle.admin_door.specs.Serving.{AdminTalk, talk_of, Exchange, exchange_of, exchange_bytes, exchanges_bytes, frames_of, replies_bytes, IsAnswered, AreAnswered, IsNoStop, AreNoStops, StopsAt, IsUnsent, Serves}
 use Rattle.admin_door.specs.parts.Talk.{Stands, IsWhole, IsUnheeded, IsHalfSent, EndsAt}
 
 -- ---- lists of frames
@@ -87,7 +87,7 @@ module _ (start old : AdminTalk) (feeder fed : Feeding) (bytes : List ℕ) (fram
   between = talk_of old.side traffic marks faults
 
   abbrev pub asked : List Message → Exchange
-  asked replies = record { framed = framed; told = told; replies = replies }
+  asked replies = exchange_of framed told replies
 
   -- what was said of the frames before is said of this one with them, where it is answered, and where it is not
   abbrev pub AnsweredMore : Type 0

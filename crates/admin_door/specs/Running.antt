@@ -65,6 +65,10 @@ LeadsWithin found [] left = left ≡ found
 LeadsWithin found (exchange ∷ more) left = IsUnderWay found exchange left
     ⊎ ((between : Standing) × IsBehind found exchange between × LeadsWithin between more left)
 
+-- a policy state with this commit or a later one
+abbrev pub HasCommit : ℕ → Standing → Type 0
+HasCommit commit left = (desk : DeskState) × (left ≡ Ok desk) × (commit ≤ desk.commit)
+
 -- ---- the folder
 
 -- The map stands for what the first of the frames made of what a stop at this state may leave, and then the first few of the

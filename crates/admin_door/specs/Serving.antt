@@ -24,6 +24,9 @@ pub record Exchange : Type 0 where
   pub told : Option DiskState
   pub replies : List Message
 
+abbrev pub exchange_of : Framed → Option DiskState → List Message → Exchange
+exchange_of framed told replies = record { framed = framed; told = told; replies = replies }
+
 -- the bytes of replies: each a frame with the sequence number of the one that asked
 abbrev pub replies_bytes : ℕ → List Message → List ℕ
 replies_bytes sequence replies = flat_map (λ reply. spelling (with_sequence sequence reply)) replies

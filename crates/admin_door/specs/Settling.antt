@@ -1,9 +1,12 @@
 -- What an earlier command left undone is settled.
-use Rattle.std.specs.Prelude.{◌≡◌, ◌⊎◌, ◌≤◌, true, false, nat_lt, if◌then◌else◌, Option, Ok, Err}
+use Rattle.std.specs.Prelude.{◌≡◌, ◌⊎◌, ◌≤◌, ℕ, true, false, nat_lt, if◌then◌else◌, List, [], ◌∷◌, Option, Ok, Err}
 use Rattle.desk_ports.specs.Disk.{DiskState, WhereTold}
+use Rattle.desk_state.specs.DeskState.{DeskState}
 use Rattle.desk_keeper.specs.Kept.{kept}
 use Rattle.desk_keeper.specs.Keeping.{IsOlder}
 use Rattle.live_desk.specs.History.{last_commit}
+use Rattle.wire_messages.specs.declared.messages.Message.{Message}
+use Rattle.wire_messages.specs.declared.messages.Message.TheVariants.{StoreDamaged as StoreDamagedReply}
 use Rattle.admin_door.specs.Side.{AdminSide, with_shown, with_fault}
 use Rattle.admin_door.specs.declared.settling.Unsettled.{Unsettled}
 use Rattle.admin_door.specs.declared.settling.Unsettled.TheVariants.{StoreFault, StoreDamaged, Memory}
@@ -36,3 +39,20 @@ Unsettles told old now (StoreDamaged file line) = (old.decided ≡ false) × (no
     × WhereTold told (λ before. (kept before.current ≡ Err (record { file = file; line = line }))
     ⊎ IsOlder old.desk before.current (record { file = file; line = line }))
 Unsettles told old now Memory = (now ≡ old) ⊎ IsFound told old now
+
+-- ---- what is read behind it
+
+-- the folder reads as damaged in this file and line, or as an older state than this one
+abbrev pub ReadsDamaged : DeskState → Option DiskState → List ℕ → ℕ → Type 0
+ReadsDamaged last told file line = WhereTold told (λ after. (kept after.current ≡ Err (record { file = file; line = line }))
+    ⊎ IsOlder last after.current (record { file = file; line = line }))
+
+-- a damage that was found stands still
+abbrev pub IsStillDamaged : DeskState → Option DiskState → Unsettled → Type 0
+IsStillDamaged last told StoreFault = Unit {0}
+IsStillDamaged last told (StoreDamaged file line) = ReadsDamaged last told file line
+IsStillDamaged last told Memory = Unit {0}
+
+-- a command that is answered so leaves a folder that reads so
+abbrev pub TellsDamage : DeskState → Option DiskState → List Message → Type 0
+TellsDamage last told replies = (file : List ℕ) (line : ℕ) → replies ≡ StoreDamagedReply file line ∷ [] → ReadsDamaged last told file line

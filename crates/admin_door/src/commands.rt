@@ -1,5 +1,5 @@
 // Messages of an administrator: commands, and what else may be asked.
-ghost use Rattle.std.specs.Prelude.{◌≡◌, ◌≤◌, ◌<◌, ◌∷◌, [], true, List, Some, IfOk, MatchResult};
+ghost use Rattle.std.specs.Prelude.{◌≡◌, ◌≤◌, ◌<◌, ◌∷◌, [], true, List, Some, IfOk, MatchResult, IsSome};
 ghost use Rattle.guard_files.specs.Settled.{gone_names};
 ghost use Rattle.guard_files.specs.Telling.{StillTells};
 ghost use Rattle.desk_state.specs.DeskState.{DeskState};
@@ -18,6 +18,7 @@ ghost use Rattle.server_hall.specs.Tally.{after_stop};
 ghost use Rattle.wire_messages.specs.declared.operations.Heard.TheVariants.{AtAdmin};
 ghost use Rattle.door_frames.specs.declared.endings.Ended.TheVariants.{Memory};
 ghost use Rattle.admin_door.specs.Side.{side_of, decided_of};
+ghost use Rattle.admin_door.specs.Settling.{TellsDamage};
 ghost use Rattle.admin_door.specs.Answering.{Answers, Refuses, AnswersQuestion, Obeys, IsUnanswered, Commits, LacksMemory, AnswersUnsettled};
 ghost use Rattle.admin_door.specs.parts.Asking.{IsNoCommand};
 ghost use Rattle.admin_door.specs.parts.Showing.{Shows, IsUnshown};
@@ -68,6 +69,8 @@ pub fn answer_command<R: Wait, D: Disk, A: Hall>(
         KeepsKnown (decided_of keeper.old) keeper.old.desk (held_of keeper.old) before
         → decided_of keeper.new ≡ true → EndsKept keeper.new.desk (held_of keeper.new) (D.state (disk_of keeper.new))) }
     ensures tells { StillTells (D.state (disk_of keeper.old)) (D.state (disk_of keeper.new)) }
+    ensures damaged { IfOk result (λ replies. IsSome (words.command_of message.now) → WhereTold (D.state (disk_of keeper.old)) (λ before.
+        TellsDamage keeper.old.desk (D.state (disk_of keeper.new)) replies.items)) }
     ensures behind { last_commit 0 publisher.new ≤ keeper.new.desk.commit }
     ensures same_disk { IsSameDisk keeper.old keeper.new }
 {
@@ -102,6 +105,8 @@ fn answer<R: Wait, D: Disk, A: Hall>(
         KeepsKnown (decided_of keeper.old) keeper.old.desk (held_of keeper.old) before
         → decided_of keeper.new ≡ true → EndsKept keeper.new.desk (held_of keeper.new) (D.state (disk_of keeper.new))) }
     ensures tells { StillTells (D.state (disk_of keeper.old)) (D.state (disk_of keeper.new)) }
+    ensures damaged { IfOk result (λ replies. IsSome (words.command_of message.now) → WhereTold (D.state (disk_of keeper.old)) (λ before.
+        TellsDamage keeper.old.desk (D.state (disk_of keeper.new)) replies.items)) }
     ensures behind { last_commit 0 publisher.new ≤ keeper.new.desk.commit }
     ensures same_disk { IsSameDisk keeper.old keeper.new }
 {
@@ -179,6 +184,8 @@ fn obey<R: Wait, D: Disk, A: Hall>(
         KeepsKnown (decided_of keeper.old) keeper.old.desk (held_of keeper.old) before
         → decided_of keeper.new ≡ true → EndsKept keeper.new.desk (held_of keeper.new) (D.state (disk_of keeper.new))) }
     ensures tells { StillTells (D.state (disk_of keeper.old)) (D.state (disk_of keeper.new)) }
+    ensures damaged { IfOk result (λ replies. WhereTold (D.state (disk_of keeper.old)) (λ before.
+        TellsDamage keeper.old.desk (D.state (disk_of keeper.new)) replies.items)) }
     ensures behind { last_commit 0 publisher.new ≤ keeper.new.desk.commit }
     ensures same_disk { IsSameDisk keeper.old keeper.new }
 {

@@ -1,17 +1,20 @@
 // What holds of all connections. These functions do nothing; their clauses are the laws.
-ghost use Rattle.std.specs.Prelude.{◌≡◌, ◌⊎◌, List, Option, Some};
+ghost use Rattle.std.specs.Prelude.{◌≡◌, ◌⊎◌, ◌++◌, ◌∷◌, [], ℕ, List, Option, Some};
+ghost use Rattle.desk_ports.specs.FileMap.{FileMap};
 ghost use Rattle.desk_ports.specs.Disk.{DiskState};
 ghost use Rattle.desk_state.specs.declared.commands.Command as command;
 ghost use Rattle.desk_keeper.specs.declared.keeper.Keeper as keeper;
+ghost use Rattle.desk_keeper.specs.Kept.{kept};
 ghost use Rattle.wire_messages.specs.Commands.{command_of};
 ghost use Rattle.wire_messages.specs.declared.messages.Framed as framed;
 ghost use Rattle.wire_messages.specs.declared.messages.Message as message;
+ghost use Rattle.wire_messages.specs.declared.messages.Message.TheVariants.{Done};
 ghost use Rattle.door_frames.specs.declared.endings.Ended as ended;
 ghost use Rattle.door_frames.specs.declared.endings.Ended.TheVariants.{Closed, Stopped, Memory};
 ghost use Rattle.admin_door.specs.Side.{AdminSide};
 ghost use Rattle.admin_door.specs.Answering.{Answers};
-ghost use Rattle.admin_door.specs.Serving.{AdminTalk, Serves};
-ghost use Rattle.admin_door.specs.Running.{RunsOver};
+ghost use Rattle.admin_door.specs.Serving.{AdminTalk, Exchange, Serves};
+ghost use Rattle.admin_door.specs.Running.{RunsOver, StandsSince, HasCommit};
 ghost use Rattle.admin_door.specs.Complete.{Stays, Receives, AnswersEach, AnswersFront, IsDecided, FindsDamage};
 
 use desk_ports::Disk;
@@ -31,4 +34,13 @@ pub fn a_command_is_decided_where_no_call_fails()
     ensures { (told : Option DiskState) (asked : message.Message) (command : command.Command) (old now : AdminSide)
         (replies : List message.Message) → command_of asked ≡ Some command → Answers told asked old now replies
         → Stays old.faults now.faults → IsDecided told command old now replies ⊎ FindsDamage told old now replies }
+{}
+
+/// From some moment on a command is answered that was answered as done (`since` of `KeepsThrough`). A stop from then on leaves
+/// a policy state with its commit or a later one.
+pub fn an_acknowledged_command_lasts()
+    ensures { (before : DiskState) (front back : List Exchange) (exchange : Exchange) (command : command.Command)
+        (commit erased : ℕ) (left : FileMap) → command_of exchange.framed.message ≡ Some command
+        → exchange.replies ≡ Done commit erased ∷ [] → StandsSince before (front ++ exchange ∷ []) back left
+        → HasCommit commit (kept left) }
 {}

@@ -1,5 +1,5 @@
 // What an earlier command left undone: a folder of which it is not known what it keeps, and a state that is not published.
-ghost use Rattle.std.specs.Prelude.{◌≡◌, ◌≤◌, true, false, List, Option, MatchResult, OnOk, OnErr};
+ghost use Rattle.std.specs.Prelude.{◌≡◌, ◌≤◌, true, false, List, Option, MatchResult, IfErr, OnOk, OnErr};
 ghost use Rattle.desk_state.specs.DeskState.{DeskState};
 ghost use Rattle.desk_ports.specs.Disk.{WhereTold};
 ghost use Rattle.desk_ports.specs.Moments.{LeavesOnly};
@@ -11,7 +11,7 @@ ghost use Rattle.live_desk.specs.History.{last_commit};
 ghost use Rattle.server_hall.specs.Tally.{Tally};
 ghost use Rattle.server_hall.specs.declared.calls.HallCall.{HallCall};
 ghost use Rattle.admin_door.specs.Side.{side_of, decided_of};
-ghost use Rattle.admin_door.specs.Settling.{IsFound, Settles, Unsettles, with_last_shown};
+ghost use Rattle.admin_door.specs.Settling.{IsFound, Settles, Unsettles, IsStillDamaged, with_last_shown};
 ghost use Rattle.admin_door.specs.declared.settling.Unsettled.TheVariants.{Memory};
 
 use desk_keeper::{Keeper, KeeperRefusal};
@@ -52,6 +52,8 @@ pub(crate) fn settle<R: Wait, D: Disk, A: Hall>(
         KeepsKnown (decided_of keeper.old) keeper.old.desk (held_of keeper.old) before → decided_of keeper.new ≡ true
         → EndsKept keeper.new.desk (held_of keeper.new) (D.state (disk_of keeper.new)) × Allows before keeper.new.desk) }
     ensures tells { StillTells (D.state (disk_of keeper.old)) (D.state (disk_of keeper.new)) }
+    ensures damaged { IfErr result (λ reason. WhereTold (D.state (disk_of keeper.old)) (λ before.
+        IsStillDamaged keeper.old.desk (D.state (disk_of keeper.new)) reason)) }
     ensures decided { OnOk result (decided_of keeper.new ≡ true) }
     ensures even { OnOk result (last_commit 0 publisher.new ≡ keeper.new.desk.commit) }
     ensures behind { OnErr result (last_commit 0 publisher.new ≤ keeper.new.desk.commit) }
@@ -79,6 +81,8 @@ fn remount<D: Disk>(keeper: &mut Keeper<'_, D>) -> Result<(), Unsettled>
     ensures kept { WhereTold (D.state (disk_of keeper.old)) (λ before. decided_of keeper.new ≡ true
         → EndsKept keeper.new.desk (held_of keeper.new) (D.state (disk_of keeper.new)) × Allows before keeper.new.desk) }
     ensures tells { StillTells (D.state (disk_of keeper.old)) (D.state (disk_of keeper.new)) }
+    ensures damaged { IfErr result (λ reason. WhereTold (D.state (disk_of keeper.old)) (λ before.
+        IsStillDamaged keeper.old.desk (D.state (disk_of keeper.new)) reason)) }
     ensures decided { OnOk result (decided_of keeper.new ≡ true) }
     ensures no_older { keeper.old.desk.commit ≤ keeper.new.desk.commit }
     ensures same_disk { IsSameDisk keeper.old keeper.new }

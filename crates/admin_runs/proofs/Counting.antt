@@ -97,6 +97,9 @@ module _ {N L : Type 0} (link_faults : L → ℕ) (marks : L → LinkMarks) (tra
       by_fault fault.Failed count = inr refl
       by_fault (fault.Memory error) count = inl refl
 
+  abbrev lost : Result (List Message) AdminRefusal
+  lost = Err refusal.Unavailable
+
   -- the service was out of reach
   lost_counts : (message : Message) (old new : State N L) (after : N) → Once message (Err refusal.Unavailable) old new
       → Given new.link new.dial after → faults after ≡ next_count (faults old.dial)
@@ -112,7 +115,7 @@ module _ {N L : Type 0} (link_faults : L → ℕ) (marks : L → LinkMarks) (tra
             ap faults (given_none new.link new.dial after h.ends.0 given) ∙ (h.ends.1.counted ∙ ap next_count h.begins.counted)
       ]
     where
-      by_fault : (fault : PortFault) (count : ℕ) → Err {A = List Message} refusal.Unavailable ≡ Err (refusal_by fault)
+      by_fault : (fault : PortFault) (count : ℕ) → lost ≡ Err (refusal_by fault)
           → count_after_refusal fault count ≡ next_count count
       by_fault fault.Failed count is = refl
       by_fault (fault.Memory error) count is = cc
@@ -123,12 +126,12 @@ module _ {N L : Type 0} (link_faults : L → ℕ) (marks : L → LinkMarks) (tra
     abbrev before : ℕ
     before = faults first.dial
 
-    over : {Fact : ℕ → Type 0} → Fact (faults between.dial) → Fact before
-    over {Fact = Fact} fact = subst Fact (all_answered answered first between are) fact
+    over : (Fact : ℕ → Type 0) → Fact (faults between.dial) → Fact before
+    over Fact fact = subst Fact (all_answered answered first between are) fact
 
     quiet : client ≡ between → MayCountFailure before (faults after)
     quiet same =
-        over {Fact = λ count. MayCountFailure count (faults after)}
+        over (λ count. MayCountFailure count (faults after))
         (then_may (faults between.dial) (faults client.dial) (faults after) (ap (λ (state : State N L). faults state.dial) same)
         (given_may client.link client.dial after given))
 
@@ -136,14 +139,14 @@ module _ {N L : Type 0} (link_faults : L → ℕ) (marks : L → LinkMarks) (tra
         → IsUnanswered link_faults marks traffic faults dials given_back ending last between client
         → MayCountFailure before (faults after)
     unanswered ending last none =
-        over {Fact = λ count. MayCountFailure count (faults after)}
+        over (λ count. MayCountFailure count (faults after))
         (refused_may none.message none.why between client after none.sent given)
 
     pub counts : (ending : Ending) (last : List Message)
         → EndsSending link_faults marks traffic faults dials given_back ending last between client
         → IsCounted ending before (faults after)
     counts Net last none =
-        over {Fact = λ count. faults after ≡ next_count count}
+        over (λ count. faults after ≡ next_count count)
         (lost_counts none.message between client after
         (subst (λ why. Once none.message (Err why) between client) (is_unavailable none.why none.ending_is) none.sent) given)
     counts Done last none = quiet none.1

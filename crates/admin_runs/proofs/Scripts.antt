@@ -36,8 +36,8 @@ by_stop left left_after steps (TooLong size) stop has = has
 by_stop left left_after steps ending stop has = absurd stop
 
 -- what was read where no further line was
-module _ {left left_now left_after : Option (List ℕ)} {block : Block} {reading : LineReading}
-    (p : Reads Admin left left_now block reading) (reading_after : LineReading) (ends : EndsReading left_now left_after reading reading_after) where
+module _ (left left_now left_after : Option (List ℕ)) (block : Block) (reading reading_after : LineReading)
+    (p : Reads Admin left left_now block reading) (ends : EndsReading left_now left_after reading reading_after) where
   by_next : (ending : Ending) → ReadsNext left_now left_after reading reading_after (Err ending)
       → Has left left_after (λ input rest. HasRead ending input rest p.steps)
   by_next Memory next = ends_by_memory p next
@@ -68,7 +68,7 @@ module _ {N L : Type 0} (link_faults : L → ℕ) (marks : L → LinkMarks) (tra
         talks = talk_none link_faults marks traffic faults dials given_back Memory old old before before tt refl refl refl;
       }
 
-  module _ {left left_now left_after : Option (List ℕ)} {block next : Block} {reading : LineReading} (reading_after : LineReading)
+  module _ (left left_now left_after : Option (List ℕ)) (block next : Block) (reading reading_after : LineReading)
       (old between new : State N L) (before mid after : SinkSeen)
       (goes : Goes Admin left left_now block reading (Sends old between before mid))
       (ends : EndsReading left_now left_after reading reading_after) where
@@ -123,29 +123,27 @@ module _ {N L : Type 0} (link_faults : L → ℕ) (marks : L → LinkMarks) (tra
     pub sends_stopped : (ending : Ending) → StopsNext (Talk between new mid after) block next left_now left_after reading reading_after ending
         → SendsAll (Talk old new before after) left left_after ending
     sends_stopped ending (inl none) =
-        all_of p.steps ending (by_next p reading_after ends ending none.0) (none_then ending none.1)
+        all_of p.steps ending (by_next left left_now left_after block reading reading_after p ends ending none.0) (none_then ending none.1)
     sends_stopped ending (inr line) = at_line ending line.0 line.1
 
-    -- no line is left
-    pub sends_ended : Ends left_now left_after reading reading_after → Talk between new mid after [] Done
-        → is_in_block block ≡ false → SendsAll (Talk old new before after) left left_after Done
-    sends_ended ended talks outside = all_of p.steps Done (ends_done p ended ends outside) (none_then Done talks)
+    -- no line is left; what a person is told then is no answer
+    module _ (last : SinkSeen) (ended : Ends left_now left_after reading reading_after) (same : next ≡ block)
+        (talks : Talk between new mid after [] Done) (taken : last.taken ≡ after.taken) (count : last.faults ≡ after.faults) where
+      closed : (ending : Ending) → IsQuiet ending → Talk old new before last (messages_of p.steps) ending
+      closed ending quiet =
+          subst (λ messages. Talk old new before last messages ending) (append-nil (messages_of p.steps))
+          (talk_then link_faults marks traffic faults dials given_back old new new before after last
+          (messages_of p.steps) [] ending (none_then Done talks)
+          (talk_none link_faults marks traffic faults dials given_back ending new new after last quiet refl taken count))
 
-    -- the script ends within a block, and a person is told so
-    pub sends_unended : (last : SinkSeen) → Ends left_now left_after reading reading_after → (number : ℕ)
-        → number ≡ reading_after.number + 1 → Talk between new mid after [] Done → is_in_block block ≡ true
-        → last.taken ≡ after.taken → last.faults ≡ after.faults → SendsAll (Talk old new before last) left left_after (Line number)
-    sends_unended last ended number is talks inside taken count =
-        let has = ends_in_block p ended ends inside number is in
-        let still = talk_none link_faults marks traffic faults dials given_back (Line number) new new after last tt refl taken count in
-        record {
-          input = has.0;
-          rest = has.1;
-          steps = p.steps;
-          had = has.2;
-          read = has.3;
-          talks =
-              subst (λ messages. Talk old new before last messages (Line number)) (append-nil (messages_of p.steps))
-              (talk_then link_faults marks traffic faults dials given_back old new new before after last
-              (messages_of p.steps) [] (Line number) (none_then Done talks) still);
-        }
+      over : (ending : Ending) → IsQuiet ending → Has left left_after (λ input rest. HasRead ending input rest p.steps)
+          → SendsAll (Talk old new before last) left left_after ending
+      over ending quiet has =
+          record { input = has.0; rest = has.1; steps = p.steps; had = has.2; read = has.3; talks = closed ending quiet }
+
+      pub sends_over : (result : Result (Unit {0}) Ending) → EndsScript next reading_after.number result
+          → SendsAll (Talk old new before last) left left_after (ending_by result)
+      sends_over (Ok value) outside = over Done tt (ends_done p ended ends (ap is_in_block (sym same) ∙ outside))
+      sends_over (Err (Line number)) inside =
+          over (Line number) tt (ends_in_block p ended ends (ap is_in_block (sym same) ∙ inside.0) number inside.1)
+      sends_over (Err ending) inside = absurd inside

@@ -6,7 +6,9 @@ use Rattle.desk_ports.specs.Content.{Appended}
 use Rattle.desk_ports.proofs.Appends.{Appended-none, Appended-then}
 use Rattle.link_ports.specs.Traffic.{Traffic}
 use Rattle.link_ports.specs.LinkMarks.{LinkMarks}
+use Rattle.text_lines.specs.LineReader.{LineReading}
 use Rattle.line_script.specs.declared.steps.Step.{Step}
+use Rattle.script_reading.specs.NextLine.{ReadsNext}
 use Rattle.wire_messages.specs.declared.messages.Message.{Message}
 use Rattle.admin_client.specs.Sending.{State}
 use Rattle.admin_client.specs.declared.refusals.AdminRefusal.{AdminRefusal}
@@ -19,7 +21,7 @@ use Rattle.run_endings.proofs.Trying.{IsCut-take}
 use Rattle.admin_runs.specs.StepMessage.{message_for}
 use Rattle.admin_runs.specs.ReplyLine.{replies_text}
 use Rattle.admin_runs.specs.AdminRun.{Exchange, text_of, texts_of, messages_of, ending_of, AreInTurn, SendsOnce, AreExchanged, EndsSending, IsUnanswered}
-use Rattle.admin_runs.specs.parts.Talk.{Talks, WritesText, IsStop, SendsMessage, SendsStep}
+use Rattle.admin_runs.specs.parts.Talk.{Talks, WritesText, IsStop, SendsMessage}
 use Rattle.admin_runs.proofs.Turns.{texts_then, mapped_then, messages_then, in_turn_none, in_turn_one, in_turn_then}
 
 -- ---- what is written
@@ -116,14 +118,27 @@ module _ {N L : Type 0} (link_faults : L → ℕ) (marks : L → LinkMarks) (tra
         };
       }
 
+  -- no further line was read
+  pub talk_unread : (left left_after : Option (List ℕ)) (reading reading_after : LineReading) (ending : Ending) (state : State N L)
+      (before after : SinkSeen) → ReadsNext left left_after reading reading_after (Err ending) → after.taken ≡ before.taken
+      → after.faults ≡ before.faults → Talk state state before after [] ending
+  talk_unread left left_after reading reading_after ending state before after next taken count =
+      talk_none ending state state before after (quiet_next ending next) refl taken count
+    where
+      quiet_next : (ending : Ending) → ReadsNext left left_after reading reading_after (Err ending) → IsQuiet ending
+      quiet_next Memory next = tt
+      quiet_next (Line number) next = tt
+      quiet_next Source next = tt
+      quiet_next ending next = absurd next
+
   -- one part behind another
   pub talk_then : (old between new : State N L) (before mid after : SinkSeen) (first second : List Message) (ending : Ending)
       → Talk old between before mid first Done → Talk between new mid after second ending
       → Talk old new before after (first ++ second) ending
   talk_then old between new before mid after first second ending one two =
       let all : first ≡ map (λ (exchange : Exchange). exchange.message) one.answered =
-          one.sent ∙ (ap (λ last. map (λ (exchange : Exchange). exchange.message) one.answered ++ last) one.ends.0
-          ∙ append-nil (map (λ (exchange : Exchange). exchange.message) one.answered)) in
+      one.sent ∙ (ap (λ last. map (λ (exchange : Exchange). exchange.message) one.answered ++ last) one.ends.0
+      ∙ append-nil (map (λ (exchange : Exchange). exchange.message) one.answered)) in
       record {
         said = record { due = one.said.due ++ two.said.due; written = one.said.due ++ two.said.written };
         answered = one.answered ++ two.answered;
@@ -262,15 +277,8 @@ module _ {N L : Type 0} (link_faults : L → ℕ) (marks : L → LinkMarks) (tra
 
 -- ---- one step
 
-module _ (Talk : List Message → Ending → Type 0) (step : Step) where
-  -- its message was due
-  pub step_sent : (message : Message) → Some message ≡ message_for step → (result : Result (Unit {0}) Ending)
-      → SendsMessage Talk message result → SendsStep Talk step result
-  step_sent message is (Ok value) sent =
-      subst (λ messages. Talk messages Done) (ap (λ found. option_to_list found ++ []) is) sent
-  step_sent message is (Err ending) sent =
-      inl (sent.0, subst (λ messages. Talk messages ending) (ap (λ found. option_to_list found ++ []) is) sent.1)
-
-  -- it has no message
-  pub step_silent : None ≡ message_for step → Talk [] Done → SendsStep Talk step (Ok tt)
-  step_silent is none = subst (λ messages. Talk messages Done) (ap (λ found. option_to_list found ++ []) is) none
+-- it has no message
+pub step_silent : (Talk : List Message → Ending → Type 0) (step : Step) (found : Option Message) → found ≡ message_for step → found ≡ None
+    → Talk [] Done → Talk (messages_of (step ∷ [])) Done
+step_silent Talk step found is none talks =
+    subst (λ messages. Talk messages Done) (ap (λ found. option_to_list found ++ []) (sym none ∙ is)) talks

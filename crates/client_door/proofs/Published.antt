@@ -1,5 +1,5 @@
 -- States that a seat has seen, whose commits rise.
-use Rattle.std.proofs.Common.{◌≡◌, ◌∙◌, ◌≤◌, ℕ, Bool, true, ◌&&◌, List, [], ◌∷◌, ◌++◌, refl, sym, ap, subst, append_assoc, arith}
+use Rattle.std.proofs.Common.{◌≡◌, ◌∙◌, ◌≤◌, ℕ, Bool, true, false, ◌&&◌, List, [], ◌∷◌, ◌++◌, refl, sym, ap, subst, append_assoc, arith}
 use Rattle.std.specs.Prelude.{nat_le}
 use Rattle.std.proofs.lemmas.Bool.{le-leb, leb-true}
 use Rattle.desk_state.specs.DeskState.{DeskState}
@@ -68,10 +68,15 @@ both_hold : (x y : Bool) → x ≡ true → y ≡ true → (x && y) ≡ true
 both_hold x y one two = cc
 
 first_holds : (x y : Bool) → (x && y) ≡ true → x ≡ true
-first_holds x y both = cc
+first_holds true y both = refl
+first_holds false y both = both
 
 second_holds : (x y : Bool) → (x && y) ≡ true → y ≡ true
-second_holds x y both = cc
+second_holds true y both = both
+second_holds false y both = absurd (wrong both)
+  where
+    wrong : false ≡ true → ⊥
+    wrong is = cc
 
 pub reads_between : (seen published commit : ℕ) → seen ≤ commit → commit ≤ published → may_read seen published commit ≡ true
 reads_between seen published commit low high =

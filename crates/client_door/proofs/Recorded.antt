@@ -4,7 +4,6 @@ use Rattle.std.proofs.lemmas.Grind.{flat_map-append}
 use Rattle.link_ports.specs.Told.{ChangesTold}
 use Rattle.cynara_keys.specs.Key.{Question}
 use Rattle.bucket_eval.specs.declared.answers.Verdict.{Verdict}
-use Rattle.desk_world.specs.declared.replies.Reply.{Reply}
 use Rattle.desk_world.specs.declared.replies.Reply.TheVariants.{Judged}
 use Rattle.client_door.specs.Check.{reply_of}
 use Rattle.client_door.specs.Answered.{Answered}

@@ -30,7 +30,7 @@ use Rattle.client_door.specs.Serving.{ClientSide, with_link}
 use Rattle.client_door.specs.Recording.{Recording, with_all_recorded, judged_by}
 use Rattle.client_door.specs.parts.Talk.{Stands, IsReadNow, Notes, with_sent}
 use Rattle.client_door.specs.declared.checks.Check.{Check}
-use Rattle.client_door.proofs.Published.{stands_last, not_above, read_in_more, read_in_snoc}
+use Rattle.client_door.proofs.Published.{not_above, read_in_more, read_in_snoc}
 use Rattle.client_door.proofs.Recorded.{keeps_nothing, keeps_noted, keeps_recorded}
 use Rattle.client_door.proofs.Calls.{after_asks_more, calls_same, calls_more, calls_for_snoc, replies_snoc, replies_more, all_right_more}
 

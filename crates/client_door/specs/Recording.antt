@@ -24,10 +24,11 @@ with_noted judgement recording = record recording { waiting = recording.waiting 
 abbrev pub with_all_recorded : Recording → Recording
 with_all_recorded recording = with_none_waiting (recording.recorded ++ recording.waiting)
 
--- From each recording that the first fits, the second fits one, and of the two this holds. What fits is what may be said of a
--- recorder: one that records nothing fits none.
-abbrev pub Leads : (Option Recording → Type 0) → (Option Recording → Type 0) → (Option Recording → Option Recording → Type 0) → Type 0
-Leads First Second P = (before : Option Recording) → First before → (after : Option Recording) × Second after × P before after
+-- What may be said of a recorder since a start, whichever it is: wherever it was one recording, it is another one now, and of the
+-- two this holds. Of a recorder that records nothing it is none.
+abbrev pub Leads : {S : Type 0} → (S → Option Recording → Type 0) → (S → Option Recording → Type 0)
+    → (Option Recording → Option Recording → Type 0) → Type 0
+Leads {S} Was Is P = (start : S) (before : Option Recording) → Was start before → (after : Option Recording) × Is start after × P before after
 
 -- ---- of checks that were answered
 

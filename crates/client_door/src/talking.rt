@@ -1,5 +1,5 @@
 // The checks of a connection, answered in turn.
-ghost use Rattle.std.specs.Prelude.{◌≡◌, ◌<◌, ◌∷◌, [], ◌++◌, length, Option, IsTrue, MatchResult, IfErr, OnOk, OnErr};
+ghost use Rattle.std.specs.Prelude.{◌≡◌, ◌<◌, ◌∷◌, [], ◌++◌, length, IsTrue, MatchResult, IfErr, OnOk, OnErr};
 ghost use Rattle.cynara_keys.specs.PolicyResult.{is_agent};
 ghost use Rattle.desk_state.specs.DeskState.{DeskState};
 ghost use Rattle.desk_world.specs.declared.links.Reading.TheVariants.{Due as IsDue};
@@ -13,7 +13,7 @@ ghost use Rattle.door_frames.specs.declared.endings.Ended.TheVariants.{Memory};
 ghost use Rattle.client_door.specs.Check.{message_of, reply_of};
 ghost use Rattle.client_door.specs.Reading.{reading, Finds};
 ghost use Rattle.link_ports.specs.Told.{ChangesTold};
-ghost use Rattle.client_door.specs.Recording.{Recording, Leads, with_noted};
+ghost use Rattle.client_door.specs.Recording.{Leads, with_noted};
 ghost use Rattle.client_door.specs.Serving.{ClientSide, recorded_side};
 ghost use Rattle.client_door.specs.parts.Talk.{Goes, Ends, IsReadNow, with_sent};
 
@@ -198,24 +198,32 @@ impl Talk {
                     Err(ended) => Err(ended),
                 }
             }
-            Found::Unresolved => match self.put_reply() {
-                Ok(()) => Ok(()),
-                Err(ended) => Err(ended),
-            },
+            Found::Unresolved => {
+                drop(check);
+                match self.put_reply() {
+                    Ok(()) => Ok(()),
+                    Err(ended) => Err(ended),
+                }
+            }
             Found::Due {
                 commit,
                 kind,
                 metadata,
             } => {
                 let number = seat.number();
-                match self.answer_by_agent(
+                let answered = self.answer_by_agent(
                     hall, link, gate, recorder, number, &check, commit, kind, metadata,
-                ) {
+                );
+                drop(check);
+                match answered {
                     Ok(()) => Ok(()),
                     Err(ended) => Err(ended),
                 }
             }
-            Found::Memory => Err(Ended::Memory),
+            Found::Memory => {
+                drop(check);
+                Err(Ended::Memory)
+            }
         }
     }
 
@@ -298,7 +306,7 @@ impl Talk {
         ensures noted { OnOk result
             (Leads (M.fits recorder.old) (M.fits recorder.new) (λ before after. ChangesTold before (with_noted judgement) after)) }
         ensures ended { IfErr result (λ ended. ended ≡ Memory) }
-        ensures kept { OnErr result ((told : Option Recording) → M.fits recorder.old told → M.fits recorder.new told) }
+        ensures kept { OnErr result (Leads (M.fits recorder.old) (M.fits recorder.new) (λ before after. after ≡ before)) }
     {
         if let Err(ended) = self.put_reply() {
             return Err(ended);

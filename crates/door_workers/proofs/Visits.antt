@@ -6,6 +6,7 @@ use Rattle.link_ports.specs.LinkMarks.{LinkMarks}
 use Rattle.link_ports.specs.Told.{AppendsTold}
 use Rattle.door_frames.specs.declared.endings.Ended.{Ended}
 use Rattle.door_frames.specs.declared.endings.Ended.TheVariants.{Stopped as EndedByStop}
+use Rattle.admin_door.specs.Serving.{AdminTalk, Exchange, Serves}
 use Rattle.door_workers.specs.Visit.{Visit, IsFresh, InTurn, GivesBack, GoesOn, AllGoOn, Works, EndsWorking, door_faults_after}
 use Rattle.door_workers.specs.Administrators.{EndsOffice}
 use Rattle.door_workers.specs.declared.workers.WorkerEnd.{WorkerEnd}
@@ -36,6 +37,33 @@ gives_more {L} old given new visits visit so_far appends = λ after told.
           ∙ (append_assoc before (map (λ (v : Visit L). v.returned) visits) (visit.returned ∷ [])
           ∙ ap (λ (links : List L). before ++ links) (sym (map-append (λ (v : Visit L). v.returned) visits (visit ∷ []))))),
     )
+
+-- ---- frames
+
+-- The frames of a connection, what is told of them, and that they came behind those of before.
+pub visit_frames : (start now : AdminTalk) (ended : Ended) (Keeps : List Exchange → Type 0) → Serves start now ended Keeps
+    → (frames : List Exchange) × Keeps frames
+    × ((before : List Exchange) → Serves start now ended (λ exchanges. before ++ frames ≡ before ++ exchanges))
+visit_frames start now ended Keeps served = (
+  served.answered ++ served.last,
+  served.keeps,
+  λ before. record {
+    received = served.received;
+    answered = served.answered;
+    between = served.between;
+    last = served.last;
+    last_bytes = served.last_bytes;
+    in_turn = served.in_turn;
+    ending = served.ending;
+    stopping = served.stopping;
+    bytes = served.bytes;
+    carried = served.carried;
+    faults = served.faults;
+    at_end = served.at_end;
+    ends = served.ends;
+    keeps = refl;
+  },
+)
 
 -- ---- turns
 

@@ -9,25 +9,29 @@ use Rattle.server_hall.specs.Tally.{Tally, no_calls}
 use Rattle.door_frames.specs.declared.endings.Ended.{Ended}
 use Rattle.door_frames.specs.declared.endings.Ended.TheVariants.{Stopped as EndedByStop}
 use Rattle.admin_door.specs.Side.{AdminSide, decided_of}
-use Rattle.admin_door.specs.Serving.{talk_of, Serves}
+use Rattle.admin_door.specs.Serving.{Exchange, talk_of, Serves}
 use Rattle.door_workers.specs.Visit.{Visit, AllGoOn}
 use Rattle.door_workers.specs.declared.workers.WorkerEnd.{WorkerEnd}
 use Rattle.door_workers.specs.declared.workers.WorkerEnd.TheVariants.{Stopped}
 
 -- What one connection of an administrator leaves to the next: the last state that is known to be kept, and whether it is
--- known what the folder keeps now; the states that were published; and the count of the disk's faults.
+-- known what the folder keeps now; the states that were published; the count of the disk's faults; and the frames that came so
+-- far, each with its answer. Of a connection these are the frames that were answered, and one behind them whose answer was not
+-- sent whole, or that had none.
 pub record Office : Type 0 where
   pub desk : DeskState
   pub decided : Bool
   pub published : List DeskState
   pub faults : ℕ
+  pub frames : List Exchange
 
-abbrev pub office_of : {D : Type 0} → (D → ℕ) → Keeper D → List DeskState → Office
-office_of faults keeper published = record {
+abbrev pub office_of : {D : Type 0} → (D → ℕ) → Keeper D → List DeskState → List Exchange → Office
+office_of faults keeper published frames = record {
   desk = keeper.desk;
   decided = decided_of keeper;
   published = published;
   faults = faults (disk_of keeper);
+  frames = frames;
 }
 
 -- with a hall by way of which these calls were made
@@ -41,11 +45,13 @@ side_in office tally = record {
   faults = office.faults;
 }
 
--- what `admin_loop` does, over a hall of the connection's own by way of which no call was made before
+-- what `admin_loop` does, over a hall of the connection's own by way of which no call was made before; its frames came behind
+-- those of before
 abbrev pub ServesAdmin : {L : Type 0} → (L → Option Traffic) → (L → LinkMarks) → (L → ℕ) → Ended → Office → L → Office → L → Type 0
 ServesAdmin traffic marks faults ended office link office_now link_now = (tally : Tally) × Serves
     (talk_of (side_in office no_calls) (traffic link) (marks link) (faults link))
     (talk_of (side_in office_now tally) (traffic link_now) (marks link_now) (faults link_now)) ended
+    (λ exchanges. office_now.frames ≡ office.frames ++ exchanges)
 
 abbrev pub VisitsOffice : {L : Type 0} → (L → Option Traffic) → (L → LinkMarks) → (L → ℕ) → Office → Visit L → Office → Type 0
 VisitsOffice traffic marks faults office visit office_now =

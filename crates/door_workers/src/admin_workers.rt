@@ -1,11 +1,14 @@
 // The worker of administrators.
-ghost use Rattle.std.specs.Prelude.{◌≡◌, ◌≤◌, ℕ, List, Option, MatchResult};
+ghost use Rattle.std.specs.Prelude.{◌≡◌, ◌≤◌, List, []};
 ghost use Rattle.desk_keeper.specs.Keeper.{IsSameDisk};
 ghost use Rattle.live_desk.specs.History.{last_commit};
 ghost use Rattle.door_workers.specs.Visit.{Works};
-ghost use Rattle.door_workers.specs.Administrators.{Office, office_of, VisitsOffice, EndsOffice};
-ghost use Rattle.door_workers.specs.parts.Turn.{SoFar};
+ghost use Rattle.admin_door.specs.Serving.{Exchange};
+ghost use Rattle.admin_door.specs.Running.{RunsOver};
+ghost use Rattle.door_workers.specs.Administrators.{office_of, VisitsOffice, EndsOffice};
+ghost use Rattle.door_workers.specs.parts.Turn.{TurnsOffice};
 
+use crate::notes::{Notes, note_store};
 use crate::workers::{WorkerEnd, accept, is_stop};
 use desk_keeper::Keeper;
 use desk_ports::Disk;
@@ -19,8 +22,9 @@ use std::alloc::Global;
 use std::sync::{Mutex, Wait};
 
 /// Serves connections of administrators, one after the other, until one of them has stopped the service. Where its door
-/// accepts none it stops the service itself. It may wait.
-pub fn work_for_administrators<R: Wait, D: Disk, H: HangEnd, L: Link, E: Door<Link = L>>(
+/// accepts none it stops the service itself. What a stop at any moment may leave in the folder is told of the frames that came
+/// (`RunsOver`). It may wait.
+pub fn work_for_administrators<R: Wait, D: Disk, H: HangEnd, L: Link, E: Door<Link = L>, T: Notes>(
     rt: &R,
     alloc: Global,
     keeper: &mut Keeper<'_, D>,
@@ -28,15 +32,18 @@ pub fn work_for_administrators<R: Wait, D: Disk, H: HangEnd, L: Link, E: Door<Li
     roll: &Mutex<Roll<H>>,
     questions: &QuestionDesk,
     door: &mut E,
+    notes: &T,
 ) -> WorkerEnd
     requires behind { last_commit 0 publisher.old ≤ keeper.old.desk.commit }
-    ensures worked { Works (VisitsOffice L.traffic L.marks L.faults) EndsOffice L.marks L.faults result
-        (office_of D.faults keeper.old publisher.old) (office_of D.faults keeper.new publisher.new)
-        (E.given_back door.old) (E.given_back door.new) (E.faults door.old) (E.faults door.new) }
+    ensures worked { (frames : List Exchange)
+        × Works (VisitsOffice L.traffic L.marks L.faults) EndsOffice L.marks L.faults result
+        (office_of D.faults keeper.old publisher.old []) (office_of D.faults keeper.new publisher.new frames)
+        (E.given_back door.old) (E.given_back door.new) (E.faults door.old) (E.faults door.new)
+        × RunsOver D.state D.moment D.left_since keeper.old keeper.new frames }
     ensures same_disk { IsSameDisk keeper.old keeper.new }
     ensures kind { E.kind door.new ≡ E.kind door.old }
 {
-    let end = serve_administrators(rt, alloc, keeper, publisher, roll, questions, door);
+    let end = serve_administrators(rt, alloc, keeper, publisher, roll, questions, door, notes);
     if end != WorkerEnd::Stopped {
         let mut hall = Locked::new(rt, roll, questions);
         hall.stop();
@@ -45,7 +52,7 @@ pub fn work_for_administrators<R: Wait, D: Disk, H: HangEnd, L: Link, E: Door<Li
 }
 
 // The same, but for the stop of the service where the door accepts none.
-fn serve_administrators<R: Wait, D: Disk, H: HangEnd, L: Link, E: Door<Link = L>>(
+fn serve_administrators<R: Wait, D: Disk, H: HangEnd, L: Link, E: Door<Link = L>, T: Notes>(
     rt: &R,
     alloc: Global,
     keeper: &mut Keeper<'_, D>,
@@ -53,16 +60,19 @@ fn serve_administrators<R: Wait, D: Disk, H: HangEnd, L: Link, E: Door<Link = L>
     roll: &Mutex<Roll<H>>,
     questions: &QuestionDesk,
     door: &mut E,
+    notes: &T,
 ) -> WorkerEnd
     requires behind { last_commit 0 publisher.old ≤ keeper.old.desk.commit }
-    ensures worked { Works (VisitsOffice L.traffic L.marks L.faults) EndsOffice L.marks L.faults result
-        (office_of D.faults keeper.old publisher.old) (office_of D.faults keeper.new publisher.new)
-        (E.given_back door.old) (E.given_back door.new) (E.faults door.old) (E.faults door.new) }
+    ensures worked { (frames : List Exchange)
+        × Works (VisitsOffice L.traffic L.marks L.faults) EndsOffice L.marks L.faults result
+        (office_of D.faults keeper.old publisher.old []) (office_of D.faults keeper.new publisher.new frames)
+        (E.given_back door.old) (E.given_back door.new) (E.faults door.old) (E.faults door.new)
+        × RunsOver D.state D.moment D.left_since keeper.old keeper.new frames }
     ensures same_disk { IsSameDisk keeper.old keeper.new }
     ensures kind { E.kind door.new ≡ E.kind door.old }
 {
     for _ in rt.forever() {
-        if let Err(end) = serve_next(rt, alloc, keeper, publisher, roll, questions, door) {
+        if let Err(end) = serve_next(rt, alloc, keeper, publisher, roll, questions, door, notes) {
             return end;
         }
     }
@@ -70,7 +80,7 @@ fn serve_administrators<R: Wait, D: Disk, H: HangEnd, L: Link, E: Door<Link = L>
 }
 
 // Serves the next administrator, and says whether the worker ends behind it.
-fn serve_next<R: Wait, D: Disk, H: HangEnd, L: Link, E: Door<Link = L>>(
+fn serve_next<R: Wait, D: Disk, H: HangEnd, L: Link, E: Door<Link = L>, T: Notes>(
     rt: &R,
     alloc: Global,
     keeper: &mut Keeper<'_, D>,
@@ -78,15 +88,12 @@ fn serve_next<R: Wait, D: Disk, H: HangEnd, L: Link, E: Door<Link = L>>(
     roll: &Mutex<Roll<H>>,
     questions: &QuestionDesk,
     door: &mut E,
+    notes: &T,
 ) -> Result<(), WorkerEnd>
     requires behind { last_commit 0 publisher.old ≤ keeper.old.desk.commit }
-    ensures worked { (start : Office) (given : Option (List L)) (count : ℕ)
-        → SoFar (VisitsOffice L.traffic L.marks L.faults) L.marks L.faults start (office_of D.faults keeper.old publisher.old)
-        given (E.given_back door.old) count (E.faults door.old) → MatchResult result
-        (λ _. SoFar (VisitsOffice L.traffic L.marks L.faults) L.marks L.faults start
-        (office_of D.faults keeper.new publisher.new) given (E.given_back door.new) count (E.faults door.new))
-        (λ end. Works (VisitsOffice L.traffic L.marks L.faults) EndsOffice L.marks L.faults end start
-        (office_of D.faults keeper.new publisher.new) given (E.given_back door.new) count (E.faults door.new)) }
+    ensures worked { TurnsOffice D.faults D.state D.moment D.left_since L.traffic L.marks L.faults result
+        keeper.old publisher.old (E.given_back door.old) (E.faults door.old)
+        keeper.new publisher.new (E.given_back door.new) (E.faults door.new) }
     ensures behind { last_commit 0 publisher.new ≤ keeper.new.desk.commit }
     ensures same_disk { IsSameDisk keeper.old keeper.new }
     ensures kind { E.kind door.new ≡ E.kind door.old }
@@ -95,7 +102,9 @@ fn serve_next<R: Wait, D: Disk, H: HangEnd, L: Link, E: Door<Link = L>>(
         Ok(link) => link,
         Err(end) => return Err(end),
     };
+    let was_decided = keeper.is_decided();
     let ended = serve_admin(rt, alloc, keeper, publisher, roll, questions, &mut link);
+    note_store(notes, was_decided, keeper.is_decided());
     door.give_back(link);
     if is_stop(&ended) {
         return Err(WorkerEnd::Stopped);

@@ -5,7 +5,9 @@
 #![tactic(auto)]
 
 mod admin_workers;
+mod notes;
 mod workers;
 
 pub use admin_workers::work_for_administrators;
+pub use notes::{Notes, Unheard};
 pub use workers::{WorkerEnd, work_for_agents, work_for_clients};

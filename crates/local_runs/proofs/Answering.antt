@@ -176,10 +176,10 @@ module _ (Keeps : Ending → List Step → List Step → Type 0) (start : DeskSt
           → Keeps (Line number) p.steps p.steps → Ended (Line number) new.answers left left_after taken taken_after
       Answers-line number m keeps =
           let has : Has left left_after (MeetsWrongLine Local number p.steps) =
-              elim m.wrong [
-                | inl past ↦ ends_past_limit p m.ends past.0 past.1 number m.number
-                | inr none ↦ ends_at_line p none.0 m.ends none.1 number (m.number ∙ sym none.0.handed_out.number)
-              ] in (
+          elim m.wrong [
+            | inl past ↦ ends_past_limit p m.ends past.0 past.1 number m.number
+            | inr none ↦ ends_at_line p none.0 m.ends none.1 number (m.number ∙ sym none.0.handed_out.number)
+          ] in (
             record {
               input = has.0;
               rest = has.1;
@@ -203,7 +203,7 @@ module _ (Keeps : Ending → List Step → List Step → Type 0) (start : DeskSt
           let fails = f.fails.fails in
           let step = f.fails.step in
           let has : Has left left_after (λ input rest. ReadsLines Local input rest (p.steps ++ step ∷ [])) =
-              ends_behind p step f.line f.ends f.fails.reads in (
+          ends_behind p step f.line f.ends f.fails.reads in (
             record {
               input = has.0;
               rest = has.1;

@@ -1,11 +1,10 @@
 // What waits to be recorded.
-ghost use Rattle.std.specs.Prelude.{◌≡◌, []};
+ghost use Rattle.std.specs.Prelude.{◌≡◌, ◌++◌, ◌∷◌, [], OnOk, OnErr};
 ghost use Rattle.monitor_door.specs.Monitoring.{RecordsEach};
 
 use check_monitor::Recorder;
 use client_door::{Judgement, Records};
 use std::alloc::{AllocError, Global};
-use std::snapshot::Snapshot;
 use std::sync::Wait;
 
 /// The judged checks of a connection whose replies are not sent yet, in front of a recorder.
@@ -14,24 +13,19 @@ pub(crate) struct Notes<'a, R: Wait + Drop> {
     rt: R,
     recorder: &'a mut Recorder,
     noted: Vec<Judgement>,
-    // How the recorder stood when the connection began.
-    start: Snapshot<Recorder>,
 }
 
 impl<'a, R: Wait + Drop> Notes<'a, R> {
     /// Nothing waits. Takes no memory.
     pub fn new(rt: R, alloc: Global, recorder: &'a mut Recorder) -> Notes<'a, R>
         ensures noted { result.noted.items ≡ [] }
-        ensures start { result.start.value ≡ recorder.old }
         ensures recorder { result.recorder.now ≡ recorder.old }
         ensures same { result.recorder.ghost_name ≡ recorder.entry.ghost_name }
     {
-        let start = Snapshot::of(recorder);
         Notes {
             rt,
             recorder,
             noted: Vec::new(alloc),
-            start,
         }
     }
 
@@ -45,14 +39,16 @@ impl<'a, R: Wait + Drop> Notes<'a, R> {
 }
 
 impl<'a, R: Wait + Drop> Records for Notes<'a, R> {
+    ghost use Rattle.std.specs.Prelude.{◌≡◌};
     ghost use Rattle.monitor_door.specs.Monitoring.{HasRecorded};
 
-    ghost fits = { λ notes told. HasRecorded notes.start.value notes.noted.items notes.recorder.now told };
+    ghost fits = { λ notes start told. (notes.recorder.ghost_name ≡ start.recorder.ghost_name)
+        × HasRecorded start.recorder.now notes.noted.items notes.recorder.now told };
 
     fn note(&mut self, judgement: Judgement) -> Result<(), AllocError> {
-        match self.noted.push(judgement) {
+        match push(&mut self.noted, judgement) {
             Ok(()) => Ok(()),
-            Err(_) => Err(AllocError),
+            Err(error) => Err(error),
         }
     }
 
@@ -60,6 +56,14 @@ impl<'a, R: Wait + Drop> Records for Notes<'a, R> {
         record_each(&self.rt, self.recorder, &self.noted);
         self.noted.clear();
     }
+}
+
+fn push(noted: &mut Vec<Judgement>, judgement: Judgement) -> Result<(), AllocError>
+    ensures pushed { OnOk result (noted.new.items ≡ noted.old.items ++ judgement ∷ []) }
+    ensures kept { OnErr result (noted.new.items ≡ noted.old.items) }
+{
+    noted.push(judgement)?;
+    Ok(())
 }
 
 // Records each check, in order.

@@ -5,11 +5,13 @@ mod explanations;
 mod program;
 
 use command_words::Command;
+use door_workers::Notes;
 use explanations::explain;
 use folder_disk::FolderDisk;
 use host_ports::{
     InputSource, OutputSink, directory_path, folder_in, host_words, take_descriptors,
 };
+use link_ports::OpenGate;
 use program::run_on;
 use socket_net::SocketNet;
 use std::alloc::{AllocError, Global};
@@ -32,6 +34,7 @@ fn main(rt: HostRuntime) -> ExitCode {
 }
 
 /// Tells a person on standard error.
+#[derive(Clone, Copy)]
 struct ErrorNotes<'a> {
     rt: &'a HostRuntime,
 }

@@ -1,5 +1,6 @@
 -- How a run ends that has served.
 use Rattle.std.proofs.Common.{◌≡◌, ◌∙◌, ◌≤◌, ◌<◌, ℕ, Bool, true, false, List, Option, refl, sym, ap, subst, arith}
+use Rattle.std.specs.Bool.{OnFalse}
 use Rattle.desk_ports.specs.Faults.{next_count}
 use Rattle.door_workers.specs.declared.workers.WorkerEnd.{WorkerEnd}
 use Rattle.door_workers.specs.declared.workers.WorkerEnd.TheVariants.{Stopped, DoorFailed, Memory as LacksMemory}
@@ -18,20 +19,21 @@ is_stopped Stopped net net_now found unrisen failed = refl
 is_stopped DoorFailed net net_now found unrisen failed = apart net net_now (failed refl) unrisen
 is_stopped LacksMemory net net_now found unrisen failed = absurd found
 
-pub concludes : (ending : Ending) (memory disk_failed net_failed : Bool) (end : WorkerEnd) (disk disk_now net net_now : ℕ)
-    → (memory ≡ false → FoundMemory end) → (end ≡ DoorFailed → HasRisen net net_now)
-    → (disk_failed ≡ true → HasRisen disk disk_now) → (disk_failed ≡ false → HasNotRisen disk disk_now)
-    → (net_failed ≡ true → HasRisen net net_now) → (net_failed ≡ false → HasNotRisen net net_now)
-    → EndsBy memory disk_failed net_failed ending → EndsService ending end disk disk_now net net_now
-concludes Done memory disk_failed net_failed end disk disk_now net net_now found failed dr du nr nu (m, d, n) =
-    (is_stopped end net net_now (found m) (nu n) failed, du d, nu n)
-concludes Memory memory disk_failed net_failed end disk disk_now net net_now found failed dr du nr nu m = tt
-concludes Disk memory disk_failed net_failed end disk disk_now net net_now found failed dr du nr nu (m, d) = (found m, dr d)
-concludes Net memory disk_failed net_failed end disk disk_now net net_now found failed dr du nr nu (m, d, n) = (found m, du d, nr n)
-concludes Words memory disk_failed net_failed end disk disk_now net net_now found failed dr du nr nu by = absurd by
-concludes (Line n) memory disk_failed net_failed end disk disk_now net net_now found failed dr du nr nu by = absurd by
-concludes Source memory disk_failed net_failed end disk disk_now net net_now found failed dr du nr nu by = absurd by
-concludes Sink memory disk_failed net_failed end disk disk_now net net_now found failed dr du nr nu by = absurd by
-concludes (Damaged f l) memory disk_failed net_failed end disk disk_now net net_now found failed dr du nr nu by = absurd by
-concludes Reply memory disk_failed net_failed end disk disk_now net net_now found failed dr du nr nu by = absurd by
-concludes (TooLong n) memory disk_failed net_failed end disk disk_now net net_now found failed dr du nr nu by = absurd by
+found_memory : (lacked : Bool) (end : WorkerEnd) → lacked ≡ false → OnFalse lacked (FoundMemory end) → FoundMemory end
+found_memory lacked end is told = subst (λ (f : Bool). OnFalse f (FoundMemory end)) is told
+
+pub concludes : (ending : Ending) (lacked : Bool) (end : WorkerEnd) (disk disk_now net net_now : ℕ)
+    → OnFalse lacked (FoundMemory end) → (end ≡ DoorFailed → HasRisen net net_now)
+    → EndsBy lacked disk disk_now net net_now ending → EndsService ending end disk disk_now net net_now
+concludes Done lacked end disk disk_now net net_now found failed (m, d, n) =
+    (is_stopped end net net_now (found_memory lacked end m found) n failed, d, n)
+concludes Memory lacked end disk disk_now net net_now found failed m = tt
+concludes Disk lacked end disk disk_now net net_now found failed (m, d) = (found_memory lacked end m found, d)
+concludes Net lacked end disk disk_now net net_now found failed (m, d, n) = (found_memory lacked end m found, d, n)
+concludes Words lacked end disk disk_now net net_now found failed by = absurd by
+concludes (Line number) lacked end disk disk_now net net_now found failed by = absurd by
+concludes Source lacked end disk disk_now net net_now found failed by = absurd by
+concludes Sink lacked end disk disk_now net net_now found failed by = absurd by
+concludes (Damaged file line) lacked end disk disk_now net net_now found failed by = absurd by
+concludes Reply lacked end disk disk_now net net_now found failed by = absurd by
+concludes (TooLong size) lacked end disk disk_now net net_now found failed by = absurd by

@@ -71,7 +71,7 @@ fn knock<N: Net>(net: &mut N, kind: DoorKind, times: u32)
 }
 
 /// Closes the doors of the crew that are open.
-#[tactic(auto, using(crate::proofs::Closing::closes_then, crate::proofs::Closing::closes_none))]
+#[tactic(auto, using(crate::proofs::Closing::closes_none))]
 pub(crate) fn close_doors<N: Net>(net: &mut N, crew: &mut [Worker<N::Door>])
     ensures no_less { N.faults net.old ≤ N.faults net.new }
     ensures closed { (doors : List N.Door) × ClosesDoors (N.closed net.old) doors (N.closed net.new) }
@@ -81,7 +81,7 @@ pub(crate) fn close_doors<N: Net>(net: &mut N, crew: &mut [Worker<N::Door>])
     }
 }
 
-#[tactic(auto, using(crate::proofs::Closing::closes_one, crate::proofs::Closing::closes_none))]
+#[tactic(auto, using(crate::proofs::Closing::closes_none))]
 fn close_one<N: Net>(net: &mut N, worker: &mut Worker<N::Door>)
     ensures no_less { N.faults net.old ≤ N.faults net.new }
     ensures closed { (doors : List N.Door) × ClosesDoors (N.closed net.old) doors (N.closed net.new) }

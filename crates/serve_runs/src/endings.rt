@@ -6,24 +6,30 @@ ghost use Rattle.serve_runs.specs.parts.Officiating.{EndsBy};
 use door_workers::WorkerEnd;
 use run_endings::Ending;
 
-/// By what was met: want of memory comes first, and then the disk.
-pub(crate) fn ending_of(lacked_memory: bool, disk_failed: bool, net_failed: bool) -> Ending
-    ensures { EndsBy lacked_memory disk_failed net_failed result }
+/// By what was met, and by the counts of the disk and of the net before and now: want of memory comes first, and then the disk.
+pub(crate) fn ending_of(
+    lacked_memory: bool,
+    disk: u64,
+    disk_now: u64,
+    net: u64,
+    net_now: u64,
+) -> Ending
+    ensures { EndsBy lacked_memory disk disk_now net net_now result }
 {
     if lacked_memory {
         return Ending::Memory;
     }
-    if disk_failed {
+    if has_risen(disk, disk_now) {
         return Ending::Disk;
     }
-    if net_failed {
+    if has_risen(net, net_now) {
         return Ending::Net;
     }
     Ending::Done
 }
 
-/// Whether a count of failures has risen. At its last value it does not tell, and counts as risen.
-pub(crate) fn has_risen(before: u64, after: u64) -> bool
+// Whether a count of failures has risen. At its last value it does not tell, and counts as risen.
+fn has_risen(before: u64, after: u64) -> bool
     ensures risen { OnTrue result (HasRisen before after) }
     ensures unrisen { OnFalse result (HasNotRisen before after) }
 {

@@ -3,10 +3,10 @@ ghost use Rattle.std.specs.Prelude.{◌<◌, ◌≤◌};
 ghost use Rattle.run_endings.specs.Outside.{disk_seen};
 ghost use Rattle.serve_runs.specs.Run.{RunsServe};
 
-use crate::endings::{ending_of, has_risen};
+use crate::endings::ending_of;
 use crate::serving::serve_folder;
 use crate::telling::note_over;
-use desk_keeper::Keeper;
+use desk_keeper::{Keeper, KeptDesk};
 use desk_ports::Disk;
 use door_workers::Notes;
 use folder_runs::ending_of_mount;
@@ -44,19 +44,23 @@ where
 {
     let disk_faults = disk.faults();
     let net_faults = net.faults();
-    let mut keeper = match Keeper::mount(alloc, disk) {
-        Ok(keeper) => keeper,
-        Err(left) => return ending_of_mount(left.refusal),
+    let found = match KeptDesk::find(alloc, disk) {
+        Ok(found) => found,
+        Err(refusal) => return ending_of_mount(refusal),
     };
+    let mut keeper = Keeper::of(alloc, disk, found);
     let served = serve_folder(rt, alloc, workers, &mut keeper, net, gate, notes);
     let disk = keeper.into_disk();
     note_over(notes);
-    match served {
-        Ok(lacked_memory) => {
-            let disk_failed = has_risen(disk_faults, disk.faults());
-            let net_failed = has_risen(net_faults, net.faults());
-            ending_of(lacked_memory, disk_failed, net_failed)
-        }
-        Err(ending) => ending,
-    }
+    let lacked_memory = match served {
+        Ok(lacked) => lacked,
+        Err(ending) => return ending,
+    };
+    ending_of(
+        lacked_memory,
+        disk_faults,
+        disk.faults(),
+        net_faults,
+        net.faults(),
+    )
 }

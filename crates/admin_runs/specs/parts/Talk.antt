@@ -60,8 +60,8 @@ module _ (Talks : List Message → Ending → Type 0) where
 
   -- the run ends at a step: at its message, or since no memory was found for that
   abbrev pub StopsAtStep : Step → Ending → Type 0
-  StopsAtStep step ending = (IsStop ending × Talks (messages_of (step ∷ [])) ending) ⊎ ((ending ≡ Memory) × Talks [] ending)
+  StopsAtStep asked ending = (IsStop ending × Talks (messages_of (asked ∷ [])) ending) ⊎ ((ending ≡ Memory) × Talks [] ending)
 
   abbrev pub SendsStep : Step → Result (Unit {0}) Ending → Type 0
-  SendsStep step (Ok value) = Talks (messages_of (step ∷ [])) Done
-  SendsStep step (Err ending) = StopsAtStep step ending
+  SendsStep asked (Ok value) = Talks (messages_of (asked ∷ [])) Done
+  SendsStep asked (Err ending) = StopsAtStep asked ending

@@ -1,5 +1,6 @@
 -- What the calling thread does while the others work.
 use Rattle.std.specs.Prelude.{◌≡◌, ◌≤◌, ℕ, Bool, true, false, List, [], ◌∷◌, Option}
+use Rattle.std.specs.Bool.{OnFalse}
 use Rattle.link_ports.specs.Told.{IfTold}
 use Rattle.link_ports.specs.Traffic.{Traffic}
 use Rattle.link_ports.specs.LinkMarks.{LinkMarks}
@@ -12,16 +13,16 @@ use Rattle.door_workers.specs.declared.workers.WorkerEnd.{WorkerEnd}
 use Rattle.door_workers.specs.declared.workers.WorkerEnd.TheVariants.{DoorFailed}
 use Rattle.run_endings.specs.declared.endings.Ending.{Ending}
 use Rattle.run_endings.specs.declared.endings.Ending.TheVariants.{Done, Memory, Disk, Net}
-use Rattle.serve_runs.specs.Serving.{HasRisen, FoundMemory, ClosesDoors}
+use Rattle.serve_runs.specs.Serving.{HasRisen, HasNotRisen, FoundMemory, ClosesDoors}
 
 -- a net before and after a row of knocks: its count did not fall, and it tells the same doors closed
-pub record Knocks {N E : Type 0} (net_faults : N → ℕ) (net_closed : N → Option (List E)) (old new : N) : Type 0 where
+pub record Knocks {N C : Type 0} (net_faults : N → ℕ) (net_closed : N → Option (List C)) (old new : N) : Type 0 where
   pub no_less : net_faults old ≤ net_faults new
   pub closed : net_closed new ≡ net_closed old
 
 -- Administrators were served until their worker ended, and then the net was knocked at.
-pub record Officiates {D L E N : Type 0} (disk_faults : D → ℕ) (traffic : L → Option Traffic) (marks : L → LinkMarks)
-    (faults : L → ℕ) (given_back : E → Option (List L)) (door_faults : E → ℕ) (net_faults : N → ℕ) (net_closed : N → Option (List E))
+pub record Officiates {D L E N C : Type 0} (disk_faults : D → ℕ) (traffic : L → Option Traffic) (marks : L → LinkMarks)
+    (faults : L → ℕ) (given_back : E → Option (List L)) (door_faults : E → ℕ) (net_faults : N → ℕ) (net_closed : N → Option (List C))
     (end : WorkerEnd) (keeper keeper_now : Keeper D) (published published_now : List DeskState) (door door_now : E)
     (net net_now : N) : Type 0 where
   pub works : Works (VisitsOffice traffic marks faults) EndsOffice marks faults end
@@ -44,13 +45,14 @@ pub record Staffs {D L E : Type 0} (disk_faults : D → ℕ) (traffic : L → Op
       (office_of disk_faults keeper (keeper.desk ∷ [])) (office_of disk_faults keeper_now published)
       given (given_back door) 0 (door_faults door)
   pub doors : ClosesDoors closed (door ∷ others) closed_now
-  pub memory : lacked ≡ false → FoundMemory end
+  pub memory : OnFalse lacked (FoundMemory end)
   pub failed : end ≡ DoorFailed → HasRisen net net_now
 
--- which ending follows from what was met
-abbrev pub EndsBy : Bool → Bool → Bool → Ending → Type 0
-EndsBy memory disk net Done = (memory ≡ false) × (disk ≡ false) × (net ≡ false)
-EndsBy memory disk net Memory = memory ≡ true
-EndsBy memory disk net Disk = (memory ≡ false) × (disk ≡ true)
-EndsBy memory disk net Net = (memory ≡ false) × (disk ≡ false) × (net ≡ true)
-EndsBy memory disk net ending = ⊥
+-- which ending follows from what was met, and from the counts of the disk and of the net
+abbrev pub EndsBy : Bool → ℕ → ℕ → ℕ → ℕ → Ending → Type 0
+EndsBy lacked disk disk_now net net_now Done =
+    (lacked ≡ false) × HasNotRisen disk disk_now × HasNotRisen net net_now
+EndsBy lacked disk disk_now net net_now Memory = lacked ≡ true
+EndsBy lacked disk disk_now net net_now Disk = (lacked ≡ false) × HasRisen disk disk_now
+EndsBy lacked disk disk_now net net_now Net = (lacked ≡ false) × HasNotRisen disk disk_now × HasRisen net net_now
+EndsBy lacked disk disk_now net net_now ending = ⊥

@@ -1,14 +1,11 @@
-use Rattle.std.proofs.Common.{◌∙◌, List, [], ◌∷◌, Option, refl}
-use Rattle.link_ports.specs.Traffic.{Traffic}
-use Rattle.wire_messages.specs.Commands.{command_of}
+use Rattle.std.proofs.Common.{◌∙◌, [], refl}
 use Rattle.desk_keeper.specs.Keeper.{disk_of}
 use Rattle.admin_door.specs.Side.{side_of}
-use Rattle.admin_door.specs.Serving.{Exchange, talk_of}
+use Rattle.admin_door.specs.Serving.{exchange_of, talk_of}
 use Rattle.admin_door.specs.Running.{RunsOver}
 use Rattle.admin_door.proofs.Answering.{either-way}
-use Rattle.admin_door.proofs.Running.{runs-then}
-use Rattle.admin_door.proofs.Framing.{runs-answered, runs-refused}
-use Rattle.admin_door.proofs.Serving.{asked, stands-more, ends-at, ends-reading}
+use Rattle.admin_door.proofs.Framing.{goes-answered, goes-refused}
+use Rattle.admin_door.proofs.Serving.{stands-more, ends-at, ends-reading}
 use Rattle.admin_door.proofs.admin_loops.turn.Goals as goal
 
 pub returns-in-Err-clause-talk : goal.returns-in-Err-clause-talk
@@ -33,29 +30,28 @@ returns-clause-talk g c =
     let heard = c.in-Ok.ensures.framed in
     let at_admin = c.next_frame.ensures.side ∙ c.requires.side in
     let framed = c.in-Ok.framed in
-    let answers_more = λ first replies answers list (runs : RunsOver g.D.Disk.state g.D.Disk.moment g.D.Disk.left_since first keeper list).
-    let exchange : Exchange = record { framed = framed; told = told; replies = replies } in
-    runs-then g.D.Disk.state g.D.Disk.moment g.D.Disk.left_since first keeper answered.keeper list (exchange ∷ []) runs
-    (runs-answered g.D.Disk.state g.D.Disk.moment g.D.Disk.left_since keeper answered.keeper exchange side now_side
-    (g.met.D.Disk.counts_now (disk_of answered.keeper)) (g.met.D.Disk.only_now (disk_of answered.keeper))
-    c.answer_frame-outcome.ensures.stops c.answer_frame-outcome.ensures.kept c.answer_frame-outcome.ensures.tells refl refl refl
-    (g.met.D.Disk.touched_only (disk_of keeper)) refl refl answers) in
-    let refused_more = λ first ended refuses list (runs : RunsOver g.D.Disk.state g.D.Disk.moment g.D.Disk.left_since first keeper list).
-    let exchange : Exchange = record { framed = framed; told = told; replies = [] } in
-    runs-then g.D.Disk.state g.D.Disk.moment g.D.Disk.left_since first keeper answered.keeper list (exchange ∷ []) runs
-    (runs-refused g.D.Disk.state g.D.Disk.moment g.D.Disk.left_since keeper answered.keeper exchange side now_side
-    (g.met.D.Disk.counts_now (disk_of answered.keeper)) (g.met.D.Disk.only_now (disk_of answered.keeper))
-    c.answer_frame-outcome.ensures.stops c.answer_frame-outcome.ensures.kept c.answer_frame-outcome.ensures.tells refl refl refl
-    (g.met.D.Disk.touched_only (disk_of keeper)) refl refl refl refuses) in
+    let is = c.answer_frame-outcome.ensures in
     either-way c.answer_frame-outcome.result _ _ _ _
     (λ done whole first start s. stands-more start old c.args.feeder.now c.next_frame.new.feeder heard.0 framed told
     (g.L.Link.traffic c.next_frame.new.link) (g.L.Link.marks c.next_frame.new.link) (g.L.Link.faults c.next_frame.new.link) now
     (RunsOver g.D.Disk.state g.D.Disk.moment g.D.Disk.left_since first keeper)
     (RunsOver g.D.Disk.state g.D.Disk.moment g.D.Disk.left_since first answered.keeper) s heard.1
-    heard.2 c.in-Ok.ensures.faults c.next_frame.ensures.ends whole.0 whole.1 (answers_more first))
+    heard.2 c.in-Ok.ensures.faults c.next_frame.ensures.ends whole.0 whole.1
+    (λ replies answers list runs. goes-answered g.D.Disk.state g.D.Disk.moment g.D.Disk.left_since keeper answered.keeper
+    (exchange_of framed told replies) side now_side (g.met.D.Disk.counts_now (disk_of answered.keeper))
+    (g.met.D.Disk.only_now (disk_of answered.keeper)) is.stops is.kept is.tells refl refl refl (g.met.D.Disk.touched_only (disk_of keeper))
+    refl refl first list runs answers))
     (λ ended ends first start s. ends-at start old c.args.feeder.now c.next_frame.new.feeder heard.0 framed told
     (g.L.Link.traffic c.next_frame.new.link) (g.L.Link.marks c.next_frame.new.link) (g.L.Link.faults c.next_frame.new.link) now
     (RunsOver g.D.Disk.state g.D.Disk.moment g.D.Disk.left_since first keeper)
     (RunsOver g.D.Disk.state g.D.Disk.moment g.D.Disk.left_since first answered.keeper) s heard.1
-    heard.2 c.in-Ok.ensures.faults c.next_frame.ensures.ends at_admin ended ends (answers_more first) (λ refuses. refused_more first ended refuses.1))
-    c.answer_frame-outcome.ensures.answered
+    heard.2 c.in-Ok.ensures.faults c.next_frame.ensures.ends at_admin ended ends
+    (λ replies answers list runs. goes-answered g.D.Disk.state g.D.Disk.moment g.D.Disk.left_since keeper answered.keeper
+    (exchange_of framed told replies) side now_side (g.met.D.Disk.counts_now (disk_of answered.keeper))
+    (g.met.D.Disk.only_now (disk_of answered.keeper)) is.stops is.kept is.tells refl refl refl (g.met.D.Disk.touched_only (disk_of keeper))
+    refl refl first list runs answers)
+    (λ refuses list runs. goes-refused g.D.Disk.state g.D.Disk.moment g.D.Disk.left_since keeper answered.keeper
+    (exchange_of framed told []) side now_side (g.met.D.Disk.counts_now (disk_of answered.keeper))
+    (g.met.D.Disk.only_now (disk_of answered.keeper)) is.stops is.kept is.tells refl refl refl (g.met.D.Disk.touched_only (disk_of keeper))
+    refl refl first list runs refl refuses.1))
+    is.answered

@@ -3,6 +3,7 @@ use Rattle.desk_keeper.specs.Keeper.{disk_of}
 use Rattle.admin_door.specs.Side.{side_of}
 use Rattle.admin_door.proofs.Answering.{either-way}
 use Rattle.admin_door.proofs.Stopping.{stands-behind}
+use Rattle.admin_door.proofs.Damage.{ok-way, commits-undamaged, unsettled-damaged}
 use Rattle.admin_door.proofs.commands.obey.Goals as goal
 
 pub returns-in-Ok-clause-obeyed : goal.returns-in-Ok-clause-obeyed
@@ -33,3 +34,17 @@ returns-in-Ok-clause-kept g c before told known decided =
 
 pub returns-in-Err-clause-kept : goal.returns-in-Err-clause-kept
 returns-in-Err-clause-kept g c before told known decided = (c.settle.ensures.kept before told known decided).0
+
+pub returns-in-Ok-clause-damaged : goal.returns-in-Ok-clause-damaged
+returns-in-Ok-clause-damaged g c =
+    let now = side_of g.D.Disk.faults c.commit.new.keeper c.commit.new.publisher (g.A.Hall.tally c.commit.new.hall) (g.A.Hall.calls c.commit.new.hall) in
+    let between = side_of g.D.Disk.faults c.settle.new.keeper c.settle.new.publisher (g.A.Hall.tally c.settle.new.hall) (g.A.Hall.calls c.settle.new.hall) in
+    ok-way c.commit.result _ _ _
+    (λ replies commits before told. commits-undamaged c.args.keeper.now.desk (g.D.Disk.state (disk_of c.commit.new.keeper)) c.args.command.now
+    between now replies.items commits) c.commit.ensures.committed
+
+pub returns-in-Err-clause-damaged : goal.returns-in-Err-clause-damaged
+returns-in-Err-clause-damaged g c =
+    ok-way c.tell_unsettled.result _ _ _
+    (λ replies told before state. unsettled-damaged c.args.keeper.now.desk (g.D.Disk.state (disk_of c.settle.new.keeper)) c.in-Err.reason
+    replies.items told (c.in-Err.ensures.damaged before state)) c.tell_unsettled.ensures

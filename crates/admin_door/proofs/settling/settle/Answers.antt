@@ -2,6 +2,7 @@ use Rattle.desk_keeper.specs.Keeper.{disk_of, held_of}
 use Rattle.admin_door.specs.Side.{side_of}
 use Rattle.admin_door.proofs.Answering.{either-way, settles-shown, unsettles-unshown}
 use Rattle.admin_door.proofs.Stopping.{rests-as, allows-kept}
+use Rattle.admin_door.proofs.Damage.{err-way, unharmed}
 use Rattle.admin_door.proofs.settling.settle.Goals as goal
 
 pub returns-in-Ok-clause-settled : goal.returns-in-Ok-clause-settled
@@ -29,3 +30,15 @@ returns-then-is_decided-clause-stops g c before told =
 pub returns-then-is_decided-clause-kept : goal.returns-then-is_decided-clause-kept
 returns-then-is_decided-clause-kept g c before told known decided =
     ((before, told, known decided), allows-kept before c.args.keeper.now.desk (held_of c.args.keeper.now) (known decided))
+
+pub returns-in-Ok-clause-damaged : goal.returns-in-Ok-clause-damaged
+returns-in-Ok-clause-damaged g c =
+    err-way c.publish_kept-in-Ok.result _ _ _
+    (λ reason is before told. unharmed c.args.keeper.now.desk (g.D.Disk.state (disk_of c.remount.new.keeper)) reason is.0)
+    c.publish_kept-in-Ok.ensures.shown
+
+pub returns-then-is_decided-clause-damaged : goal.returns-then-is_decided-clause-damaged
+returns-then-is_decided-clause-damaged g c =
+    err-way c.publish_kept.result _ _ _
+    (λ reason is before told. unharmed c.args.keeper.now.desk (g.D.Disk.state (disk_of c.args.keeper.now)) reason is.0)
+    c.publish_kept.ensures.shown

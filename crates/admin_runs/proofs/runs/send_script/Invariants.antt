@@ -7,8 +7,8 @@ use Rattle.admin_runs.proofs.Scripts.{Sends}
 use Rattle.admin_runs.proofs.runs.send_script.Given as goal
 
 -- the messages of the lines so far were sent and answered
-abbrev pub invariant-loop-send_next : goal.invariant-loop-send_next
-invariant-loop-send_next g l =
+abbrev pub invariant-loop-script : goal.invariant-loop-script
+invariant-loop-script g l =
     record {
       goes : Goes Admin (g.S.Source.left l.fn.source) (g.S.Source.left l.source) l.script.reader l.lines
           (Sends g.N.Link.Link.faults g.N.Link.Link.marks g.N.Link.Link.traffic g.N.Dial.faults g.N.Dial.dials g.N.Dial.given_back
@@ -17,5 +17,5 @@ invariant-loop-send_next g l =
       source : g.S.Source.faults l.source ≡ g.S.Source.faults l.fn.source;
     }
 
-abbrev pub decreases-loop-send_next : goal.decreases-loop-send_next
-decreases-loop-send_next g l = l.lines.room
+abbrev pub decreases-loop-script : goal.decreases-loop-script
+decreases-loop-script g l = l.lines.room

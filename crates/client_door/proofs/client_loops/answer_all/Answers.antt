@@ -17,7 +17,7 @@ loop-init g c = (
       ap (λ (feeder : Feeding). feeder.heard) c.new-talk.ensures.feeder,
       (
         subst (λ (feeder : Feeding). IsSound feeder) (sym c.new-talk.ensures.feeder) (unfed_sound AtClient),
-        λ before fits. let side : ClientSide =
+        λ since before fits. let side : ClientSide =
             (recorded_side c.args.seat.now (g.A.Hall.tally c.args.hall.now) (g.A.Hall.calls c.args.hall.now) (g.L.Link.traffic c.args.link.now) (g.L.Link.marks c.args.link.now)
             (g.L.Link.faults c.args.link.now) before) in (
               before,
@@ -36,11 +36,11 @@ loop-preserved g c = (
   (
     tt,
     (
-      c.in_default-turn.ensures.side,
+      c.in_default.ensures.side,
       (
-        c.in_default-turn.ensures.sound,
-        λ before fits. let first = c.loop.invariant.2.2.2 before fits in
-            let then = c.in_default-turn.ensures.talk first.0 first.1 in (
+        c.in_default.ensures.sound,
+        λ since before fits. let first = c.loop.invariant.1.1.1.1 since before fits in
+            let then = c.in_default.ensures.talk since first.0 first.1 in (
               then.0,
               then.1,
               then.2 (recorded_side c.args.seat.now (g.A.Hall.tally c.args.hall.now) (g.A.Hall.calls c.args.hall.now) (g.L.Link.traffic c.args.link.now) (g.L.Link.marks c.args.link.now)
@@ -52,9 +52,9 @@ loop-preserved g c = (
 )
 
 pub returns-in-Err : goal.returns-in-Err
-returns-in-Err g c before fits =
-    let first = c.loop.invariant.2.2.2 before fits in
-    let then = c.in-Err.ensures.talk first.0 first.1 in (
+returns-in-Err g c since before fits =
+    let first = c.loop.invariant.1.1.1.1 since before fits in
+    let then = c.in-Err.ensures.talk since first.0 first.1 in (
       then.0,
       then.1,
       then.2 (recorded_side c.args.seat.now (g.A.Hall.tally c.args.hall.now) (g.A.Hall.calls c.args.hall.now) (g.L.Link.traffic c.args.link.now) (g.L.Link.marks c.args.link.now)

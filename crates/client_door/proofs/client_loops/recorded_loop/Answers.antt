@@ -4,7 +4,7 @@ use Rattle.client_door.specs.Serving.{Serves}
 use Rattle.client_door.proofs.client_loops.recorded_loop.Goals as goal
 
 pub returns-in_default : goal.returns-in_default
-returns-in_default g c before fits = (
+returns-in_default g c since before fits = (
   before,
   fits,
   Serves.refused c.in_default.field-0 refl c.in_default.ensures.tally c.in-Ok.ensures.taken c.in-Ok.ensures.count (record {
@@ -16,22 +16,22 @@ returns-in_default g c before fits = (
 )
 
 pub returns-in-Hung : goal.returns-in-Hung
-returns-in-Hung g c before fits =
-    let told = c.answer_all.ensures before fits in
+returns-in-Hung g c since before fits =
+    let told = c.answer_all-ended.ensures since before fits in
     (told.0, told.1, Serves.served (search rules))
 
 pub returns-in-Stopped : goal.returns-in-Stopped
-returns-in-Stopped g c before fits =
-    let told = c.answer_all.ensures before fits in
+returns-in-Stopped g c since before fits =
+    let told = c.answer_all-ended.ensures since before fits in
     (told.0, told.1, Serves.served (search rules))
 
 pub returns-in-Still : goal.returns-in-Still
-returns-in-Still g c before fits =
-    let told = c.answer_all.ensures before fits in
+returns-in-Still g c since before fits =
+    let told = c.answer_all-ended.ensures since before fits in
     (told.0, told.1, Serves.served (search rules))
 
-pub returns-in-Failed : goal.returns-in-Failed
-returns-in-Failed g c before fits = (before, fits, search rules)
+pub returns-in-Err-Failed : goal.returns-in-Err-Failed
+returns-in-Err-Failed g c since before fits = (before, fits, search rules)
 
-pub returns-in-Memory : goal.returns-in-Memory
-returns-in-Memory g c before fits = (before, fits, search rules)
+pub returns-in-Err-Memory : goal.returns-in-Err-Memory
+returns-in-Err-Memory g c since before fits = (before, fits, search rules)

@@ -10,7 +10,7 @@ returns-in-Ok-clause-next g c =
     next_found (g.S.Source.left c.args.source.now) (g.S.Source.left c.next.new.source) c.args.lines.now c.next.new.self c.in-Ok.has_line
     c.in-Ok.ensures.next
 
-pub returns-in-Err-clause-next : goal.returns-clause-next
+pub returns-in-Err-clause-next : goal.returns-in-Err-clause-next
 returns-in-Err-clause-next g c =
     subst (λ ending. ReadsNext (g.S.Source.left c.args.source.now) (g.S.Source.left c.next.new.source) c.args.lines.now c.next.new.self (Err ending))
     (sym c.from.ensures)

@@ -7,9 +7,9 @@ use Rattle.client_door.proofs.Ending.{ends_for_fault, sends_and_asks, sends_and_
 use Rattle.client_door.proofs.talking.Talk.answer_by_agent.Goals as goal
 
 pub returns-in-Err-clause-talk : goal.returns-in-Err-clause-talk
-returns-in-Err-clause-talk g c reader desk now_read is before fits = (
+returns-in-Err-clause-talk g c reader desk now_read is since before fits = (
   before,
-  subst (λ recorder. g.M.Records.fits recorder before) (sym c.in-Err.ensures.unrecorded) fits,
+  subst (λ recorder. g.M.Records.fits recorder since before) (sym c.in-Err.ensures.unrecorded) fits,
   λ start s. ends_for_fault start
       (recorded_side reader (g.A.Hall.tally c.args.hall.now) (g.A.Hall.calls c.args.hall.now) (g.L.Link.traffic c.args.link.now) (g.L.Link.marks c.args.link.now)
       (g.L.Link.faults c.args.link.now) before)
@@ -19,8 +19,8 @@ returns-in-Err-clause-talk g c reader desk now_read is before fits = (
 )
 
 pub returns-in-Ok-tell-clause-talk : goal.returns-in-Ok-tell-clause-talk
-returns-in-Ok-tell-clause-talk g c reader desk now_read is before fits =
-    let told = c.in_default.ensures.recorded before fits in (
+returns-in-Ok-tell-clause-talk g c reader desk now_read is since before fits =
+    let told = c.in_default.ensures.recorded since before fits in (
       told.0,
       told.1,
       λ start s. subst (λ (feeder : Feeding). Stands start
@@ -37,8 +37,8 @@ returns-in-Ok-tell-clause-talk g c reader desk now_read is before fits =
     )
 
 pub returns-in-Err-tell-clause-talk : goal.returns-in-Err-tell-clause-talk
-returns-in-Err-tell-clause-talk g c reader desk now_read is before fits =
-    let told = c.in_default.ensures.recorded before fits in (
+returns-in-Err-tell-clause-talk g c reader desk now_read is since before fits =
+    let told = c.in_default.ensures.recorded since before fits in (
       told.0,
       told.1,
       λ start s. sends_and_asks_for_nothing
@@ -52,8 +52,8 @@ returns-in-Err-tell-clause-talk g c reader desk now_read is before fits =
     )
 
 pub returns-in-Err-ask_agent-clause-talk : goal.returns-in-Err-ask_agent-clause-talk
-returns-in-Err-ask_agent-clause-talk g c reader desk now_read is before fits =
-    let told = c.in_default.ensures.recorded before fits in (
+returns-in-Err-ask_agent-clause-talk g c reader desk now_read is since before fits =
+    let told = c.in_default.ensures.recorded since before fits in (
       told.0,
       told.1,
       λ start s. sends_and_asks_in_vain

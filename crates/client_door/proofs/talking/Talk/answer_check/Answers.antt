@@ -1,6 +1,7 @@
-use Rattle.std.proofs.Common.{◌≡◌, ◌∙◌, List, ℕ, [], ◌++◌, refl, sym, ap, subst}
+use Rattle.std.proofs.Common.{◌∙◌, List, ℕ, [], ◌++◌, Option, refl, sym, ap, subst}
 use Rattle.wire_messages.specs.Stream.{Feeding}
 use Rattle.desk_world.specs.declared.replies.Reply.TheVariants.{Judged, NotResolved}
+use Rattle.client_door.specs.Recording.{Recording}
 use Rattle.client_door.specs.Serving.{recorded_side}
 use Rattle.client_door.specs.parts.Talk.{Stands}
 use Rattle.client_door.proofs.Recorded.{notes_judged, notes_nothing}
@@ -8,10 +9,10 @@ use Rattle.client_door.proofs.Ending.{reads_and_puts, reads_for_nothing, reads_o
 use Rattle.client_door.proofs.talking.Talk.answer_check.Goals as goal
 
 pub returns-in-Ok-clause-talk : goal.returns-in-Ok-clause-talk
-returns-in-Ok-clause-talk g c before fits =
+returns-in-Ok-clause-talk g c since before fits =
     let read = c.in-Judged.ensures.read in
     let (verdict, is, spelled, at, allowed) = read.2 in
-    let told = c.in-Ok.ensures.noted before fits in (
+    let told = c.in-Ok.ensures.noted since before fits in (
       told.0,
       told.1,
       λ start s. subst (λ (feeder : Feeding). Stands start
@@ -30,10 +31,11 @@ returns-in-Ok-clause-talk g c before fits =
     )
 
 pub returns-in-Err-clause-talk : goal.returns-in-Err-clause-talk
-returns-in-Err-clause-talk g c before fits =
-    let read = c.in-Judged.ensures.read in (
+returns-in-Err-clause-talk g c since before fits =
+    let read = c.in-Judged.ensures.read in
+    let told = c.in-Err.ensures.kept since before fits in (
       before,
-      c.in-Err.ensures.kept before fits,
+      subst (λ (recording : Option Recording). g.M.Records.fits c.put_judged.new.recorder since recording) told.2 told.1,
       reads_for_nothing
           (recorded_side c.args.seat.now (g.A.Hall.tally c.args.hall.now) (g.A.Hall.calls c.args.hall.now) (g.L.Link.traffic c.args.link.now) (g.L.Link.marks c.args.link.now)
           (g.L.Link.faults c.args.link.now) before)
@@ -44,7 +46,7 @@ returns-in-Err-clause-talk g c before fits =
     )
 
 pub returns-in-Ok-put_reply-clause-talk : goal.returns-in-Ok-put_reply-clause-talk
-returns-in-Ok-put_reply-clause-talk g c before fits =
+returns-in-Ok-put_reply-clause-talk g c since before fits =
     let read = c.in-Unresolved.ensures.read in
     let (commit, kind, is, spelled) = read.2 in (
       before,
@@ -65,7 +67,7 @@ returns-in-Ok-put_reply-clause-talk g c before fits =
     )
 
 pub returns-in-Err-put_reply-clause-talk : goal.returns-in-Err-put_reply-clause-talk
-returns-in-Err-put_reply-clause-talk g c before fits =
+returns-in-Err-put_reply-clause-talk g c since before fits =
     let read = c.in-Unresolved.ensures.read in (
       before,
       fits,
@@ -79,7 +81,7 @@ returns-in-Err-put_reply-clause-talk g c before fits =
     )
 
 pub returns-in-Memory-clause-talk : goal.returns-in-Memory-clause-talk
-returns-in-Memory-clause-talk g c before fits =
+returns-in-Memory-clause-talk g c since before fits =
     let read = c.in-Memory.ensures.read in (
       before,
       fits,
@@ -92,10 +94,10 @@ returns-in-Memory-clause-talk g c before fits =
           read.1 refl c.requires,
     )
 
-pub returns-in-Ok-answer_by_agent-clause-talk : goal.returns-in-Ok-answer_by_agent-clause-talk
-returns-in-Ok-answer_by_agent-clause-talk g c before fits =
+pub returns-in-Ok-answered-clause-talk : goal.returns-in-Ok-answered-clause-talk
+returns-in-Ok-answered-clause-talk g c since before fits =
     let read = c.in-Due.ensures.read in
-    let then = c.in-Ok-answer_by_agent.ensures.talk c.read.new.seat read.0 read.1 read.2 before fits in (
+    let then = c.in-Ok-answered.ensures.talk c.read.new.seat read.0 read.1 read.2 since before fits in (
       then.0,
       then.1,
       λ start s. then.2 start
@@ -106,10 +108,10 @@ returns-in-Ok-answer_by_agent-clause-talk g c before fits =
           c.read.ensures.same c.read.ensures.seen read.1 c.read.ensures.feeder c.read.ensures.outbox start s),
     )
 
-pub returns-in-Err-answer_by_agent-clause-talk : goal.returns-in-Err-answer_by_agent-clause-talk
-returns-in-Err-answer_by_agent-clause-talk g c before fits =
+pub returns-in-Err-answered-clause-talk : goal.returns-in-Err-answered-clause-talk
+returns-in-Err-answered-clause-talk g c since before fits =
     let read = c.in-Due.ensures.read in
-    let then = c.in-Err-answer_by_agent.ensures.talk c.read.new.seat read.0 read.1 read.2 before fits in (
+    let then = c.in-Err-answered.ensures.talk c.read.new.seat read.0 read.1 read.2 since before fits in (
       then.0,
       then.1,
       λ start s. then.2 start

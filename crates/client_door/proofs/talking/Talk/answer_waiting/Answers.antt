@@ -6,9 +6,9 @@ use Rattle.client_door.proofs.Steps.{takes_check}
 use Rattle.client_door.proofs.talking.Talk.answer_waiting.Goals as goal
 
 pub returns-in-Err-clause-talk : goal.returns-in-Err-clause-talk
-returns-in-Err-clause-talk g c before fits =
-    let first = c.loop-check.invariant.1.1 before fits in
-    let then = c.in-Err.ensures.talk first.0 first.1 in (
+returns-in-Err-clause-talk g c since before fits =
+    let first = c.loop-check.invariant.1.1 since before fits in
+    let then = c.in-Err.ensures.talk since first.0 first.1 in (
       then.0,
       then.1,
       λ start s. then.2 start
@@ -24,8 +24,8 @@ loop-check-preserved g c = (
   ap (λ (feeder : Feeding). feeder.heard) c.answer_check.ensures.feeder ∙ (c.in-Some.ensures.empty ∙ c.loop-check.invariant.0),
   (
     subst (λ (feeder : Feeding). IsSound feeder) (sym (c.answer_check.ensures.feeder ∙ c.take_check.ensures.rest)) c.loop-check.invariant.1.0,
-    λ before fits. let first = c.loop-check.invariant.1.1 before fits in
-        let then = c.in_default-answer_check.ensures.talk first.0 first.1 in (
+    λ since before fits. let first = c.loop-check.invariant.1.1 since before fits in
+        let then = c.in_default-answer_check.ensures.talk since first.0 first.1 in (
           then.0,
           then.1,
           λ start s. then.2 start

@@ -5,9 +5,9 @@ use Rattle.client_door.proofs.Ending.{ends_for_fault, sends_and_receives, sends_
 use Rattle.client_door.proofs.talking.Talk.send_and_receive.Goals as goal
 
 pub returns-in-Err-clause-talk : goal.returns-in-Err-clause-talk
-returns-in-Err-clause-talk g c side before fits = (
+returns-in-Err-clause-talk g c side since before fits = (
   before,
-  subst (λ recorder. g.M.Records.fits recorder before) (sym c.in-Err.ensures.unrecorded) fits,
+  subst (λ recorder. g.M.Records.fits recorder since before) (sym c.in-Err.ensures.unrecorded) fits,
   λ start s. ends_for_fault start
       (with_sent side (g.L.Link.traffic c.args.link.now) (g.L.Link.marks c.args.link.now) (g.L.Link.faults c.args.link.now) before)
       (g.L.Link.traffic c.flush.new.link) (g.L.Link.marks c.flush.new.link) (g.L.Link.faults c.flush.new.link) before
@@ -16,9 +16,9 @@ returns-in-Err-clause-talk g c side before fits = (
 )
 
 pub returns-in-Ok-clause-talk : goal.returns-in-Ok-clause-talk
-returns-in-Ok-clause-talk g c side before fits =
+returns-in-Ok-clause-talk g c side since before fits =
     let heard = c.receive_more.ensures.heard in
-    let told = c.in_default.ensures.recorded before fits in (
+    let told = c.in_default.ensures.recorded since before fits in (
       told.0,
       told.1,
       λ start s. subst (λ list. Stands start
@@ -34,9 +34,9 @@ returns-in-Ok-clause-talk g c side before fits =
     )
 
 pub returns-in-Err-receive_more-clause-talk : goal.returns-in-Err-receive_more-clause-talk
-returns-in-Err-receive_more-clause-talk g c side before fits =
+returns-in-Err-receive_more-clause-talk g c side since before fits =
     let heard = c.receive_more.ensures.heard in
-    let told = c.in_default.ensures.recorded before fits in (
+    let told = c.in_default.ensures.recorded since before fits in (
       told.0,
       told.1,
       λ start s. sends_and_ends side
