@@ -98,6 +98,14 @@ abbrev pub Cover : ℕ → List RecorderState → Type 0
 Cover count recorders = (worker : ℕ) → worker < count → (place : ℕ) × (recorder : RecorderState)
     × (get_elem? recorders place ≡ some recorder) × (recorder.worker ≡ worker)
 
+-- the recorders are all those of a reader of this queue that made so many
+abbrev pub AreAll : TableId → ℕ → List RecorderState → Type 0
+AreAll queue count recorders = AreOf queue recorders × Cover count recorders
+
+-- the recorder is of the same queue and the same worker
+abbrev pub IsSame : RecorderState → RecorderState → Type 0
+IsSame old new = (new.queue ≡ old.queue) × (new.worker ≡ old.worker)
+
 -- what each recorder put are the entries of its worker among these, in their order
 abbrev pub AreWhole : List Entry → List RecorderState → Type 0
 AreWhole entries recorders = AllByRecursion (λ recorder. recorder.put ≡ of_worker recorder.worker entries) recorders

@@ -1,5 +1,5 @@
 ghost use Rattle.std.specs.Prelude.{◌≡◌, ◌<◌, ◌≤◌, IfOk, OnOk};
-ghost use Rattle.check_monitor.specs.Monitor.{new_reader_of, new_recorders};
+ghost use Rattle.check_monitor.specs.Monitor.{new_reader_of, new_recorders, AreAll};
 
 use crate::readers::Reader;
 use crate::recorders::Recorder;
@@ -20,6 +20,7 @@ pub fn open(alloc: Global, workers: u32, room: u32) -> Result<(Vec<Recorder>, Re
     requires room { (0 < room) × (room ≤ 4096) }
     ensures recorders { IfOk result (λ opened. opened.0.items ≡ new_recorders opened.1.queue room workers) }
     ensures reader { IfOk result (λ opened. opened.1 ≡ new_reader_of opened.1.queue room workers) }
+    ensures all { IfOk result (λ opened. AreAll opened.1.queue workers opened.0.items) }
 {
     let (queue, pass) = Line::ruled(alloc, room as usize)?;
     let queue = Arc::new(alloc, queue)?;

@@ -3,7 +3,7 @@ ghost use Rattle.std.specs.Arc.{arc_value};
 ghost use Rattle.crossbeam_queue.specs.Passes.{view, IsPassOf, ruled_capacity};
 ghost use Rattle.monitor_rule.specs.Entries.{entry_of};
 ghost use Rattle.monitor_rule.specs.Steps.{account_of, new_recorder};
-ghost use Rattle.check_monitor.specs.Monitor.{IsDecided, Records, account_in, entry_at, new_recorder_of, with_miss};
+ghost use Rattle.check_monitor.specs.Monitor.{IsDecided, IsSame, Records, account_in, entry_at, new_recorder_of, with_miss};
 
 use crate::recording::Recorded;
 use crate::running::{Line, LinePass, Puts};
@@ -71,7 +71,8 @@ impl Recorder {
     /// a step of the queue.
     pub fn record<R: Wait>(&mut self, rt: &R, question: &Question, verdict: &Verdict) -> Recorded
         requires { IsDecided verdict.now }
-        ensures { Records self.old (entry_of self.old.worker (length self.old.put) question.now verdict.now) result self.new }
+        ensures recorded { Records self.old (entry_of self.old.worker (length self.old.put) question.now verdict.now) result self.new }
+        ensures same { IsSame self.old self.new }
     {
         let allowed = verdict.answer.kind == Kind::ALLOW;
         self.record_decision(rt, question, verdict.commit, allowed)
@@ -85,7 +86,8 @@ impl Recorder {
         commit: u64,
         allowed: bool,
     ) -> Recorded
-        ensures { Records self.old (entry_at self.old.worker (length self.old.put) question.now commit allowed) result self.new }
+        ensures recorded { Records self.old (entry_at self.old.worker (length self.old.put) question.now commit allowed) result self.new }
+        ensures same { IsSame self.old self.new }
     {
         if self.made >= MOST_PUT {
             let missed = self.miss();

@@ -2,6 +2,7 @@ ghost use Rattle.std.specs.Prelude.{List, None, Option};
 ghost use Rattle.server_hall.specs.Tally as counted;
 ghost use Rattle.server_hall.specs.declared.calls.HallCall as call;
 ghost use Rattle.client_door.specs.Serving.{client_side};
+ghost use Rattle.check_monitor.specs.Monitor.{IsSame};
 ghost use Rattle.monitor_door.specs.Monitoring.{ServesMonitored};
 
 use check_monitor::Recorder;
@@ -25,10 +26,11 @@ pub fn serve_monitored<R: Wait, L: Link, G: Gate>(
     gate: &G,
     recorder: &mut Recorder,
 ) -> Ended
-    ensures { (tally : counted.Tally) × (calls : Option (List call.HallCall)) × ServesMonitored result
+    ensures served { (tally : counted.Tally) × (calls : Option (List call.HallCall)) × ServesMonitored result
         (client_side seat.old counted.no_calls None (L.traffic link.old) (L.marks link.old) (L.faults link.old))
         (client_side seat.new tally calls (L.traffic link.new) (L.marks link.new) (L.faults link.new))
         recorder.old recorder.new }
+    ensures same { IsSame recorder.old recorder.new }
 {
     let mut hall = Locked::new(rt, roll, questions);
     monitor_loop(rt, alloc, seat, &mut hall, link, gate, recorder)

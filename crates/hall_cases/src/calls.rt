@@ -92,10 +92,10 @@ pub fn behind_a_commit<R: Wait + Drop>(
 
 /// A connection enters behind the publication of a state and before the hang-up: it is told the commit before, is answered at
 /// the new one, and is hung up as those are that entered before.
-pub fn between_publication_and_hang_up<R: Wait + Drop>(
+pub fn between_publication_and_hang_up<R: Wait, W: Wait + Drop>(
     rt: &R,
     alloc: Global,
-    hall: &mut Locked<'_, R, MemEnd>,
+    hall: &mut Locked<'_, W, MemEnd>,
     seat: &mut Seat,
     publisher: &Publisher,
 ) -> Option<String> {

@@ -1,4 +1,5 @@
 //! Checks to record.
+ghost use Rattle.check_monitor.specs.Monitor.{IsDecided};
 
 use bucket_eval::{Answer, Cause, Verdict};
 use check_monitor::Entry;
@@ -19,12 +20,14 @@ pub fn question(alloc: Global, client: &[u8], user: &[u8], privilege: &[u8]) -> 
     .ok()
 }
 
-/// The verdict of the root bucket's fallback, ALLOW or DENY, at this commit.
-pub fn verdict(commit: u64, allowed: bool) -> Verdict {
+/// The verdict DENY of the root bucket's fallback, at this commit.
+pub fn denied(commit: u64) -> Verdict
+    ensures { IsDecided result }
+{
     Verdict {
         commit,
         answer: Answer {
-            kind: if allowed { Kind::ALLOW } else { Kind::DENY },
+            kind: Kind::DENY,
             metadata: Short::of(b""),
             cause: Cause {
                 bucket: Short::of(b""),

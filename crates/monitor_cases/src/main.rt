@@ -2,6 +2,7 @@
 #![tactic(auto)]
 
 mod checks;
+mod recording;
 mod rows;
 mod workers;
 

@@ -1,7 +1,13 @@
 //! The cases on one thread.
+ghost use Rattle.std.specs.Prelude.{IfSome};
+ghost use Rattle.std.specs.List.{AllZip};
+ghost use Rattle.check_monitor.specs.Monitor.{AreAll, IsSame};
+ghost use Rattle.monitor_cases.specs.Cases.{IsSameReader};
 
-use crate::checks::{place, question, verdict};
-use check_monitor::{MOST_ROOM, MOST_WORKERS, Reader, Recorder, open};
+use crate::checks::{place, question};
+use crate::recording::{count_left, fill_all, missed_in_all, record_denied};
+use check_monitor::{MOST_ROOM, MOST_WORKERS, Reader, Recorded, Recorder, open};
+use cynara_keys::Short;
 use std::alloc::{AllocError, Global};
 use std::sync::Wait;
 
@@ -17,32 +23,57 @@ fn two_record<R: Wait>(
     alloc: Global,
     recorders: Vec<Recorder>,
     reader: Reader,
-) -> Option<String> {
-    let asked = question(alloc, b"c", b"u", b"p")?;
-    let denied = verdict(2, false);
+) -> Option<String>
+    requires { AreAll reader.queue reader.made recorders.items }
+{
     let (mut recorders, mut reader) = (recorders, reader);
+    let told = record_in_turn(rt, alloc, &mut recorders, &mut reader)?;
+    let mut settled = reader.settle(rt, recorders);
+    let first = place(alloc, settled.next(rt)).ok()?;
+    let second = place(alloc, settled.next(rt)).ok()?;
+    let third = place(alloc, settled.next(rt)).ok()?;
+    format!(in alloc; "{told}; left {first}, {second}, {third}").ok()
+}
+
+// The first records twice, the second once, and once more after an entry was handed out.
+fn record_in_turn<R: Wait>(
+    rt: &R,
+    alloc: Global,
+    recorders: &mut Vec<Recorder>,
+    reader: &mut Reader,
+) -> Option<String>
+    ensures recorders { IfSome result (λ told. AllZip IsSame recorders.old.items recorders.new.items) }
+    ensures reader { IsSameReader reader.old reader.new }
+{
+    let asked = question(alloc, b"c", b"u", b"p")?;
     let mut second = recorders.pop()?;
     let mut first = recorders.pop()?;
-    let one = first.record(rt, &asked, &denied);
-    let two = first.record(rt, &asked, &denied);
-    let missed = second.record(rt, &asked, &denied);
-    let taken = place(alloc, reader.next(rt)).ok()?;
-    let put = second.record(rt, &asked, &denied);
-    let counts = format!(in alloc;
-        "{} and {}, missed {}",
-        first.made(),
-        second.made(),
-        second.missed()
-    )
-    .ok()?;
+    let one = record_denied(rt, &mut first, &asked, 2);
+    let two = record_denied(rt, &mut first, &asked, 2);
+    let missed = record_denied(rt, &mut second, &asked, 2);
+    let taken = reader.next(rt);
+    let put = record_denied(rt, &mut second, &asked, 2);
+    let made = [first.made(), second.made(), second.missed()];
     recorders.push(first).ok()?;
     recorders.push(second).ok()?;
-    let mut settled = reader.settle(rt, recorders);
-    let third = place(alloc, settled.next(rt)).ok()?;
-    let fourth = place(alloc, settled.next(rt)).ok()?;
-    let end = place(alloc, settled.next(rt)).ok()?;
+    told_in_turn(
+        alloc,
+        [one, two, missed, put],
+        place(alloc, taken).ok()?,
+        made,
+    )
+}
+
+fn told_in_turn(
+    alloc: Global,
+    recorded: [Recorded; 4],
+    taken: String,
+    made: [u64; 3],
+) -> Option<String> {
+    let [one, two, missed, put] = recorded;
+    let [first, second, lost] = made;
     format!(in alloc;
-        "a full queue: {one:?}, {two:?}, {missed:?}; handed out {taken}; {put:?}; made {counts}; left {third}, {fourth}, {end}"
+        "a full queue: {one:?}, {two:?}, {missed:?}; handed out {taken}; {put:?}; made {first} and {second}, missed {lost}"
     ).ok()
 }
 
@@ -67,16 +98,36 @@ fn entry_told<R: Wait>(
     alloc: Global,
     recorders: Vec<Recorder>,
     reader: Reader,
-) -> Option<String> {
-    let asked = question(alloc, b"app", b"5001", b"camera")?;
+) -> Option<String>
+    requires { AreAll reader.queue reader.made recorders.items }
+{
     let (mut recorders, mut reader) = (recorders, reader);
+    record_two(rt, alloc, &mut recorders)?;
+    let told = told_of_two(rt, alloc, &mut reader)?;
+    let mut settled = reader.settle(rt, recorders);
+    let left = place(alloc, settled.next(rt)).ok()?;
+    format!(in alloc; "{told}; left {left}").ok()
+}
+
+// The last recorder records two checks.
+fn record_two<R: Wait>(rt: &R, alloc: Global, recorders: &mut Vec<Recorder>) -> Option<()>
+    ensures { IfSome result (λ done. AllZip IsSame recorders.old.items recorders.new.items) }
+{
+    let asked = question(alloc, b"app", b"5001", b"camera")?;
     let mut recorder = recorders.pop()?;
-    recorder.record(rt, &asked, &verdict(7, true));
-    recorder.record(rt, &asked, &verdict(8, false));
+    recorder.record_decision(rt, &asked, 7, true);
+    recorder.record_decision(rt, &asked, 8, false);
+    recorders.push(recorder).ok()?;
+    Some(())
+}
+
+fn told_of_two<R: Wait>(rt: &R, alloc: Global, reader: &mut Reader) -> Option<String>
+    ensures { IsSameReader reader.old reader.new }
+{
     let allowed = reader.next(rt)?;
     let denied = reader.next(rt)?;
     let names = [allowed.client, allowed.user, allowed.privilege];
-    let told = format!(in alloc;
+    format!(in alloc;
         "an entry: {:?}, {:?}, {:?}; {} at {}, then {} at {}",
         text(&names[0])?,
         text(&names[1])?,
@@ -86,14 +137,10 @@ fn entry_told<R: Wait>(
         denied.allowed,
         denied.commit
     )
-    .ok()?;
-    recorders.push(recorder).ok()?;
-    let mut settled = reader.settle(rt, recorders);
-    let left = place(alloc, settled.next(rt)).ok()?;
-    format!(in alloc; "{told}; left {left}").ok()
+    .ok()
 }
 
-fn text(name: &cynara_keys::Short) -> Option<&str> {
+fn text(name: &Short) -> Option<&str> {
     std::str::from_utf8(name.as_slice()).ok()
 }
 
@@ -101,28 +148,8 @@ fn text(name: &cynara_keys::Short) -> Option<&str> {
 pub fn most_of_both<R: Wait>(rt: &R, alloc: Global) -> Result<String, AllocError> {
     let (recorders, reader) = open(alloc, MOST_WORKERS, MOST_ROOM)?;
     let asked = question(alloc, b"c", b"u", b"p").ok_or(AllocError)?;
-    let mut recorders = recorders;
-    for recorder in recorders.iter_mut() {
-        for _ in 0..65 {
-            recorder.record(rt, &asked, &verdict(0, true));
-        }
-    }
+    let recorders = fill_all(rt, alloc, recorders, &asked, 65)?;
     let missed = missed_in_all(&recorders);
-    let mut settled = reader.settle(rt, recorders);
-    let mut left = 0u64;
-    for _ in 0..u64::MAX {
-        if settled.next(rt).is_none() {
-            break;
-        }
-        left = left.saturating_add(1);
-    }
+    let left = count_left(rt, reader, recorders);
     format!(in alloc; "most workers, most room: missed {missed}, left {left}")
-}
-
-fn missed_in_all(recorders: &[Recorder]) -> u64 {
-    let mut missed = 0u64;
-    for recorder in recorders {
-        missed = missed.saturating_add(recorder.missed());
-    }
-    missed
 }

@@ -1,5 +1,7 @@
 -- What records add up to.
 use Rattle.std.proofs.Common.{◌≡◌, ◌∙◌, ◌≤◌, ◌⊎◌, inl, inr, ℕ, suc, ◌+◌, List, [], ◌∷◌, ◌++◌, length, refl, sym, ap, subst, append_assoc, append-nil, arith}
+use mathlib.Core.Logic.{dite}
+use native.Mathlib.Decide.{dec_le}
 use Rattle.std.proofs.lemmas.List.{length-append}
 use Rattle.desk_ports.specs.Faults.{next_count, last_count}
 use Rattle.monitor_rule.specs.declared.entries.Entry.{Entry}
@@ -10,6 +12,16 @@ use Rattle.client_door.specs.declared.judgements.Judgement.{Judgement}
 use Rattle.monitor_door.specs.Monitoring.{entry_for, entries_from, RecordsEach, IsPart}
 
 -- ---- counts
+
+-- a count of misses rises, unless it is at its last value
+missed_one : (put put' missed missed' : ℕ) → missed' ≤ last_count → put ≡ put' → missed ≡ next_count missed'
+    → (missed ≤ last_count) × ((put + missed ≡ suc (put' + missed')) ⊎ (missed ≡ last_count)) × (missed' ≤ missed)
+missed_one put put' missed missed' fits same is = (
+  omega (arith, fits, is),
+  dite (dec_le (suc missed') last_count) (λ (low : suc missed' ≤ last_count). inl (omega (arith, low, same, is)))
+      (λ (high : suc missed' ≤ last_count → ⊥). inr (omega (arith, high, fits, is))),
+  omega (arith, fits, is),
+)
 
 -- a record leaves both counts but one, which it raises, unless the count of misses is at its last value
 one_more : (old new : RecorderState) (entry : Entry) (recorded : Recorded) → old.missed ≤ last_count → Records old entry recorded new
@@ -25,18 +37,10 @@ one_more old new entry (Full number) fits (below, is, same, full) =
     let put : length new.put ≡ length old.put = ap (λ (x : RecorderState). length x.put) same in
     let missed : new.missed ≡ next_count old.missed = ap (λ (x : RecorderState). x.missed) same in
     missed_one (length new.put) (length old.put) new.missed old.missed fits put missed
-  where
-    missed_one : (put put' missed missed' : ℕ) → missed' ≤ last_count → put ≡ put' → missed ≡ next_count missed'
-        → (missed ≤ last_count) × ((put + missed ≡ suc (put' + missed')) ⊎ (missed ≡ last_count)) × (missed' ≤ missed)
-    missed_one put put' missed missed' fits same is = omega (arith, fits, same, is)
 one_more old new entry (Spent number) fits (at, is, same) =
     let put : length new.put ≡ length old.put = ap (λ (x : RecorderState). length x.put) same in
     let missed : new.missed ≡ next_count old.missed = ap (λ (x : RecorderState). x.missed) same in
     missed_one (length new.put) (length old.put) new.missed old.missed fits put missed
-  where
-    missed_one : (put put' missed missed' : ℕ) → missed' ≤ last_count → put ≡ put' → missed ≡ next_count missed'
-        → (missed ≤ last_count) × ((put + missed ≡ suc (put' + missed')) ⊎ (missed ≡ last_count)) × (missed' ≤ missed)
-    missed_one put put' missed missed' fits same is = omega (arith, fits, same, is)
 
 pub adds_up : (judged : List Judgement) (old new : RecorderState) → old.missed ≤ last_count → RecordsEach old judged new
     → (length new.put + new.missed ≡ length old.put + old.missed + length judged) ⊎ (new.missed ≡ last_count)
@@ -48,7 +52,9 @@ adds_up (judgement ∷ more) old new fits (recorded, between, one, rest) =
   where
     join : (a b c n m k : ℕ) → (b ≡ suc a) ⊎ (m ≡ last_count) → (c ≡ b + n) ⊎ (k ≡ last_count) → (m ≤ k) × (k ≤ last_count)
         → (c ≡ a + suc n) ⊎ (k ≡ last_count)
-    join a b c n m k one then low = omega (arith, one, then, low.0, low.1)
+    join a b c n m k (inr last) then low = inr (omega (arith, last, low.0, low.1))
+    join a b c n m k (inl one) (inr last) low = inr last
+    join a b c n m k (inl one) (inl then) low = inl (omega (arith, one, then))
 
     stays : (judged : List Judgement) (old new : RecorderState) → old.missed ≤ last_count → RecordsEach old judged new
         → (old.missed ≤ new.missed) × (new.missed ≤ last_count)

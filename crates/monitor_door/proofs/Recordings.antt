@@ -1,8 +1,10 @@
 -- Checks that were recorded one after the other.
 use Rattle.std.proofs.Common.{◌≡◌, ◌∙◌, ℕ, List, [], ◌∷◌, ◌++◌, length, Option, Some, refl, sym, ap, subst}
 use Rattle.link_ports.specs.Told.{ChangesTold}
-use Rattle.check_monitor.specs.Monitor.{RecorderState, Records}
+use Rattle.check_monitor.specs.Monitor.{RecorderState, Records, IsSame}
+use Rattle.monitor_rule.specs.declared.entries.Entry.{Entry}
 use Rattle.check_monitor.specs.declared.recording.Recorded.{Recorded}
+use Rattle.check_monitor.specs.declared.recording.Recorded.TheVariants.{Put, Full, Spent}
 use Rattle.client_door.specs.Recording.{Recording, with_none_waiting, with_noted, with_all_recorded}
 use Rattle.client_door.specs.declared.judgements.Judgement.{Judgement}
 use Rattle.monitor_door.specs.Monitoring.{entry_for, RecordsEach, HasRecorded}
@@ -16,6 +18,22 @@ records_more (judgement ∷ first) more a b c (recorded, between, one, rest) the
 pub records_next : (first : List Judgement) (judgement : Judgement) (a b c : RecorderState) (recorded : Recorded) → RecordsEach a first b
     → Records b (entry_for b.worker (length b.put) judgement) recorded c → RecordsEach a (first ++ judgement ∷ []) c
 records_next first judgement a b c recorded before one = records_more first (judgement ∷ []) a b c before (recorded, c, one, refl)
+
+-- a recorder stays that of its worker
+one_same : (old new : RecorderState) (entry : Entry) (recorded : Recorded) → Records old entry recorded new → IsSame old new
+one_same old new entry (Put number) (below, is, same) =
+    (ap (λ (x : RecorderState). x.queue) same, ap (λ (x : RecorderState). x.worker) same)
+one_same old new entry (Full number) (below, is, same, full) =
+    (ap (λ (x : RecorderState). x.queue) same, ap (λ (x : RecorderState). x.worker) same)
+one_same old new entry (Spent number) (at, is, same) =
+    (ap (λ (x : RecorderState). x.queue) same, ap (λ (x : RecorderState). x.worker) same)
+
+pub stays_same : (judged : List Judgement) (old new : RecorderState) → RecordsEach old judged new → IsSame old new
+stays_same [] old new same = (ap (λ (x : RecorderState). x.queue) same, ap (λ (x : RecorderState). x.worker) same)
+stays_same (judgement ∷ more) old new (recorded, between, one, rest) =
+    let first = one_same old between (entry_for old.worker (length old.put) judgement) recorded one in
+    let then = stays_same more between new rest in
+    (then.0 ∙ first.0, then.1 ∙ first.1)
 
 same_inside : (a b : Recording) → Some a ≡ Some b → a ≡ b
 same_inside a b same = cc

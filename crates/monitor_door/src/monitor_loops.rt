@@ -1,4 +1,5 @@
 ghost use Rattle.client_door.specs.Serving.{client_side};
+ghost use Rattle.check_monitor.specs.Monitor.{IsSame};
 ghost use Rattle.monitor_door.specs.Monitoring.{ServesMonitored};
 
 use crate::notes::Notes;
@@ -14,6 +15,24 @@ use std::sync::Wait;
 /// Serves one connection of a client as `client_loop` does, and records each check that the policies judged, once its reply
 /// was sent. Where there is no memory to keep a check until then, the connection ends. It may wait.
 pub fn monitor_loop<R: Wait, A: Hall, L: Link<End = A::End>, G: Gate>(
+    rt: &R,
+    alloc: Global,
+    seat: &mut Seat,
+    hall: &mut A,
+    link: &mut L,
+    gate: &G,
+    recorder: &mut Recorder,
+) -> Ended
+    ensures served { ServesMonitored result
+        (client_side seat.old (A.tally hall.old) (A.calls hall.old) (L.traffic link.old) (L.marks link.old) (L.faults link.old))
+        (client_side seat.new (A.tally hall.new) (A.calls hall.new) (L.traffic link.new) (L.marks link.new) (L.faults link.new))
+        recorder.old recorder.new }
+    ensures same { IsSame recorder.old recorder.new }
+{
+    serve_noting(rt, alloc, seat, hall, link, gate, recorder)
+}
+
+fn serve_noting<R: Wait, A: Hall, L: Link<End = A::End>, G: Gate>(
     rt: &R,
     alloc: Global,
     seat: &mut Seat,

@@ -1,5 +1,5 @@
 // What waits to be recorded.
-ghost use Rattle.std.specs.Prelude.{◌≡◌, []};
+ghost use Rattle.std.specs.Prelude.{◌≡◌, ◌++◌, ◌∷◌, [], OnOk, OnErr};
 ghost use Rattle.monitor_door.specs.Monitoring.{RecordsEach};
 
 use check_monitor::Recorder;
@@ -46,9 +46,9 @@ impl<'a, R: Wait + Drop> Records for Notes<'a, R> {
         × HasRecorded start.recorder.now notes.noted.items notes.recorder.now told };
 
     fn note(&mut self, judgement: Judgement) -> Result<(), AllocError> {
-        match self.noted.push(judgement) {
+        match push(&mut self.noted, judgement) {
             Ok(()) => Ok(()),
-            Err(_) => Err(AllocError),
+            Err(error) => Err(error),
         }
     }
 
@@ -56,6 +56,14 @@ impl<'a, R: Wait + Drop> Records for Notes<'a, R> {
         record_each(&self.rt, self.recorder, &self.noted);
         self.noted.clear();
     }
+}
+
+fn push(noted: &mut Vec<Judgement>, judgement: Judgement) -> Result<(), AllocError>
+    ensures pushed { OnOk result (noted.new.items ≡ noted.old.items ++ judgement ∷ []) }
+    ensures kept { OnErr result (noted.new.items ≡ noted.old.items) }
+{
+    noted.push(judgement)?;
+    Ok(())
 }
 
 // Records each check, in order.

@@ -2,7 +2,7 @@
 use crate::endings::first_text;
 use crate::talks::talk;
 use case_outside::NamedLinks;
-use case_words::Failure;
+use case_words::{Failure, put_word};
 use desk_keeper::Keeper;
 use desk_ports::Disk;
 use desk_server::{serve_admin, serve_agent, serve_client};
@@ -145,9 +145,10 @@ where
         || served(rt, alloc, first, second, roll, questions, x, y, a),
         || talk(alloc, links, steps),
     );
-    let told = told?;
+    let mut told = told?;
     let ended = ended?;
-    Ok(format!(in alloc; "{told} {ended}")?)
+    put_word(&mut told, ended.as_str())?;
+    Ok(told)
 }
 
 /// Serves the connections `x` and `y` of clients, `a` of an agent and `m` of an administrator, each on a thread of its own,

@@ -1,4 +1,4 @@
-use Rattle.std.proofs.Common.{rules, List, refl, sym, subst}
+use Rattle.std.proofs.Common.{List, refl, sym, subst}
 use Rattle.client_door.specs.declared.judgements.Judgement.{Judgement}
 use Rattle.monitor_door.specs.Monitoring.{HasRecorded}
 use Rattle.monitor_door.proofs.Recordings.{notes_next}
@@ -6,8 +6,8 @@ use Rattle.monitor_door.proofs.notes.NotesRecords.note.Goals as goal
 
 pub returns-in-Ok : goal.returns-in-Ok
 returns-in-Ok g c since before fits =
-    let told = notes_next since.recorder.now c.args.self.now.recorder.now c.args.self.now.noted.items c.push.new.self.items c.args.judgement
-    before (search rules) fits.1 in
+    let told = notes_next since.recorder.now c.args.self.now.recorder.now c.args.self.now.noted.items c.push.new.noted.items c.args.judgement
+    before c.in-Ok.ensures.pushed fits.1 in
     (told.0, (fits.0, told.1), told.2)
 
 pub returns-in-Err : goal.returns-in-Err
@@ -15,7 +15,7 @@ returns-in-Err g c since before fits = (
   before,
   (
     fits.0,
-    subst (λ (list : List Judgement). HasRecorded since.recorder.now list c.args.self.now.recorder.now before) (search rules) fits.1,
+    subst (λ (list : List Judgement). HasRecorded since.recorder.now list c.args.self.now.recorder.now before) (sym c.in-Err.ensures.kept) fits.1,
   ),
   refl,
 )

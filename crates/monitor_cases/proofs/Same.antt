@@ -1,0 +1,31 @@
+-- Recorders that are still those of their workers.
+use Rattle.std.proofs.Common.{◌≡◌, ◌∙◌, ◌<◌, ℕ, zero, suc, List, [], ◌∷◌, ◌++◌, length, slice_index_or, refl, sym, ap, subst, arith}
+use Rattle.std.specs.List.{AllZip}
+use Rattle.std.proofs.lemmas.List.Elements.{AllZip-push}
+use Rattle.atomic_table.specs.Seated.{TableId}
+use Rattle.check_monitor.specs.Monitor.{RecorderState, ReaderState, AreAll, IsSame}
+use Rattle.check_monitor.proofs.All.{all_same, same_itself}
+use Rattle.monitor_cases.specs.Cases.{IsSameReader}
+
+pub chain : (a b c : RecorderState) → IsSame a b → IsSame b c → IsSame a c
+chain a b c one then = (then.0 ∙ one.0, then.1 ∙ one.1)
+
+pub push_same : (old new : List RecorderState) (x y : RecorderState) → AllZip IsSame old new → IsSame x y
+    → AllZip IsSame (old ++ x ∷ []) (new ++ y ∷ [])
+push_same old new x y all one = AllZip-push IsSame old new x y all one
+
+-- all recorders, of a reader that is still the same
+pub all_still : (old new : ReaderState) (recorders now : List RecorderState) → IsSameReader old new → AllZip IsSame recorders now
+    → AreAll old.queue old.made recorders → AreAll new.queue new.made now
+all_still old new recorders now (queue, made) same all =
+    subst (λ (q : TableId). AreAll q new.made now) (sym queue)
+    (subst (λ (n : ℕ). AreAll old.queue n now) (sym made) (all_same old.queue old.made recorders now same all))
+
+-- place by place
+pub zip_each : (old new : List RecorderState) → length new ≡ length old
+    → ((i : ℕ) (d : RecorderState) → i < length old → IsSame (slice_index_or old i d) (slice_index_or new i d)) → AllZip IsSame old new
+zip_each [] [] long each = tt
+zip_each [] (y ∷ new) long each = absurd (omega (arith, long))
+zip_each (x ∷ old) [] long each = absurd (omega (arith, long))
+zip_each (x ∷ old) (y ∷ new) long each =
+    (each zero x (omega arith), zip_each old new (omega (arith, long)) (λ i d low. each (suc i) d (omega (arith, low))))
