@@ -55,7 +55,8 @@ class Hour:
     def __init__(self, folder, options):
         self.folder, self.draw = folder, random.Random(options.seed)
         self.words, self.history = Words(folder, make=True), History()
-        self.service = Service(folder, options.program)
+        # one worker more than clients that hold their connections, for `check`
+        self.service = Service(folder, options.program, CLIENTS + 1)
         self.people = {}
         self.counts = dict.fromkeys(("commits", "services", "clients", "agents", "commands", "unavailable"), 0)
         self.has_check = True
