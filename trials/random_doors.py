@@ -44,7 +44,7 @@ def self_test():
     for name, model in (("admin_cases", admin_door_model), ("door_cases", server_model)):
         for line in (CRATES / name / "stdout").read_text().splitlines():
             case = line.split(" => ")[0]
-            if case and not case.startswith("#") and model.with_answer(case) not in (case, line):
+            if case and not case.startswith("#") and model.with_answer(case) != line:
                 wrong.append(line)
     sys.exit("\n".join(["these are answered otherwise by the models:", *wrong]) if wrong else 0)
 

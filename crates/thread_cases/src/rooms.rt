@@ -65,9 +65,10 @@ fn with_seats<'a, D: Disk, R: Threads + Wait + Sync>(
     let y = accepted(alloc, &mut net, DoorKind::Client, "y", &mut links)?;
     let a = accepted(alloc, &mut net, DoorKind::Agent, "a", &mut links)?;
     let m = accepted(alloc, &mut net, DoorKind::Admin, "m", &mut links)?;
-    all(
+    let told = all(
         rt, alloc, first, second, keeper, publisher, &roll, &questions, x, y, a, m, links, steps,
-    )
+    );
+    told
 }
 
 // Dials a link and accepts it: the one end is kept under the name, and the other one is given.
