@@ -20,13 +20,13 @@ module _ {L E : Type 0} (traffic : L → Option Traffic) (marks : L → LinkMark
   -- it is given no source and no sink, and so no call of them ends it
   never-sink : Serves Sink → ⊥
   never-sink (refused folder counted same doors) = folder.refused
-  never-sink (unopened start stood counted ends) = ends
-  never-sink (served start stood administers) = administers.ends
+  never-sink (unopened start keeps counted ends) = ends
+  never-sink (served start administers keeps) = administers.ends
 
   never-source : Serves Source → ⊥
   never-source (refused folder counted same doors) = folder.refused
-  never-source (unopened start stood counted ends) = ends
-  never-source (served start stood administers) = administers.ends
+  never-source (unopened start keeps counted ends) = ends
+  never-source (served start administers keeps) = administers.ends
 
   pub says-nothing : (ending : Ending) (sink : SinkSeen) → Serves ending → WritesAnswers ending silence sink sink
   says-nothing Sink sink serves = absurd (never-sink serves)
