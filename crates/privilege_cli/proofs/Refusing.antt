@@ -11,7 +11,7 @@ use Rattle.run_endings.specs.declared.endings.Ending.TheVariants.{Memory, Words}
 use Rattle.run_endings.proofs.Hads.{Took-Had}
 use Rattle.command_words.specs.Commands.{ReadsCommand, command_of, copies_words}
 use Rattle.command_words.specs.declared.commands.Command.{Command}
-use Rattle.command_words.specs.declared.commands.Command.TheVariants.{Local, Serve, Watch, Check, Simple, Admin, Agent, SmackAccess, SmackLoad, Sample}
+use Rattle.command_words.specs.declared.commands.Command.TheVariants.{Local, Serve, Check, Simple, Admin, Agent, SmackAccess, SmackLoad, Sample}
 use Rattle.command_words.specs.declared.commands.CommandRefusal.TheVariants.{Memory as NoMemory}
 use Rattle.cynara_client.specs.declared.refusals.ClientRefusal.TheVariants as refusal
 use Rattle.privilege_cli.specs.Program.{NetTells, RunsCommand, CountsNet}
@@ -34,7 +34,6 @@ module _ {N L E A : Type 0} (tells : NetTells N L E A) (error : AllocError) wher
   unread SmackLoad source disk net copies = absurd (untrue copies)
   unread (Sample count) source disk net copies = absurd (untrue copies)
   unread (Serve workers) source disk net copies = absurd (untrue copies)
-  unread (Watch workers) source disk net copies = absurd (untrue copies)
   unread Admin source disk net copies = absurd (untrue copies)
   unread (Agent kind allowed) source disk net copies = absurd (untrue copies)
 

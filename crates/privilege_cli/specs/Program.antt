@@ -71,7 +71,6 @@ module _ {N L E A : Type 0} (tells : NetTells N L E A) where
       source source_after net net_after
   RunsCommand (Some (Agent kind allowed)) said ending source source_after disk disk_after net net_after =
       RunsAgent kind allowed said ending (dial_of net) (dial_of net_after)
-  RunsCommand (Some command) said ending source source_after disk disk_after net net_after = ⊥
 
 -- ---- counts
 

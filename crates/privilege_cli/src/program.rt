@@ -149,7 +149,6 @@ where
         Ok(Command::Simple(asked)) => run_simple(alloc, &asked, net, sink),
         Ok(Command::Admin) => run_admin(alloc, source, sink, net),
         Ok(Command::Agent { kind, allowed }) => run_agent(rt, alloc, kind, allowed, net, sink),
-        Ok(_) => unreachable!(),
         Err(CommandRefusal::Unknown(fault)) => {
             note_words(alloc, words, fault, sink);
             Ending::Words
