@@ -135,9 +135,12 @@ class Running:
         self.replies += 1
 
     def reply(self, asker, operation, fields):
+        """What an agent led to. Over a connection that was hung up meanwhile it is sent all the same, and goes nowhere."""
         sequence, _ = asker.asked
         asker.asked = None
-        if not self.stopped and asker.entered >= self.service.note:
+        if not self.stopped and asker.entered < self.service.note:
+            self.replies += 1
+        elif not self.stopped:
             self.send(asker, frame(sequence, operation, fields))
 
     # ---- agents
