@@ -15,6 +15,14 @@ pub push_same : (old new : List RecorderState) (x y : RecorderState) → AllZip 
     → AllZip IsSame (old ++ x ∷ []) (new ++ y ∷ [])
 push_same old new x y all one = AllZip-push IsSame old new x y all one
 
+-- the last two of some recorders
+pub two_same : (others old new : List RecorderState) (a b x y : RecorderState) → old ≡ (others ++ a ∷ []) ++ b ∷ []
+    → new ≡ (others ++ x ∷ []) ++ y ∷ [] → IsSame a x → IsSame b y → AllZip IsSame old new
+two_same others old new a b x y before after first second =
+    subst (λ (list : List RecorderState). AllZip IsSame list new) (sym before)
+    (subst (λ (list : List RecorderState). AllZip IsSame ((others ++ a ∷ []) ++ b ∷ []) list) (sym after)
+    (push_same (others ++ a ∷ []) (others ++ x ∷ []) b y (push_same others others a x (same_itself others) first) second))
+
 -- all recorders, of a reader that is still the same
 pub all_still : (old new : ReaderState) (recorders now : List RecorderState) → IsSameReader old new → AllZip IsSame recorders now
     → AreAll old.queue old.made recorders → AreAll new.queue new.made now

@@ -2,9 +2,10 @@
 ghost use Rattle.std.specs.Prelude.{IfOk};
 ghost use Rattle.std.specs.List.{AllZip};
 ghost use Rattle.check_monitor.specs.Monitor.{AreAll, IsSame};
+ghost use Rattle.monitor_cases.specs.Cases.{IsSameReader};
 
 use crate::checks::denied;
-use check_monitor::{Reader, Recorded, Recorder};
+use check_monitor::{Entry, Reader, Recorded, Recorder};
 use cynara_keys::Question;
 use std::alloc::{AllocError, Global};
 use std::sync::Wait;
@@ -49,6 +50,17 @@ pub fn fill_all<R: Wait>(
         filled.push(recorder)?;
     }
     Ok(filled)
+}
+
+/// Takes the next entry.
+#[tactic(auto, using(crate::proofs::Same::reader_handed))]
+pub fn take<R: Wait>(rt: &R, reader: &mut Reader) -> Option<Entry>
+    ensures { IsSameReader reader.old reader.new }
+{
+    match reader.next(rt) {
+        Some(entry) => Some(entry),
+        None => None,
+    }
 }
 
 /// How many checks they missed.

@@ -4,7 +4,7 @@ ghost use Rattle.check_monitor.specs.Monitor.{AreAll, IsSame};
 ghost use Rattle.monitor_cases.specs.Cases.{IsSameReader};
 
 use crate::checks::question;
-use crate::recording::fill;
+use crate::recording::{fill, take};
 use check_monitor::{Entry, Reader, Recorder, open};
 use cynara_keys::Question;
 use std::alloc::{AllocError, Global};
@@ -40,12 +40,24 @@ impl Tally {
 pub fn four_workers<R: Wait + Threads + Sync>(rt: &R, alloc: Global) -> Result<String, AllocError> {
     let (recorders, reader) = open(alloc, 4, 64)?;
     let asked = question(alloc, b"c", b"u", b"p").ok_or(AllocError)?;
+    by_four(rt, alloc, recorders, reader, &asked)
+}
+
+fn by_four<R: Wait + Threads + Sync>(
+    rt: &R,
+    alloc: Global,
+    recorders: Vec<Recorder>,
+    reader: Reader,
+    asked: &Question,
+) -> Result<String, AllocError>
+    requires { AreAll reader.queue reader.made recorders.items }
+{
     let (mut recorders, mut reader) = (recorders, reader);
     let mut tally = Tally {
         counts: [0; 4],
         wrong: 0,
     };
-    record_and_take(rt, &mut recorders, &asked, &mut reader, &mut tally);
+    record_and_take(rt, &mut recorders, asked, &mut reader, &mut tally);
     let made = made_by(&recorders);
     let lost = not_adding_up(&recorders);
     let tally = settled(rt, reader, recorders, tally);
@@ -120,12 +132,12 @@ fn fill_on_threads<R: Wait + Threads + Sync>(rt: &R, recorders: &mut [Recorder],
 }
 
 // Takes entries so often as all workers record.
-#[tactic(auto, using(crate::proofs::Same::reader_chain, crate::proofs::Same::reader_handed))]
+#[tactic(auto, using(crate::proofs::Same::reader_chain))]
 fn take_some<R: Wait>(rt: &R, reader: &mut Reader, tally: &mut Tally)
     ensures { IsSameReader reader.old reader.new }
 {
     for _ in 0..4 * CHECKS {
-        if let Some(entry) = reader.next(rt) {
+        if let Some(entry) = take(rt, reader) {
             tally.note(&entry);
         }
     }

@@ -52,7 +52,7 @@ spells_nothing reader writing room = record {
 pub spells_next : (count : ℕ) (reader then now : ReaderState) (writing spelled next : Writing) (before between room : List ℕ) (entry : Entry)
     → SpellsEntries count reader then writing spelled before between → HandsOut then entry now
     → Spells spelled between (entry_text entry) next room
-    → SpellsEntries (suc count) reader now writing next before room
+    → SpellsEntries (count + 1) reader now writing next before room
 spells_next count reader then now writing spelled next before between room entry s handed one =
     let longer : length (s.entries ++ entry ∷ []) ≡ length s.entries + 1 = length-append s.entries (entry ∷ []) in
     let few = s.few in

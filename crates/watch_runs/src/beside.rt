@@ -1,5 +1,6 @@
 // The workers on threads, beside the administrators on the calling one.
 ghost use Rattle.std.specs.Prelude.{◌≤◌};
+ghost use Rattle.desk_keeper.specs.Keeper.{IsSameDisk};
 ghost use Rattle.live_desk.specs.History.{last_commit};
 
 use crate::watchers::AGENT_WORKERS;
@@ -43,12 +44,14 @@ pub(crate) fn beside<
 ) -> WorkerEnd
     requires workers { F.IsAlwaysCallable each.now }
     requires behind { last_commit 0 publisher.old ≤ keeper.old.desk.commit }
+    ensures { IsSameDisk keeper.old keeper.new }
 {
     let mut front = ||
         requires { F.IsAlwaysCallable each.now }
     { each_of(rt, each, workers) };
     let mut office = || -> WorkerEnd
         requires { last_commit 0 publisher.now ≤ keeper.now.desk.commit }
+        ensures { IsSameDisk keeper.entry.now keeper.exit.now }
     {
         officiate(
             rt, alloc, clients, keeper, publisher, roll, questions, net, door, notes,
@@ -87,10 +90,9 @@ fn officiate<R: Wait, D: Disk, H: HangEnd, L: Link, E: Door<Link = L>, N: Net, T
     notes: &T,
 ) -> WorkerEnd
     requires { last_commit 0 publisher.old ≤ keeper.old.desk.commit }
+    ensures { IsSameDisk keeper.old keeper.new }
 {
-    let end = work_for_administrators(
-        rt, alloc, keeper, publisher, roll, questions, door, notes,
-    );
+    let end = work_for_administrators(rt, alloc, keeper, publisher, roll, questions, door, notes);
     knock(net, DoorKind::Client, clients);
     knock(net, DoorKind::Agent, AGENT_WORKERS);
     end

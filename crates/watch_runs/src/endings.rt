@@ -1,11 +1,17 @@
 // How a run of `watch` ends that has served.
+ghost use Rattle.std.specs.Bool.{OnTrue, OnFalse};
+ghost use Rattle.serve_runs.specs.Serving.{HasRisen, HasNotRisen};
+ghost use Rattle.watch_runs.specs.Watching.{EndsBy};
+
 use crate::watching::Met;
 use monitor_journal::Writing;
 use run_endings::Ending;
 
 /// By what was met, and by the counts of the disk and of the net before and now: as a run of `serve` does, and where that would be
 /// done, by how the writing of lines stands.
-pub(crate) fn ending_of(met: Met, disk: u64, disk_now: u64, net: u64, net_now: u64) -> Ending {
+pub(crate) fn ending_of(met: Met, disk: u64, disk_now: u64, net: u64, net_now: u64) -> Ending
+    ensures { EndsBy met disk disk_now net net_now result }
+{
     if met.lacked_memory {
         return Ending::Memory;
     }
@@ -23,6 +29,9 @@ pub(crate) fn ending_of(met: Met, disk: u64, disk_now: u64, net: u64, net_now: u
 }
 
 // Whether a count of failures has risen. At its last value it does not tell, and counts as risen.
-fn has_risen(before: u64, after: u64) -> bool {
+fn has_risen(before: u64, after: u64) -> bool
+    ensures risen { OnTrue result (HasRisen before after) }
+    ensures unrisen { OnFalse result (HasNotRisen before after) }
+{
     before.saturating_add(1) <= after
 }

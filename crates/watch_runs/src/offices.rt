@@ -43,8 +43,7 @@ impl<'a, R: Wait + Drop, K: Sink> Journal<'a, R, K> {
     pub fn write_missed(&mut self, worker: u32, count: u64) {
         self.writing = write_missed(&mut self.room, self.writing, worker, count, self.sink);
         if count > 0 {
-            self.sink
-                .note("privilege: some checks were missed: the queue of the monitor was full");
+            self.sink.note("privilege: some checks were missed: the queue of the monitor was full");
         }
     }
 

@@ -1,5 +1,6 @@
 // `watch W`.
 ghost use Rattle.std.specs.Prelude.{◌<◌, ◌≤◌};
+ghost use Rattle.watch_runs.specs.Watching.{EndsWatch};
 
 use crate::endings::ending_of;
 use crate::watching::watch_folder;
@@ -40,6 +41,7 @@ where
     <<N::Door as Door>::Link as Link>::End: Send,
     requires some { 0 < workers }
     requires most { workers ≤ 64 }
+    ensures { EndsWatch (D.faults disk.old) (D.faults disk.new) (N.faults net.old) (N.faults net.new) result }
 {
     let disk_faults = disk.faults();
     let net_faults = net.faults();
@@ -48,18 +50,8 @@ where
         Err(refusal) => return ending_of_mount(refusal),
     };
     let mut keeper = Keeper::of(alloc, disk, found);
-    let watched = watch_folder(rt, alloc, workers, &mut keeper, net, gate, notes, sink);
+    let met = watch_folder(rt, alloc, workers, &mut keeper, net, gate, notes, sink);
     let disk = keeper.into_disk();
     notes.note("privilege: the service has ended");
-    let met = match watched {
-        Ok(met) => met,
-        Err(ending) => return ending,
-    };
-    ending_of(
-        met,
-        disk_faults,
-        disk.faults(),
-        net_faults,
-        net.faults(),
-    )
+    ending_of(met, disk_faults, disk.faults(), net_faults, net.faults())
 }

@@ -1,5 +1,6 @@
 // The service, once the folder is mounted.
 ghost use Rattle.std.specs.Prelude.{◌≡◌, ◌<◌, ◌≤◌, ◌∷◌, []};
+ghost use Rattle.desk_keeper.specs.Keeper.{IsSameDisk};
 ghost use Rattle.live_desk.specs.History.{last_commit};
 
 use crate::beside::beside;
@@ -14,7 +15,6 @@ use live_desk::{Publisher, Seat, start};
 use live_roll::Roll;
 use locked_hall::QuestionDesk;
 use monitor_journal::{MOST_AT_ONCE, Writing};
-use run_endings::Ending;
 use std::alloc::Global;
 use std::sync::{Mutex, Wait};
 use std::thread::Threads;
@@ -26,8 +26,14 @@ pub(crate) struct Met {
     pub writing: Writing,
 }
 
+// Nothing was written, and memory was wanting.
+const OUT_OF_MEMORY: Met = Met {
+    lacked_memory: true,
+    writing: Writing::GoesOn,
+};
+
 /// Serves over the folder of the keeper, by so many workers of clients, until the service is stopped, and writes what they
-/// recorded. What was met, or why nobody was served.
+/// recorded. What was met.
 pub(crate) fn watch_folder<
     R: Threads + Wait + Sync,
     D: Disk,
@@ -44,38 +50,43 @@ pub(crate) fn watch_folder<
     gate: &G,
     notes: &T,
     sink: &mut K,
-) -> Result<Met, Ending>
+) -> Met
 where
     N::Door: Send,
     <N::Door as Door>::Link: Send,
     <<N::Door as Door>::Link as Link>::End: Send,
     requires some { 0 < workers }
     requires most { workers ≤ 64 }
+    ensures { IsSameDisk keeper.old keeper.new }
 {
     let Ok((recorders, reader)) = open(alloc, workers, MOST_AT_ONCE) else {
-        return Err(Ending::Memory);
+        return OUT_OF_MEMORY;
     };
     let Ok((publisher, seats, roll)) = start(rt, alloc, keeper.desk(), workers) else {
-        return Err(Ending::Memory);
+        return OUT_OF_MEMORY;
     };
     let mut publisher = publisher;
     let watched = staff(
-        rt, alloc, workers, keeper, &mut publisher, seats, roll, recorders, reader, net, gate,
-        notes, sink,
+        rt,
+        alloc,
+        workers,
+        keeper,
+        &mut publisher,
+        seats,
+        roll,
+        recorders,
+        reader,
+        net,
+        gate,
+        notes,
+        sink,
     );
     publisher.end(rt);
     watched
 }
 
 // The same, with the seats and the roll of a state that was just published.
-fn staff<
-    R: Threads + Wait + Sync,
-    D: Disk,
-    N: Net,
-    G: Gate + Sync,
-    T: Notes + Sync,
-    K: Sink,
->(
+fn staff<R: Threads + Wait + Sync, D: Disk, N: Net, G: Gate + Sync, T: Notes + Sync, K: Sink>(
     rt: &R,
     alloc: Global,
     clients: u32,
@@ -89,15 +100,16 @@ fn staff<
     gate: &G,
     notes: &T,
     sink: &mut K,
-) -> Result<Met, Ending>
+) -> Met
 where
     N::Door: Send,
     <N::Door as Door>::Link: Send,
     <<N::Door as Door>::Link as Link>::End: Send,
     requires published { publisher.old ≡ keeper.old.desk ∷ [] }
+    ensures { IsSameDisk keeper.old keeper.new }
 {
     let Ok(crew) = crew_of(alloc, seats, recorders) else {
-        return Err(Ending::Memory);
+        return OUT_OF_MEMORY;
     };
     let mut crew = crew;
     open_and_watch(
@@ -126,21 +138,22 @@ fn open_and_watch<
     gate: &G,
     notes: &T,
     sink: &mut K,
-) -> Result<Met, Ending>
+) -> Met
 where
     N::Door: Send,
     <N::Door as Door>::Link: Send,
     <<N::Door as Door>::Link as Link>::End: Send,
     requires published { publisher.old ≡ keeper.old.desk ∷ [] }
+    ensures { IsSameDisk keeper.old keeper.new }
 {
-    let door = match open_door(net, DoorKind::Admin) {
+    let door = match net.door(DoorKind::Admin) {
         Ok(door) => door,
-        Err(ending) => return Err(ending),
+        Err(fault) => return unopened(fault),
     };
-    if let Err(ending) = open_doors(net, crew) {
+    if let Err(fault) = open_doors(net, crew) {
         net.close(door);
         close_doors(net, crew);
-        return Err(ending);
+        return unopened(fault);
     }
     let mut watched = WatchedDoor {
         door,
@@ -164,10 +177,21 @@ where
     close_doors(net, crew);
     let writing = write_rest(journal, crew);
     let lacked_memory = lacks_memory(lacked_memory(crew), end);
-    Ok(Met {
+    Met {
         lacked_memory,
         writing,
-    })
+    }
+}
+
+// What was met where a door was refused. That a call of the net failed its count tells.
+fn unopened(fault: PortFault) -> Met {
+    match fault {
+        PortFault::Failed => Met {
+            lacked_memory: false,
+            writing: Writing::GoesOn,
+        },
+        PortFault::Memory(_) => OUT_OF_MEMORY,
+    }
 }
 
 // Writes what is left once the workers have ended, and how many checks of each were missed.
@@ -211,6 +235,7 @@ where
     C::Link: Send,
     <C::Link as Link>::End: Send,
     requires { last_commit 0 publisher.old ≤ keeper.old.desk.commit }
+    ensures { IsSameDisk keeper.old keeper.new }
 {
     let roll = Mutex::new(roll);
     let questions = QuestionDesk::new(alloc);
@@ -235,32 +260,23 @@ where
     end
 }
 
-// Opens a door of this kind.
-fn open_door<N: Net>(net: &mut N, kind: DoorKind) -> Result<N::Door, Ending> {
-    match net.door(kind) {
-        Ok(door) => Ok(door),
-        Err(PortFault::Failed) => Err(Ending::Net),
-        Err(PortFault::Memory(_)) => Err(Ending::Memory),
-    }
-}
-
 // Opens the doors of the crew, until one is refused.
-fn open_doors<N: Net>(net: &mut N, crew: &mut [Watcher<N::Door>]) -> Result<(), Ending> {
+fn open_doors<N: Net>(net: &mut N, crew: &mut [Watcher<N::Door>]) -> Result<(), PortFault> {
     for watcher in crew.iter_mut() {
-        if let Err(ending) = open_one(net, watcher) {
-            return Err(ending);
+        if let Err(fault) = open_one(net, watcher) {
+            return Err(fault);
         }
     }
     Ok(())
 }
 
-fn open_one<N: Net>(net: &mut N, watcher: &mut Watcher<N::Door>) -> Result<(), Ending> {
-    match open_door(net, watcher.kind()) {
+fn open_one<N: Net>(net: &mut N, watcher: &mut Watcher<N::Door>) -> Result<(), PortFault> {
+    match net.door(watcher.kind()) {
         Ok(door) => {
             watcher.take_door(door);
             Ok(())
         }
-        Err(ending) => Err(ending),
+        Err(fault) => Err(fault),
     }
 }
 
