@@ -1,22 +1,20 @@
 -- How often the dialler failed by the end of a run.
-use Rattle.std.proofs.Common.{◌≡◌, ◌⊎◌, inl, inr, ℕ, Bool, true, false, cond, List, [], ◌∷◌, Option, Some, None, Result, Ok, Err, refl, sym, ap, ◌∙◌, subst}
+use Rattle.std.proofs.Common.{◌≡◌, inl, inr, ℕ, Bool, true, false, cond, List, [], ◌∷◌, Option, Some, None, Result, Ok, Err, refl, sym, ap, ◌∙◌, subst}
 use Rattle.desk_ports.specs.Faults.{next_count}
 use Rattle.desk_ports.specs.PortFault.{count_after_refusal}
 use Rattle.desk_ports.specs.declared.port_faults.PortFault.{PortFault}
 use Rattle.desk_ports.specs.declared.port_faults.PortFault.TheVariants as fault
 use Rattle.link_ports.specs.Traffic.{Traffic}
 use Rattle.link_ports.specs.LinkMarks.{LinkMarks}
-use Rattle.link_ports.specs.NetCounts.{gave_trouble, count_after_give_back, MayCountFailure}
+use Rattle.link_ports.specs.NetCounts.{gave_trouble, MayCountFailure}
 use Rattle.wire_messages.specs.declared.messages.Message.{Message}
 use Rattle.client_connection.specs.Giving.{GivesBackAny}
 use Rattle.admin_client.specs.Sending.{State, Sends, refusal_by}
 use Rattle.admin_client.specs.declared.refusals.AdminRefusal.{AdminRefusal}
 use Rattle.admin_client.specs.declared.refusals.AdminRefusal.TheVariants as refusal
-use Rattle.run_endings.specs.Outside.{SourceSeen}
-use Rattle.run_endings.specs.Saying.{Said}
 use Rattle.run_endings.specs.declared.endings.Ending.{Ending}
 use Rattle.run_endings.specs.declared.endings.Ending.TheVariants.{Done, Memory, Words, Line, Source, Sink, Disk, Net, Damaged, Reply, TooLong}
-use Rattle.admin_runs.specs.AdminRun.{Exchange, ending_of, AreExchanged, EndsSending, IsUnanswered, RunsAdmin, IsCounted}
+use Rattle.admin_runs.specs.AdminRun.{Exchange, ending_of, AreExchanged, EndsSending, IsUnanswered, IsCounted}
 
 by_trouble : (b : Bool) (count : ℕ) → MayCountFailure count (cond b (next_count count) count)
 by_trouble true count = inr refl

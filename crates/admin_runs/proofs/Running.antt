@@ -3,7 +3,7 @@ use Rattle.std.proofs.Common.{◌≡◌, ℕ, List, Option, None, subst}
 use Rattle.link_ports.specs.Traffic.{Traffic}
 use Rattle.link_ports.specs.LinkMarks.{LinkMarks}
 use Rattle.client_connection.specs.Giving.{GivesBackAny}
-use Rattle.admin_client.specs.Sending.{State, Kept, with_dial}
+use Rattle.admin_client.specs.Sending.{Kept, with_dial}
 use Rattle.run_endings.specs.Outside.{SourceSeen, SinkSeen}
 use Rattle.run_endings.specs.Saying.{Said, WritesAnswers}
 use Rattle.run_endings.specs.declared.endings.Ending.{Ending}

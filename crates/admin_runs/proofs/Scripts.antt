@@ -1,8 +1,7 @@
 -- A whole script, from its lines.
-use Rattle.std.proofs.Common.{◌≡◌, ◌≤◌, ◌+◌, ℕ, List, [], ◌∷◌, ◌++◌, Option, Some, None, Result, Ok, Err, Bool, true, false, inl, inr, refl, sym, ap, ◌∙◌, subst, append-nil}
+use Rattle.std.proofs.Common.{◌≡◌, ℕ, List, [], ◌∷◌, ◌++◌, Option, Result, Ok, Err, inl, inr, refl, sym, ap, ◌∙◌, subst, append-nil}
 use Rattle.text_lines.specs.LineReader.{LineReading, HandsOut, Ends, EndsReading}
 use Rattle.line_script.specs.Block.{Block}
-use Rattle.line_script.specs.Grammar.{step_at}
 use Rattle.line_script.specs.Turn.{is_in_block}
 use Rattle.line_script.specs.declared.places.Place.TheVariants.{Admin}
 use Rattle.line_script.specs.declared.steps.Step.{Step}
@@ -12,14 +11,14 @@ use Rattle.wire_messages.specs.declared.messages.Message.{Message}
 use Rattle.admin_client.specs.Sending.{State}
 use Rattle.run_endings.specs.Outside.{SinkSeen}
 use Rattle.run_endings.specs.declared.endings.Ending.{Ending}
-use Rattle.run_endings.specs.declared.endings.Ending.TheVariants.{Done, Memory, Words, Line, Source, Sink, Disk, Net, Damaged, Reply, TooLong}
+use Rattle.run_endings.specs.declared.endings.Ending.TheVariants.{Done, Memory, Line, Source, Sink, Net, Reply, TooLong}
 use Rattle.script_reading.specs.NextLine.{ReadsNext}
 use Rattle.script_reading.specs.Reading.{Reads, Goes, Has, ReadsLines}
 use Rattle.script_reading.proofs.Going.{goes_on}
 use Rattle.script_reading.proofs.Ending.{ends_unread, ends_now, ends_by_memory, ends_before_line, ends_by_source, ends_past_limit, ends_at_line, ends_done, ends_in_block}
 use Rattle.admin_runs.specs.AdminRun.{HasRead, messages_of}
 use Rattle.admin_runs.specs.parts.Talk.{Talks, IsStop, ending_by}
-use Rattle.admin_runs.specs.parts.Line.{TakesLine, StopsAtLine, StopsNext, Turns}
+use Rattle.admin_runs.specs.parts.Line.{TakesLine, StopsAtLine, StopsNext}
 use Rattle.admin_runs.specs.parts.Script.{SendsAll, EndsScript}
 use Rattle.admin_runs.proofs.Turns.{messages_then}
 use Rattle.admin_runs.proofs.Talking.{talk_none, talk_then, IsQuiet}

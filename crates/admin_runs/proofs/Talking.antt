@@ -1,5 +1,5 @@
 -- What is sent and written, part by part.
-use Rattle.std.proofs.Common.{◌≡◌, ◌⊎◌, inl, inr, ℕ, List, [], ◌∷◌, ◌++◌, take, map, Option, Some, None, Result, Ok, Err, refl, sym, ap, ◌∙◌, subst, append_assoc, append-nil}
+use Rattle.std.proofs.Common.{◌≡◌, inl, inr, ℕ, List, [], ◌∷◌, ◌++◌, take, map, Option, None, Result, Ok, Err, refl, sym, ap, ◌∙◌, subst, append_assoc, append-nil}
 use Rattle.std.specs.Option.{option_to_list}
 use Rattle.desk_ports.specs.Faults.{next_count}
 use Rattle.desk_ports.specs.Content.{Appended}
@@ -20,9 +20,9 @@ use Rattle.run_endings.specs.declared.endings.Ending.TheVariants.{Done, Memory, 
 use Rattle.run_endings.proofs.Trying.{IsCut-take}
 use Rattle.admin_runs.specs.StepMessage.{message_for}
 use Rattle.admin_runs.specs.ReplyLine.{replies_text}
-use Rattle.admin_runs.specs.AdminRun.{Exchange, text_of, texts_of, messages_of, ending_of, AreInTurn, SendsOnce, AreExchanged, EndsSending, IsUnanswered}
+use Rattle.admin_runs.specs.AdminRun.{Exchange, text_of, messages_of, ending_of, AreInTurn, SendsOnce, AreExchanged, EndsSending, IsUnanswered}
 use Rattle.admin_runs.specs.parts.Talk.{Talks, WritesText, IsStop, SendsMessage}
-use Rattle.admin_runs.proofs.Turns.{texts_then, mapped_then, messages_then, in_turn_none, in_turn_one, in_turn_then}
+use Rattle.admin_runs.proofs.Turns.{texts_then, mapped_then, in_turn_none, in_turn_one, in_turn_then}
 
 -- ---- what is written
 

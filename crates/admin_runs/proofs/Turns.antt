@@ -1,9 +1,7 @@
 -- Lists of exchanges: their messages, their texts, and how much of these is written in turn.
-use Rattle.std.proofs.Common.{◌≡◌, ◌≤◌, ◌+◌, ℕ, List, [], ◌∷◌, ◌++◌, length, map, refl, sym, ap, ◌∙◌, arith, append_assoc, length-append}
-use Rattle.std.specs.List.{flat_map}
+use Rattle.std.proofs.Common.{◌≡◌, ◌≤◌, ℕ, List, [], ◌∷◌, ◌++◌, length, map, refl, sym, ap, ◌∙◌, arith, append_assoc, length-append}
 use Rattle.std.specs.Option.{option_to_list}
 use Rattle.line_script.specs.declared.steps.Step.{Step}
-use Rattle.wire_messages.specs.declared.messages.Message.{Message}
 use Rattle.admin_runs.specs.StepMessage.{message_for}
 use Rattle.admin_runs.specs.AdminRun.{Exchange, text_of, texts_of, messages_of, AreInTurn}
 

@@ -1,6 +1,6 @@
 -- How the answering of a script ends, with what it keeps: of the folder, say. `Keeps` says it for each way to end, of the
 -- steps that were answered and of those that were read.
-use Rattle.std.proofs.Common.{◌≡◌, ◌+◌, inl, inr, ℕ, Bool, true, false, List, [], ◌∷◌, ◌++◌, take, Option, Some, None, Err, refl, sym, ap, ◌∙◌, append_assoc, append-nil}
+use Rattle.std.proofs.Common.{◌≡◌, ◌+◌, inl, inr, ℕ, true, false, List, [], ◌∷◌, ◌++◌, take, Option, Err, refl, sym, ap, ◌∙◌, append_assoc, append-nil}
 use Rattle.desk_ports.proofs.Appends.{Appended-none, Appended-then}
 use Rattle.text_lines.specs.LineReader.{LineReading}
 use Rattle.line_script.specs.Turn.{is_in_block}

@@ -1,7 +1,7 @@
 -- A script that is being answered goes on by one line.
 use Rattle.std.proofs.Common.{◌≡◌, ◌≤◌, ◌⊎◌, inl, inr, ℕ, List, [], ◌∷◌, ◌++◌, length, Option, refl, sym, ap, ◌∙◌, arith, append_assoc, append-nil, length-append}
 use Rattle.desk_ports.proofs.Appends.{Appended-none, Appended-then}
-use Rattle.text_lines.specs.LineReader.{LineReading, EndsReading}
+use Rattle.text_lines.specs.LineReader.{LineReading}
 use Rattle.line_script.specs.declared.steps.Step.{Step}
 use Rattle.line_script.specs.Block.{outside}
 use Rattle.line_script.specs.declared.places.Place.TheVariants.{Local}

@@ -1,5 +1,5 @@
 -- What a run of `local` reads, answers and keeps.
-use Rattle.std.specs.Prelude.{◌≡◌, ◌≤◌, ◌<◌, ◌⊎◌, List, [], ◌∷◌, ◌++◌, length, take, ℕ, Some, None}
+use Rattle.std.specs.Prelude.{◌≡◌, ◌⊎◌, List, [], ◌∷◌, ◌++◌, ℕ, Some, None}
 use Rattle.desk_ports.specs.Disk.{WhereTold}
 use Rattle.desk_state.specs.DeskState.{DeskState}
 use Rattle.desk_state.specs.Rules.{fault}

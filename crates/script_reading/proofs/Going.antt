@@ -1,5 +1,5 @@
 -- The reading of a script goes on by one line.
-use Rattle.std.proofs.Common.{◌≡◌, ◌≤◌, ◌+◌, ◌-◌, ◌⊎◌, inl, inr, ℕ, Bool, true, false, List, [], ◌∷◌, ◌++◌, length, Option, Some, Ok, refl, sym, ap, ◌∙◌, subst, arith, append_assoc, append-nil, length-append}
+use Rattle.std.proofs.Common.{◌≡◌, ◌+◌, ◌-◌, ◌⊎◌, inl, inr, ℕ, Bool, true, false, List, [], ◌∷◌, ◌++◌, length, Option, Some, refl, sym, ap, ◌∙◌, subst, arith, append_assoc, append-nil, length-append}
 use Rattle.desk_ports.specs.Content.{Took, ReadToEnd}
 use Rattle.desk_ports.proofs.Readings.{Took-then, Took-nothing, ReadToEnd-then}
 use Rattle.text_lines.specs.Lines.{HasNoNewline, AreWholeLines, pieces_of, lines_within}

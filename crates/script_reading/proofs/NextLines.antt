@@ -1,5 +1,5 @@
 -- The next line of a script, from what the reader of lines says of it.
-use Rattle.std.proofs.Common.{ℕ, List, Option, Bool, true, false, Result, Ok, Err}
+use Rattle.std.proofs.Common.{ℕ, List, Option, Bool, true, false, Ok, Err}
 use Rattle.text_lines.specs.LineReader.{LineReading, HandsOutNext}
 use Rattle.text_lines.specs.declared.refusal.ReadRefusal.{ReadRefusal}
 use Rattle.text_lines.specs.declared.refusal.ReadRefusal.TheVariants.{PastLimit, Source as SourceFailed, Memory as NoMemory}

@@ -1,7 +1,7 @@
 -- One turn of answering a script.
 use Rattle.std.specs.Prelude.{◌≡◌, ◌+◌, ◌⊎◌, ℕ, Bool, true, false, List, [], ◌++◌, Option, Some, None, Result, Ok, Err}
 use Rattle.desk_ports.specs.Faults.{next_count}
-use Rattle.desk_ports.specs.Content.{Took, Appended, AppendedPart}
+use Rattle.desk_ports.specs.Content.{Appended, AppendedPart}
 use Rattle.text_lines.specs.LineReader.{LineReading, HandsOut, Keeps, Ends, EndsReading, GoesPast, IsUnfinished, has_line}
 use Rattle.desk_state.specs.DeskState.{DeskState}
 use Rattle.desk_state.specs.Rules.{fault}
@@ -14,7 +14,7 @@ use Rattle.private_sharing.specs.declared.shares.Share.{Share}
 use Rattle.script_replies.specs.Reply.{reply, after, shares_after, command_in}
 use Rattle.script_reading.specs.Reading.{Gives}
 use Rattle.run_endings.specs.declared.endings.Ending.{Ending}
-use Rattle.run_endings.specs.declared.endings.Ending.TheVariants.{Done, Memory, Words, Line, Source, Sink, Disk, Net, Damaged, Reply, TooLong}
+use Rattle.run_endings.specs.declared.endings.Ending.TheVariants.{Memory, Line, Source, Sink, Disk}
 use Rattle.local_runs.specs.declared.local_script.LocalScript.{LocalScript}
 
 -- the sink's count of faults behind a phase of a run: one call failed where it stopped so, and else none

@@ -1,9 +1,8 @@
-use Rattle.std.proofs.Common.{refl, sym, subst, arith, ◌∙◌, Ok}
+use Rattle.std.proofs.Common.{refl, sym, subst, ◌∙◌, Ok}
 use Rattle.text_lines.specs.LineReader.{LineReading}
 use Rattle.line_script.specs.declared.places.Place.TheVariants.{Admin}
 use Rattle.script_reading.specs.Reading.{Goes}
 use Rattle.script_reading.proofs.Going.{goes_first}
-use Rattle.script_reading.proofs.Lines.{length-piece}
 use Rattle.admin_client.specs.Sending.{with_dial}
 use Rattle.run_endings.specs.Outside.{sink_seen}
 use Rattle.run_endings.specs.declared.endings.Ending.TheVariants.{Done}

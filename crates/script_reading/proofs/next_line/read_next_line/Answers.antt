@@ -1,8 +1,6 @@
 use Rattle.std.proofs.Common.{subst, sym, Err}
 use Rattle.script_reading.specs.NextLine.{ReadsNext}
 use Rattle.script_reading.proofs.NextLines.{next_refused, next_found}
-use Rattle.script_reading.proofs.Going.{goes_on}
-use Rattle.script_reading.proofs.Ending.{ends_done}
 use Rattle.script_reading.proofs.next_line.read_next_line.Goals as goal
 
 pub returns-in-Ok-clause-next : goal.returns-in-Ok-clause-next
