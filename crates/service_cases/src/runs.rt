@@ -1,11 +1,12 @@
 // A service beside those that talk with it.
 use crate::answers::ending_text;
-use crate::gates::HoldingGate;
+use crate::gates::{HoldingGate, Passed};
 use crate::people::People;
 use case_words::{Failure, fails, first_number, first_word, put_word};
 use desk_ports::{FileSet, MemDisk};
 use door_workers::Unheard;
 use joined_net::JoinedNet;
+use run_endings::Ending;
 use serve_runs::run_serve;
 use std::alloc::Global;
 use std::sync::Wait;
@@ -44,20 +45,41 @@ fn run<R: Threads + Wait + Sync + Clock>(
     }
     let gate = HoldingGate::new(rt, holds);
     let mut net = JoinedNet::new(rt, alloc)?;
-    let people = People::new(rt, alloc, net.share()?, &gate)?;
-    let (ending, talked) = join(
+    let theirs = net.share()?;
+    let (talked, ending) = join(
         rt,
+        || talk(rt, alloc, theirs, &gate, steps),
         || run_serve(rt, alloc, workers, disk, &mut net, &gate, &Unheard),
-        || people.talk(steps),
     );
     let mut told = talked?;
-    let passed = gate.passed();
-    if passed.gave_up {
-        put_word(&mut told, "held to the end")?;
-    }
-    put_word(
-        &mut told,
-        ending_text(alloc, &ending, passed.answered)?.as_str(),
-    )?;
+    put_end(alloc, &mut told, gate.passed(), &ending)?;
     Ok(told)
+}
+
+// Those who talk with the service. It is they who stop it.
+fn talk<'a, R: Wait + Clock>(
+    rt: &'a R,
+    alloc: Global,
+    net: JoinedNet<&'a R>,
+    gate: &'a HoldingGate<'a, R>,
+    steps: &str,
+) -> Result<String, Failure> {
+    match People::new(rt, alloc, net, gate) {
+        Ok(people) => people.talk(steps),
+        Err(failure) => Err(failure),
+    }
+}
+
+// How the run ended.
+fn put_end(
+    alloc: Global,
+    told: &mut String,
+    passed: Passed,
+    ending: &Ending,
+) -> Result<(), Failure> {
+    if passed.gave_up {
+        put_word(told, "held to the end")?;
+    }
+    put_word(told, ending_text(alloc, ending, passed.answered)?.as_str())?;
+    Ok(())
 }
