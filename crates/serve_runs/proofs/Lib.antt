@@ -1,3 +1,4 @@
 pub mod Closing
 pub mod Concluding
 pub mod Folder
+pub mod Sent

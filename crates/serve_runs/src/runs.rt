@@ -50,7 +50,7 @@ where
     };
     let mut keeper = Keeper::of(alloc, disk, found);
     let served = serve_folder(rt, alloc, workers, &mut keeper, net, gate, notes);
-    let disk = keeper.into_disk();
+    let _ = keeper.into_disk();
     note_over(notes);
     let lacked_memory = match served {
         Ok(lacked) => lacked,

@@ -32,7 +32,7 @@ returns-in-Err-served g c =
     let of = c.of-keeper.ensures in
     let found = c.in-Ok.ensures in
     let still : last ≡ first = c.in-Err-served.ensures.kept in
-    let final : last.vault.disk.now ≡ c.in-Err-served.disk-1-own.given.0 = search rules in
+    let final : last.vault.disk.now ≡ c.disk-1.given.0 = search rules in
     rw (sym final)
     (RunsServe.unopened first.desk
     (keeps_service g.D.Disk.state g.D.Disk.moment g.D.Disk.left_since g.D.Disk.faults c.args.disk.now first last []
@@ -76,7 +76,7 @@ returns g c =
           (rw (
             c.faults-disk_faults.ensures,
             c.faults.ensures,
-            c.into_disk-disk.ensures.disk,
+            sym final,
             c.faults-net_faults.ensures,
             c.faults-2.ensures,
           ) at c.ending_of.ensures);
