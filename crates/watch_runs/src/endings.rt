@@ -1,7 +1,6 @@
 // How a run of `watch` ends that has served.
 ghost use Rattle.std.specs.Bool.{OnTrue, OnFalse};
-ghost use Rattle.serve_runs.specs.Serving.{HasRisen, HasNotRisen};
-ghost use Rattle.watch_runs.specs.Watching.{EndsBy};
+ghost use Rattle.watch_runs.specs.Watching.{HasRisen, HasNotRisen, EndsBy};
 
 use crate::watching::Met;
 use monitor_journal::Writing;
