@@ -307,8 +307,14 @@ def cases():
 
 ANSWERS = {"agent": agent, "run": run}
 
-for line in cases():
-    if sys.argv[1] == "stdout" and not line.startswith("#"):
-        word, words = line.split(" ", 1)
-        line = f"{line} => {ANSWERS[word](words)}"
-    print(line)
+
+def main():
+    for line in cases():
+        if sys.argv[1] == "stdout" and not line.startswith("#"):
+            word, words = line.split(" ", 1)
+            line = f"{line} => {ANSWERS[word](words)}"
+        print(line)
+
+
+if __name__ == "__main__":
+    main()

@@ -1,6 +1,6 @@
 """What a service answers on one connection, from the definitions: a client's checks, and an agent's answers, over a hall that
 gives a list of answers. A model of its own, which shares nothing with the product. `server_model.py [COUNT [SEED]]` writes random
-cases of `door_cases`, half of each door, with the answers that are due."""
+cases of `door_cases`, half of each door, with the answers that are due; `with_answer` answers a case."""
 
 import random
 import struct
@@ -8,6 +8,7 @@ import sys
 
 ALLOW, DENY, NONE, AGENT = 65535, 0, 1, 10
 LAST_COUNT = 2**64 - 1
+MOST_PIECE = 4096
 
 
 class Fault(Exception):
@@ -71,25 +72,78 @@ def read(door, body):
 
 
 def messages(door, stream):
-    """The messages of a stream, and how it ends: the text of the ending."""
-    found = []
-    while True:
-        if not stream:
-            return found, "closed"
-        if len(stream) < 4:
-            return found, "cut %d" % len(stream)
-        size = struct.unpack(">I", stream[:4])[0]
+    """The messages of a stream, up to the first that is wrong or not whole."""
+    ear, found = Ear(door), []
+    ear.hear(stream)
+    while message := ear.take():
+        found.append(message)
+    return found
+
+
+class Ear:
+    """What was heard, and what is wrong with it."""
+
+    def __init__(self, door):
+        self.door, self.left, self.fault = door, b"", None
+
+    def hear(self, piece):
+        self.left += piece
+
+    def take(self):
+        """The next message, or None: then more is to come, or the fault is known."""
+        if self.fault or len(self.left) < 4:
+            return None
+        size = struct.unpack(">I", self.left[:4])[0]
         if size < 3:
-            return found, "bad TooShort(%d)" % size
-        if size > 1048576:
-            return found, "bad TooLong(%d)" % size
-        if len(stream) < size + 4:
-            return found, "cut %d" % len(stream)
-        try:
-            found.append(read(door, stream[4:size + 4]))
-        except Fault as fault:
-            return found, "bad %s" % fault
-        stream = stream[size + 4:]
+            self.fault = "TooShort(%d)" % size
+        elif size > 1048576:
+            self.fault = "TooLong(%d)" % size
+        elif len(self.left) >= size + 4:
+            frame_, self.left = self.left[4:size + 4], self.left[size + 4:]
+            try:
+                return read(self.door, frame_)
+            except Fault as fault:
+                self.fault = str(fault)
+        return None
+
+    def more(self, link):
+        """Receives more. Raises how the connection ends where nothing more comes, or what was heard is wrong."""
+        if self.fault:
+            raise Ended("bad " + self.fault)
+        piece = link.receive()
+        if not piece:
+            raise Ended("cut %d" % len(self.left) if self.left else "closed")
+        self.hear(piece)
+
+
+class Ended(Exception):
+    """How a connection ends."""
+
+
+class Link:
+    """A link over which these bytes come, in pieces of these sizes. It reads as closed after so many calls, and some fail."""
+
+    def __init__(self, stream, closed_after=None, fails=(), sizes=()):
+        self.left, self.closed_after, self.fails, self.sizes = stream, closed_after, fails, list(sizes)
+        self.made, self.sent = 0, b""
+
+    def call(self):
+        is_closed = self.closed_after is not None and self.made >= self.closed_after
+        self.made += 1
+        if self.made in self.fails:
+            raise Ended("link")
+        return is_closed
+
+    def receive(self):
+        size = min(self.sizes.pop(0) if self.sizes else 0, MOST_PIECE) or MOST_PIECE
+        if self.call():
+            return b""
+        piece, self.left = self.left[:size], self.left[size:]
+        return piece
+
+    def send(self, reply):
+        self.call()
+        self.sent += reply
 
 
 # ---- the policies: a list of (key, kind, metadata) of the root bucket, whose fallback is DENY
@@ -108,110 +162,140 @@ def evaluate(policies, question):
     return kind, metadata, key
 
 
+# ---- a hall: a list of answers, which is used up where the next one is none to the call, or none is left
+
+
+class Hall:
+    def __init__(self, answers):
+        self.left, self.used_up = list(answers), False
+
+    def take(self, words, otherwise):
+        if self.left and self.left[0][0] in words:
+            return self.left.pop(0)
+        self.left, self.used_up = [], True
+        return (otherwise,)
+
+
+OF_ASK, OF_JOIN, OF_NEXT, OF_ANSWER = ("a", "n", "g", "f", "p", "l", "m", "x"), ("j", "jt", "jx", "jm"), ("q", "qx", "qm"), ("k", "ku")
+
+
 # ---- a client's connection
 
 
-def client(policies, commits, answers, stream):
-    """How it ends, what is sent, and the counts of asks, stops and losses, and how many answers are left."""
-    left, sent = list(answers), b""
-    asks = stops = losses = 0
-    used_up = False
-    found, ending = messages("client", stream)
-    for sequence, (_, simple, question) in found:
+def client(policies, commits, answers, link):
+    """How it ends, what is sent, the counts of the hall, and whether its answers are used up. Replies to checks that came
+    together are sent together, but those before a check that an agent decides are sent before it is asked."""
+    hall, ear, replies = Hall(answers), Ear("client"), []
+    counts = dict(asks=0, stops=0, losses=0)
+
+    def flush():
+        if replies:
+            link.send(b"".join(replies))
+            replies.clear()
+
+    def reply(sequence, message):
+        _, simple, question = message
         kind, metadata, key = evaluate(policies, question)
         commit = struct.pack(">Q", commits)
         if not 2 <= kind <= 65533:
             fields = commit + struct.pack(">H", kind) + text(metadata) + text(b"")
             fields += b"\0" if key is None else b"\1" + b"".join(text(part) for part in key)
-            sent += frame(sequence, 0x81, fields)
-            continue
+            return frame(sequence, 0x81, fields)
         of_kind = commit + struct.pack(">H", kind)
         if simple:
-            sent += frame(sequence, 0x83, of_kind)
-            continue
-        asks += 1
-        if not left:
-            used_up = True
-        answer = left.pop(0) if left else ("x",)
+            return frame(sequence, 0x83, of_kind)
+        flush()
+        counts["asks"] += 1
+        answer = hall.take(OF_ASK, "x")
         if answer[0] == "a":
             if answer[2] != question:
-                ending = "strayed %d %s" % (answer[1], b"".join(answer[2]).decode())
-                break
-            sent += frame(sequence, 0x82, of_kind + struct.pack(">IB", answer[1], answer[3]))
-        elif answer[0] == "n":
-            sent += frame(sequence, 0x84, of_kind)
-        elif answer[0] == "g":
-            sent += frame(sequence, 0x85, commit + struct.pack(">I", answer[1]))
-        elif answer[0] in "fp":
-            most = 1024 if answer[0] == "f" else 4294967295
-            sent += frame(sequence, 0x86, of_kind + struct.pack(">I", most))
-        elif answer[0] == "l":
-            losses += 1
-            ending = "strayed %d -" % answer[1]
-            break
-        elif answer[0] == "m":
-            ending = "memory"
-            break
-        else:
-            stops += 1
-            ending = "stopped"
-            break
-    return ending, sent, dict(asks=asks, stops=stops, losses=losses, left=len(left)), used_up
+                raise Ended("strayed %d %s" % (answer[1], b"".join(answer[2]).decode()))
+            return frame(sequence, 0x82, of_kind + struct.pack(">IB", answer[1], answer[3]))
+        if answer[0] == "n":
+            return frame(sequence, 0x84, of_kind)
+        if answer[0] == "g":
+            return frame(sequence, 0x85, commit + struct.pack(">I", answer[1]))
+        if answer[0] in "fp":
+            return frame(sequence, 0x86, of_kind + struct.pack(">I", 1024 if answer[0] == "f" else 4294967295))
+        if answer[0] == "l":
+            counts["losses"] += 1
+            raise Ended("strayed %d -" % answer[1])
+        if answer[0] == "m":
+            raise Ended("memory")
+        counts["stops"] += 1
+        raise Ended("stopped")
+
+    try:
+        # the end by which the connection can be hung up
+        link.call()
+        while True:
+            while found := ear.take():
+                replies.append(reply(*found))
+            flush()
+            ear.more(link)
+    except Ended as ended:
+        return str(ended), link.sent, counts | {"left": len(hall.left)}, hall.used_up
 
 
 # ---- an agent's connection
 
 
-def agent(answers, stream):
-    left, sent = list(answers), b""
+def agent(answers, link):
+    hall, ear = Hall(answers), Ear("agent")
     counts = dict(joins=0, nexts=0, answers=0, parts=0, stops=0)
-    found, ending = messages("agent", stream)
+    try:
+        converse(hall, ear, link, counts)
+    except Ended as ended:
+        return str(ended), link.sent, counts | {"left": len(hall.left)}, hall.used_up
 
-    def done(ended):
-        counts["left"] = len(left)
-        return ended, sent, counts, False
 
-    if not found:
-        return done(ending)
-    sequence, message = found.pop(0)
+def next_message(ear, link):
+    while not (found := ear.take()):
+        ear.more(link)
+    return found
+
+
+def converse(hall, ear, link, counts):
+    sequence, message = next_message(ear, link)
     if message[0] != "register":
-        return done("bad BadOperation(33)")
+        raise Ended("bad BadOperation(33)")
     kind = message[1]
     counts["joins"] = 1
-    answer = left.pop(0)
+    answer = hall.take(OF_JOIN, "jx")
     if answer == ("jt",):
-        sent += frame(sequence, 0xA1, struct.pack(">H", kind))
-        return done("closed")
+        link.send(frame(sequence, 0xA1, struct.pack(">H", kind)))
+        raise Ended("closed")
     if answer == ("jx",):
         counts["stops"] += 1
-        return done("stopped")
+        raise Ended("stopped")
     if answer == ("jm",):
-        return done("memory")
+        raise Ended("memory")
     counts["parts"] = 1
-    sent += frame(sequence, 0xA0, struct.pack(">H", kind))
+    link.send(frame(sequence, 0xA0, struct.pack(">H", kind)))
     while True:
         counts["nexts"] += 1
-        answer = left.pop(0)
+        answer = hall.take(OF_NEXT, "qx")
         if answer == ("qx",):
             counts["stops"] += 1
-            return done("stopped")
+            raise Ended("stopped")
         if answer == ("qm",):
-            return done("memory")
+            raise Ended("memory")
         _, number, question, metadata = answer
         fields = struct.pack(">I", number) + b"".join(text(word) for word in question)
-        fields += struct.pack(">H", kind) + text(metadata)
-        sent += frame(number % 65536, 0xA2, fields)
-        while True:
-            if not found:
-                return done(ending)
-            sequence, message = found.pop(0)
-            if message[0] == "register":
-                return done("bad BadOperation(32)")
-            counts["answers"] += 1
-            if left.pop(0) == ("ku",):
-                sent += frame(sequence, 0xA3, struct.pack(">I", message[1]))
-            if message[1] == number:
-                break
+        link.send(frame(number % 65536, 0xA2, fields + struct.pack(">H", kind) + text(metadata)))
+        while take_answer(hall, ear, link, counts) != number:
+            pass
+
+
+def take_answer(hall, ear, link, counts):
+    """The number that the agent answers. Nobody may wait for its answer any more."""
+    sequence, message = next_message(ear, link)
+    if message[0] == "register":
+        raise Ended("bad BadOperation(32)")
+    counts["answers"] += 1
+    if hall.take(OF_ANSWER, "ku") == ("ku",):
+        link.send(frame(sequence, 0xA3, struct.pack(">I", message[1])))
+    return message[1]
 
 
 # ---- random cases
@@ -227,6 +311,12 @@ def cuts(draw, size):
     if draw.random() < 0.3:
         return "-"
     return ",".join(str(draw.choice((1, 1, 2, 3, 5, 8, 13, 40, 4096))) for _ in range(draw.randint(1, max(1, size))))
+
+
+def link_words(draw, size):
+    closed_after = draw.randint(0, 12) if draw.random() < 0.1 else "-"
+    fails = draw.randint(1, 12) if draw.random() < 0.2 else "-"
+    return "%s %s %s" % (closed_after, fails, cuts(draw, size))
 
 
 def letters(draw, more=()):
@@ -258,7 +348,7 @@ def client_case(draw):
     stream = b"".join(frame(n, 2 if simple else 1, b"".join(text(word) for word in question)) for n, simple, question in checks)
     stream = spoil(draw, stream)
     answers = []
-    for _, (_, simple, question) in messages("client", stream)[0]:
+    for _, (_, simple, question) in messages("client", stream):
         if 2 <= evaluate(policies, question)[0] <= 65533 and not simple and draw.random() < 0.95:
             number = draw.choice((0, 1, 65536, 4294967294))
             answers.append(draw.choice((
@@ -271,9 +361,8 @@ def client_case(draw):
             told.append("a%d%s%s" % (answer[1], "+" if answer[3] else "-", b"".join(answer[2]).decode()))
         else:
             told.append("".join(str(part) for part in answer))
-    due = client(policies, len(words), answers, stream)
-    line = "client %s | %s | - - %s | %s" % (" ".join(words), " ".join(told), cuts(draw, len(stream)), stream.hex())
-    return line, due
+    line = "client %s | %s | %s | %s" % (" ".join(words), " ".join(told), link_words(draw, len(stream)), stream.hex())
+    return line, client(policies, len(words), answers, link_of(line))
 
 
 def agent_case(draw):
@@ -301,19 +390,72 @@ def agent_case(draw):
     stream = spoil(draw, stream)
     if draw.random() < 0.1:
         stream += frame(1, 0x20, b"\0\n")
-    line = "agent %s | - - %s | %s" % (" ".join(told), cuts(draw, len(stream)), stream.hex())
-    try:
-        return line, agent(answers, stream)
-    except IndexError:
-        # the list of answers is used up: another case
-        return agent_case(draw)
+    line = "agent %s | %s | %s" % (" ".join(told), link_words(draw, len(stream)), stream.hex())
+    return line, agent(answers, link_of(line))
+
+
+def answer_text(due):
+    ending, sent, counts, used_up = due
+    return f"{ending} | {sent.hex()} | {counts_text(counts, used_up)}"
 
 
 def cases(count, seed):
     draw = random.Random(seed)
     for at in range(count):
-        line, (ending, sent, counts, used_up) = (client_case if at % 2 else agent_case)(draw)
-        yield "%s => %s | %s | %s" % (line, ending, sent.hex(), counts_text(counts, used_up))
+        line, due = (client_case if at % 2 else agent_case)(draw)
+        yield f"{line} => {answer_text(due)}"
+
+
+# ---- cases as lines
+
+
+def question_of(word):
+    return tuple(letter.encode() for letter in word)
+
+
+def hall_answer(word):
+    if word.startswith("a") and len(word) > 1:
+        sign = "+" if "+" in word else "-"
+        number, question = word[1:].split(sign)
+        return "a", int(number), question_of(question), sign == "+"
+    if word[0] in "gl" and word[1:]:
+        return word[0], int(word[1:])
+    if word[0] == "q" and ":" in word:
+        number, question, metadata = word[1:].split(":")
+        return "q", int(number), question_of(question), metadata.encode()
+    return (word,)
+
+
+def policies_of(words):
+    policies = []
+    for word in words:
+        key, result = question_of(word.partition("=")[0]), word.partition("=")[2]
+        kind, _, metadata = result.partition(":")
+        policies = [policy for policy in policies if policy[0] != key] + [(key, int(kind), metadata.encode())]
+    return policies
+
+
+def numbers(word):
+    return [int(part) for part in word.split(",") if part != "-"]
+
+
+def link_of(line):
+    """The link of a case, with the bytes that come over it."""
+    link, words = line.split("|")[-2:]
+    closed_after, fails, sizes = link.split()
+    parts = words.split("'")
+    stream = b"".join(part.encode() if at % 2 else bytes.fromhex(part) for at, part in enumerate(parts))
+    return Link(stream, None if closed_after == "-" else int(closed_after), numbers(fails), numbers(sizes))
+
+
+def with_answer(line):
+    word, _, rest = line.partition(" ")
+    front = rest.split("|")[:-2]
+    answers = [hall_answer(part) for part in front[-1].split()]
+    if word == "agent":
+        return f"{line} => {answer_text(agent(answers, link_of(line)))}"
+    policies = front[0].split()
+    return f"{line} => {answer_text(client(policies_of(policies), len(policies), answers, link_of(line)))}"
 
 
 if __name__ == "__main__":

@@ -1,40 +1,25 @@
-ghost use Rattle.std.specs.Prelude.{◌≡◌, None, IfOk, IfErr};
-ghost use Rattle.std.specs.Option.{ForSome};
-ghost use Rattle.admin_client.specs.Sending.{Sends, Exchanges, Begins, IsRefusedDial, listed, frame_of};
-ghost use Rattle.client_connection.specs.Giving.{GivesBackAny};
-ghost use Rattle.admin_client.specs.Answers.{IfUnavailable};
-ghost use Rattle.client_connection.specs.Reading.{IsTrouble};
+ghost use Rattle.std.specs.Prelude.{◌≡◌, None};
+ghost use Rattle.admin_client.specs.Sending.{Sends, listed};
 
-use crate::AdminRefusal;
-use crate::replies::read_replies;
-use crate::wanted::wanted_of;
-use desk_ports::{Bytes, Failed, PortFault};
-use link_ports::{Dial, DoorKind, Link};
+use crate::{AdminLink, AdminRefusal};
+use link_ports::Dial;
 use std::alloc::Global;
 use std::marker::Model;
-use wire_messages::{EncodeRefusal, Message, encode_message_into};
+use wire_messages::Message;
 
 /// A client at the door for administrators. It dials a link when it needs one, and keeps it.
 #[derive(Drop)]
 pub struct AdminClient<N: Dial> {
-    alloc: Global,
     dial: N,
-    link: Option<N::Link>,
-    sequence: u16,
-    frame: Bytes,
+    kept: AdminLink<N>,
 }
 
 impl<N: Dial> Model for AdminClient<N> {
-    ghost use Rattle.std.specs.Prelude.{◌≡◌};
-    ghost use Rattle.std.specs.Option.{ForSome};
-    ghost use Rattle.admin_client.specs.Sending.{State};
+    ghost use Rattle.admin_client.specs.Sending.{State, with_dial};
 
     ghost Value = { State N N.Link };
 
-    ghost view = { λ client. record { dial = client.dial; link = client.link; sequence = client.sequence } };
-
-    // Nobody but the service can hang up the link.
-    ghost invariant = { λ client. ForSome client.link (λ link. (N.Link.marks link).ends ≡ 0) };
+    ghost view = { λ client. with_dial client.dial client.kept };
 }
 
 impl<N: Dial> AdminClient<N> {
@@ -43,11 +28,8 @@ impl<N: Dial> AdminClient<N> {
         ensures { result ≡ record { dial = dial; link = None; sequence = 0 } }
     {
         AdminClient {
-            alloc,
             dial,
-            link: None,
-            sequence: 0,
-            frame: Bytes::new(alloc),
+            kept: AdminLink::new(alloc),
         }
     }
 
@@ -59,80 +41,6 @@ impl<N: Dial> AdminClient<N> {
         ensures { Sends N.Link.faults N.Link.marks N.Link.traffic N.faults N.dials N.given_back message.now
             (listed (λ replies. replies.items) result) self.old self.new }
     {
-        let sequence = self.sequence;
-        match encode_message_into(&mut self.frame, sequence, message) {
-            Ok(()) => {}
-            Err(EncodeRefusal::TooLong(length)) => return Err(AdminRefusal::TooLong(length)),
-            Err(EncodeRefusal::Memory(error)) => {
-                self.leave();
-                return Err(AdminRefusal::Memory(error));
-            }
-        }
-        let mut link = match link_of(&mut self.dial, self.link.take()) {
-            Ok(link) => link,
-            Err(PortFault::Failed) => return Err(AdminRefusal::Unavailable),
-            Err(PortFault::Memory(error)) => return Err(AdminRefusal::Memory(error)),
-        };
-        self.sequence = sequence.wrapping_add(1);
-        let frame = self.frame.as_slice();
-        match exchange(self.alloc, &mut link, frame, message, sequence) {
-            Ok(replies) => {
-                self.link = Some(link);
-                Ok(replies)
-            }
-            Err(refusal) => {
-                self.dial.give_back(link);
-                Err(refusal)
-            }
-        }
-    }
-
-    // Gives the link back, if there is one.
-    fn leave(&mut self)
-        ensures link { self.new.link ≡ None }
-        ensures sequence { self.new.sequence ≡ self.old.sequence }
-        ensures gives { GivesBackAny N.faults N.dials N.given_back N.Link.faults N.Link.marks
-            self.old.link self.old.dial self.new.dial }
-    {
-        let Some(link) = self.link.take() else {
-            return;
-        };
-        self.dial.give_back(link);
-    }
-}
-
-// The link, or one that is dialled where there is none.
-fn link_of<N: Dial>(dial: &mut N, link: Option<N::Link>) -> Result<N::Link, PortFault>
-    requires { ForSome link (λ link. (N.Link.marks link).ends ≡ 0) }
-    ensures begins { IfOk result (λ base. Begins N.Link.faults N.Link.marks N.Link.traffic N.faults N.dials N.given_back
-        link base dial.old dial.new) }
-    ensures ends { IfOk result (λ base. (N.Link.marks base).ends ≡ 0) }
-    ensures refused { IfErr result (λ fault. IsRefusedDial N.Link.faults N.Link.marks N.Link.traffic N.faults N.dials N.given_back
-        fault link dial.old dial.new) }
-{
-    match link {
-        Some(link) => Ok(link),
-        None => dial.dial(DoorKind::Admin),
-    }
-}
-
-// Sends the frame of the message over the link, and reads what comes back.
-fn exchange<L: Link>(
-    alloc: Global,
-    link: &mut L,
-    frame: &[u8],
-    message: &Message,
-    sequence: u16,
-) -> Result<Vec<Message>, AdminRefusal>
-    requires { frame.now ≡ frame_of sequence message.now }
-    ensures exchanged { Exchanges sequence message.now (listed (λ replies. replies.items) result)
-        (L.traffic link.old) (L.traffic link.new) }
-    ensures lost { IfErr result
-        (λ refusal. IfUnavailable refusal (IsTrouble (L.marks link.new) (L.faults link.new))) }
-    ensures ends { (L.marks link.new).ends ≡ (L.marks link.old).ends }
-{
-    match link.send(frame) {
-        Ok(()) => read_replies(alloc, link, wanted_of(message), sequence),
-        Err(Failed) => Err(AdminRefusal::Unavailable),
+        self.kept.send(&mut self.dial, message)
     }
 }

@@ -4,10 +4,12 @@
 //! sending it again might do it twice.
 #![tactic(auto)]
 
+mod admin_links;
 mod clients;
 mod refusals;
 mod replies;
 mod wanted;
 
+pub use admin_links::AdminLink;
 pub use clients::AdminClient;
 pub use refusals::AdminRefusal;

@@ -1,5 +1,5 @@
 -- What one frame leaves: the policy state that is known then, and whether its command is among those that were applied.
-use Rattle.std.proofs.Common.{◌≡◌, ◌⊎◌, ◌∙◌, inl, inr, ℕ, Bool, true, false, List, [], ◌∷◌, Option, Some, None, Ok, cond, nat_lt, refl, sym, ap, subst}
+use Rattle.std.proofs.Common.{◌≡◌, ◌⊎◌, ◌∙◌, inl, inr, Bool, true, false, List, [], ◌∷◌, Option, Some, None, Ok, cond, nat_lt, refl, sym, ap, subst}
 use Rattle.desk_ports.specs.FileMap.{FileMap}
 use Rattle.desk_ports.specs.Disk.{DiskState, MayLeave, IsTouchedOnly}
 use Rattle.desk_state.specs.DeskState.{DeskState}
@@ -10,9 +10,9 @@ use Rattle.desk_keeper.specs.Kept.{kept}
 use Rattle.live_desk.specs.History.{last_commit}
 use Rattle.wire_messages.specs.Commands.{command_of}
 use Rattle.wire_messages.specs.declared.messages.Message.{Message}
-use Rattle.wire_messages.specs.declared.messages.Message.TheVariants.{Done, Listing, AdminCheck, Stop}
+use Rattle.wire_messages.specs.declared.messages.Message.TheVariants.{Listing, AdminCheck, Stop}
 use Rattle.admin_door.specs.Side.{AdminSide, with_kept, with_shown, with_fault}
-use Rattle.admin_door.specs.Settling.{IsFound, Settles, Unsettles, with_last_shown}
+use Rattle.admin_door.specs.Settling.{IsFound, Settles, Unsettles}
 use Rattle.admin_door.specs.Answering.{Commits, LacksMemory, IsUnanswered, Obeys, AnswersUnsettled, AnswersQuestion, AnswersBy, RefusesBy}
 use Rattle.admin_door.specs.Serving.{Exchange}
 use Rattle.admin_door.specs.Stops.{Allows}

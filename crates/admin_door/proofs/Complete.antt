@@ -1,8 +1,8 @@
 -- A connection around which nothing fails is answered whole, and a command during which no call of the disk fails is decided.
-use Rattle.std.proofs.Common.{◌≡◌, ◌∙◌, ◌≤◌, ◌⊎◌, inl, inr, ℕ, List, [], ◌∷◌, ◌++◌, length, Option, Some, refl, sym, ap, subst, append-nil, append_assoc, arith, nat_lt, Bool, true, false, cond}
+use Rattle.std.proofs.Common.{◌≡◌, ◌∙◌, ◌⊎◌, inl, inr, ℕ, List, [], ◌∷◌, ◌++◌, length, Option, Some, refl, sym, ap, subst, append-nil, append_assoc, arith, nat_lt, Bool, true, false, cond}
 use Rattle.std.proofs.lemmas.List.{append_cancel_left}
 use Rattle.desk_ports.specs.Disk.{DiskState}
-use Rattle.desk_ports.specs.Faults.{next_count, last_count}
+use Rattle.desk_ports.specs.Faults.{next_count}
 use Rattle.link_ports.specs.Traffic.{Traffic}
 use Rattle.desk_state.specs.declared.commands.Command.{Command}
 use Rattle.wire_messages.specs.Commands.{command_of}
@@ -23,7 +23,7 @@ use Rattle.door_frames.specs.declared.endings.Ended.TheVariants.{Closed, Cut, Hu
 use Rattle.admin_door.specs.Side.{AdminSide, with_shown}
 use Rattle.admin_door.specs.Settling.{Settles, Unsettles}
 use Rattle.admin_door.specs.Answering.{AnswersBy, Answers, Obeys, AnswersUnsettled}
-use Rattle.admin_door.specs.Serving.{AdminTalk, Exchange, AreAnswered, EndsAnswering, StopsAt, Serves, frames_of, exchanges_bytes}
+use Rattle.admin_door.specs.Serving.{AdminTalk, Exchange, AreAnswered, EndsAnswering, Serves, frames_of, exchanges_bytes}
 use Rattle.admin_door.specs.Complete.{Stays, Receives, AnswersEach, AnswersFront, IsDecided, FindsDamage}
 use Rattle.admin_door.specs.declared.settling.Unsettled.{Unsettled}
 use Rattle.admin_door.specs.declared.settling.Unsettled.TheVariants as why

@@ -1,10 +1,12 @@
 -- What was answered as done lasts: from then on no stop leaves an older state.
-use Rattle.std.proofs.Common.{◌≡◌, ◌≤◌, ◌⊎◌, ◌∙◌, inl, inr, ℕ, ◌+◌, List, [], ◌∷◌, ◌++◌, Some, Ok, refl, sym, ap, subst, arith}
+use Rattle.std.proofs.Common.{◌≡◌, ◌≤◌, ◌∙◌, inl, inr, ℕ, ◌+◌, List, [], ◌∷◌, ◌++◌, Option, Some, Ok, refl, sym, ap, subst, arith}
 use Rattle.desk_ports.specs.FileMap.{FileMap}
 use Rattle.desk_ports.specs.Disk.{DiskState}
+use Rattle.desk_ports.specs.declared.file_sets.SetFile.{SetFile}
 use Rattle.desk_state.specs.DeskState.{DeskState}
 use Rattle.desk_state.specs.declared.commands.Command.{Command}
 use Rattle.desk_keeper.specs.Kept.{kept}
+use Rattle.desk_keeper.specs.Keeping.{IsKept}
 use Rattle.wire_messages.specs.Commands.{command_of}
 use Rattle.wire_messages.specs.declared.messages.Message.{Message}
 use Rattle.wire_messages.specs.declared.messages.Message.TheVariants.{Done}
@@ -56,3 +58,10 @@ lasts before front back exchange command commit erased left asks done (other, be
     let is : between ≡ Ok made.0 = is_last ∙ made.1 in
     more-commits commit made.0 (kept left) (omega (arith, made.2))
     (within-commit made.0 back (kept left) (subst (λ (at : Standing). LeadsWithin at back (kept left)) is within))
+
+-- from a folder of which it is known what it keeps
+pub leads-on : (desk : DeskState) (held : Option (List SetFile)) (before : DiskState) (front back : List Exchange) (left : FileMap)
+    → IsKept desk held before → StandsSince before front back left
+    → (between : Standing) × LeadsTo (Ok desk) front between × LeadsWithin between back (kept left)
+leads-on desk held before front back left known (other, between, may, leads, within) =
+    (between, subst (λ (at : Standing). LeadsTo at front between) (known.alone other may) leads, within)

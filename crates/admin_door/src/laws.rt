@@ -1,10 +1,13 @@
 // What holds of all connections. These functions do nothing; their clauses are the laws.
-ghost use Rattle.std.specs.Prelude.{◌≡◌, ◌⊎◌, ◌++◌, ◌∷◌, [], ℕ, List, Option, Some};
+ghost use Rattle.std.specs.Prelude.{◌≡◌, ◌⊎◌, ◌++◌, ◌∷◌, [], ℕ, List, Option, Some, Ok};
 ghost use Rattle.desk_ports.specs.FileMap.{FileMap};
 ghost use Rattle.desk_ports.specs.Disk.{DiskState};
+ghost use Rattle.desk_ports.specs.declared.file_sets.SetFile as file;
+ghost use Rattle.desk_state.specs.DeskState.{DeskState};
 ghost use Rattle.desk_state.specs.declared.commands.Command as command;
 ghost use Rattle.desk_keeper.specs.declared.keeper.Keeper as keeper;
 ghost use Rattle.desk_keeper.specs.Kept.{kept};
+ghost use Rattle.desk_keeper.specs.Keeping.{IsKept};
 ghost use Rattle.wire_messages.specs.Commands.{command_of};
 ghost use Rattle.wire_messages.specs.declared.messages.Framed as framed;
 ghost use Rattle.wire_messages.specs.declared.messages.Message as message;
@@ -14,7 +17,7 @@ ghost use Rattle.door_frames.specs.declared.endings.Ended.TheVariants.{Closed, S
 ghost use Rattle.admin_door.specs.Side.{AdminSide};
 ghost use Rattle.admin_door.specs.Answering.{Answers};
 ghost use Rattle.admin_door.specs.Serving.{AdminTalk, Exchange, Serves};
-ghost use Rattle.admin_door.specs.Running.{RunsOver, StandsSince, HasCommit};
+ghost use Rattle.admin_door.specs.Running.{Standing, LeadsTo, LeadsWithin, RunsOver, StandsSince, HasCommit};
 ghost use Rattle.admin_door.specs.Complete.{Stays, Receives, AnswersEach, AnswersFront, IsDecided, FindsDamage};
 
 use desk_ports::Disk;
@@ -43,4 +46,12 @@ pub fn an_acknowledged_command_lasts()
         (commit erased : ℕ) (left : FileMap) → command_of exchange.framed.message ≡ Some command
         → exchange.replies ≡ Done commit erased ∷ [] → StandsSince before (front ++ exchange ∷ []) back left
         → HasCommit commit (kept left) }
+{}
+
+/// Where it is known at the start that the folder keeps this policy state, a stop leaves what the first few of the frames made
+/// of it, each command applied or not, or that with the command then under way.
+pub fn a_folder_that_is_known_leads_on()
+    ensures { (desk : DeskState) (held : Option (List file.SetFile)) (before : DiskState) (front back : List Exchange)
+        (left : FileMap) → IsKept desk held before → StandsSince before front back left
+        → (between : Standing) × LeadsTo (Ok desk) front between × LeadsWithin between back (kept left) }
 {}

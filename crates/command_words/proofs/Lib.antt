@@ -1,3 +1,2 @@
 mod Numerals
 pub mod Within
-pub mod Running

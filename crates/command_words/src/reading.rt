@@ -4,9 +4,9 @@ ghost use Rattle.std.specs.List.{list_any};
 ghost use Rattle.std.specs.String.{string_bytes};
 ghost use Rattle.cynara_keys.specs.Name.{name_fault};
 ghost use Rattle.smack_rules.specs.Label.{label_fault};
-ghost use Rattle.command_words.specs.Commands.{is_option, is_run, named, single_of, of_two, of_three, of_four, of_five};
+ghost use Rattle.command_words.specs.Commands.{is_option, named, single_of, of_two, of_three, of_four, of_five};
 ghost use Rattle.command_words.specs.Commands.{serve_of, sample_of, allowed_of, agent_of, access_of, names_of, command_of};
-ghost use Rattle.command_words.specs.Commands.{ReadsCommand, AsksRequest, RunsNow};
+ghost use Rattle.command_words.specs.Commands.{ReadsCommand, KeepsBounds};
 ghost use Rattle.command_words.specs.parts.Names.{ReadsNames};
 
 use crate::commands::{AskedNames, Command, CommandRefusal};
@@ -17,20 +17,13 @@ use smack_rules::{Label, Modes, label_fault};
 use std::alloc::{AllocError, Global};
 
 impl Command {
-    /// Reads the words behind the program's name. `Unknown` exactly where they name no command that runs.
+    /// Reads the words behind the program's name. `Unknown` exactly where they name no command.
     pub fn read(alloc: Global, words: &[String]) -> Result<Command, CommandRefusal>
         ensures command { ReadsCommand result (command_of words.now) }
-        ensures asked { IfOk result AsksRequest }
-        ensures runs { IfOk result RunsNow }
+        ensures bounds { IfOk result KeepsBounds }
     {
         if has_option(words) {
             return Err(CommandRefusal::Unknown(option_fault(words)));
-        }
-        let Some((first, _)) = words.split_first() else {
-            return Err(CommandRefusal::Unknown(WordFault::NoWord));
-        };
-        if !is_run(first.as_bytes()) {
-            return Err(CommandRefusal::Unknown(WordFault::NoCommand));
         }
         read_named(alloc, words)
     }
@@ -57,20 +50,10 @@ fn is_option(word: &String) -> bool
     word.as_bytes().first() == Some(&b'-')
 }
 
-// Whether a command with this first word runs.
-fn is_run(word: &[u8]) -> bool
-    ensures { result ≡ is_run word.now }
-{
-    word == b"local".as_slice()
-        || word == b"smack-load".as_slice()
-        || word == b"smack-access".as_slice()
-        || word == b"sample".as_slice()
-}
-
-// The command that words name, whether it runs or not.
+// The command that words name.
 fn read_named(alloc: Global, words: &[String]) -> Result<Command, CommandRefusal>
     ensures command { ReadsCommand result (named words.now) }
-    ensures asked { IfOk result AsksRequest }
+    ensures bounds { IfOk result KeepsBounds }
 {
     match words {
         [word] => read_single(word.as_bytes()),
@@ -137,7 +120,7 @@ fn words_behind(name: &[u8]) -> Option<usize> {
 // One word alone.
 fn read_single(word: &[u8]) -> Result<Command, CommandRefusal>
     ensures command { ReadsCommand result (single_of word.now) }
-    ensures asked { IfOk result AsksRequest }
+    ensures bounds { IfOk result KeepsBounds }
 {
     if word == b"local".as_slice() {
         return Ok(Command::Local);
@@ -154,7 +137,7 @@ fn read_single(word: &[u8]) -> Result<Command, CommandRefusal>
 // Two words: a command with a number.
 fn read_two(word: &[u8], number: &[u8]) -> Result<Command, CommandRefusal>
     ensures command { ReadsCommand result (of_two word.now number.now) }
-    ensures asked { IfOk result AsksRequest }
+    ensures bounds { IfOk result KeepsBounds }
 {
     if word == b"serve".as_slice() {
         return read_serve(number);
@@ -167,7 +150,7 @@ fn read_two(word: &[u8], number: &[u8]) -> Result<Command, CommandRefusal>
 
 fn read_serve(workers: &[u8]) -> Result<Command, CommandRefusal>
     ensures command { ReadsCommand result (serve_of workers.now) }
-    ensures asked { IfOk result AsksRequest }
+    ensures bounds { IfOk result KeepsBounds }
 {
     match number_within(workers, 1, 64) {
         Some(workers) => Ok(Command::Serve { workers }),
@@ -177,7 +160,7 @@ fn read_serve(workers: &[u8]) -> Result<Command, CommandRefusal>
 
 fn read_sample(count: &[u8]) -> Result<Command, CommandRefusal>
     ensures command { ReadsCommand result (sample_of count.now) }
-    ensures asked { IfOk result AsksRequest }
+    ensures bounds { IfOk result KeepsBounds }
 {
     match number_within(count, 1, 1_000) {
         Some(count) => Ok(Command::Sample { count }),
@@ -197,7 +180,7 @@ fn number_fault(least: u32, most: u32) -> WordFault {
 // Three words, the first of which is `agent`.
 fn read_three(word: &[u8], kind: &[u8], answer: &[u8]) -> Result<Command, CommandRefusal>
     ensures command { ReadsCommand result (of_three word.now kind.now answer.now) }
-    ensures asked { IfOk result AsksRequest }
+    ensures bounds { IfOk result KeepsBounds }
 {
     if word != b"agent".as_slice() {
         return Err(CommandRefusal::Unknown(name_fault_of(word, 2)));
@@ -207,7 +190,7 @@ fn read_three(word: &[u8], kind: &[u8], answer: &[u8]) -> Result<Command, Comman
 
 fn read_agent(kind: &[u8], answer: &[u8]) -> Result<Command, CommandRefusal>
     ensures command { ReadsCommand result (agent_of kind.now answer.now) }
-    ensures asked { IfOk result AsksRequest }
+    ensures bounds { IfOk result KeepsBounds }
 {
     let Some(kind) = number_within(kind, 2, 65_533) else {
         return Err(CommandRefusal::Unknown(number_fault(2, 65_533)));
@@ -242,7 +225,7 @@ fn read_four(
     modes: &[u8],
 ) -> Result<Command, CommandRefusal>
     ensures command { ReadsCommand result (of_four word.now subject.now object.now modes.now) }
-    ensures asked { IfOk result AsksRequest }
+    ensures bounds { IfOk result KeepsBounds }
 {
     if word != b"smack-access".as_slice() {
         return Err(CommandRefusal::Unknown(name_fault_of(word, 3)));
@@ -258,7 +241,7 @@ fn read_access(
     modes: &[u8],
 ) -> Result<Command, CommandRefusal>
     ensures command { ReadsCommand result (access_of subject.now object.now modes.now) }
-    ensures asked { IfOk result AsksRequest }
+    ensures bounds { IfOk result KeepsBounds }
 {
     if let Some(fault) = label_fault(subject) {
         return Err(CommandRefusal::Unknown(WordFault::Label { place: 1, fault }));
@@ -303,7 +286,7 @@ fn read_five(
     privilege: &[u8],
 ) -> Result<Command, CommandRefusal>
     ensures command { ReadsCommand result (of_five word.now client.now session.now user.now privilege.now) }
-    ensures asked { IfOk result AsksRequest }
+    ensures bounds { IfOk result KeepsBounds }
 {
     if word == b"check".as_slice() {
         return match read_names(alloc, client, session, user, privilege) {

@@ -7,14 +7,24 @@ use run_endings::{MOST_SHOWN_BYTES, note_text};
 use std::alloc::{AllocError, Global};
 
 /// The forms of the command line.
-const FORMS: [&str; 8] = [
+const FORMS: [&str; 18] = [
     "usage: privilege local",
     "           answers the commands and questions on standard input, a line each, over the folder",
     "       privilege smack-load",
     "           writes the Smack rules of all packages of the folder",
     "       privilege smack-access SUBJECT OBJECT MODES",
     "           decides one request under the rules on standard input",
-    "The folder is `store`, in the directory that PRIVILEGE_DIR names or else in the working directory.",
+    "       privilege serve WORKERS",
+    "           serves launchers, administrators and agents over the sockets, with the policies of the folder",
+    "       privilege check CLIENT SESSION USER PRIVILEGE",
+    "           asks the service",
+    "       privilege simple CLIENT SESSION USER PRIVILEGE",
+    "           asks the service, and no agent",
+    "       privilege admin",
+    "           sends the commands and questions on standard input to the service",
+    "       privilege agent KIND allow, or deny",
+    "           answers the service's questions to agents of this kind",
+    "The folder `store` and the sockets are in the directory that PRIVILEGE_DIR names or else in the working directory.",
     "docs/GUIDE.md tells more.",
 ];
 

@@ -11,7 +11,9 @@ mod clients;
 mod looking;
 mod refusals;
 mod replies;
+mod single_checks;
 
 pub use client_connection::ReplyFault;
 pub use clients::Client;
 pub use refusals::{Checked, ClientRefusal};
+pub use single_checks::check_once;

@@ -1,7 +1,7 @@
 use crate::answers::answers_of;
-use crate::cut_links::CutLink;
 use crate::shown::shown;
 use agent_door::agent_loop;
+use case_outside::CutLink;
 use case_words::Failure;
 use link_ports::MemEnd;
 use live_roll::Roll;

@@ -1,7 +1,7 @@
 use crate::answers::answers_of;
-use crate::cut_links::CutLink;
 use crate::desks::desk_of;
 use crate::shown::shown;
+use case_outside::CutLink;
 use case_words::Failure;
 use client_door::client_loop;
 use link_ports::{MemEnd, OpenGate};

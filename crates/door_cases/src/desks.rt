@@ -5,21 +5,6 @@ use cynara_keys::{BucketName, Field, Key, Kind, Metadata, Name, PolicyResult, Qu
 use desk_state::{Command, Desk};
 use std::alloc::Global;
 
-/// The numbers of a word, with commas between them, or `-` for none.
-pub fn numbers(alloc: Global, word: &str) -> Result<Vec<u64>, Failure> {
-    let mut all = Vec::new(alloc);
-    for part in word.split(',') {
-        if part == "-" {
-            continue;
-        }
-        match part.parse::<u64>() {
-            Ok(number) => all.push(number)?,
-            Err(_) => return Err(Failure::Words),
-        }
-    }
-    Ok(all)
-}
-
 /// The kind of a word.
 pub fn kind_of(word: &str) -> Result<Kind, Failure> {
     match word.parse::<u16>() {

@@ -18,7 +18,6 @@
 mod agents;
 mod answers;
 mod clients;
-mod cut_links;
 mod desks;
 mod shown;
 

@@ -19,21 +19,25 @@ fn quiet_link(alloc: Global) -> Option<MemLink> {
     .ok()
 }
 
-fn ask<R: Wait + Drop>(
-    alloc: Global,
-    hall: &mut Locked<'_, R, MemEnd>,
-    kind: Kind,
-) -> Option<AskRefusal> {
+fn question(alloc: Global) -> Option<Question> {
     let client = Name::read(alloc, b"c").ok()?;
     let user = Name::read(alloc, b"u").ok()?;
     let privilege = Name::read(alloc, b"p").ok()?;
-    let question = Question::of(
+    Question::of(
         alloc,
         client.as_slice(),
         user.as_slice(),
         privilege.as_slice(),
     )
-    .ok()?;
+    .ok()
+}
+
+fn ask<R: Wait + Drop>(
+    alloc: Global,
+    hall: &mut Locked<'_, R, MemEnd>,
+    kind: Kind,
+) -> Option<AskRefusal> {
+    let question = question(alloc)?;
     if !kind.is_agent() {
         return None;
     }
@@ -84,6 +88,39 @@ pub fn behind_a_commit<R: Wait + Drop>(
     format!(in alloc;
         "cleared {cleared}; leave {left:?}; hangs {hangs}; enter {entered}; stops {stops}, losses {losses}; stop: up {up}"
     ).ok()
+}
+
+/// A connection enters behind the publication of a state and before the hang-up: it is told the commit before, is answered at
+/// the new one, and is hung up as those are that entered before.
+pub fn between_publication_and_hang_up<R: Wait, W: Wait + Drop>(
+    rt: &R,
+    alloc: Global,
+    hall: &mut Locked<'_, W, MemEnd>,
+    seat: &mut Seat,
+    publisher: &Publisher,
+) -> Option<String> {
+    let mut link = quiet_link(alloc)?;
+    let end = link.hang_end().ok()?;
+    let entered = hall.enter(end, seat).ok()?;
+    let checked = checked_at(rt, alloc, seat)?;
+    let was_up = link.is_up();
+    hall.hang(publisher);
+    let up = link.is_up();
+    let left = hall.leave(0, entered);
+    let mut link = quiet_link(alloc)?;
+    let end = link.hang_end().ok()?;
+    let again = hall.enter(end, seat).ok()?;
+    let checked_again = checked_at(rt, alloc, seat)?;
+    let still_up = link.is_up();
+    format!(in alloc;
+        "enter {entered}; check at {checked}, up {was_up}; hang: up {up}; leave {left:?}; enter {again}; check at {checked_again}, up {still_up}"
+    ).ok()
+}
+
+// The commit at which a check is answered.
+fn checked_at<R: Wait>(rt: &R, alloc: Global, seat: &mut Seat) -> Option<u64> {
+    let question = question(alloc)?;
+    Some(seat.check(rt, &question).commit)
 }
 
 /// Is refused everything.

@@ -1,5 +1,7 @@
 // A service in small: one seat, the roll and the table under their locks, and a state that is published.
-use crate::calls::{before_a_commit, behind_a_commit, behind_a_stop};
+use crate::calls::{
+    before_a_commit, behind_a_commit, behind_a_stop, between_publication_and_hang_up,
+};
 use cynara_keys::{BucketName, Kind, PolicyResult};
 use desk_state::{Command, Desk};
 use link_ports::MemEnd;
@@ -8,6 +10,34 @@ use live_roll::Roll;
 use locked_hall::{Locked, QuestionDesk};
 use std::alloc::{AllocError, Global};
 use std::sync::{Mutex, Wait};
+
+/// What a connection meets that enters in the middle of a commit, or want of memory.
+pub fn late_comer<R: Wait>(rt: &R, alloc: Global) -> Result<String, AllocError> {
+    let mut desk = Desk::fresh(alloc)?;
+    let (mut publisher, mut seats, roll) = start(rt, alloc, &desk, 1)?;
+    let told = match seats.pop() {
+        Some(mut seat) => comes_late(rt, alloc, &mut desk, &mut publisher, &mut seat, roll),
+        None => None,
+    };
+    publisher.end(rt);
+    told.ok_or(AllocError)
+}
+
+fn comes_late<R: Wait>(
+    rt: &R,
+    alloc: Global,
+    desk: &mut Desk,
+    publisher: &mut Publisher,
+    seat: &mut Seat,
+    roll: Roll<MemEnd>,
+) -> Option<String> {
+    let roll = Mutex::new(roll);
+    let questions = QuestionDesk::new(alloc);
+    let mut hall = Locked::new(rt, &roll, &questions);
+    let published = publish_next(rt, alloc, desk, publisher)?;
+    let told = between_publication_and_hang_up(rt, alloc, &mut hall, seat, publisher)?;
+    format!(in alloc; "published {published}; {told}").ok()
+}
 
 /// What the calls answered, or want of memory.
 pub fn conversation<R: Wait>(rt: &R, alloc: Global) -> Result<String, AllocError> {

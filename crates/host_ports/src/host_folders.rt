@@ -1,4 +1,4 @@
-// The folder that a run mounts.
+// The directory of the folder and of the sockets.
 ghost use Rattle.std.specs.Prelude.{◌≡◌, IfOk, string_bytes};
 ghost use Rattle.host_ports.specs.HostFolder.{folder_in};
 
@@ -8,26 +8,26 @@ use std::env::{Env, FillError};
 /// The longest path that the machine takes.
 pub const MOST_PATH_BYTES: usize = 4_096;
 
-/// The variable that names the directory of the folder.
+/// The variable that names the directory of the folder and of the sockets.
 pub const DIRECTORY: &str = "PRIVILEGE_DIR";
 
-/// The path of the folder `store`, in the directory that the variable names, or in the working directory where it is empty
-/// or not set. The path is empty where the variable is no UTF-8 or longer than a path may be: no folder has that path.
-pub fn folder_path<E: Env>(env: &E, alloc: Global) -> Result<String, AllocError> {
+/// The directory that the variable names. It is the empty text, which stands for the working directory, where the variable is
+/// empty or not set, and there is none where the variable is no UTF-8 or longer than a path may be.
+pub fn directory_path<E: Env>(env: &E, alloc: Global) -> Result<Option<String>, AllocError> {
     let mut buffer = [0; MOST_PATH_BYTES];
     let length = match env.var(DIRECTORY, &mut buffer) {
         Ok(length) => length,
         Err(FillError::NotPresent) => 0,
-        Err(FillError::TooLong) => return Ok(String::new(alloc)),
+        Err(FillError::TooLong) => return Ok(None),
     };
     match str::from_utf8(&buffer[..length]) {
-        Ok(directory) => folder_in(alloc, directory),
-        Err(_) => Ok(String::new(alloc)),
+        Ok(directory) => Ok(Some(String::from_str(alloc, directory)?)),
+        Err(_) => Ok(None),
     }
 }
 
-// The path of the folder in this directory.
-fn folder_in(alloc: Global, directory: &str) -> Result<String, AllocError>
+/// The path of the folder `store` in this directory, or in the working directory where the path is empty.
+pub fn folder_in(alloc: Global, directory: &str) -> Result<String, AllocError>
     ensures { IfOk result (λ path. string_bytes path ≡ folder_in directory.now) }
 {
     let mut path = String::from_str(alloc, directory)?;

@@ -12,7 +12,7 @@ ghost use Rattle.line_reasons.specs.parts.Places.{Finds};
 use crate::grounds::Ground;
 use crate::places::longest_front;
 use crate::reasons::Reason;
-use crate::wording::reason_at;
+use crate::wording::{form_at, reason_at};
 use line_script::Spot;
 use std::alloc::{AllocError, Global};
 use std::fmt;
@@ -23,13 +23,19 @@ pub struct LineFault {
     /// How many bytes of the line a known line can begin with: the fault is the byte behind them, or that the line ends.
     pub place: usize,
     pub reason: Reason,
+    /// The form of the line, where it is one of a script whose first word is known and the reason is about another word.
+    pub form: Option<&'static str>,
 }
 
 impl fmt::Display for LineFault {
-    /// Writes `byte N: WORDS`, N counted from 1.
+    /// Writes `byte N: WORDS`, N counted from 1, and behind them the form of the line where there is one.
     fn fmt<W: fmt::Write>(&self, f: &mut fmt::Formatter<W>) -> fmt::Result {
         let number = self.place.saturating_add(1);
-        write!(f, "byte {number}: {}", self.reason)
+        write!(f, "byte {number}: {}", self.reason)?;
+        match self.form {
+            Some(form) => write!(f, "; the form is: {form}"),
+            None => Ok(()),
+        }
     }
 }
 
@@ -57,7 +63,14 @@ fn fault_at(alloc: Global, ground: Ground, line: &[u8]) -> Result<Option<LineFau
     }
     let place = longest_front(ground, line);
     match reason_at(alloc, ground, line, place) {
-        Ok(reason) => Ok(Some(LineFault { place, reason })),
+        Ok(reason) => {
+            let form = form_at(ground, line, &reason);
+            Ok(Some(LineFault {
+                place,
+                reason,
+                form,
+            }))
+        }
         Err(error) => Err(error),
     }
 }

@@ -199,7 +199,7 @@ pub(crate) fn forms_of(outside: Option<Place>, first: &[u8]) -> Option<&'static 
 }
 
 /// Whether a first word is known outside a block in a script for a place, or within a batch, where no place is given.
-fn is_verb_in(outside: Option<Place>, verb: Verb) -> bool
+pub(crate) fn is_verb_in(outside: Option<Place>, verb: Verb) -> bool
     ensures { result ≡ grounds.is_verb_in outside verb }
 {
     match outside {

@@ -9,6 +9,7 @@ mod faults;
 mod fixed_words;
 mod forms;
 mod grounds;
+mod near_words;
 mod places;
 mod reasons;
 mod stands;
@@ -18,4 +19,5 @@ mod wording;
 mod words_wrong;
 
 pub use faults::{LineFault, rule_fault, script_fault};
+pub use near_words::is_near;
 pub use reasons::Reason;

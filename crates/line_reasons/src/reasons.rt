@@ -16,8 +16,12 @@ pub enum Reason {
     TwoSpaces,
     EmptyLine,
     Comment,
-    /// The first word, as it is shown.
-    FirstWord(String),
+    FirstWord {
+        /// The word, as it is shown.
+        shown: String,
+        /// The form of a line whose first word is near to it.
+        near: Option<&'static str>,
+    },
     /// The first 40 bytes of a longer first word, as they are shown.
     LongFirstWord(String),
     NotInBatch,
@@ -77,6 +81,29 @@ impl fmt::Display for Reason {
 }
 
 impl Reason {
+    /// Whether it is about one word behind the first, so that it helps to see the form of the line.
+    pub(crate) fn is_about_a_word(&self) -> bool {
+        matches!(
+            self,
+            Reason::Wildcard(_)
+                | Reason::HashAlone
+                | Reason::StandsAlone { .. }
+                | Reason::BadResult
+                | Reason::BadTarget
+                | Reason::BadDepth
+                | Reason::BadUserType
+                | Reason::BadUser
+                | Reason::BadScope
+                | Reason::BadPackageKind
+                | Reason::BadSetter
+                | Reason::BadLevel
+                | Reason::BadRequest
+                | Reason::SpecialLabel
+                | Reason::BadByte { .. }
+                | Reason::TooLong { .. }
+        )
+    }
+
     // The words of a reason that are the same whatever the line.
     fn fixed_words(&self) -> Option<&'static str> {
         Some(match self {
@@ -125,7 +152,16 @@ impl Reason {
     // The words of a reason that shows something of the line, or of what should stand there.
     fn write_shown<W: fmt::Write>(&self, f: &mut fmt::Formatter<W>) -> fmt::Result {
         match self {
-            Reason::FirstWord(shown) => write!(f, "`{shown}` is no first word of a line"),
+            Reason::FirstWord { shown, near: None } => {
+                write!(f, "`{shown}` is no first word of a line")
+            }
+            Reason::FirstWord {
+                shown,
+                near: Some(form),
+            } => write!(
+                f,
+                "`{shown}` is no first word of a line; did you mean: {form}"
+            ),
             Reason::LongFirstWord(shown) => write!(
                 f,
                 "no first word of a line begins with `{shown}`"

@@ -4,6 +4,7 @@ ghost use Rattle.std.specs.Prelude.{◌≤◌, length};
 
 use crate::forms::Form;
 use crate::grounds::{Ground, RULE_FORMS, TEMPLATE_FORMS, forms_of};
+use crate::near_words::near_usage;
 use crate::reasons::Reason;
 use crate::stands::{may_end, run};
 use crate::usages::usage_of;
@@ -50,6 +51,24 @@ pub(crate) fn reason_at(
     }
 }
 
+/// The form of a line of a script, where its first word is known and the reason is about another one.
+pub(crate) fn form_at(ground: Ground, line: &[u8], reason: &Reason) -> Option<&'static str> {
+    if !reason.is_about_a_word() {
+        return None;
+    }
+    match ground {
+        Ground::Outside(place) => form_of_line(Some(place), line),
+        Ground::Batch => form_of_line(None, line),
+        Ground::Template { .. } | Ground::Rules => None,
+    }
+}
+
+fn form_of_line(outside: Option<Place>, line: &[u8]) -> Option<&'static str> {
+    let (first, _) = cut_at(line, b' ')?;
+    forms_of(outside, first)?;
+    Some(usage_of(first))
+}
+
 // ---- scripts
 
 fn script_reason(
@@ -71,7 +90,7 @@ fn script_reason(
                 };
                 words_reason(alloc, false, forms, usage_of(first), fault)
             }
-            None => first_word(alloc, first),
+            None => first_word(alloc, outside, first),
         },
     }
 }
@@ -121,7 +140,7 @@ fn first_word_reason(
     match outside {
         Some(Place::Local) if is_known_outside(word) => Ok(Reason::OfAdmin),
         Some(Place::Admin) if is_known_outside(word) => Ok(Reason::OfLocal),
-        _ => first_word(alloc, word),
+        _ => first_word(alloc, outside, word),
     }
 }
 
@@ -152,11 +171,14 @@ fn is_known_outside(word: &[u8]) -> bool {
     Verb::of_word(word).is_some() || opens_block(word)
 }
 
-fn first_word(alloc: Global, word: &[u8]) -> Result<Reason, AllocError> {
+fn first_word(alloc: Global, outside: Option<Place>, word: &[u8]) -> Result<Reason, AllocError> {
     let (front, behind) = word.split_at(word.len().min(MOST_SHOWN));
     let shown = shown_bytes(alloc, front, 4 * MOST_SHOWN)?;
     if behind.is_empty() {
-        Ok(Reason::FirstWord(shown))
+        Ok(Reason::FirstWord {
+            shown,
+            near: near_usage(outside, word),
+        })
     } else {
         Ok(Reason::LongFirstWord(shown))
     }

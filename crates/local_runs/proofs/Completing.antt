@@ -1,16 +1,14 @@
 -- A run of `local` that no failing call stops.
-use Rattle.std.proofs.Common.{◌≡◌, [], ◌⊎◌, inl, inr, ℕ, List, Option, Some, None, Ok, refl, sym, ap, ◌∙◌, subst}
-use Rattle.desk_ports.specs.Disk.{DiskState}
+use Rattle.std.proofs.Common.{◌≡◌, [], ◌⊎◌, inl, inr, ℕ, List, Option, Some, None, refl, sym, ap, ◌∙◌, subst}
 use Rattle.desk_state.specs.DeskState.{DeskState}
-use Rattle.desk_keeper.specs.Kept.{kept}
 use Rattle.run_endings.specs.Ending.{IsUnfailed}
 use Rattle.run_endings.specs.Outside.{SourceSeen, DiskSeen, HadInput}
 use Rattle.run_endings.specs.Saying.{Said}
 use Rattle.run_endings.specs.declared.endings.Ending.{Ending}
-use Rattle.run_endings.specs.declared.endings.Ending.TheVariants.{Done, Memory, Words, Line, Source, Sink, Disk, Net, Damaged, Reply, TooLong}
+use Rattle.run_endings.specs.declared.endings.Ending.TheVariants.{Done, Memory, Line, Source, Sink, Disk, Damaged}
 use Rattle.script_replies.specs.Script.{wrong_line, replies}
 use Rattle.folder_runs.specs.Folder.{RefusesMount, StandsFor}
-use Rattle.local_runs.specs.LocalRun.{read_local, HasRead, AreAnswered, AnswersScript, RunsLocal}
+use Rattle.local_runs.specs.LocalRun.{read_local, AnswersScript, RunsLocal}
 
 module _ (said : Said) (source source_after : SourceSeen) (disk disk_after : DiskSeen) (input : List ℕ) (start : DeskState)
     (told : source.left ≡ Some input) (right : wrong_line (read_local input) ≡ None) (stands : StandsFor disk start) where
@@ -36,12 +34,12 @@ module _ (said : Said) (source source_after : SourceSeen) (disk disk_after : Dis
       → AnswersScript first said ending source source_after → ((ending ≡ Done) × (said.due ≡ answer)) ⊎ (ending ≡ Memory)
   over Done first same unfailed script =
       let input_is = same-input script.input script.rest script.had in
-      let steps = sym script.are_answered ∙ (script.read.2 ∙ ap (λ bytes. (read_local bytes).steps) (sym input_is)) in
+      let steps = sym script.are_answered ∙ (script.read.steps_are ∙ ap (λ bytes. (read_local bytes).steps) (sym input_is)) in
       inl (refl, script.due ∙ (ap (replies first []) steps ∙ ap (λ desk. replies desk [] (read_local input).steps) (sym same)))
   over Memory first same unfailed script = inr refl
   over (Line number) first same unfailed script =
       let input_is = same-input script.input script.rest script.had in
-      let wrong : Some number ≡ None = sym script.read.0 ∙ (ap (λ bytes. wrong_line (read_local bytes)) (sym input_is) ∙ right) in
+      let wrong : Some number ≡ None = sym script.read.wrong ∙ (ap (λ bytes. wrong_line (read_local bytes)) (sym input_is) ∙ right) in
       cc
   over Source first same unfailed script = absurd unfailed
   over Sink first same unfailed script = absurd unfailed

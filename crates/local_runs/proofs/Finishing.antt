@@ -157,12 +157,12 @@ module _ (Keeps : Ending → List Step → List Step → Type 0) (start : DeskSt
       elim finish [
         | inl all ↦
             subst Run (sym all.0)
-            (with_more (Line number) (Line number) a a.read.0 a.are_answered keeps waiting all.1
+            (with_more (Line number) (Line number) a a.read a.are_answered keeps waiting all.1
             (all.2 ∙ sink, sym a.handed))
         | inr part ↦
             let cut = IsCut-take part.1.0 waiting part.1.1 in
             subst Run (sym part.0)
-            (with_more (Line number) Sink a a.read.1 a.are_answered (line number refl)
+            (with_more (Line number) Sink a a.read.reads a.are_answered (line number refl)
             (take part.1.0 waiting) part.1.2 (
               part.2 ∙ ap next_count sink,
               IsCut-behind a.written (take part.1.0 waiting) waiting (replies start [] a.answered) a.handed cut,

@@ -1,7 +1,6 @@
 pub mod Obeying
 pub mod Stepping
 pub mod Turning
-pub mod Lines
 pub mod Progressing
 pub mod Answering
 pub mod Stopping

@@ -1,6 +1,5 @@
 -- What a run of `local` reads, answers and keeps.
-use Rattle.std.specs.Prelude.{◌≡◌, ◌≤◌, ◌<◌, ◌⊎◌, List, [], ◌∷◌, ◌++◌, length, take, ℕ, Some, None, IsOk}
-use Rattle.text_lines.specs.Lines.{HasNoNewline, AreWholeLines}
+use Rattle.std.specs.Prelude.{◌≡◌, ◌⊎◌, List, [], ◌∷◌, ◌++◌, ℕ, Some, None}
 use Rattle.desk_ports.specs.Disk.{WhereTold}
 use Rattle.desk_state.specs.DeskState.{DeskState}
 use Rattle.desk_state.specs.Rules.{fault}
@@ -8,11 +7,11 @@ use Rattle.desk_state.specs.declared.commands.Command.{Command}
 use Rattle.line_script.specs.declared.places.Place.TheVariants.{Local}
 use Rattle.line_script.specs.declared.steps.Step.{Step}
 use Rattle.script_replies.specs.Reply.{command_in}
-use Rattle.script_replies.specs.Script.{Script, read_script, wrong_line, replies, state_after, AreInTurn}
+use Rattle.script_replies.specs.Script.{Script, read_script, replies, state_after, AreInTurn}
+use Rattle.script_reading.specs.Reading.{ReadsLines, ReadsAllLines, ReadsWhole, MeetsWrongLine}
 use Rattle.run_endings.specs.Outside.{SourceSeen, DiskSeen, HadInput}
 use Rattle.run_endings.specs.Saying.{Said}
 use Rattle.folder_runs.specs.Folder.{RefusesFolder, KeepsFolder}
-use Rattle.script_replies.specs.Limits.{most_line_bytes}
 use Rattle.run_endings.specs.declared.endings.Ending.{Ending}
 use Rattle.run_endings.specs.declared.endings.Ending.TheVariants.{Done, Memory, Line, Source, Sink, Disk}
 
@@ -22,32 +21,14 @@ use Rattle.run_endings.specs.declared.endings.Ending.TheVariants.{Done, Memory, 
 abbrev pub read_local : List ℕ → Script
 read_local bytes = read_script Local bytes
 
--- Some whole lines at the front of the input have these steps, and none of them is wrong; they may end within a block.
--- Other bytes were read behind them. At the end of the input the last line needs no newline.
-pub record ReadsLines (input rest : List ℕ) (steps : List Step) : Type 0 where
-  pub lines : List ℕ
-  pub behind : List ℕ
-  pub parts : input ≡ (lines ++ behind) ++ rest
-  pub whole : AreWholeLines lines ⊎ (behind ++ rest ≡ [])
-  pub right : IsOk (read_local lines).stands
-  pub steps_are : steps ≡ (read_local lines).steps
-
--- What was read behind these lines is no whole line, and no longer than one may be.
-pub record ReadsAllLines (input rest : List ℕ) (steps : List Step) : Type 0 where
-  pub reads : ReadsLines input rest steps
-  pub unfinished : HasNoNewline reads.behind
-  pub short : length reads.behind ≤ most_line_bytes
-
 -- The input, what is left of it, and the steps that were read, for each way in which the run ends.
 abbrev pub HasRead : Ending → List ℕ → List ℕ → List Step → Type 0
-HasRead Done input rest steps =
-    (rest ≡ []) × (wrong_line (read_local input) ≡ None) × (steps ≡ (read_local input).steps)
-HasRead (Line number) input rest steps =
-    (wrong_line (read_local input) ≡ Some number) × (steps ≡ (read_local input).steps)
-HasRead Memory input rest steps = ReadsLines input rest steps
-HasRead Source input rest steps = ReadsAllLines input rest steps
-HasRead Sink input rest steps = ReadsLines input rest steps
-HasRead Disk input rest steps = ReadsLines input rest steps
+HasRead Done input rest steps = ReadsWhole Local steps input rest
+HasRead (Line number) input rest steps = MeetsWrongLine Local number steps input rest
+HasRead Memory input rest steps = ReadsLines Local input rest steps
+HasRead Source input rest steps = ReadsAllLines Local input rest steps
+HasRead Sink input rest steps = ReadsLines Local input rest steps
+HasRead Disk input rest steps = ReadsLines Local input rest steps
 HasRead ending input rest steps = ⊥
 
 -- ---- what was answered

@@ -9,7 +9,8 @@ ghost use Rattle.run_endings.specs.Saying.{Said, WritesAnswers};
 ghost use Rattle.folder_runs.specs.Keeping.{counts_disk, KeepsSteps};
 ghost use Rattle.script_replies.specs.Folded.{unasked};
 ghost use Rattle.local_runs.specs.LocalRun.{AnswersScript, RunsLocal};
-ghost use Rattle.local_runs.specs.parts.Local.{counts_source, counts_sink};
+ghost use Rattle.local_runs.specs.parts.Local.{counts_sink};
+ghost use Rattle.script_reading.specs.NextLine.{counts_source};
 ghost use Rattle.local_runs.specs.parts.Progress.{Answers, ending_of};
 ghost use Rattle.local_runs.specs.parts.Finish.{Finishes};
 

@@ -23,6 +23,7 @@ use line_script::{LineRefusal, Place, Reader, Step};
 use policy_levels::level_command;
 use private_sharing::Shares;
 use run_endings::Ending;
+use script_notes::LineNotes;
 use script_replies::{
     FoldedRules, note_past_limit, note_script_line, print_done, print_level_refusal, print_refusal,
 };
@@ -30,7 +31,7 @@ use std::alloc::Global;
 use text_lines::LineReader;
 
 /// Where the reading of a script stands, the answers that the sink hasn't taken yet, the shares that are open, and the rules of
-/// the policy state and of these shares.
+/// the policy state and of these shares; and what is to be told of its lines beside their answers.
 #[derive(Drop)]
 pub struct LocalScript {
     alloc: Global,
@@ -38,12 +39,14 @@ pub struct LocalScript {
     rules: FoldedRules,
     shares: Shares,
     pub answers: Bytes,
+    notes: LineNotes,
 }
 
 impl LocalScript {
     ghost use Rattle.local_runs.specs.parts.Local.{IsSameScript, step_of, Turns, Flushes};
     ghost use Rattle.local_runs.specs.parts.Local.{HandsOver, AnswersStep, RefusesStep, AnswersLine, RefusesLine};
-    ghost use Rattle.local_runs.specs.parts.Local.{counts_source, counts_sink};
+    ghost use Rattle.local_runs.specs.parts.Local.{counts_sink};
+    ghost use Rattle.script_reading.specs.NextLine.{counts_source};
     ghost use Rattle.script_replies.specs.Folded.{AreFolded};
     ghost use Rattle.folder_runs.specs.Keeping.{counts_disk, UnlessDisk, Moves};
 
@@ -60,6 +63,7 @@ impl LocalScript {
             rules: FoldedRules::unasked(),
             shares: Shares::new(alloc),
             answers: Bytes::new(alloc),
+            notes: LineNotes::new(alloc),
         }
     }
 
@@ -141,6 +145,8 @@ impl LocalScript {
     {
         if let Some(question) = self.reader.check(line) {
             self.answer_check(keeper.desk(), &question)?;
+            self.notes
+                .tell_of_check(number, &question, keeper.desk(), sink);
             return Ok(());
         }
         self.answer_other(line, number, keeper, sink)
@@ -173,7 +179,13 @@ impl LocalScript {
     {
         let spot = self.reader.spot();
         match self.reader.line(line) {
-            Ok(step) => self.answer_step(&step, keeper, sink),
+            Ok(step) => match self.answer_step(&step, keeper, sink) {
+                Ok(()) => {
+                    self.notes.tell(number, &step, keeper.desk(), sink);
+                    Ok(())
+                }
+                Err(ending) => Err(ending),
+            },
             Err(LineRefusal::Syntax) => {
                 note_script_line(self.alloc, number, spot, line, sink);
                 Err(Ending::Line(number))
@@ -296,6 +308,7 @@ impl LocalScript {
             Ok(command) => command,
             Err(refusal) => {
                 print_level_refusal(&refusal, &mut self.answers)?;
+                self.notes.keep_level_refusal(refusal);
                 return Ok(());
             }
         };
@@ -333,6 +346,7 @@ impl LocalScript {
             Ok(prepared) => prepared,
             Err(refusal) => {
                 print_refusal(&refusal, &mut self.answers)?;
+                self.notes.keep_refusal(refusal);
                 return Ok(());
             }
         };

@@ -1,2 +1,4 @@
 pub mod Refusing
 pub mod Completing
+pub mod Noting
+pub mod Serving

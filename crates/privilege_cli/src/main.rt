@@ -1,52 +1,96 @@
-//! The program: the words of the command line, standard input and output, and the folder.
+//! The program: the words of the command line, standard input and output, the folder and the sockets.
 #![tactic(auto)]
 
+mod explanations;
 mod program;
 
 use command_words::Command;
-use desk_ports::shown_bytes;
+use door_workers::Notes;
+use explanations::explain;
 use folder_disk::FolderDisk;
 use host_ports::{
-    DIRECTORY, InputSource, MOST_PATH_BYTES, OutputSink, folder_path, host_words, take_descriptors,
+    InputSource, OutputSink, directory_path, folder_in, host_words, take_descriptors,
 };
+use link_ports::OpenGate;
 use program::run_on;
-use std::alloc::AllocError;
+use socket_net::SocketNet;
+use std::alloc::{AllocError, Global};
 use std::io::IsTerminal;
 use std::process::ExitCode;
+use std::sync::Wait;
+use std::thread::Threads;
 
 /// The status of a run that found no memory.
 const NO_MEMORY: u8 = 1;
 
-/// The status of a run whose disk failed.
-const FOLDER_FAILED: u8 = 6;
-
-/// The status of a run over a folder that stands for no policy state.
-const FOLDER_DAMAGED: u8 = 8;
+/// The path in place of a directory's that can't be one: no socket has such a path.
+const NO_DIRECTORY: &str = "\0";
 
 fn main(rt: HostRuntime) -> ExitCode {
-    match run_on_host(&rt) {
+    match run_on_host(&rt, &rt) {
         Ok(status) => ExitCode::from(status),
         Err(_) => ExitCode::from(NO_MEMORY),
     }
 }
 
-// Runs the program on standard input and output and on its folder. How it ends.
-fn run_on_host(rt: &HostRuntime) -> Result<u8, AllocError> {
+/// Tells a person on standard error.
+#[derive(Clone, Copy)]
+struct ErrorNotes<'a> {
+    rt: &'a HostRuntime,
+}
+
+impl Notes for ErrorNotes<'_> {
+    fn note(&self, line: &str) {
+        // Where standard error takes nothing, there is no one to tell.
+        let _ = eprintln!(self.rt; "{line}");
+    }
+}
+
+// Runs the program on standard input and output, on its folder and on the sockets beside it. How it ends.
+fn run_on_host<T: Threads + Wait + Sync>(rt: &HostRuntime, threads: &T) -> Result<u8, AllocError> {
     take_descriptors(rt);
-    let folder = folder_path(rt, rt.alloc())?;
+    let directory = directory_path(rt, rt.alloc())?;
+    let folder = folder_of(rt.alloc(), &directory)?;
     let mut disk = FolderDisk::open(rt.clone()?, folder.as_str())?;
+    let mut net = SocketNet::new(rt.clone()?, sockets_of(&directory))?;
     let mut source = InputSource::over(rt.stdin());
     let mut sink = OutputSink::over(rt.stdout(), rt.stderr());
     greet(rt)?;
-    let status = run_on(rt, rt.alloc(), &mut source, &mut sink, &mut disk);
+    let status = run_on(
+        rt,
+        threads,
+        rt.alloc(),
+        &mut source,
+        &mut sink,
+        &mut disk,
+        &mut net,
+        &OpenGate,
+        &ErrorNotes { rt },
+    );
     if let Some(failure) = &source.failure {
         let _ = eprintln!(rt; "privilege: cannot read standard input: {failure}");
     }
     if let Some(failure) = &sink.failure {
         let _ = eprintln!(rt; "privilege: cannot write standard output: {failure}");
     }
-    explain(rt, status, folder.as_str(), &disk);
+    explain(rt, status, folder.as_str(), &disk, &net);
     Ok(status)
+}
+
+// The path of the folder. It is empty where there is no directory: no folder has that path.
+fn folder_of(alloc: Global, directory: &Option<String>) -> Result<String, AllocError> {
+    match directory {
+        Some(directory) => folder_in(alloc, directory.as_str()),
+        None => Ok(String::new(alloc)),
+    }
+}
+
+// The path of the directory of the sockets.
+fn sockets_of(directory: &Option<String>) -> &str {
+    match directory {
+        Some(directory) => directory.as_str(),
+        None => NO_DIRECTORY,
+    }
 }
 
 // Tells a person at a terminal what standard input is read for.
@@ -68,30 +112,4 @@ fn greet(rt: &HostRuntime) -> Result<(), AllocError> {
         _ => {}
     }
     Ok(())
-}
-
-// Says on standard error what the run failed on, and why. Where that takes nothing, there is no one to tell.
-fn explain(rt: &HostRuntime, status: u8, folder: &str, disk: &FolderDisk<HostRuntime>) {
-    if status == NO_MEMORY {
-        let _ = eprintln!(rt; "privilege: out of memory");
-    }
-    if status == FOLDER_FAILED {
-        explain_failure(rt, folder, disk);
-    }
-    if status == FOLDER_DAMAGED {
-        if let Ok(shown) = shown_bytes(rt.alloc(), folder.as_bytes(), MOST_PATH_BYTES) {
-            let _ = eprintln!(rt;
-                "privilege: a file of the folder {shown} is not as a commit leaves it"
-            );
-        }
-    }
-}
-
-// Says which call of the folder failed on what.
-fn explain_failure(rt: &HostRuntime, folder: &str, disk: &FolderDisk<HostRuntime>) {
-    if folder.is_empty() {
-        let _ = eprintln!(rt; "privilege: {DIRECTORY} is no UTF-8, or longer than a path may be");
-    } else if let Some(failure) = disk.failure() {
-        let _ = eprintln!(rt; "privilege: {failure}");
-    }
 }

@@ -1,13 +1,12 @@
 -- A run in which no call fails.
-use Rattle.std.proofs.Common.{◌≡◌, ◌<◌, ◌⊎◌, ◌++◌, [], inl, inr, ℕ, List, sym, ap, ◌∙◌, subst, append-nil, arith}
-use Rattle.std.proofs.lemmas.Bool.Decides.{nat_tests}
+use Rattle.std.proofs.Common.{◌≡◌, ◌<◌, ◌⊎◌, ◌++◌, inl, inr, ℕ, List, sym, ap, ◌∙◌, subst, append-nil, arith}
 use Rattle.desk_ports.specs.Faults.{next_count, last_count}
 use Rattle.desk_ports.specs.Content.{Appended}
 use Rattle.run_endings.specs.Outside.{Outside, SinkSeen}
 use Rattle.run_endings.specs.Ending.{status_of, CountsFaults, NoCallFails, IsUnfailed}
 use Rattle.run_endings.specs.Saying.{Said, Writes}
 use Rattle.run_endings.specs.declared.endings.Ending.{Ending}
-use Rattle.run_endings.specs.declared.endings.Ending.TheVariants.{Done, Memory, Words, Line, Source, Sink, Disk, Net, Damaged, Reply, TooLong}
+use Rattle.run_endings.specs.declared.endings.Ending.TheVariants.{Done, Memory, Source, Sink, Disk}
 
 -- a count that rises is another one
 moves : (count : ℕ) → count < last_count → next_count count ≡ count → ⊥

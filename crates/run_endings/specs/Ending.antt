@@ -43,11 +43,11 @@ SinkFaults Disk before after = after ≡ before
 SinkFaults Net before after = after ≡ before
 SinkFaults ending before after = (after ≡ before) ⊎ (after ≡ next_count before)
 
--- No call failed but those that the ending tells of; `Writes` says it of the sink.
+-- No call of the source and of the disk failed but those that the ending tells of; `Writes` says it of the sink. What a net
+-- counts is for each command to say, since one goes on behind a link that failed.
 pub record CountsFaults (ending : Ending) (before after : Outside) : Type 0 where
   pub source : after.source.faults ≡ source_faults_after ending before.source.faults
   pub disk : after.disk.faults ≡ disk_faults_after ending before.disk.faults
-  pub net : after.net.faults ≡ net_faults_after ending before.net.faults
 
 -- the count of an object no call of which failed; at its last value a count does not tell
 abbrev pub Unraised : ℕ → ℕ → Type 0

@@ -6,7 +6,7 @@ use Rattle.run_endings.specs.Outside.{SinkSeen}
 use Rattle.run_endings.specs.Ending.{SinkFaults}
 use Rattle.run_endings.specs.LastLine.{last_line}
 use Rattle.run_endings.specs.declared.endings.Ending.{Ending}
-use Rattle.run_endings.specs.declared.endings.Ending.TheVariants.{Done, Memory, Words, Line, Source, Sink, Disk, Net, Damaged, Reply, TooLong}
+use Rattle.run_endings.specs.declared.endings.Ending.TheVariants.{Done, Memory, Source, Sink, Disk, Net}
 
 -- The answers that are due by the end of a run, and the bytes of them that were written.
 pub record Said : Type 0 where

@@ -33,7 +33,7 @@ pub enum Ending {
     /// The bytes of a peer were a bad reply.
     Reply,
     /// A step of a script wanted a frame of so many bytes, which is above the limit.
-    TooLong(u32),
+    TooLong(u64),
 }
 
 impl Ending {

@@ -32,12 +32,12 @@ pub fn write_line_fault<K: Sink>(line: u32, sink: &mut K) -> Result<(), Failed>
     ensures count { CountsFailure result (K.faults sink.old) (K.faults sink.new) }
 {
     write_all(sink, b"syntax ")?;
-    write_last_number(sink, line)
+    write_last_number(sink, line as u64)
 }
 
 /// Has the sink take `fault too-long LENGTH` with its newline. Fails as `write_line_fault` does.
 #[tactic(auto, unfolding(crate::specs::LastLine::too_long_text))]
-pub fn write_too_long<K: Sink>(length: u32, sink: &mut K) -> Result<(), Failed>
+pub fn write_too_long<K: Sink>(length: u64, sink: &mut K) -> Result<(), Failed>
     ensures ok { OnOk result (Appended (K.taken sink.old) (too_long_text length) (K.taken sink.new)) }
     ensures err { OnErr result (AppendedPart (K.taken sink.old) (too_long_text length) (K.taken sink.new)) }
     ensures count { CountsFailure result (K.faults sink.old) (K.faults sink.new) }
@@ -56,7 +56,7 @@ pub fn write_damage<K: Sink>(file: &FileName, line: u32, sink: &mut K) -> Result
     write_all(sink, b"damaged ")?;
     write_name(sink, file)?;
     write_all(sink, b" ")?;
-    write_last_number(sink, line)
+    write_last_number(sink, line as u64)
 }
 
 fn write_name<K: Sink>(sink: &mut K, name: &FileName) -> Result<(), Failed>
@@ -68,7 +68,7 @@ fn write_name<K: Sink>(sink: &mut K, name: &FileName) -> Result<(), Failed>
 }
 
 // The number that a line ends with.
-fn write_last_number<K: Sink>(sink: &mut K, number: u32) -> Result<(), Failed>
+fn write_last_number<K: Sink>(sink: &mut K, number: u64) -> Result<(), Failed>
     ensures ok { OnOk result (Appended (K.taken sink.old) (decimal number ++ codes "\n") (K.taken sink.new)) }
     ensures err { OnErr result (AppendedPart (K.taken sink.old) (decimal number ++ codes "\n") (K.taken sink.new)) }
     ensures count { CountsFailure result (K.faults sink.old) (K.faults sink.new) }
@@ -77,7 +77,7 @@ fn write_last_number<K: Sink>(sink: &mut K, number: u32) -> Result<(), Failed>
     write_all(sink, b"\n")
 }
 
-fn write_number<K: Sink>(sink: &mut K, number: u32) -> Result<(), Failed>
+fn write_number<K: Sink>(sink: &mut K, number: u64) -> Result<(), Failed>
     ensures ok { OnOk result (Appended (K.taken sink.old) (decimal number) (K.taken sink.new)) }
     ensures err { OnErr result (AppendedPart (K.taken sink.old) (decimal number) (K.taken sink.new)) }
     ensures count { CountsFailure result (K.faults sink.old) (K.faults sink.new) }

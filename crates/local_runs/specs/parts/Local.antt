@@ -1,7 +1,7 @@
 -- One turn of answering a script.
 use Rattle.std.specs.Prelude.{◌≡◌, ◌+◌, ◌⊎◌, ℕ, Bool, true, false, List, [], ◌++◌, Option, Some, None, Result, Ok, Err}
 use Rattle.desk_ports.specs.Faults.{next_count}
-use Rattle.desk_ports.specs.Content.{Took, Appended, AppendedPart}
+use Rattle.desk_ports.specs.Content.{Appended, AppendedPart}
 use Rattle.text_lines.specs.LineReader.{LineReading, HandsOut, Keeps, Ends, EndsReading, GoesPast, IsUnfinished, has_line}
 use Rattle.desk_state.specs.DeskState.{DeskState}
 use Rattle.desk_state.specs.Rules.{fault}
@@ -12,16 +12,12 @@ use Rattle.line_script.specs.declared.steps.Step.{Step}
 use Rattle.line_script.specs.declared.steps.Step.TheVariants.{Nothing, Command as CommandStep, Level, Share as ShareStep, Unshare}
 use Rattle.private_sharing.specs.declared.shares.Share.{Share}
 use Rattle.script_replies.specs.Reply.{reply, after, shares_after, command_in}
-use Rattle.run_endings.specs.Ending.{source_faults_after}
+use Rattle.script_reading.specs.Reading.{Gives}
 use Rattle.run_endings.specs.declared.endings.Ending.{Ending}
-use Rattle.run_endings.specs.declared.endings.Ending.TheVariants.{Done, Memory, Words, Line, Source, Sink, Disk, Net, Damaged, Reply, TooLong}
+use Rattle.run_endings.specs.declared.endings.Ending.TheVariants.{Memory, Line, Source, Sink, Disk}
 use Rattle.local_runs.specs.declared.local_script.LocalScript.{LocalScript}
 
--- the counts of faults behind a phase of a run: one call failed where it stopped so, and else none
-abbrev pub counts_source : {A : Type 0} → Result A Ending → ℕ → ℕ
-counts_source (Err ending) count = source_faults_after ending count
-counts_source (Ok value) count = count
-
+-- the sink's count of faults behind a phase of a run: one call failed where it stopped so, and else none
 abbrev pub counts_sink : {A : Type 0} → Result A Ending → ℕ → ℕ
 counts_sink (Err Sink) count = next_count count
 counts_sink outcome count = count
@@ -115,12 +111,6 @@ module _ (taken taken_after : Option (List ℕ)) (old new : LocalScript) (desk d
   RefusesLine number Disk = FailsAtLine
   RefusesLine number ending = ⊥
 
--- the source gave some bytes, and none where it had given its end before
-pub record Gives (left left_after : Option (List ℕ)) (reading : LineReading) : Type 0 where
-  pub given : List ℕ
-  pub took : Took left given left_after
-  pub ended : reading.is_ended ≡ true → given ≡ []
-
 module _ (left left_after taken taken_after : Option (List ℕ)) (old new : LocalScript) (desk desk_after : DeskState)
     (reading reading_after : LineReading) where
   -- a line was handed out and answered
@@ -145,7 +135,7 @@ module _ (left left_after taken taken_after : Option (List ℕ)) (old new : Loca
     pub state : desk_after ≡ desk
 
   -- the next line is wrong: it is past a limit, or has no step
-  pub record MeetsWrongLine (line : ℕ) : Type 0 where
+  pub record StopsAtLine (line : ℕ) : Type 0 where
     pub hands : Hands taken taken_after old.answers new.answers
     pub ends : EndsReading left left_after reading reading_after
     pub number : line ≡ reading.number + 1
@@ -178,7 +168,7 @@ module _ (left left_after taken taken_after : Option (List ℕ)) (old new : Loca
   Turns (Ok true) = AnswersNext
   Turns (Ok false) = EndsScript
   Turns (Err Memory) = WantsMemory
-  Turns (Err (Line line)) = MeetsWrongLine line
+  Turns (Err (Line line)) = StopsAtLine line
   Turns (Err Source) = FailsToRead
   Turns (Err Sink) = FailsToWrite
   Turns (Err Disk) = FailsNext

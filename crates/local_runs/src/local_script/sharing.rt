@@ -32,6 +32,7 @@ impl LocalScript {
             Ok(shares) => shares,
             Err(refusal) => {
                 print_share_refusal(&refusal, &mut self.answers)?;
+                self.notes.keep_share_refusal(refusal);
                 return Ok(());
             }
         };
@@ -62,6 +63,7 @@ impl LocalScript {
             Ok(shares) => shares,
             Err(refusal) => {
                 print_share_refusal(&refusal, &mut self.answers)?;
+                self.notes.keep_share_refusal(refusal);
                 return Ok(());
             }
         };

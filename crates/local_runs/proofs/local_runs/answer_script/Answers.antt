@@ -3,8 +3,8 @@ use Rattle.std.proofs.lemmas.Result.{err_from_is_err_and}
 use Rattle.script_replies.specs.Folded.{AreFolded}
 use Rattle.folder_runs.specs.Keeping.{KeepsSteps, KeepsSoFar}
 use Rattle.local_runs.specs.parts.Local.{Turns}
-use Rattle.local_runs.specs.parts.Progress.{Goes}
-use Rattle.local_runs.proofs.Progressing.{Goes-start, Goes-next}
+use Rattle.local_runs.specs.parts.Progress.{GoesOn}
+use Rattle.local_runs.proofs.Progressing.{goes-start, goes-next}
 use Rattle.local_runs.proofs.Answering.{Answers-nothing, Answers-done, Answers-unended, Answers-stopped}
 use Rattle.folder_runs.proofs.Keeping.{so-far-next, so-far-ends, keeps-rest}
 use Rattle.folder_runs.proofs.Mounting.{keeps-none}
@@ -32,8 +32,8 @@ lines-init g c =
     let taken = g.K.Sink.taken c.args.sink.now in
     let Kept = KeepsSoFar g.D.Disk.state g.D.Disk.moment g.D.Disk.left_since disk disk desk held desk held in
     record {
-      goes = subst (λ lines. Goes Kept desk left left taken taken c.args.script.now desk lines) (sym c.in_ok-lines.ensures)
-          (Goes-start Kept desk left taken c.args.script.now c.requires.reader c.requires.answers c.requires.shares
+      goes = subst (λ lines. GoesOn Kept desk left left taken taken c.args.script.now desk lines) (sym c.in_ok-lines.ensures)
+          (goes-start Kept desk left taken c.args.script.now c.requires.reader c.requires.answers c.requires.shares
           (λ begins. (
             begins,
             (keeps-none g.D.Disk.state g.D.Disk.moment g.D.Disk.left_since g.D.Disk.faults disk disk desk held
@@ -58,9 +58,9 @@ returns-in_err-answer_next-clause-answered g c =
     rw (exit.1, exit.2)
     (Answers-stopped
     (KeepsSteps g.D.Disk.state g.D.Disk.moment g.D.Disk.left_since first.vault.disk.now new.vault.disk.now first.desk first.vault.held)
-    first.desk goes.0 c.answer_next.new.self new.desk c.answer_next.new.lines ending c.in_err-answer_next.ensures.turn
+    first.desk goes.0 goes.1.0 c.answer_next.new.self new.desk c.answer_next.new.lines ending c.in_err-answer_next.ensures.turn
     (kept-at g.D.Disk.state g.D.Disk.moment g.D.Disk.left_since first.vault.disk.now mid.vault.disk.now new.vault.disk.now
-    first.desk first.vault.held mid.vault.held new.vault.held mid.desk new.desk goes.0.steps goes.1 goes.0.state
+    first.desk first.vault.held mid.vault.held new.vault.held mid.desk new.desk goes.0.steps goes.1.1 goes.1.0.state
     _ _ _ _ c.lines.script c.answer_next.new.self c.lines.lines c.answer_next.new.lines
     (λ t left le. g.met.D.Disk.counts_now new.vault.disk.now t left le) ending c.in_err-answer_next.ensures.turn
     c.in_err-answer_next.ensures.keeper))
@@ -76,12 +76,12 @@ lines-preserved g c =
     mid.desk new.desk c.lines.lines c.answer_next.new.lines (Ok found))
     c.if-branch.true c.in_ok-answer_next.ensures.turn in
     record {
-      goes = Goes-next goes.0 turn
+      goes = goes-next goes.0 goes.1.0 turn
           (KeepsSoFar g.D.Disk.state g.D.Disk.moment g.D.Disk.left_since first.vault.disk.now new.vault.disk.now
           first.desk first.vault.held new.desk new.vault.held)
           (so-far-next g.D.Disk.state g.D.Disk.moment g.D.Disk.left_since first.vault.disk.now mid.vault.disk.now
-          new.vault.disk.now first.desk first.vault.held mid.vault.held new.vault.held mid.desk new.desk goes.0.steps goes.1
-          goes.0.state turn.answers.step turn.answers.done.state c.in_ok-answer_next.ensures.keeper);
+          new.vault.disk.now first.desk first.vault.held mid.vault.held new.vault.held mid.desk new.desk goes.0.steps goes.1.1
+          goes.1.0.state turn.answers.step turn.answers.done.state c.in_ok-answer_next.ensures.keeper);
       decided = c.in_ok-answer_next.ensures.decided;
       folded = c.answer_next.ensures.folded;
       source = c.in_ok-answer_next.ensures.source ∙ c.lines.invariant.source;
@@ -103,14 +103,14 @@ returns-then-in_block-clause-answered g c =
     (subst (Turned (g.K.Sink.taken c.answer_next.new.sink)) c.if-branch.false c.in_ok-answer_next.ensures.turn) in
     Answers-unended
     (KeepsSteps g.D.Disk.state g.D.Disk.moment g.D.Disk.left_since first.vault.disk.now new.vault.disk.now first.desk first.vault.held)
-    first.desk goes.0 turn (c.number-number.result + 1) (ap (λ number. number + 1) c.number-number.ensures)
+    first.desk goes.0 goes.1.0 turn (c.number-number.result + 1) (ap (λ number. number + 1) c.number-number.ensures)
     (sym c.in_block.ensures ∙ c.if-in_block.true)
     (keeps-rest g.D.Disk.state g.D.Disk.moment g.D.Disk.left_since first.vault.disk.now new.vault.disk.now first.desk
     first.vault.held new.vault.held new.desk goes.0.steps
     (so-far-ends g.D.Disk.state g.D.Disk.moment g.D.Disk.left_since first.vault.disk.now mid.vault.disk.now new.vault.disk.now
-    first.desk first.vault.held mid.vault.held new.vault.held mid.desk new.desk goes.0.steps goes.1 goes.0.state turn.state
+    first.desk first.vault.held mid.vault.held new.vault.held mid.desk new.desk goes.0.steps goes.1.1 goes.1.0.state turn.state
     c.in_ok-answer_next.ensures.keeper)
-    (goes.0.state ∙ sym turn.state))
+    (goes.1.0.state ∙ sym turn.state))
 
 pub returns-clause-answered : goal.returns-clause-answered
 returns-clause-answered g c =
@@ -124,10 +124,10 @@ returns-clause-answered g c =
     c.if-branch.false c.in_ok-answer_next.ensures.turn in
     Answers-done
     (KeepsSteps g.D.Disk.state g.D.Disk.moment g.D.Disk.left_since first.vault.disk.now new.vault.disk.now first.desk first.vault.held)
-    first.desk goes.0 turn (sym c.in_block.ensures ∙ c.if-in_block.false)
+    first.desk goes.0 goes.1.0 turn (sym c.in_block.ensures ∙ c.if-in_block.false)
     (keeps-rest g.D.Disk.state g.D.Disk.moment g.D.Disk.left_since first.vault.disk.now new.vault.disk.now first.desk
     first.vault.held new.vault.held new.desk goes.0.steps
     (so-far-ends g.D.Disk.state g.D.Disk.moment g.D.Disk.left_since first.vault.disk.now mid.vault.disk.now new.vault.disk.now
-    first.desk first.vault.held mid.vault.held new.vault.held mid.desk new.desk goes.0.steps goes.1 goes.0.state turn.state
+    first.desk first.vault.held mid.vault.held new.vault.held mid.desk new.desk goes.0.steps goes.1.1 goes.1.0.state turn.state
     c.in_ok-answer_next.ensures.keeper)
-    (goes.0.state ∙ sym turn.state))
+    (goes.1.0.state ∙ sym turn.state))

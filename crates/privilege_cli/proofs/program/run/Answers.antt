@@ -1,47 +1,59 @@
-use Rattle.run_endings.specs.Outside.{Outside, source_seen, sink_seen, disk_seen, no_net, seen}
+use Rattle.std.proofs.Common.{subst, sym}
+use Rattle.run_endings.specs.Outside.{source_seen, sink_seen, disk_seen, seen}
+use Rattle.run_endings.specs.Saying.{Writes}
 use Rattle.command_words.specs.Commands.{command_of}
-use Rattle.privilege_cli.specs.Program.{Ends}
-use Rattle.privilege_cli.proofs.Refusing.{net-still}
+use Rattle.privilege_cli.specs.Program.{NetTells, Ends}
 use Rattle.privilege_cli.proofs.Completing.{Ends-completes}
+use Rattle.privilege_cli.proofs.Noting.{noted}
 use Rattle.privilege_cli.proofs.program.run.Goals as goal
 
 pub returns-clause-run : goal.returns-clause-run
 returns-clause-run g c =
     let run = c.run_words-ending.ensures.run in
-    let ending = c.run_words-ending.result in
     record {
-      ending = ending;
+      ending = c.run_words-ending.result;
       said = run.0;
       status_is = c.status.ensures;
       runs = run.1;
-      writes = c.write_last_line.ensures run.0 (sink_seen g.K.Sink.taken g.K.Sink.faults c.args.sink.now) run.2;
-      counts = record {
-        source = c.run_words-ending.ensures.source_count;
-        disk = c.run_words-ending.ensures.disk_count;
-        net = net-still _ _ _ _ run.0 (command_of c.args.words.now) ending run.1;
-      };
+      writes = noted c.run_words-ending.result run.0 g.K.Sink.taken g.K.Sink.faults _ _ _
+          (c.write_last_line.ensures run.0 (sink_seen g.K.Sink.taken g.K.Sink.faults c.args.sink.now) run.2)
+          c.note_damage.ensures.taken c.note_damage.ensures.count;
+      source_count = c.run_words-ending.ensures.source_count;
+      disk_count = c.run_words-ending.ensures.disk_count;
+      net_count = c.run_words-ending.ensures.net_count;
     }
 
 pub returns-clause-complete : goal.returns-clause-complete
 returns-clause-complete g c =
     let run = c.run_words-ending.ensures.run in
-    let ending = c.run_words-ending.result in
     let before = seen (source_seen g.S.Source.left g.S.Source.faults c.args.source.now)
     (sink_seen g.K.Sink.taken g.K.Sink.faults c.args.sink.now)
-    (disk_seen g.D.Disk.state g.D.Disk.moment g.D.Disk.left_since g.D.Disk.faults c.args.disk.now) no_net in
+    (disk_seen g.D.Disk.state g.D.Disk.moment g.D.Disk.left_since g.D.Disk.faults c.args.disk.now)
+    (record { faults = g.N.Dial.faults c.args.net.now }) in
     let after = seen (source_seen g.S.Source.left g.S.Source.faults c.run_words-ending.new.source)
-    (sink_seen g.K.Sink.taken g.K.Sink.faults c.write_last_line.new.sink)
-    (disk_seen g.D.Disk.state g.D.Disk.moment g.D.Disk.left_since g.D.Disk.faults c.run_words-ending.new.disk) no_net in
-    let ends : Ends (command_of c.args.words.now) c.status.result before after = record {
-      ending = ending;
+    (sink_seen g.K.Sink.taken g.K.Sink.faults c.note_damage.new.sink)
+    (disk_seen g.D.Disk.state g.D.Disk.moment g.D.Disk.left_since g.D.Disk.faults c.run_words-ending.new.disk)
+    (record { faults = g.N.Dial.faults c.run_words-ending.new.net }) in
+    let tells : NetTells _ _ _ _ = (record {
+      faults = g.N.Dial.faults;
+      dials = g.N.Dial.dials;
+      given_back = g.N.Dial.given_back;
+      link = record { faults = g.N.Dial.Link.faults; marks = g.N.Dial.Link.marks; traffic = g.N.Dial.Link.traffic };
+      closed = g.N.Net.closed;
+      door_faults = g.N.Net.Door.faults;
+      door_given_back = g.N.Net.Door.given_back;
+      accepted = record { faults = g.N.Net.Door.Link.faults; marks = g.N.Net.Door.Link.marks; traffic = g.N.Net.Door.Link.traffic };
+    }) in
+    let ends : Ends tells (command_of c.args.words.now) c.status.result before after c.args.net.now c.run_words-ending.new.net = record {
+      ending = c.run_words-ending.result;
       said = run.0;
       status_is = c.status.ensures;
       runs = run.1;
-      writes = c.write_last_line.ensures run.0 (sink_seen g.K.Sink.taken g.K.Sink.faults c.args.sink.now) run.2;
-      counts = record {
-        source = c.run_words-ending.ensures.source_count;
-        disk = c.run_words-ending.ensures.disk_count;
-        net = net-still _ _ _ _ run.0 (command_of c.args.words.now) ending run.1;
-      };
+      writes = noted c.run_words-ending.result run.0 g.K.Sink.taken g.K.Sink.faults _ _ _
+          (c.write_last_line.ensures run.0 (sink_seen g.K.Sink.taken g.K.Sink.faults c.args.sink.now) run.2)
+          c.note_damage.ensures.taken c.note_damage.ensures.count;
+      source_count = c.run_words-ending.ensures.source_count;
+      disk_count = c.run_words-ending.ensures.disk_count;
+      net_count = c.run_words-ending.ensures.net_count;
     } in
-    Ends-completes (command_of c.args.words.now) c.status.result before after ends
+    Ends-completes tells (command_of c.args.words.now) c.status.result before after c.args.net.now c.run_words-ending.new.net ends

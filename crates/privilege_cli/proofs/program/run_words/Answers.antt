@@ -3,20 +3,48 @@ use Rattle.desk_ports.proofs.Appends.{Appended-none}
 use Rattle.run_endings.specs.Outside.{source_seen, sink_seen, disk_seen}
 use Rattle.run_endings.specs.Saying.{silence}
 use Rattle.command_words.specs.Commands.{ReadsCommand, command_of}
-use Rattle.privilege_cli.proofs.Refusing.{without_memory, without_command}
+use Rattle.privilege_cli.specs.Program.{NetTells}
+use Rattle.privilege_cli.proofs.Serving.{says-nothing, reads-nothing}
+use Rattle.privilege_cli.proofs.Refusing.{without_memory, without_command, uncounted}
 use Rattle.privilege_cli.proofs.program.run_words.Goals as goal
 
 pub returns-in-Err-Memory-clause-run : goal.returns-in-Err-Memory-clause-run
 returns-in-Err-Memory-clause-run g c =
-    without_memory c.args.words.now c.in-Err-Memory.field-0-0
+    without_memory (record {
+      faults = g.N.Dial.faults;
+      dials = g.N.Dial.dials;
+      given_back = g.N.Dial.given_back;
+      link = record { faults = g.N.Dial.Link.faults; marks = g.N.Dial.Link.marks; traffic = g.N.Dial.Link.traffic };
+      closed = g.N.Net.closed;
+      door_faults = g.N.Net.Door.faults;
+      door_given_back = g.N.Net.Door.given_back;
+      accepted = record { faults = g.N.Net.Door.Link.faults; marks = g.N.Net.Door.Link.marks; traffic = g.N.Net.Door.Link.traffic };
+    }) c.in-Err-Memory.field-0-0 c.args.words.now
     (source_seen g.S.Source.left g.S.Source.faults c.args.source.now) (sink_seen g.K.Sink.taken g.K.Sink.faults c.args.sink.now)
-    (disk_seen g.D.Disk.state g.D.Disk.moment g.D.Disk.left_since g.D.Disk.faults c.args.disk.now)
+    (disk_seen g.D.Disk.state g.D.Disk.moment g.D.Disk.left_since g.D.Disk.faults c.args.disk.now) c.args.net.now
+    (subst (λ refusal. ReadsCommand (Err refusal) (command_of c.args.words.now)) c.in-Err-Memory.field-0-is c.in-Err-Memory.ensures.command)
+
+pub returns-in-Err-Memory-clause-net_count : goal.returns-in-Err-Memory-clause-net_count
+returns-in-Err-Memory-clause-net_count g c =
+    uncounted c.args.words.now c.in-Err-Memory.field-0-0 (g.N.Dial.faults c.args.net.now)
     (subst (λ refusal. ReadsCommand (Err refusal) (command_of c.args.words.now)) c.in-Err-Memory.field-0-is c.in-Err-Memory.ensures.command)
 
 pub returns-in-Err-Unknown-clause-run : goal.returns-in-Err-Unknown-clause-run
 returns-in-Err-Unknown-clause-run g c =
-    without_command c.args.words.now (source_seen g.S.Source.left g.S.Source.faults c.args.source.now)
+    without_command (record {
+      faults = g.N.Dial.faults;
+      dials = g.N.Dial.dials;
+      given_back = g.N.Dial.given_back;
+      link = record { faults = g.N.Dial.Link.faults; marks = g.N.Dial.Link.marks; traffic = g.N.Dial.Link.traffic };
+      closed = g.N.Net.closed;
+      door_faults = g.N.Net.Door.faults;
+      door_given_back = g.N.Net.Door.given_back;
+      accepted = record { faults = g.N.Net.Door.Link.faults; marks = g.N.Net.Door.Link.marks; traffic = g.N.Net.Door.Link.traffic };
+    }) c.args.words.now (source_seen g.S.Source.left g.S.Source.faults c.args.source.now)
     (sink_seen g.K.Sink.taken g.K.Sink.faults c.args.sink.now) (sink_seen g.K.Sink.taken g.K.Sink.faults c.note_words.new.sink)
-    (disk_seen g.D.Disk.state g.D.Disk.moment g.D.Disk.left_since g.D.Disk.faults c.args.disk.now)
+    (disk_seen g.D.Disk.state g.D.Disk.moment g.D.Disk.left_since g.D.Disk.faults c.args.disk.now) c.args.net.now
     (subst (λ refusal. ReadsCommand (Err refusal) (command_of c.args.words.now)) c.in-Err-Unknown.field-0-is
     c.in-Err-Unknown.ensures.command) c.note_words.ensures.taken c.note_words.ensures.count
+
+pub returns-in-Ok-Serve-clause-run : goal.returns-in-Ok-Serve-clause-run
+returns-in-Ok-Serve-clause-run g c = (silence, (refl, c.run_serve.ensures), says-nothing _ _ _ _ _ _ _ _ _ _ _ _ _ c.run_serve.ensures)

@@ -1,0 +1,5 @@
+pub mod Turns
+pub mod Talking
+pub mod Scripts
+pub mod Counting
+pub mod Running

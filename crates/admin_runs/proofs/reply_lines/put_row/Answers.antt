@@ -1,0 +1,10 @@
+use Rattle.std.proofs.Common.{◌≡◌, ◌∙◌, ◌++◌, subst, OnOk}
+use Rattle.line_script.specs.Answers.{row_text}
+use Rattle.admin_runs.proofs.reply_lines.put_row.Goals as goal
+
+pub returns : goal.returns
+returns c =
+    let metadata = c.as_slice.ensures.bytes ∙ c.metadata.ensures.metadata in
+    subst (λ text. OnOk c.print.result (c.print.new.out ≡ c.args.out.now ++ text))
+    (λ i. row_text (c.client.ensures.text i) (c.user.ensures.text i) (c.privilege.ensures.text i)
+    (record { kind = c.kind.ensures i; metadata = metadata i })) c.print.ensures.ok

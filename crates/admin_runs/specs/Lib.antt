@@ -1,0 +1,4 @@
+pub mod StepMessage
+pub mod ReplyLine
+pub mod AdminRun
+pub mod parts

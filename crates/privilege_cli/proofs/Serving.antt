@@ -1,0 +1,38 @@
+-- A service says nothing on standard output.
+use Rattle.std.proofs.Common.{◌≡◌, ℕ, List, Option, inl, refl}
+use Rattle.desk_ports.proofs.Appends.{Appended-none}
+use Rattle.link_ports.specs.Traffic.{Traffic}
+use Rattle.link_ports.specs.LinkMarks.{LinkMarks}
+use Rattle.run_endings.specs.Outside.{SinkSeen, DiskSeen}
+use Rattle.run_endings.specs.Saying.{silence, WritesAnswers}
+use Rattle.run_endings.specs.declared.endings.Ending.{Ending}
+use Rattle.run_endings.specs.declared.endings.Ending.TheVariants.{Done, Memory, Words, Line, Source, Sink, Disk, Net, Damaged, Reply, TooLong}
+use Rattle.run_endings.specs.Ending.{source_faults_after}
+use Rattle.serve_runs.specs.Run.{RunsServe}
+use Rattle.serve_runs.specs.Run.RunsServe.{refused, unopened, served}
+
+module _ {L E : Type 0} (traffic : L → Option Traffic) (marks : L → LinkMarks) (faults : L → ℕ)
+    (given_back : E → Option (List L)) (door_faults : E → ℕ) (before after : DiskSeen) (net net_now : ℕ)
+    (closed closed_now : Option (List E)) where
+  abbrev Serves : Ending → Type 0
+  Serves ending = RunsServe traffic marks faults given_back door_faults ending before after net net_now closed closed_now
+
+  -- it is given no source and no sink, and so no call of them ends it
+  never-sink : Serves Sink → ⊥
+  never-sink (refused folder counted same doors) = folder.refused
+  never-sink (unopened start keeps counted ends) = ends
+  never-sink (served start administers keeps) = administers.ends
+
+  never-source : Serves Source → ⊥
+  never-source (refused folder counted same doors) = folder.refused
+  never-source (unopened start keeps counted ends) = ends
+  never-source (served start administers keeps) = administers.ends
+
+  pub says-nothing : (ending : Ending) (sink : SinkSeen) → Serves ending → WritesAnswers ending silence sink sink
+  says-nothing Sink sink serves = absurd (never-sink serves)
+  says-nothing Memory sink serves = record { taken = Appended-none sink.taken; are_written = inl (refl, refl) }
+  says-nothing ending sink serves = record { taken = Appended-none sink.taken; are_written = (refl, refl) }
+
+  pub reads-nothing : (ending : Ending) (count : ℕ) → Serves ending → count ≡ source_faults_after ending count
+  reads-nothing Source count serves = absurd (never-source serves)
+  reads-nothing ending count serves = refl

@@ -1,0 +1,4 @@
+pub mod Lines
+pub mod Going
+pub mod Ending
+pub mod NextLines
