@@ -1,6 +1,6 @@
 // Workers of clients whose checks are recorded.
 ghost use Rattle.std.specs.Prelude.{◌≡◌, ℕ, List, Option, MatchResult};
-ghost use Rattle.monitor_door.specs.Monitoring.{IsSame};
+ghost use Rattle.check_monitor.specs.Monitor.{IsSame};
 ghost use Rattle.door_workers.specs.Visit.{Works, EndsWorking};
 ghost use Rattle.door_workers.specs.Monitored.{Post, post_of, VisitsWatched};
 ghost use Rattle.door_workers.specs.parts.Turn.{SoFar};

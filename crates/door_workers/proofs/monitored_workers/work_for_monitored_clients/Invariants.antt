@@ -1,5 +1,5 @@
 use Rattle.std.proofs.Common.{◌≡◌}
-use Rattle.monitor_door.specs.Monitoring.{IsSame}
+use Rattle.check_monitor.specs.Monitor.{IsSame}
 use Rattle.door_workers.specs.Monitored.{post_of, VisitsWatched}
 use Rattle.door_workers.specs.parts.Turn.{SoFar}
 use Rattle.door_workers.proofs.monitored_workers.work_for_monitored_clients.Given as goal
