@@ -2,3 +2,4 @@ pub mod Refusing
 pub mod Completing
 pub mod Noting
 pub mod Serving
+pub mod Asking

@@ -27,9 +27,9 @@ module _ {N L E A : Type 0} (tells : NetTells N L E A) (error : AllocError) wher
       let had = Took-Had source.left source.left [] (Took-nothing source.left) in
       record { input = [] ++ had.0; rest = had.0; had = had.1; answered = refl }
   unread (Check asked) source disk net copies =
-      (Err (refusal.Memory error), inr (record { error = error; answer_is = refl; same = refl }), refl, refl)
+      (Err (refusal.Memory error), inr (record { error = error; answer_is = refl; same = refl }), (refl, refl))
   unread (Simple asked) source disk net copies =
-      (Err (refusal.Memory error), inr (record { error = error; answer_is = refl; same = refl }), refl, refl)
+      (Err (refusal.Memory error), inr (record { error = error; answer_is = refl; same = refl }), (refl, refl))
   unread Local source disk net copies = absurd (untrue copies)
   unread SmackLoad source disk net copies = absurd (untrue copies)
   unread (Sample count) source disk net copies = absurd (untrue copies)

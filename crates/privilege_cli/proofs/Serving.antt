@@ -1,15 +1,18 @@
 -- A service says nothing on standard output.
-use Rattle.std.proofs.Common.{◌≡◌, ℕ, List, Option, inl, refl}
+use Rattle.std.proofs.Common.{◌≡◌, ℕ, List, Option, Some, inl, refl, sym, subst}
 use Rattle.desk_ports.proofs.Appends.{Appended-none}
 use Rattle.link_ports.specs.Traffic.{Traffic}
 use Rattle.link_ports.specs.LinkMarks.{LinkMarks}
-use Rattle.run_endings.specs.Outside.{SinkSeen, DiskSeen}
-use Rattle.run_endings.specs.Saying.{silence, WritesAnswers}
+use Rattle.run_endings.specs.Outside.{SourceSeen, SinkSeen, DiskSeen}
+use Rattle.run_endings.specs.Saying.{Said, silence, WritesAnswers}
 use Rattle.run_endings.specs.declared.endings.Ending.{Ending}
 use Rattle.run_endings.specs.declared.endings.Ending.TheVariants.{Done, Memory, Words, Line, Source, Sink, Disk, Net, Damaged, Reply, TooLong}
 use Rattle.run_endings.specs.Ending.{source_faults_after}
 use Rattle.serve_runs.specs.Run.{RunsServe}
 use Rattle.serve_runs.specs.Run.RunsServe.{refused, unopened, served}
+use Rattle.command_words.specs.declared.commands.Command.{Command}
+use Rattle.command_words.specs.declared.commands.Command.TheVariants.{Serve}
+use Rattle.privilege_cli.specs.Program.{NetTells, RunsCommand}
 
 module _ {L E : Type 0} (traffic : L → Option Traffic) (marks : L → LinkMarks) (faults : L → ℕ)
     (given_back : E → Option (List L)) (door_faults : E → ℕ) (before after : DiskSeen) (net net_now : ℕ)
@@ -36,3 +39,18 @@ module _ {L E : Type 0} (traffic : L → Option Traffic) (marks : L → LinkMark
   pub reads-nothing : (ending : Ending) (count : ℕ) → Serves ending → count ≡ source_faults_after ending count
   reads-nothing Source count serves = absurd (never-source serves)
   reads-nothing ending count serves = refl
+
+-- the words' command is that service
+pub serves-as : {N L E A : Type 0} (tells : NetTells N L E A) (found : Option Command) (workers : ℕ) (ending : Ending)
+    (source : SourceSeen) (sink : SinkSeen) (disk disk_after : DiskSeen) (net net_after : N) → found ≡ Some (Serve workers)
+    → RunsServe tells.accepted.traffic tells.accepted.marks tells.accepted.faults tells.door_given_back tells.door_faults ending
+    disk disk_after (tells.faults net) (tells.faults net_after) (tells.closed net) (tells.closed net_after)
+    → (said : Said) × RunsCommand tells found said ending source source disk disk_after net net_after
+    × WritesAnswers ending said sink sink
+serves-as tells found workers ending source sink disk disk_after net net_after is serves = (
+  silence,
+  subst (λ (command : Option Command). RunsCommand tells command silence ending source source disk disk_after net net_after) (sym is)
+      (refl, serves),
+  says-nothing tells.accepted.traffic tells.accepted.marks tells.accepted.faults tells.door_given_back tells.door_faults
+      disk disk_after (tells.faults net) (tells.faults net_after) (tells.closed net) (tells.closed net_after) ending sink serves,
+)

@@ -3,6 +3,7 @@
 
 mod explanations;
 mod program;
+mod service_words;
 
 use command_words::Command;
 use door_workers::Notes;

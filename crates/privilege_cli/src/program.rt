@@ -6,10 +6,10 @@ ghost use Rattle.run_endings.specs.Saying.{Said, WritesAnswers};
 ghost use Rattle.command_words.specs.Commands.{command_of, reads_source, mounts_folder, uses_net};
 ghost use Rattle.privilege_cli.specs.Program.{RunsCommand, CountsDisk, CountsNet, Ends, Completes};
 
+use crate::service_words::{check, serve, simple};
 use access_runs::run_access;
 use admin_runs::run_admin;
 use agent_runs::run_agent;
-use client_runs::{run_check, run_simple};
 use command_words::{Command, CommandRefusal, note_words};
 use desk_ports::{Disk, Sink, Source};
 use door_workers::Notes;
@@ -20,7 +20,6 @@ use local_runs::run_local;
 use run_endings::Ending;
 use sample_runs::run_sample;
 use script_notes::note_damage;
-use serve_runs::run_serve;
 use std::alloc::Global;
 use std::env::Env;
 use std::sync::Wait;
@@ -144,9 +143,9 @@ where
             },
         ) => run_access(alloc, &subject, &object, asked, source, sink),
         Ok(Command::Sample { count }) => run_sample(alloc, count, sink),
-        Ok(Command::Serve { workers }) => run_serve(rt, alloc, workers, disk, net, gate, notes),
-        Ok(Command::Check(asked)) => run_check(alloc, &asked, net, sink),
-        Ok(Command::Simple(asked)) => run_simple(alloc, &asked, net, sink),
+        Ok(Command::Serve { workers }) => serve(rt, alloc, workers, disk, net, gate, notes),
+        Ok(Command::Check(asked)) => check(alloc, &asked, net, sink),
+        Ok(Command::Simple(asked)) => simple(alloc, &asked, net, sink),
         Ok(Command::Admin) => run_admin(alloc, source, sink, net),
         Ok(Command::Agent { kind, allowed }) => run_agent(rt, alloc, kind, allowed, net, sink),
         Err(CommandRefusal::Unknown(fault)) => {

@@ -38,11 +38,11 @@ returns-clause-complete g c =
       faults = g.N.Dial.faults;
       dials = g.N.Dial.dials;
       given_back = g.N.Dial.given_back;
-      link = record { faults = g.N.Dial.Link.faults; marks = g.N.Dial.Link.marks; traffic = g.N.Dial.Link.traffic };
+      link = record { faults = g.N.Link.Link.faults; marks = g.N.Link.Link.marks; traffic = g.N.Link.Link.traffic };
       closed = g.N.Net.closed;
-      door_faults = g.N.Net.Door.faults;
-      door_given_back = g.N.Net.Door.given_back;
-      accepted = record { faults = g.N.Net.Door.Link.faults; marks = g.N.Net.Door.Link.marks; traffic = g.N.Net.Door.Link.traffic };
+      door_faults = g.N.Door.Door.faults;
+      door_given_back = g.N.Door.Door.given_back;
+      accepted = record { faults = g.N.Door.Link.Link.faults; marks = g.N.Door.Link.Link.marks; traffic = g.N.Door.Link.Link.traffic };
     }) in
     let ends : Ends tells (command_of c.args.words.now) c.status.result before after c.args.net.now c.run_words-ending.new.net = record {
       ending = c.run_words-ending.result;

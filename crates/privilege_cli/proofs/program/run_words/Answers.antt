@@ -1,10 +1,10 @@
-use Rattle.std.proofs.Common.{Err, refl, subst}
+use Rattle.std.proofs.Common.{Err, Option, Some, refl, sym, ap, ◌∙◌, subst}
 use Rattle.desk_ports.proofs.Appends.{Appended-none}
 use Rattle.run_endings.specs.Outside.{source_seen, sink_seen, disk_seen}
-use Rattle.run_endings.specs.Saying.{silence}
+use Rattle.run_endings.specs.Saying.{Said, WritesAnswers}
+use Rattle.command_words.specs.declared.commands.Command.{Command}
 use Rattle.command_words.specs.Commands.{ReadsCommand, command_of}
-use Rattle.privilege_cli.specs.Program.{NetTells}
-use Rattle.privilege_cli.proofs.Serving.{says-nothing, reads-nothing}
+use Rattle.privilege_cli.specs.Program.{RunsCommand}
 use Rattle.privilege_cli.proofs.Refusing.{without_memory, without_command, uncounted}
 use Rattle.privilege_cli.proofs.program.run_words.Goals as goal
 
@@ -14,11 +14,11 @@ returns-in-Err-Memory-clause-run g c =
       faults = g.N.Dial.faults;
       dials = g.N.Dial.dials;
       given_back = g.N.Dial.given_back;
-      link = record { faults = g.N.Dial.Link.faults; marks = g.N.Dial.Link.marks; traffic = g.N.Dial.Link.traffic };
+      link = record { faults = g.N.Link.Link.faults; marks = g.N.Link.Link.marks; traffic = g.N.Link.Link.traffic };
       closed = g.N.Net.closed;
-      door_faults = g.N.Net.Door.faults;
-      door_given_back = g.N.Net.Door.given_back;
-      accepted = record { faults = g.N.Net.Door.Link.faults; marks = g.N.Net.Door.Link.marks; traffic = g.N.Net.Door.Link.traffic };
+      door_faults = g.N.Door.Door.faults;
+      door_given_back = g.N.Door.Door.given_back;
+      accepted = record { faults = g.N.Door.Link.Link.faults; marks = g.N.Door.Link.Link.marks; traffic = g.N.Door.Link.Link.traffic };
     }) c.in-Err-Memory.field-0-0 c.args.words.now
     (source_seen g.S.Source.left g.S.Source.faults c.args.source.now) (sink_seen g.K.Sink.taken g.K.Sink.faults c.args.sink.now)
     (disk_seen g.D.Disk.state g.D.Disk.moment g.D.Disk.left_since g.D.Disk.faults c.args.disk.now) c.args.net.now
@@ -35,11 +35,11 @@ returns-in-Err-Unknown-clause-run g c =
       faults = g.N.Dial.faults;
       dials = g.N.Dial.dials;
       given_back = g.N.Dial.given_back;
-      link = record { faults = g.N.Dial.Link.faults; marks = g.N.Dial.Link.marks; traffic = g.N.Dial.Link.traffic };
+      link = record { faults = g.N.Link.Link.faults; marks = g.N.Link.Link.marks; traffic = g.N.Link.Link.traffic };
       closed = g.N.Net.closed;
-      door_faults = g.N.Net.Door.faults;
-      door_given_back = g.N.Net.Door.given_back;
-      accepted = record { faults = g.N.Net.Door.Link.faults; marks = g.N.Net.Door.Link.marks; traffic = g.N.Net.Door.Link.traffic };
+      door_faults = g.N.Door.Door.faults;
+      door_given_back = g.N.Door.Door.given_back;
+      accepted = record { faults = g.N.Door.Link.Link.faults; marks = g.N.Door.Link.Link.marks; traffic = g.N.Door.Link.Link.traffic };
     }) c.args.words.now (source_seen g.S.Source.left g.S.Source.faults c.args.source.now)
     (sink_seen g.K.Sink.taken g.K.Sink.faults c.args.sink.now) (sink_seen g.K.Sink.taken g.K.Sink.faults c.note_words.new.sink)
     (disk_seen g.D.Disk.state g.D.Disk.moment g.D.Disk.left_since g.D.Disk.faults c.args.disk.now) c.args.net.now
@@ -47,4 +47,20 @@ returns-in-Err-Unknown-clause-run g c =
     c.in-Err-Unknown.ensures.command) c.note_words.ensures.taken c.note_words.ensures.count
 
 pub returns-in-Ok-Serve-clause-run : goal.returns-in-Ok-Serve-clause-run
-returns-in-Ok-Serve-clause-run g c = (silence, (refl, c.run_serve.ensures), says-nothing _ _ _ _ _ _ _ _ _ _ _ _ _ c.run_serve.ensures)
+returns-in-Ok-Serve-clause-run g c =
+    let source = source_seen g.S.Source.left g.S.Source.faults c.args.source.now in
+    let sink = sink_seen g.K.Sink.taken g.K.Sink.faults c.args.sink.now in
+    subst (λ (command : Option Command). (said : Said) × RunsCommand (record {
+      faults = g.N.Dial.faults;
+      dials = g.N.Dial.dials;
+      given_back = g.N.Dial.given_back;
+      link = record { faults = g.N.Link.Link.faults; marks = g.N.Link.Link.marks; traffic = g.N.Link.Link.traffic };
+      closed = g.N.Net.closed;
+      door_faults = g.N.Door.Door.faults;
+      door_given_back = g.N.Door.Door.given_back;
+      accepted = record { faults = g.N.Door.Link.Link.faults; marks = g.N.Door.Link.Link.marks; traffic = g.N.Door.Link.Link.traffic };
+    }) command said c.serve.result source source
+    (disk_seen g.D.Disk.state g.D.Disk.moment g.D.Disk.left_since g.D.Disk.faults c.args.disk.now)
+    (disk_seen g.D.Disk.state g.D.Disk.moment g.D.Disk.left_since g.D.Disk.faults c.serve.new.disk) c.args.net.now c.serve.new.net
+    × WritesAnswers c.serve.result said sink sink)
+    (sym (c.in-Ok-Serve.ensures.command ∙ ap Some c.in-Ok-Serve.field-0-is)) (c.serve.ensures.run source sink)
