@@ -1,7 +1,7 @@
 // The calls of an administrator's client.
 use crate::answers::fault_text;
 use crate::links::put_digits;
-use admin_client::{AdminClient, AdminRefusal};
+use admin_client::{AdminLink, AdminRefusal};
 use bucket_store::{Change, Changes};
 use case_words::{Failure, frame_bytes, put_some};
 use cynara_keys::{BucketName, Field, Key};
@@ -97,23 +97,33 @@ fn answer_text(
 
 fn send(
     alloc: Global,
-    client: &mut AdminClient<&mut MemDial>,
+    link: &mut AdminLink<MemDial>,
+    dial: &mut MemDial,
     list: &[Framed],
 ) -> Result<String, Failure> {
     let [framed] = list else {
         return Err(Failure::Words);
     };
-    let answer = client.send(&framed.message);
+    let answer = link.send(dial, &framed.message);
     answer_text(alloc, &answer)
 }
 
 /// What the calls answer.
 pub fn answers(alloc: Global, dial: &mut MemDial, calls: &str) -> Result<String, Failure> {
+    let mut link = AdminLink::new(alloc);
+    send_each(alloc, &mut link, dial, calls)
+}
+
+fn send_each(
+    alloc: Global,
+    link: &mut AdminLink<MemDial>,
+    dial: &mut MemDial,
+    calls: &str,
+) -> Result<String, Failure> {
     let mut text = String::new(alloc);
-    let mut client = AdminClient::new(alloc, dial);
     for word in calls.split(',') {
         let list = message(alloc, word)?;
-        let answer = send(alloc, &mut client, &list)?;
+        let answer = send(alloc, link, dial, &list)?;
         text.push_str(answer.as_str())?;
         text.push_str(", ")?;
     }
