@@ -1,5 +1,5 @@
 -- Doors that are closed one after the other, and what that does to the count of their net.
-use Rattle.std.proofs.Common.{◌≡◌, ◌∙◌, ◌≤◌, ℕ, List, [], ◌∷◌, ◌++◌, Option, Some, refl, sym, ap, subst, append_assoc, append-nil, arith}
+use Rattle.std.proofs.Common.{◌≡◌, ◌∙◌, ◌≤◌, ℕ, List, [], ◌∷◌, ◌++◌, Option, sym, ap, subst, append_assoc, append-nil, arith}
 use Rattle.desk_ports.specs.Faults.{next_count}
 use Rattle.link_ports.specs.NetCounts.{count_after_close}
 use Rattle.link_ports.specs.Told.{AppendsTold}

@@ -1,7 +1,6 @@
 -- How a run ends that has served.
-use Rattle.std.proofs.Common.{◌≡◌, ◌∙◌, ◌≤◌, ◌<◌, ℕ, Bool, true, false, List, Option, refl, sym, ap, subst, arith}
+use Rattle.std.proofs.Common.{◌≡◌, ℕ, Bool, false, refl, subst, arith}
 use Rattle.std.specs.Bool.{OnFalse}
-use Rattle.desk_ports.specs.Faults.{next_count}
 use Rattle.door_workers.specs.declared.workers.WorkerEnd.{WorkerEnd}
 use Rattle.door_workers.specs.declared.workers.WorkerEnd.TheVariants.{Stopped, DoorFailed, Memory as LacksMemory}
 use Rattle.run_endings.specs.declared.endings.Ending.{Ending}

@@ -1,4 +1,3 @@
-use Rattle.std.proofs.Common.{◌≡◌}
 use Rattle.serve_runs.specs.parts.Officiating.{Knocks}
 use Rattle.serve_runs.proofs.doors.knock.Given as goal
 

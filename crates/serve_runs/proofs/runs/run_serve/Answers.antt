@@ -1,9 +1,4 @@
-use Rattle.std.proofs.Common.{rules, ◌≡◌, ◌∙◌, ◌∷◌, [], ℕ, Bool, Option, List, Ok, refl, sym, ap, subst}
-use Rattle.desk_ports.specs.Disk.{DiskState, WhereTold}
-use Rattle.desk_ports.specs.Moments.{LeavesOnly}
-use Rattle.desk_ports.specs.declared.file_sets.SetFile.{SetFile}
-use Rattle.desk_state.specs.DeskState.{DeskState}
-use Rattle.desk_keeper.specs.Kept.{kept}
+use Rattle.std.proofs.Common.{rules, ◌≡◌, ◌∙◌, ◌∷◌, [], refl, sym, ap, subst}
 use Rattle.desk_keeper.specs.Keeper.{disk_of}
 use Rattle.desk_keeper.specs.declared.keeper.Keeper.{Keeper}
 use Rattle.admin_door.specs.Running.{RunsOver}

@@ -1,4 +1,4 @@
-use Rattle.std.proofs.Common.{rules, ◌≡◌, ◌≤◌, ◌∙◌, ◌∷◌, [], ℕ, List, Option, arith, subst}
+use Rattle.std.proofs.Common.{◌≡◌, ◌≤◌, ◌∙◌, ◌∷◌, [], ℕ, List, Option, arith, subst}
 use Rattle.link_ports.specs.Told.{AppendsTold}
 use Rattle.desk_state.specs.DeskState.{DeskState}
 use Rattle.door_workers.specs.Visit.{Works}
