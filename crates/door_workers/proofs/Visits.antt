@@ -1,5 +1,5 @@
 -- One more connection of a worker.
-use Rattle.std.proofs.Common.{◌≡◌, ◌∙◌, ℕ, List, [], ◌∷◌, ◌++◌, map, Option, Some, inl, inr, refl, sym, ap, subst, append_assoc, append-nil}
+use Rattle.std.proofs.Common.{◌≡◌, ◌∙◌, ℕ, List, [], ◌∷◌, ◌++◌, map, Option, inl, inr, refl, sym, ap, subst, append_assoc, append-nil}
 use Rattle.std.proofs.lemmas.List.{map-append}
 use Rattle.std.specs.List.{AllByRecursion}
 use Rattle.link_ports.specs.LinkMarks.{LinkMarks}
@@ -7,10 +7,10 @@ use Rattle.link_ports.specs.Told.{AppendsTold}
 use Rattle.door_frames.specs.declared.endings.Ended.{Ended}
 use Rattle.door_frames.specs.declared.endings.Ended.TheVariants.{Stopped as EndedByStop}
 use Rattle.admin_door.specs.Serving.{AdminTalk, Exchange, Serves}
-use Rattle.door_workers.specs.Visit.{Visit, IsFresh, InTurn, GivesBack, GoesOn, AllGoOn, Works, EndsWorking, door_faults_after}
+use Rattle.door_workers.specs.Visit.{Visit, IsFresh, InTurn, GivesBack, GoesOn, Works, EndsWorking, door_faults_after}
 use Rattle.door_workers.specs.Administrators.{EndsOffice}
 use Rattle.door_workers.specs.declared.workers.WorkerEnd.{WorkerEnd}
-use Rattle.door_workers.specs.declared.workers.WorkerEnd.TheVariants.{Stopped, DoorFailed, Memory}
+use Rattle.door_workers.specs.declared.workers.WorkerEnd.TheVariants.{Stopped}
 use Rattle.door_workers.specs.parts.Turn.{SoFar, RefusesLink}
 
 -- ---- lists

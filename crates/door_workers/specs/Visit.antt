@@ -7,7 +7,7 @@ use Rattle.link_ports.specs.Told.{IfTold}
 use Rattle.door_frames.specs.declared.endings.Ended.{Ended}
 use Rattle.door_frames.specs.declared.endings.Ended.TheVariants.{Stopped as EndedByStop}
 use Rattle.door_workers.specs.declared.workers.WorkerEnd.{WorkerEnd}
-use Rattle.door_workers.specs.declared.workers.WorkerEnd.TheVariants.{Stopped, DoorFailed, Memory}
+use Rattle.door_workers.specs.declared.workers.WorkerEnd.TheVariants.{Stopped, DoorFailed}
 
 -- a connection: its link as the door accepted it, and as it was given back to the door; and how it ended
 pub record Visit (L : Type 0) : Type 0 where
