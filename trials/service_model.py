@@ -1,8 +1,9 @@
 #!/usr/bin/env python3
 """What a service and those that talk with it say to each other, from the definitions: connections are taken in the order in
 which they came by as many workers as a door has, a check is answered at the last published state or by an agent, a commit
-hangs up who entered before it, and a stop all. It shares nothing with the product. `service_model.py` reads the cases of
-`service_cases` and writes each with the answer that is due, `service_model.py threads` those of `thread_cases`."""
+hangs up who entered before it, and a stop all. It shares nothing with the product. `service_model.py threads` reads the
+cases of `thread_cases` and writes each with the answer that is due; without the word it does so for conversations with a whole
+service, `serve W GATE FAILS STEP; ..` and `memory W FAILS NET_FAILS BYTES | ..`, of which no program is among the crates yet."""
 
 import sys
 
