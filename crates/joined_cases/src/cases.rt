@@ -91,16 +91,26 @@ pub fn hung_up_from_another_thread<R: Wait + Threads + Sync>(
     let mut end = memory(accepted.hang_end())?;
     let is_sent = accepted.send(b"last").is_ok();
     let (bytes, ()) = join(rt, || drain(&mut link), || end.hang_up());
-    let state = state_of(alloc, &mut link)?;
-    let theirs = state_of(alloc, &mut accepted)?;
     let ends = accepted.tally().ends();
+    let states = told_of_both(alloc, &mut link, &mut accepted)?;
     let line = format!(in alloc;
-        "hung up: sent {is_sent}, {bytes} received; {state}; {theirs}; ends {ends}"
+        "hung up: sent {is_sent}, {bytes} received; {states}; ends {ends}"
     )?;
     net.give_back(link);
     door.give_back(accepted);
     net.close(door);
     Ok(line)
+}
+
+// What both ends of a link that was hung up answer then.
+fn told_of_both<L: Link, M: Link>(
+    alloc: Global,
+    link: &mut L,
+    accepted: &mut M,
+) -> Result<String, AllocError> {
+    let state = state_of(alloc, link)?;
+    let theirs = state_of(alloc, accepted)?;
+    format!(in alloc; "{state}; {theirs}")
 }
 
 /// What was written before an end was closed is read at the other; what is written later goes nowhere.
@@ -109,6 +119,12 @@ pub fn read_after_closing<R: Wait + Threads + Sync>(
     alloc: Global,
 ) -> Result<String, AllocError> {
     let mut net = JoinedNet::new(rt, alloc)?;
+    told_after_closing(alloc, &mut net)
+}
+
+// The cases below that start no thread know a net by its trait alone: what its links and doors are made of is much for
+// the proof of each way out on which they are dropped.
+fn told_after_closing<N: Net>(alloc: Global, net: &mut N) -> Result<String, AllocError> {
     let mut door = memory(net.door(DoorKind::Admin))?;
     let mut link = memory(net.dial(DoorKind::Admin))?;
     let is_sent = link.send(b"before").is_ok();
@@ -149,6 +165,10 @@ pub fn knock_before_an_accept<R: Wait + Threads + Sync>(
     alloc: Global,
 ) -> Result<String, AllocError> {
     let mut net = JoinedNet::new(rt, alloc)?;
+    told_of_knocks(alloc, &mut net)
+}
+
+fn told_of_knocks<N: Net>(alloc: Global, net: &mut N) -> Result<String, AllocError> {
     let mut door = memory(net.door(DoorKind::Client))?;
     let mut link = memory(net.dial(DoorKind::Client))?;
     let is_sent = link.send(b"abc").is_ok();
@@ -165,6 +185,19 @@ pub fn knock_before_an_accept<R: Wait + Threads + Sync>(
 /// With the last door of a kind the connections in line are closed, and so is a later one until a door is opened again.
 pub fn doors_closed<R: Wait + Threads + Sync>(rt: &R, alloc: Global) -> Result<String, AllocError> {
     let mut net = JoinedNet::new(rt, alloc)?;
+    let states = told_of_closed_doors(alloc, &mut net)?;
+    let mut door = memory(net.door(DoorKind::Client))?;
+    let mut theirs = net.share()?;
+    let (bytes, answered) = join(rt, || serve(&mut door, 1), || ask_often(&mut theirs, 1));
+    net.close(door);
+    format!(in alloc;
+        "doors closed: {states}; then {answered} answered, {bytes} bytes served, faults {}",
+        net.faults()
+    )
+}
+
+// Of a link in line behind the first and behind the last door of its kind, and of a later one.
+fn told_of_closed_doors<N: Net>(alloc: Global, net: &mut N) -> Result<String, AllocError> {
     let first = memory(net.door(DoorKind::Client))?;
     let second = memory(net.door(DoorKind::Client))?;
     let mut waiting = memory(net.dial(DoorKind::Client))?;
@@ -176,14 +209,7 @@ pub fn doors_closed<R: Wait + Threads + Sync>(rt: &R, alloc: Global) -> Result<S
     let also = state_of(alloc, &mut later)?;
     net.give_back(waiting);
     net.give_back(later);
-    let mut door = memory(net.door(DoorKind::Client))?;
-    let mut theirs = net.share()?;
-    let (bytes, answered) = join(rt, || serve(&mut door, 1), || ask_often(&mut theirs, 1));
-    net.close(door);
-    format!(in alloc;
-        "doors closed: up {is_up}; {state}; {also}; then {answered} answered, {bytes} bytes served, faults {}",
-        net.faults()
-    )
+    format!(in alloc; "up {is_up}; {state}; {also}")
 }
 
 /// Each kind of door has connections of its own.
@@ -215,6 +241,11 @@ pub fn kinds_of_doors<R: Wait + Threads + Sync>(
 /// What giving a link back counts.
 pub fn given_back<R: Wait + Threads + Sync>(rt: &R, alloc: Global) -> Result<String, AllocError> {
     let mut net = JoinedNet::new(rt, alloc)?;
+    let told = told_of_given_back(alloc, &mut net)?;
+    format!(in alloc; "given back: {told}, dials {}", net.dials())
+}
+
+fn told_of_given_back<N: Net>(alloc: Global, net: &mut N) -> Result<String, AllocError> {
     let mut door = memory(net.door(DoorKind::Client))?;
     let fresh = memory(net.dial(DoorKind::Client))?;
     net.give_back(fresh);
@@ -226,14 +257,19 @@ pub fn given_back<R: Wait + Threads + Sync>(rt: &R, alloc: Global) -> Result<Str
     let bytes = drain(&mut ended);
     net.give_back(ended);
     let after_ended = net.faults();
+    let is_up = hung_up_by_its_end(net)?;
+    format!(in alloc;
+        "{after_fresh}, then {after_ended} ({bytes} received), then {} (up {is_up})",
+        net.faults()
+    )
+}
+
+// Dials a link, hangs it up and gives it back: whether it was up behind that.
+fn hung_up_by_its_end<N: Net>(net: &mut N) -> Result<bool, AllocError> {
     let mut held = memory(net.dial(DoorKind::Client))?;
     let mut end = memory(held.hang_end())?;
     end.hang_up();
     let is_up = held.is_up();
     net.give_back(held);
-    format!(in alloc;
-        "given back: {after_fresh}, then {after_ended} ({bytes} received), then {} (up {is_up}), dials {}",
-        net.faults(),
-        net.dials()
-    )
+    Ok(is_up)
 }

@@ -15,27 +15,50 @@ pub fn answer(
     fails: &str,
     calls: &str,
 ) -> Result<Option<String>, AllocError> {
-    let [client, admin, agent] = kinds;
-    let mut net = MemNet::new(
+    let mut net = net_of(alloc, kinds, fails)?;
+    let mut out = String::new(alloc);
+    make_calls(alloc, &mut out, &mut net, calls)?;
+    show_net(alloc, &mut out, &net)?;
+    Ok(Some(out))
+}
+
+// The net with so many links at each kind of door.
+fn net_of(
+    alloc: Global,
+    [client, admin, agent]: [&str; 3],
+    fails: &str,
+) -> Result<MemNet, AllocError> {
+    MemNet::new(
         alloc,
         links_of(alloc, client)?,
         links_of(alloc, admin)?,
         links_of(alloc, agent)?,
         fails_of(alloc, fails)?,
-    )?;
+    )
+}
+
+fn make_calls(
+    alloc: Global,
+    out: &mut String,
+    net: &mut MemNet,
+    calls: &str,
+) -> Result<(), AllocError> {
     let mut held = Held::new(alloc);
     let mut doors = Vec::new(alloc);
-    let mut out = String::new(alloc);
     for call in calls.chars() {
-        make_call(alloc, &mut out, (&mut net, &mut doors), &mut held, call)?;
+        make_call(alloc, out, (&mut *net, &mut doors), &mut held, call)?;
     }
+    Ok(())
+}
+
+fn show_net(alloc: Global, out: &mut String, net: &MemNet) -> Result<(), AllocError> {
     let counts = format!(in alloc; "| faults {} dials {}", net.faults(), net.dials())?;
     out.push_str(counts.as_str())?;
-    show_given_back(alloc, &mut out, net.given_back())?;
+    show_given_back(alloc, out, net.given_back())?;
     for door in net.closed() {
-        show_door(alloc, &mut out, door)?;
+        show_door(alloc, out, door)?;
     }
-    Ok(Some(out))
+    Ok(())
 }
 
 fn show_door(alloc: Global, out: &mut String, door: &MemDoor) -> Result<(), AllocError> {
