@@ -11,6 +11,7 @@ use desk_ports::{Bytes, Failed, Sink, Source, write_all};
 use line_script::{LineRefusal, Place, Reader, Step};
 use link_ports::Dial;
 use run_endings::{Ending, note_text};
+use script_notes::note_refusal;
 use script_reading::read_next_line;
 use script_replies::note_script_line;
 use std::alloc::Global;
@@ -87,7 +88,7 @@ impl AdminScript {
     {
         let spot = self.reader.spot();
         match self.reader.line(line) {
-            Ok(step) => self.send_step(&step, link, sink, dial),
+            Ok(step) => self.send_step(&step, number, link, sink, dial),
             Err(LineRefusal::Syntax) => {
                 note_script_line(self.alloc, number, spot, line, sink);
                 Err(Ending::Line(number))
@@ -96,10 +97,11 @@ impl AdminScript {
         }
     }
 
-    // Sends the message of a step, where it has one, and writes the answer.
+    // Sends the message of a step of the line with this number, where it has one, and writes the answer.
     fn send_step<K: Sink, N: Dial>(
         &mut self,
         step: &Step<'_>,
+        number: u32,
         link: &mut AdminLink<N>,
         sink: &mut K,
         dial: &mut N,
@@ -110,16 +112,17 @@ impl AdminScript {
         ensures reader { self.new.reader ≡ self.old.reader }
     {
         match message_of_step(self.alloc, step) {
-            Ok(Some(message)) => self.exchange(&message, link, sink, dial),
+            Ok(Some(message)) => self.exchange(&message, number, link, sink, dial),
             Ok(None) => Ok(()),
             Err(_) => Err(Ending::Memory),
         }
     }
 
-    // Sends a message, and writes what comes back.
+    // Sends the message of the line with this number, and writes what comes back.
     fn exchange<K: Sink, N: Dial>(
         &mut self,
         message: &Message,
+        number: u32,
         link: &mut AdminLink<N>,
         sink: &mut K,
         dial: &mut N,
@@ -130,18 +133,19 @@ impl AdminScript {
         ensures reader { self.new.reader ≡ self.old.reader }
     {
         match link.send(dial, message) {
-            Ok(replies) => self.write_replies(message, &replies, sink),
+            Ok(replies) => self.write_replies(message, number, &replies, sink),
             Err(refusal) => {
-                note_refusal(self.alloc, refusal, sink);
+                note_unanswered(self.alloc, number, refusal, sink);
                 Err(ending_of(refusal))
             }
         }
     }
 
-    // Writes the replies to a message.
+    // Writes the replies to the message of the line with this number, and tells which rule it broke.
     fn write_replies<K: Sink>(
         &mut self,
         message: &Message,
+        number: u32,
         replies: &[Message],
         sink: &mut K,
     ) -> Result<(), Ending>
@@ -152,7 +156,10 @@ impl AdminScript {
         self.answer.clear();
         match put_replies(message, replies, &mut self.answer) {
             Ok(()) => match write_all(sink, self.answer.as_slice()) {
-                Ok(()) => Ok(()),
+                Ok(()) => {
+                    note_reply(self.alloc, number, replies, sink);
+                    Ok(())
+                }
                 Err(Failed) => Err(Ending::Sink),
             },
             Err(_) => Err(Ending::Memory),
@@ -160,15 +167,57 @@ impl AdminScript {
     }
 }
 
-// Tells why a message has no answer.
-fn note_refusal<K: Sink>(alloc: Global, refusal: AdminRefusal, sink: &mut K)
+// Tells what a person is to know of these replies to the line with this number. One that is refused has one reply.
+fn note_reply<K: Sink>(alloc: Global, number: u32, replies: &[Message], sink: &mut K)
+    ensures taken { K.taken sink.new ≡ K.taken sink.old }
+    ensures count { K.faults sink.new ≡ K.faults sink.old }
+{
+    match replies.first() {
+        Some(Message::Refused { refusal }) => note_refusal(alloc, number, refusal, sink),
+        Some(Message::StoreFault) => note_store_fault(alloc, number, sink),
+        Some(Message::StoreDamaged { .. }) => note_store_damage(alloc, number, sink),
+        _ => {}
+    }
+}
+
+// Tells that the store of the service failed at the line with this number.
+fn note_store_fault<K: Sink>(alloc: Global, number: u32, sink: &mut K)
+    ensures taken { K.taken sink.new ≡ K.taken sink.old }
+    ensures count { K.faults sink.new ≡ K.faults sink.old }
+{
+    note_text(
+        format!(in alloc;
+            "privilege: line {number}: the store of the service failed; whether this command is kept, the next one settles: ask before it is sent again"
+        ),
+        sink,
+    );
+}
+
+// Tells that the store of the service was found damaged at the line with this number.
+fn note_store_damage<K: Sink>(alloc: Global, number: u32, sink: &mut K)
+    ensures taken { K.taken sink.new ≡ K.taken sink.old }
+    ensures count { K.faults sink.new ≡ K.faults sink.old }
+{
+    note_text(
+        format!(in alloc;
+            "privilege: line {number}: another program damaged the store of the service; docs/GUIDE.md, \"Status 8\", says what to do"
+        ),
+        sink,
+    );
+}
+
+// Tells why the message of the line with this number has no answer.
+fn note_unanswered<K: Sink>(alloc: Global, number: u32, refusal: AdminRefusal, sink: &mut K)
     ensures taken { K.taken sink.new ≡ K.taken sink.old }
     ensures count { K.faults sink.new ≡ K.faults sink.old }
 {
     if let AdminRefusal::Memory(_) = refusal {
         return;
     }
-    note_text(format!(in alloc; "privilege: {refusal}"), sink);
+    note_text(
+        format!(in alloc; "privilege: line {number}: {refusal}"),
+        sink,
+    );
 }
 
 // How a run ends at a message without an answer.

@@ -13,7 +13,7 @@ pub enum WordFault {
     /// The first word is no command's name.
     #[error("no command has this name")]
     NoCommand,
-    #[error("it takes {taken} words behind it, not {given}")]
+    #[error("it takes {words} behind it, not {given}", words = words_in(.taken))]
     Count { taken: usize, given: usize },
     #[error("{fault}")]
     Label { place: usize, fault: LabelRefusal },
@@ -43,5 +43,16 @@ impl WordFault {
             | WordFault::Number { place, .. }
             | WordFault::Answer { place } => Some(place),
         }
+    }
+}
+
+// So many words, in a person's words.
+fn words_in(count: &usize) -> &'static str {
+    match *count {
+        0 => "0 words",
+        1 => "1 word",
+        2 => "2 words",
+        3 => "3 words",
+        _ => "4 words",
     }
 }

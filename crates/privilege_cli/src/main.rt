@@ -74,7 +74,14 @@ fn run_on_host<T: Threads + Wait + Sync>(rt: &HostRuntime, threads: &T) -> Resul
     if let Some(failure) = &sink.failure {
         let _ = eprintln!(rt; "privilege: cannot write standard output: {failure}");
     }
-    explain(rt, status, folder.as_str(), &disk, &net);
+    explain(
+        rt,
+        status,
+        sockets_of(&directory),
+        folder.as_str(),
+        &disk,
+        &net,
+    );
     Ok(status)
 }
 
@@ -105,7 +112,7 @@ fn greet(rt: &HostRuntime) -> Result<(), AllocError> {
                 "privilege: type rules, a line each, and end them with control-d"
             );
         }
-        Ok(Command::Local) => {
+        Ok(Command::Local | Command::Admin) => {
             let _ = eprintln!(rt;
                 "privilege: type commands and questions, a line each, and end them with control-d"
             );

@@ -9,6 +9,7 @@
 mod absent_names;
 mod damages;
 mod device_labels;
+mod large_audits;
 mod line_notes;
 mod lost_links;
 mod near_names;

@@ -2,6 +2,7 @@
 ghost use Rattle.std.specs.Prelude.{◌≡◌};
 
 use crate::absent_names::{note_of_access, note_of_check};
+use crate::large_audits::audit_words;
 use crate::lost_links::note_lost_link;
 use crate::refusal_notes::{BrokenRule, absent_bucket_words, note_broken_rule, note_words};
 use cynara_keys::{BorrowedQuestion, BucketName};
@@ -71,6 +72,7 @@ impl LineNotes {
             Step::List { bucket, .. } | Step::From { bucket, .. } => {
                 self.tell_of_bucket(number, bucket, desk, sink)
             }
+            Step::Audit { .. } => self.tell_of_audit(number, desk, sink),
             Step::Access {
                 subject,
                 object,
@@ -130,6 +132,16 @@ impl LineNotes {
                 absent_bucket_words(self.alloc, bucket, desk),
                 sink,
             );
+        }
+    }
+
+    // An audit is refused where there are too many pairs to ask about.
+    fn tell_of_audit<K: Sink>(&mut self, number: u32, desk: &Desk, sink: &mut K)
+        ensures taken { K.taken sink.new ≡ K.taken sink.old }
+        ensures count { K.faults sink.new ≡ K.faults sink.old }
+    {
+        if let Ok(Some(words)) = audit_words(self.alloc, desk) {
+            note_words(self.alloc, number, Ok(words), sink);
         }
     }
 }

@@ -20,5 +20,5 @@ pub returns-in-Err-clause-sent : goal.returns-in-Err-clause-sent
 returns-in-Err-clause-sent g c =
     talk_unanswered g.N.Link.Link.faults g.N.Link.Link.marks g.N.Link.Link.traffic g.N.Dial.faults g.N.Dial.dials g.N.Dial.given_back
     c.args.message.now (with_dial c.args.dial.now c.args.link.now) (with_dial c.send.new.dial c.send.new.self)
-    (sink_seen g.K.Sink.taken g.K.Sink.faults c.args.sink.now) (sink_seen g.K.Sink.taken g.K.Sink.faults c.note_refusal.new.sink)
-    c.note_refusal.ensures.taken c.note_refusal.ensures.count c.in-Err.refusal c.ending_of.result c.ending_of.ensures c.in-Err.ensures
+    (sink_seen g.K.Sink.taken g.K.Sink.faults c.args.sink.now) (sink_seen g.K.Sink.taken g.K.Sink.faults c.note_unanswered.new.sink)
+    c.note_unanswered.ensures.taken c.note_unanswered.ensures.count c.in-Err.refusal c.ending_of.result c.ending_of.ensures c.in-Err.ensures
