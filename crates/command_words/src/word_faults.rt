@@ -13,7 +13,7 @@ pub enum WordFault {
     /// The first word is no command's name.
     #[error("no command has this name")]
     NoCommand,
-    #[error("it takes {words} behind it, not {given}", words = words_in(.taken))]
+    #[error("it takes {taken} {words} behind it, not {given}", words = words_for(*.taken))]
     Count { taken: usize, given: usize },
     #[error("{fault}")]
     Label { place: usize, fault: LabelRefusal },
@@ -46,13 +46,6 @@ impl WordFault {
     }
 }
 
-// So many words, in a person's words.
-fn words_in(count: &usize) -> &'static str {
-    match *count {
-        0 => "0 words",
-        1 => "1 word",
-        2 => "2 words",
-        3 => "3 words",
-        _ => "4 words",
-    }
+fn words_for(count: usize) -> &'static str {
+    if count == 1 { "word" } else { "words" }
 }
