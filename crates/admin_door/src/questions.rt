@@ -42,18 +42,17 @@ fn rows(alloc: Global, policies: Vec<Policy>) -> Result<Vec<Message>, Ended>
         (λ ended. ended ≡ Memory) }
 {
     let count = policies.len() as u32;
-    let Ok(mut replies) = Vec::with_capacity(alloc, policies.len() + 1) else {
+    let Ok(room) = Vec::with_capacity(alloc, policies.len() + 1) else {
         return Err(Ended::Memory);
     };
+    let mut replies = room;
     for policy in policies {
-        let Ok(()) = replies.push(Message::ListRow { policy }) else {
-            return Err(Ended::Memory);
-        };
+        match with_one(replies, Message::ListRow { policy }) {
+            Ok(more) => replies = more,
+            Err(ended) => return Err(ended),
+        }
     }
-    let Ok(()) = replies.push(Message::ListEnd { count }) else {
-        return Err(Ended::Memory);
-    };
-    Ok(replies)
+    with_one(replies, Message::ListEnd { count })
 }
 
 /// What a bucket answers to a question; or that the bucket is not there.
@@ -117,9 +116,17 @@ fn no_bucket(alloc: Global, bucket: &BucketName) -> Result<Vec<Message>, Ended>
 pub(crate) fn one(alloc: Global, message: Message) -> Result<Vec<Message>, Ended>
     ensures { MatchResult result (λ replies. replies.items ≡ message ∷ []) (λ ended. ended ≡ Memory) }
 {
-    let mut replies = Vec::new(alloc);
-    match replies.push(message) {
-        Ok(()) => Ok(replies),
+    with_one(Vec::new(alloc), message)
+}
+
+// The list with one more behind it. It goes by value and is of any type, so that no proof goes through the variants of a
+// message.
+fn with_one<T: Drop>(list: Vec<T>, last: T) -> Result<Vec<T>, Ended>
+    ensures { MatchResult result (λ longer. longer.items ≡ list.items ++ last ∷ []) (λ ended. ended ≡ Memory) }
+{
+    let mut list = list;
+    match list.push(last) {
+        Ok(()) => Ok(list),
         Err(_) => Err(Ended::Memory),
     }
 }
