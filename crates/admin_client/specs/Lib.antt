@@ -1,3 +1,4 @@
 pub mod Replies
 pub mod Answers
+pub mod Taking
 pub mod Sending

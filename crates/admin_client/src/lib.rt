@@ -8,6 +8,7 @@ mod admin_links;
 mod clients;
 mod refusals;
 mod replies;
+mod reply_list;
 mod wanted;
 
 pub use admin_links::AdminLink;

@@ -4,7 +4,8 @@ ghost use Rattle.admin_client.specs.Answers as words;
 ghost use Rattle.admin_client.specs.Answers.{TookBytes, IsWhole, IsRefused, IfUnavailable};
 
 use crate::AdminRefusal;
-use crate::wanted::{Next, Wanted, next_of};
+use crate::reply_list::{Taken, take_reply};
+use crate::wanted::Wanted;
 use client_connection::{Broken, ReplyFault, read_frame};
 use link_ports::Link;
 use std::alloc::Global;
@@ -32,19 +33,11 @@ pub(crate) fn read_replies<L: Link>(
             Ok(framed) => framed,
             Err(broken) => return Err(refusal_of(broken)),
         };
-        match next_of(wanted, sequence, replies.len(), &framed) {
-            Next::More => {
-                if let Err(failed) = replies.push(framed.message) {
-                    return Err(AdminRefusal::from(failed));
-                }
-            }
-            Next::Whole => {
-                if let Err(failed) = replies.push(framed.message) {
-                    return Err(AdminRefusal::from(failed));
-                }
-                return Ok(replies);
-            }
-            Next::Wrong(fault) => return Err(AdminRefusal::BadReply(fault)),
+        match take_reply(&mut replies, wanted, sequence, framed) {
+            Taken::More => {}
+            Taken::Whole => return Ok(replies),
+            Taken::Wrong(fault) => return Err(AdminRefusal::BadReply(fault)),
+            Taken::NoRoom(error) => return Err(AdminRefusal::Memory(error)),
         }
     }
 }

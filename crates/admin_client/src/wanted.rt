@@ -9,7 +9,7 @@ use wire_messages::{Framed, Message};
 const MOST_ROWS: usize = 65536;
 
 /// What kind of answer a message is to have.
-#[derive(Clone, Copy, Debug, PartialEq, Eq)]
+#[derive(Clone, Copy)]
 pub(crate) enum Wanted {
     /// That a command is done or refused, or that the disk failed.
     Command,
@@ -22,7 +22,7 @@ pub(crate) enum Wanted {
 }
 
 /// What follows from a reply.
-#[derive(Clone, Copy, Debug, PartialEq, Eq)]
+#[derive(Clone, Copy)]
 pub(crate) enum Next {
     More,
     Whole,

@@ -88,7 +88,12 @@ impl AdminScript {
     {
         let spot = self.reader.spot();
         match self.reader.line(line) {
-            Ok(step) => self.send_step(&step, number, link, sink, dial),
+            Ok(step) => {
+                let sent = self.send_step(&step, number, link, sink, dial);
+                // Handed on by value, it is not gone through variant by variant here.
+                drop(step);
+                sent
+            }
             Err(LineRefusal::Syntax) => {
                 note_script_line(self.alloc, number, spot, line, sink);
                 Err(Ending::Line(number))
@@ -112,7 +117,11 @@ impl AdminScript {
         ensures reader { self.new.reader ≡ self.old.reader }
     {
         match message_of_step(self.alloc, step) {
-            Ok(Some(message)) => self.exchange(&message, number, link, sink, dial),
+            Ok(Some(message)) => {
+                let sent = self.exchange(&message, number, link, sink, dial);
+                drop(message);
+                sent
+            }
             Ok(None) => Ok(()),
             Err(_) => Err(Ending::Memory),
         }

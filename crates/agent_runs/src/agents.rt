@@ -81,7 +81,10 @@ impl Agent {
         ensures answer { self.new.allowed ≡ self.old.allowed }
     {
         let message = Message::Register { kind };
-        send_message(&mut self.room.frame, 0, &message, link)
+        let sent = send_message(&mut self.room.frame, 0, &message, link);
+        // Handed on by value, it is not gone through variant by variant here.
+        drop(message);
+        sent
     }
 
     // Hears the first message, and all behind it.
@@ -99,7 +102,11 @@ impl Agent {
             sink_start (sink_seen K.taken K.faults sink.new) }
     {
         match hear_next(link, &mut self.feeder) {
-            Ok(framed) => self.begin(rt, &framed, link, sink),
+            Ok(framed) => {
+                let ending = self.begin(rt, &framed, link, sink);
+                drop(framed);
+                ending
+            }
             Err(stop) => end_of(self.alloc, stop, sink),
         }
     }
@@ -160,7 +167,11 @@ impl Agent {
         ensures answer { self.new.allowed ≡ self.old.allowed }
     {
         match hear_next(link, &mut self.feeder) {
-            Ok(framed) => follow(&mut self.room, self.allowed, &framed, link, sink),
+            Ok(framed) => {
+                let followed = follow(&mut self.room, self.allowed, &framed, link, sink);
+                drop(framed);
+                followed
+            }
             Err(stop) => Err(end_of(self.alloc, stop, sink)),
         }
     }

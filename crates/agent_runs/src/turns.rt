@@ -89,7 +89,10 @@ fn send_answer<L: Link>(
         (link_seen L.traffic L.marks L.faults link.old) (link_seen L.traffic L.marks L.faults link.new) }
 {
     let message = Message::AgentAnswer { number, allowed };
-    send_message(room, sequence, &message, link)
+    let sent = send_message(room, sequence, &message, link);
+    // Handed on by value, it is not gone through variant by variant here.
+    drop(message);
+    sent
 }
 
 /// Prints a line into the room in place of what it held, and has the sink take it.

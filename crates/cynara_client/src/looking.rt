@@ -1,5 +1,5 @@
 // What a client found when it asked its link whether it is up.
-#[derive(Clone, Copy, Debug, PartialEq, Eq)]
+#[derive(Clone, Copy)]
 pub(crate) enum Look {
     NoLink,
     Up,

@@ -96,7 +96,10 @@ pub(crate) fn reply_of(sequence: u16, told: u64, framed: &Framed) -> Result<Chec
 pub(crate) fn reply_by(sequence: u16, told: u64, framed: Framed) -> Result<Checked, ClientRefusal>
     ensures { result ≡ words.reply_of sequence told framed }
 {
-    reply_of(sequence, told, &framed)
+    let reply = reply_of(sequence, told, &framed);
+    // Handed on by value, it is not gone through variant by variant here.
+    drop(framed);
+    reply
 }
 
 // What bytes that are no frame come to.

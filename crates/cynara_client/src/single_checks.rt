@@ -1,7 +1,7 @@
 // One check without a client that stays.
 ghost use Rattle.cynara_client.specs.Single.{first_frame, AskedOnce, AsksOnce};
 
-use crate::replies::{refusal_of, reply_of};
+use crate::replies::{refusal_of, reply_by};
 use crate::{Checked, ClientRefusal};
 use client_connection::{Outcome, ask};
 use cynara_keys::Question;
@@ -39,7 +39,7 @@ fn send_once<N: Dial>(alloc: Global, dial: &mut N, frame: &[u8]) -> Result<Check
     match ask(alloc, dial, None, DoorKind::Client, frame, MOST_TRIES) {
         Outcome::Replied { link, framed, .. } => {
             dial.give_back(link);
-            reply_of(0, 0, &framed)
+            reply_by(0, 0, framed)
         }
         Outcome::Wrong(refusal) => Err(refusal_of(refusal)),
         Outcome::Unavailable { .. } => Err(ClientRefusal::Unavailable),
