@@ -5,7 +5,7 @@ ghost use Rattle.live_desk.specs.History.{last_commit};
 ghost use Rattle.door_workers.specs.Visit.{Works};
 ghost use Rattle.admin_door.specs.Serving.{Exchange};
 ghost use Rattle.admin_door.specs.Running.{RunsOver};
-ghost use Rattle.door_workers.specs.Administrators.{office_of, VisitsOffice, EndsOffice};
+ghost use Rattle.door_workers.specs.Administrators.{office_of, VisitsOffice, EndsOffice, tally_behind};
 ghost use Rattle.door_workers.specs.parts.Turn.{TurnsOffice};
 
 use crate::notes::{Notes, note_store};
@@ -16,15 +16,23 @@ use desk_server::serve_admin;
 use link_ports::{Door, HangEnd, Link};
 use live_desk::Publisher;
 use live_roll::Roll;
-use locked_hall::{Locked, QuestionDesk};
+use locked_hall::QuestionDesk;
 use server_hall::Hall;
 use std::alloc::Global;
 use std::sync::{Mutex, Wait};
 
 /// Serves connections of administrators, one after the other, until one of them has stopped the service. Where its door
-/// accepts none it stops the service itself. What a stop at any moment may leave in the folder is told of the frames that came
-/// (`RunsOver`). It may wait.
-pub fn work_for_administrators<R: Wait, D: Disk, H: HangEnd, L: Link, E: Door<Link = L>, T: Notes>(
+/// accepts none it stops the service itself, by way of its own hall. What a stop at any moment may leave in the folder is told
+/// of the frames that came (`RunsOver`). It may wait.
+pub fn work_for_administrators<
+    R: Wait,
+    D: Disk,
+    H: HangEnd,
+    L: Link,
+    E: Door<Link = L>,
+    A: Hall,
+    T: Notes,
+>(
     rt: &R,
     alloc: Global,
     keeper: &mut Keeper<'_, D>,
@@ -32,6 +40,7 @@ pub fn work_for_administrators<R: Wait, D: Disk, H: HangEnd, L: Link, E: Door<Li
     roll: &Mutex<Roll<H>>,
     questions: &QuestionDesk,
     door: &mut E,
+    hall: &mut A,
     notes: &T,
 ) -> WorkerEnd
     requires behind { last_commit 0 publisher.old ≤ keeper.old.desk.commit }
@@ -42,13 +51,21 @@ pub fn work_for_administrators<R: Wait, D: Disk, H: HangEnd, L: Link, E: Door<Li
         × RunsOver D.state D.moment D.left_since keeper.old keeper.new frames }
     ensures same_disk { IsSameDisk keeper.old keeper.new }
     ensures kind { E.kind door.new ≡ E.kind door.old }
+    ensures stopped { A.tally hall.new ≡ tally_behind result (A.tally hall.old) }
 {
     let end = serve_administrators(rt, alloc, keeper, publisher, roll, questions, door, notes);
-    if end != WorkerEnd::Stopped {
-        let mut hall = Locked::new(rt, roll, questions);
-        hall.stop();
-    }
+    stop_behind(hall, end);
     end
+}
+
+// Stops the service behind a worker of administrators, where no stop was answered.
+fn stop_behind<A: Hall>(hall: &mut A, end: WorkerEnd)
+    ensures { A.tally hall.new ≡ tally_behind end (A.tally hall.old) }
+{
+    match end {
+        WorkerEnd::Stopped => {}
+        WorkerEnd::DoorFailed | WorkerEnd::Memory => hall.stop(),
+    }
 }
 
 // The same, but for the stop of the service where the door accepts none.

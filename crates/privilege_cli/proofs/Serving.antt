@@ -3,6 +3,7 @@ use Rattle.std.proofs.Common.{◌≡◌, ℕ, List, Option, Some, inl, refl, sym
 use Rattle.desk_ports.proofs.Appends.{Appended-none}
 use Rattle.link_ports.specs.Traffic.{Traffic}
 use Rattle.link_ports.specs.LinkMarks.{LinkMarks}
+use Rattle.link_ports.specs.declared.door_kinds.DoorKind.{DoorKind}
 use Rattle.run_endings.specs.Outside.{SourceSeen, SinkSeen, DiskSeen}
 use Rattle.run_endings.specs.Saying.{Said, silence, WritesAnswers}
 use Rattle.run_endings.specs.declared.endings.Ending.{Ending}
@@ -15,20 +16,20 @@ use Rattle.command_words.specs.declared.commands.Command.TheVariants.{Serve}
 use Rattle.privilege_cli.specs.Program.{NetTells, RunsCommand}
 
 module _ {L E : Type 0} (traffic : L → Option Traffic) (marks : L → LinkMarks) (faults : L → ℕ)
-    (given_back : E → Option (List L)) (door_faults : E → ℕ) (before after : DiskSeen) (net net_now : ℕ)
+    (given_back : E → Option (List L)) (door_faults : E → ℕ) (kind : E → Option DoorKind) (before after : DiskSeen) (net net_now : ℕ)
     (closed closed_now : Option (List E)) where
   abbrev Serves : Ending → Type 0
-  Serves ending = RunsServe traffic marks faults given_back door_faults ending before after net net_now closed closed_now
+  Serves ending = RunsServe traffic marks faults given_back door_faults kind ending before after net net_now closed closed_now
 
   -- it is given no source and no sink, and so no call of them ends it
   never-sink : Serves Sink → ⊥
   never-sink (refused folder counted same doors) = folder.refused
-  never-sink (unopened start keeps counted ends) = ends
+  never-sink (unopened start keeps counted ends doors) = ends
   never-sink (served start administers keeps) = administers.ends
 
   never-source : Serves Source → ⊥
   never-source (refused folder counted same doors) = folder.refused
-  never-source (unopened start keeps counted ends) = ends
+  never-source (unopened start keeps counted ends doors) = ends
   never-source (served start administers keeps) = administers.ends
 
   pub says-nothing : (ending : Ending) (sink : SinkSeen) → Serves ending → WritesAnswers ending silence sink sink
@@ -43,7 +44,7 @@ module _ {L E : Type 0} (traffic : L → Option Traffic) (marks : L → LinkMark
 -- the words' command is that service
 pub serves-as : {N L E A : Type 0} (tells : NetTells N L E A) (found : Option Command) (workers : ℕ) (ending : Ending)
     (source : SourceSeen) (sink : SinkSeen) (disk disk_after : DiskSeen) (net net_after : N) → found ≡ Some (Serve workers)
-    → RunsServe tells.accepted.traffic tells.accepted.marks tells.accepted.faults tells.door_given_back tells.door_faults ending
+    → RunsServe tells.accepted.traffic tells.accepted.marks tells.accepted.faults tells.door_given_back tells.door_faults tells.door_kind ending
     disk disk_after (tells.faults net) (tells.faults net_after) (tells.closed net) (tells.closed net_after)
     → (said : Said) × RunsCommand tells found said ending source source disk disk_after net net_after
     × WritesAnswers ending said sink sink
@@ -51,6 +52,6 @@ serves-as tells found workers ending source sink disk disk_after net net_after i
   silence,
   subst (λ (command : Option Command). RunsCommand tells command silence ending source source disk disk_after net net_after) (sym is)
       (refl, serves),
-  says-nothing tells.accepted.traffic tells.accepted.marks tells.accepted.faults tells.door_given_back tells.door_faults
+  says-nothing tells.accepted.traffic tells.accepted.marks tells.accepted.faults tells.door_given_back tells.door_faults tells.door_kind
       disk disk_after (tells.faults net) (tells.faults net_after) (tells.closed net) (tells.closed net_after) ending sink serves,
 )

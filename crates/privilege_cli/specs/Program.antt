@@ -3,6 +3,7 @@ use Rattle.std.specs.Prelude.{◌≡◌, ◌⊎◌, ℕ, true, false, List, [], 
 use Rattle.desk_ports.specs.Content.{Appended}
 use Rattle.link_ports.specs.Traffic.{Traffic}
 use Rattle.link_ports.specs.LinkMarks.{LinkMarks}
+use Rattle.link_ports.specs.declared.door_kinds.DoorKind.{DoorKind}
 use Rattle.smack_rules.specs.declared.rule.Rule.{Rule}
 use Rattle.smack_rules.specs.Effective.{effective}
 use Rattle.smack_rules.specs.Decision.{decision}
@@ -42,6 +43,7 @@ pub record NetTells (N L E A : Type 0) : Type 0 where
   pub closed : N → Option (List E)
   pub door_faults : E → ℕ
   pub door_given_back : E → Option (List A)
+  pub door_kind : E → Option DoorKind
   pub accepted : LinkTells A
 
 module _ {N L E A : Type 0} (tells : NetTells N L E A) where
@@ -60,7 +62,7 @@ module _ {N L E A : Type 0} (tells : NetTells N L E A) where
       RunsAccess subject object asked said ending source source_after
   RunsCommand (Some (Sample count)) said ending source source_after disk disk_after net net_after = RunsSample count said ending
   RunsCommand (Some (Serve workers)) said ending source source_after disk disk_after net net_after = (said ≡ silence)
-      × RunsServe tells.accepted.traffic tells.accepted.marks tells.accepted.faults tells.door_given_back tells.door_faults ending
+      × RunsServe tells.accepted.traffic tells.accepted.marks tells.accepted.faults tells.door_given_back tells.door_faults tells.door_kind ending
       disk disk_after (tells.faults net) (tells.faults net_after) (tells.closed net) (tells.closed net_after)
   RunsCommand (Some (Check asked)) said ending source source_after disk disk_after net net_after =
       RunsCheck tells.link.faults tells.link.marks tells.link.traffic tells.faults tells.dials tells.given_back asked false said ending net net_after

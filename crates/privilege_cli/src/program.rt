@@ -68,6 +68,7 @@ where
           closed = N.closed;
           door_faults = N.Door.faults;
           door_given_back = N.Door.given_back;
+          door_kind = N.Door.kind;
           accepted = record { faults = N.Door.Link.faults; marks = N.Door.Link.marks; traffic = N.Door.Link.traffic };
         })
         (command_of words.now) result before after net.old net.new }
@@ -119,6 +120,7 @@ where
           closed = N.closed;
           door_faults = N.Door.faults;
           door_given_back = N.Door.given_back;
+          door_kind = N.Door.kind;
           accepted = record { faults = N.Door.Link.faults; marks = N.Door.Link.marks; traffic = N.Door.Link.traffic };
         })
         (command_of words.now) said result (source_seen S.left S.faults source.old)
@@ -194,6 +196,7 @@ where
           closed = N.closed;
           door_faults = N.Door.faults;
           door_given_back = N.Door.given_back;
+          door_kind = N.Door.kind;
           accepted = record { faults = N.Door.Link.faults; marks = N.Door.Link.marks; traffic = N.Door.Link.traffic };
         })
         (command_of words) result before after net.old net.new)

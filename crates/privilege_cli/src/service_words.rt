@@ -43,6 +43,7 @@ where
           closed = N.closed;
           door_faults = N.Door.faults;
           door_given_back = N.Door.given_back;
+          door_kind = N.Door.kind;
           accepted = record { faults = N.Door.Link.faults; marks = N.Door.Link.marks; traffic = N.Door.Link.traffic };
         })
         (Some (Serve workers)) said result source source (disk_seen D.state D.moment D.left_since D.faults disk.old)

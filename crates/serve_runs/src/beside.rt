@@ -10,7 +10,7 @@ use door_workers::{Notes, WorkerEnd, work_for_administrators};
 use link_ports::{Door, HangEnd, Link, Net};
 use live_desk::Publisher;
 use live_roll::Roll;
-use locked_hall::QuestionDesk;
+use locked_hall::{Locked, QuestionDesk};
 use std::alloc::Global;
 use std::sync::{Mutex, Wait};
 use std::thread;
@@ -44,7 +44,7 @@ pub(crate) fn beside<
 ) -> WorkerEnd
     requires workers { F.IsAlwaysCallable each.now }
     requires behind { last_commit 0 publisher.old ≤ keeper.old.desk.commit }
-    ensures { Officiates D.faults D.state D.moment D.left_since L.traffic L.marks L.faults E.given_back E.faults N.faults N.closed result
+    ensures { Officiates D.faults D.state D.moment D.left_since L.traffic L.marks L.faults E.given_back E.faults E.kind N.faults N.closed result
         keeper.old keeper.new publisher.old publisher.new door.old door.new net.old net.new }
 {
     let mut front = ||
@@ -52,7 +52,7 @@ pub(crate) fn beside<
     { each_of(rt, each, workers) };
     let mut office = || -> WorkerEnd
         requires { last_commit 0 publisher.now ≤ keeper.now.desk.commit }
-        ensures { Officiates D.faults D.state D.moment D.left_since L.traffic L.marks L.faults E.given_back E.faults N.faults N.closed result
+        ensures { Officiates D.faults D.state D.moment D.left_since L.traffic L.marks L.faults E.given_back E.faults E.kind N.faults N.closed result
             keeper.entry.now keeper.exit.now publisher.entry.now publisher.exit.now door.entry.now door.exit.now
             net.entry.now net.exit.now }
     {
@@ -93,10 +93,13 @@ fn officiate<R: Wait, D: Disk, H: HangEnd, L: Link, E: Door<Link = L>, N: Net, T
     notes: &T,
 ) -> WorkerEnd
     requires { last_commit 0 publisher.old ≤ keeper.old.desk.commit }
-    ensures { Officiates D.faults D.state D.moment D.left_since L.traffic L.marks L.faults E.given_back E.faults N.faults N.closed result
+    ensures { Officiates D.faults D.state D.moment D.left_since L.traffic L.marks L.faults E.given_back E.faults E.kind N.faults N.closed result
         keeper.old keeper.new publisher.old publisher.new door.old door.new net.old net.new }
 {
-    let end = work_for_administrators(rt, alloc, keeper, publisher, roll, questions, door, notes);
+    let mut hall = Locked::new(rt, roll, questions);
+    let end = work_for_administrators(
+        rt, alloc, keeper, publisher, roll, questions, door, &mut hall, notes,
+    );
     knock_all(net, clients);
     end
 }

@@ -4,7 +4,7 @@ use door_workers::{Notes, WorkerEnd, work_for_agents, work_for_clients};
 use link_ports::{Door, DoorKind, Gate, Link};
 use live_desk::Seat;
 use live_roll::Roll;
-use locked_hall::QuestionDesk;
+use locked_hall::{QuestionDesk, StopNews};
 use std::alloc::{AllocError, Global};
 use std::sync::{Mutex, Wait};
 
@@ -67,11 +67,12 @@ impl<D: Door> Worker<D> {
         let Some(door) = &mut self.door else {
             return;
         };
+        let mut news = StopNews::new();
         let end = match &mut self.station {
             Station::Clients(seat) => {
-                work_for_clients(rt, alloc, seat, roll, questions, door, gate)
+                work_for_clients(rt, alloc, seat, roll, questions, door, gate, &mut news)
             }
-            Station::Agents => work_for_agents(rt, alloc, roll, questions, door),
+            Station::Agents => work_for_agents(rt, alloc, roll, questions, door, &mut news),
         };
         self.end = Some(end);
         note_end(notes, self.kind(), end);

@@ -1,5 +1,5 @@
 // The doors of a service: opened, knocked at, and closed.
-ghost use Rattle.std.specs.Prelude.{◌≡◌, ◌≤◌, List, [], IfOk, IfErr};
+ghost use Rattle.std.specs.Prelude.{◌≡◌, ◌≤◌, List, [], Some, IfOk, IfErr};
 ghost use Rattle.link_ports.specs.Told.{IfTold};
 ghost use Rattle.serve_runs.specs.Serving.{EndsUnopened, ClosesDoors};
 ghost use Rattle.serve_runs.specs.parts.Officiating.{Knocks};
@@ -12,6 +12,7 @@ use run_endings::Ending;
 /// Opens a door of this kind.
 pub(crate) fn open<N: Net>(net: &mut N, kind: DoorKind) -> Result<N::Door, Ending>
     ensures fresh { IfOk result (λ opened. N.Door.faults opened ≡ 0) }
+    ensures of_kind { IfOk result (λ opened. N.Door.kind opened ≡ Some kind) }
     ensures unused { IfOk result (λ opened. IfTold (N.Door.given_back opened) (λ links. links ≡ [])) }
     ensures refused { IfErr result (λ ending. EndsUnopened ending (N.faults net.old) (N.faults net.new)) }
     ensures no_less { N.faults net.old ≤ N.faults net.new }

@@ -1,6 +1,7 @@
 use Rattle.std.proofs.Common.{◌∙◌, [], refl}
 use Rattle.desk_keeper.specs.Keeper.{disk_of}
 use Rattle.admin_door.proofs.Running.{runs-none}
+use Rattle.door_workers.specs.Visit.{AllGoOn}
 use Rattle.door_workers.specs.Administrators.{VisitsOffice, office_of}
 use Rattle.door_workers.proofs.Visits.{begins}
 use Rattle.door_workers.proofs.admin_workers.serve_administrators.Goals as goal
@@ -13,9 +14,9 @@ loop-init g c = (
     (
       (
         [],
-        begins (VisitsOffice g.L.Link.traffic g.L.Link.marks g.L.Link.faults) g.L.Link.marks g.L.Link.faults
+        begins (VisitsOffice g.L.Link.traffic g.L.Link.marks g.L.Link.faults) g.L.Link.marks g.L.Link.faults AllGoOn
             (office_of g.D.Disk.faults c.args.keeper.now c.args.publisher.now [])
-            (g.E.Door.given_back c.args.door.now) (g.E.Door.faults c.args.door.now),
+            (g.E.Door.given_back c.args.door.now) (g.E.Door.faults c.args.door.now) tt,
         runs-none g.D.Disk.state g.D.Disk.moment g.D.Disk.left_since c.args.keeper.now
             (g.met.D.Disk.only_now (disk_of c.args.keeper.now)),
       ),

@@ -42,6 +42,7 @@ returns-clause-complete g c =
       closed = g.N.Net.closed;
       door_faults = g.N.Door.Door.faults;
       door_given_back = g.N.Door.Door.given_back;
+      door_kind = g.N.Door.Door.kind;
       accepted = record { faults = g.N.Door.Link.Link.faults; marks = g.N.Door.Link.Link.marks; traffic = g.N.Door.Link.Link.traffic };
     }) in
     let ends : Ends tells (command_of c.args.words.now) c.status.result before after c.args.net.now c.run_words-ending.new.net = record {

@@ -18,6 +18,7 @@ returns-in-Err-Memory-clause-run g c =
       closed = g.N.Net.closed;
       door_faults = g.N.Door.Door.faults;
       door_given_back = g.N.Door.Door.given_back;
+      door_kind = g.N.Door.Door.kind;
       accepted = record { faults = g.N.Door.Link.Link.faults; marks = g.N.Door.Link.Link.marks; traffic = g.N.Door.Link.Link.traffic };
     }) c.in-Err-Memory.field-0-0 c.args.words.now
     (source_seen g.S.Source.left g.S.Source.faults c.args.source.now) (sink_seen g.K.Sink.taken g.K.Sink.faults c.args.sink.now)
@@ -39,6 +40,7 @@ returns-in-Err-Unknown-clause-run g c =
       closed = g.N.Net.closed;
       door_faults = g.N.Door.Door.faults;
       door_given_back = g.N.Door.Door.given_back;
+      door_kind = g.N.Door.Door.kind;
       accepted = record { faults = g.N.Door.Link.Link.faults; marks = g.N.Door.Link.Link.marks; traffic = g.N.Door.Link.Link.traffic };
     }) c.args.words.now (source_seen g.S.Source.left g.S.Source.faults c.args.source.now)
     (sink_seen g.K.Sink.taken g.K.Sink.faults c.args.sink.now) (sink_seen g.K.Sink.taken g.K.Sink.faults c.note_words.new.sink)
@@ -58,6 +60,7 @@ returns-in-Ok-Serve-clause-run g c =
       closed = g.N.Net.closed;
       door_faults = g.N.Door.Door.faults;
       door_given_back = g.N.Door.Door.given_back;
+      door_kind = g.N.Door.Door.kind;
       accepted = record { faults = g.N.Door.Link.Link.faults; marks = g.N.Door.Link.Link.marks; traffic = g.N.Door.Link.Link.traffic };
     }) command said c.serve.result source source
     (disk_seen g.D.Disk.state g.D.Disk.moment g.D.Disk.left_since g.D.Disk.faults c.args.disk.now)

@@ -14,7 +14,8 @@ use Rattle.folder_runs.proofs.Mounting.{refuses-folder, refuses-count}
 use Rattle.serve_runs.specs.Serving.{opening}
 use Rattle.serve_runs.specs.Run.{RunsServe}
 use Rattle.serve_runs.proofs.Concluding.{concludes}
-use Rattle.serve_runs.proofs.Folder.{keeps_service}
+use Rattle.run_endings.specs.Outside.{disk_seen}
+use Rattle.serve_runs.proofs.Folder.{keeps_service, published-made}
 use Rattle.serve_runs.proofs.runs.run_serve.Goals as goal
 
 pub returns-in-Err : goal.returns-in-Err
@@ -40,7 +41,7 @@ returns-in-Err-served g c =
     (subst (λ (k : Keeper g.row.D.Denot). RunsOver g.D.Disk.state g.D.Disk.moment g.D.Disk.left_since first k []) (sym still)
     (runs-none g.D.Disk.state g.D.Disk.moment g.D.Disk.left_since first (g.met.D.Disk.only_now (disk_of first)))))
     (ap (λ (k : Keeper g.row.D.Denot). g.D.Disk.faults (disk_of k)) still ∙ (ap g.D.Disk.faults of.disk ∙ found.count))
-    c.in-Err-served.ensures.served)
+    c.in-Err-served.ensures.served c.in-Err-served.ensures.closed)
 
 pub returns : goal.returns
 returns g c =
@@ -53,6 +54,14 @@ returns g c =
     let opens : office_of g.D.Disk.faults first (first.desk ∷ []) [] ≡ opening first.desk (g.D.Disk.faults c.args.disk.now) =
     λ i. record { desk = first.desk; decided = of.decided i; published = first.desk ∷ []; faults = count i; frames = [] } in
     let final : last.vault.disk.now ≡ c.disk-1.given.0 = search rules in
+    let works = subst (λ (start : Office). Works
+    (VisitsOffice g.N.Door.Link.Link.traffic g.N.Door.Link.Link.marks g.N.Door.Link.Link.faults) EndsOffice
+    g.N.Door.Link.Link.marks g.N.Door.Link.Link.faults staffs.end start
+    (office_of g.D.Disk.faults last staffs.published staffs.frames)
+    staffs.given (g.N.Door.Door.given_back staffs.door) 0 (g.N.Door.Door.faults staffs.door))
+    opens staffs.works in
+    let keeps = keeps_service g.D.Disk.state g.D.Disk.moment g.D.Disk.left_since g.D.Disk.faults c.args.disk.now first last staffs.frames
+    (rw of.desk found.desk) (rw (of.desk, of.held, of.disk) found.settled) (rw of.disk found.moments) staffs.runs in
     rw (sym final)
     (RunsServe.served first.desk
     (record {
@@ -61,13 +70,9 @@ returns g c =
       given = staffs.given;
       door = staffs.door;
       others = staffs.others;
+      is_theirs = staffs.is_theirs;
       unused = staffs.unused;
-      works = subst (λ (start : Office). Works
-          (VisitsOffice g.N.Door.Link.Link.traffic g.N.Door.Link.Link.marks g.N.Door.Link.Link.faults) EndsOffice
-          g.N.Door.Link.Link.marks g.N.Door.Link.Link.faults staffs.end start
-          (office_of g.D.Disk.faults last staffs.published staffs.frames)
-          staffs.given (g.N.Door.Door.given_back staffs.door) 0 (g.N.Door.Door.faults staffs.door))
-          opens staffs.works;
+      works = works;
       counted = refl;
       doors = staffs.doors;
       ends = concludes c.ending_of.result c.in-Ok-served.lacked staffs.end (g.D.Disk.faults c.args.disk.now)
@@ -81,5 +86,11 @@ returns g c =
             c.faults-2.ensures,
           ) at c.ending_of.ensures);
     })
-    (keeps_service g.D.Disk.state g.D.Disk.moment g.D.Disk.left_since g.D.Disk.faults c.args.disk.now first last staffs.frames
-    (rw of.desk found.desk) (rw (of.desk, of.held, of.disk) found.settled) (rw of.disk found.moments) staffs.runs))
+    (λ entry told. (
+      keeps entry told,
+      published-made g.N.Door.Link.Link.traffic g.N.Door.Link.Link.marks g.N.Door.Link.Link.faults entry
+          (disk_seen g.D.Disk.state g.D.Disk.moment g.D.Disk.left_since g.D.Disk.faults c.args.disk.now)
+          (disk_seen g.D.Disk.state g.D.Disk.moment g.D.Disk.left_since g.D.Disk.faults (disk_of last))
+          first.desk (office_of g.D.Disk.faults last staffs.published staffs.frames) (g.D.Disk.faults c.args.disk.now) staffs.end
+          staffs.given (g.N.Door.Door.given_back staffs.door) (g.N.Door.Door.faults staffs.door) works (keeps entry told),
+    )))

@@ -33,6 +33,7 @@ returns-clause-served g c =
       given = g.N.Door.Door.given_back c.in-Ok.door;
       door = c.serve-end.new.door;
       others = others;
+      is_theirs = c.serve-end.ensures.same_kind ∙ c.in-Ok.ensures.of_kind;
       unused = c.in-Ok.ensures.unused;
       frames = c.serve-end.ensures.frames;
       works = works;
