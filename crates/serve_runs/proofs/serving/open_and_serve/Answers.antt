@@ -3,7 +3,7 @@ use Rattle.link_ports.specs.Told.{AppendsTold}
 use Rattle.desk_state.specs.DeskState.{DeskState}
 use Rattle.door_workers.specs.Visit.{Works}
 use Rattle.door_workers.specs.Administrators.{VisitsOffice, EndsOffice, office_of}
-use Rattle.serve_runs.proofs.Closing.{closes_then, door_failed}
+use Rattle.serve_runs.proofs.Closing.{closes_then, closes_again, door_failed}
 use Rattle.serve_runs.proofs.serving.open_and_serve.Goals as goal
 
 pub returns-clause-served : goal.returns-clause-served
@@ -47,3 +47,9 @@ returns-clause-served g c =
           (g.N.Dial.faults c.serve-end.new.net) (g.N.Dial.faults c.close-2.new.self) (g.N.Dial.faults c.close_doors-2.new.net)
           no_less works.counted c.close-2.ensures.count c.close_doors-2.ensures.no_less;
     }
+
+pub returns-in-Err-open_doors-clause-closed : goal.returns-in-Err-open_doors-clause-closed
+returns-in-Err-open_doors-clause-closed g c =
+    closes_again g.N.Door.Door.kind (g.N.Net.closed c.args.net.now) (g.N.Net.closed c.open_doors.new.net) (g.N.Net.closed c.close.new.self)
+    (g.N.Net.closed c.close_doors.new.net) c.in-Ok.door (c.open_doors.ensures.closed ∙ c.open.ensures.closed) c.in-Ok.ensures.of_kind
+    c.close.ensures.closed c.close_doors.ensures.closed
