@@ -32,15 +32,15 @@ pub record Did (before : DiskState) (exchange : Exchange) (old now : AdminSide) 
 -- ---- replies
 
 -- a command that is not answered so
-not-command : (exchange : Exchange) → command_of exchange.framed.message ≡ None → IsNotDone exchange
+pub not-command : (exchange : Exchange) → command_of exchange.framed.message ≡ None → IsNotDone exchange
 not-command exchange none command commit erased asks is = let same = sym none ∙ asks in cc
 
 -- ---- one frame
 
-leads-still : (exchange : Exchange) (found : Standing) → IsNotDone exchange → LeadsTo found (exchange ∷ []) found
+pub leads-still : (exchange : Exchange) (found : Standing) → IsNotDone exchange → LeadsTo found (exchange ∷ []) found
 leads-still exchange found not_done = (found, inl (not_done, refl), refl)
 
-leads-made : (exchange : Exchange) (desk : DeskState) (command : Command) → command_of exchange.framed.message ≡ Some command
+pub leads-made : (exchange : Exchange) (desk : DeskState) (command : Command) → command_of exchange.framed.message ≡ Some command
     → fault desk command ≡ None → TellsCommit exchange (next desk command)
     → LeadsTo (Ok desk) (exchange ∷ []) (Ok (next desk command))
 leads-made exchange desk command asks accepted tells =

@@ -18,7 +18,7 @@ use Rattle.admin_door.specs.Side.{AdminSide, decided_of}
 use Rattle.admin_door.specs.Answering.{RefusesBy}
 use Rattle.admin_door.specs.Serving.{Exchange, IsAnswered}
 use Rattle.admin_door.specs.Stops.{KeepsKnown, StandsBy, Allows}
-use Rattle.admin_door.specs.Running.{Standing, Makes, IsNotDone, LeadsTo, StandsSince, StandsBehind, ComesFrom, KeepsThrough, RunsOver}
+use Rattle.admin_door.specs.Running.{Standing, Makes, IsNotDone, LeadsTo, StandsSince, StandsBehind, ComesFrom, IsToldBehind, TellsEach, KeepsThrough, RunsOver}
 use Rattle.admin_door.proofs.Behind.{Did, did-answers, did-refuses}
 use Rattle.admin_door.proofs.Stopping.{allows-kept, same-state}
 use Rattle.admin_door.proofs.Running.{runs-then}
@@ -79,7 +79,8 @@ module _ {D : Type 0} (state : D → Option DiskState) (moment : D → ℕ) (lef
       (tells : StillTells (state (disk_of old)) (state (disk_of now)))
       (old_is : old_side.desk ≡ old.desk) (now_is : now_side.desk ≡ now.desk) (decided_is : now_side.decided ≡ decided_of now) where
     module _ (before : DiskState) (told : state (disk_of old) ≡ Some before)
-        (known : KeepsKnown (decided_of old) old.desk (held_of old) before) (did : Did before exchange old_side now_side) where
+        (known : KeepsKnown (decided_of old) old.desk (held_of old) before) (did : Did before exchange old_side now_side)
+        (touched : IsTouchedOnly before) (asked_is : exchange.told ≡ Some before) where
       abbrev after : DiskState
       after = (tells before told).0
 
@@ -140,6 +141,18 @@ module _ {D : Type 0} (state : D → Option DiskState) (moment : D → ℕ) (lef
                 (behind.0, kept left, behind.1, behind.2, refl)),
           )
 
+      tells-one : TellsEach before (exchange ∷ [])
+      tells-one [] back other is =
+          let same : exchange ≡ other = cc in
+          subst (λ (one : Exchange). IsToldBehind before [] one.told) same (record {
+            found = before;
+            told_is = asked_is;
+            read = touched;
+            behind = λ left may. (left, may, refl);
+          })
+      tells-one (one ∷ []) back other is = cc
+      tells-one (one ∷ two ∷ front) back other is = cc
+
       keeps-one : KeepsThrough state moment left_since old now before (exchange ∷ [])
       keeps-one = record {
         after = after;
@@ -147,6 +160,7 @@ module _ {D : Type 0} (state : D → Option DiskState) (moment : D → ℕ) (lef
         leaves = leaves-one;
         behind = frame-behind;
         since = since-one;
+        tells = tells-one;
         desk = subst (λ (last : DeskState). ComesFrom before last (exchange ∷ []) now.desk) old_is
             (subst (λ (desk : DeskState). ComesFrom before old_side.desk (exchange ∷ []) desk) now_is did.desk);
         known = known-now;
@@ -166,6 +180,7 @@ module _ {D : Type 0} (state : D → Option DiskState) (moment : D → ℕ) (lef
           keeps-one before told known
           (did-answers before (touched_only before told) exchange old_side exchange.told (told_is ∙ told) (allowed before known)
           (command_of exchange.framed.message) now_side refl answers)
+          (touched_only before told) (told_is ∙ told)
 
       -- it is not
       pub runs-refused : exchange.replies ≡ [] → RefusesBy exchange.told (command_of exchange.framed.message) old_side now_side
@@ -174,6 +189,7 @@ module _ {D : Type 0} (state : D → Option DiskState) (moment : D → ℕ) (lef
           keeps-one before told known
           (did-refuses before (touched_only before told) exchange old_side exchange.told (told_is ∙ told) (allowed before known)
           (command_of exchange.framed.message) now_side refl none refuses)
+          (touched_only before told) (told_is ∙ told)
 
       -- behind whatever frames were answered before
       pub goes-answered : (first : Keeper D) (list : List Exchange) → RunsOver state moment left_since first old list

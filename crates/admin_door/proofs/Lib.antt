@@ -5,6 +5,7 @@ pub mod Adding
 pub mod Stopping
 pub mod Running
 pub mod Behind
+pub mod Reaching
 pub mod Framing
 pub mod Sending
 pub mod Serving

@@ -1,5 +1,5 @@
 -- Frames in turn, and what stops leave meanwhile, put together.
-use Rattle.std.proofs.Common.{◌≡◌, ◌⊎◌, ◌≤◌, inl, inr, ⊎_elim, ℕ, List, [], ◌∷◌, ◌++◌, Option, Some, Ok, refl, sym, subst, arith}
+use Rattle.std.proofs.Common.{◌≡◌, ◌⊎◌, ◌≤◌, inl, inr, ⊎_elim, ℕ, List, [], ◌∷◌, ◌++◌, ◌∙◌, Option, Some, Ok, refl, sym, ap, subst, append-nil, arith}
 use Rattle.desk_ports.specs.FileMap.{FileMap}
 use Rattle.desk_ports.specs.Disk.{DiskState, MayLeave}
 use Rattle.desk_ports.specs.Moments.{LeavesOnly}
@@ -9,7 +9,7 @@ use Rattle.desk_keeper.specs.Kept.{kept}
 use Rattle.desk_keeper.specs.Keeper.{disk_of}
 use Rattle.desk_keeper.specs.declared.keeper.Keeper.{Keeper}
 use Rattle.admin_door.specs.Serving.{Exchange}
-use Rattle.admin_door.specs.Running.{Standing, LeadsTo, LeadsWithin, StandsSince, StandsBehind, ComesFrom, KeepsThrough, RunsOver}
+use Rattle.admin_door.specs.Running.{Standing, LeadsTo, LeadsWithin, StandsSince, StandsBehind, ComesFrom, IsToldBehind, TellsEach, KeepsThrough, RunsOver}
 
 -- ---- lists
 
@@ -65,6 +65,11 @@ since-front : (before : DiskState) (front es fs : List Exchange) (left : FileMap
 since-front before front es fs left (other, between, may, leads, within) =
     (other, between, may, leads, within-front between es fs (kept left) within)
 
+-- no frame came
+tells-none : (before : DiskState) → TellsEach before []
+tells-none before [] back exchange is = cc
+tells-none before (e ∷ front) back exchange is = cc
+
 -- frames that were answered behind those of a front
 module _ (before mid : DiskState) (es : List Exchange) (first : (left : FileMap) → MayLeave mid left → StandsBehind before es left) where
   behind-then : (fs : List Exchange) (left : FileMap) → StandsBehind mid fs left → StandsBehind before (es ++ fs) left
@@ -91,7 +96,7 @@ module _ (before mid : DiskState) (es : List Exchange) (first : (left : FileMap)
             (subst (λ (at : Standing). LeadsWithin at fs (kept left)) same within),
       )
 
-  comes-then : (fs : List Exchange) (last desk now : DeskState) → ComesFrom before last es desk → ComesFrom mid desk fs now
+  pub comes-then : (fs : List Exchange) (last desk now : DeskState) → ComesFrom before last es desk → ComesFrom mid desk fs now
       → ComesFrom before last (es ++ fs) now
   comes-then fs last desk now (inl leads) (inl then) = inl (leads-then (Ok last) es fs (Ok desk) (Ok now) leads then)
   comes-then fs last desk now (inr (other, may, leads)) (inl then) =
@@ -99,6 +104,35 @@ module _ (before mid : DiskState) (es : List Exchange) (first : (left : FileMap)
   comes-then fs last desk now comes (inr (other, may, then)) =
       let base = first other may in
       inr (base.0, base.1, leads-then (kept base.0) es fs (kept other) (Ok now) base.2 then)
+
+  told-then : (fs : List Exchange) (told : Option DiskState) → IsToldBehind mid fs told → IsToldBehind before (es ++ fs) told
+  told-then fs told is = record {
+    found = is.found;
+    told_is = is.told_is;
+    read = is.read;
+    behind = λ left may. behind-then fs left (is.behind left may);
+  }
+
+  -- each of the frames came over such a disk
+  pub tells-then : (fs : List Exchange) → TellsEach before es → TellsEach mid fs → TellsEach before (es ++ fs)
+  tells-then fs one two front back exchange is = by_cut (split es fs front (exchange ∷ back) is)
+    where
+      -- the first frame behind a front of the first part is of that part, or of the second
+      by_rest : (rest : List Exchange) → es ≡ front ++ rest → exchange ∷ back ≡ rest ++ fs → IsToldBehind before front exchange.told
+      by_rest [] es_is fs_is =
+          let front_is : front ≡ es = sym (append-nil front) ∙ sym es_is in
+          subst (λ (list : List Exchange). IsToldBehind before list exchange.told) (append-nil es ∙ sym front_is)
+          (told-then [] exchange.told (two [] back exchange (sym fs_is)))
+      by_rest (other ∷ rest) es_is fs_is =
+          let same : exchange ≡ other = cc in
+          one front rest exchange (es_is ∙ ap (λ (first : Exchange). front ++ first ∷ rest) (sym same))
+
+      by_cut : ((rest : List Exchange) × (front ≡ es ++ rest) × (fs ≡ rest ++ exchange ∷ back))
+          ⊎ ((rest : List Exchange) × (es ≡ front ++ rest) × (exchange ∷ back ≡ rest ++ fs)) → IsToldBehind before front exchange.told
+      by_cut (inl (rest, front_is, fs_is)) =
+          subst (λ (list : List Exchange). IsToldBehind before list exchange.told) (sym front_is)
+          (told-then rest exchange.told (two rest back exchange fs_is))
+      by_cut (inr (rest, es_is, fs_is)) = by_rest rest es_is fs_is
 
 module _ {D : Type 0} (state : D → Option DiskState) (moment : D → ℕ) (left_since : D → ℕ → FileMap → Type 0) where
   -- ---- one connection, or a part of it, behind another
@@ -149,6 +183,7 @@ module _ {D : Type 0} (state : D → Option DiskState) (moment : D → ℕ) (lef
       leaves = leaves-then;
       behind = λ left may. behind-then before first.after es first.behind fs left (second.behind left may);
       since = since-then;
+      tells = tells-then before first.after es first.behind fs first.tells second.tells;
       desk = comes-then before first.after es first.behind fs start.desk mid.desk now.desk first.desk second.desk;
       known = second.known;
     }
@@ -176,6 +211,7 @@ module _ {D : Type 0} (state : D → Option DiskState) (moment : D → ℕ) (lef
             (AddsOnly-none moment left_since disk (StandsSince before [] []));
         behind = λ left may. (left, may, refl);
         since = at_cut disk here;
+        tells = tells-none before;
         desk = inl refl;
         known = known;
       }

@@ -86,6 +86,24 @@ abbrev pub ComesFrom : DiskState → DeskState → List Exchange → DeskState �
 ComesFrom before last exchanges now = LeadsTo (Ok last) exchanges (Ok now)
     ⊎ ((other : FileMap) × MayLeave before other × LeadsTo (kept other) exchanges (Ok now))
 
+-- What the disk told before a frame: what is read then is what a stop may leave, and each map that a stop may leave then
+-- stands for what the frames in front of it made of what a stop at the first state may leave.
+pub record IsToldBehind (before : DiskState) (front : List Exchange) (told : Option DiskState) : Type 0 where
+  pub found : DiskState
+  pub told_is : told ≡ Some found
+  pub read : MayLeave found found.current
+  pub behind : (left : FileMap) → MayLeave found left → StandsBehind before front left
+
+-- each of these frames came over a disk that told such a state
+abbrev pub TellsEach : DiskState → List Exchange → Type 0
+TellsEach before exchanges = (front back : List Exchange) (exchange : Exchange) → exchanges ≡ front ++ exchange ∷ back
+    → IsToldBehind before front exchange.told
+
+-- the first few of the frames lead to this policy state
+abbrev pub IsReached : DiskState → DeskState → List Exchange → DeskState → Type 0
+IsReached before last exchanges desk =
+    (front : List Exchange) × (back : List Exchange) × (exchanges ≡ front ++ back) × ComesFrom before last front desk
+
 -- These frames were answered between two keepers, over a disk that told this state before them.
 pub record KeepsThrough {D : Type 0} (state : D → Option DiskState) (moment : D → ℕ) (left_since : D → ℕ → FileMap → Type 0)
     (start now : Keeper D) (before : DiskState) (exchanges : List Exchange) : Type 0 where
@@ -99,6 +117,8 @@ pub record KeepsThrough {D : Type 0} (state : D → Option DiskState) (moment : 
   pub since : (front back : List Exchange) → exchanges ≡ front ++ back
       → (at : ℕ) × (moment (disk_of start) ≤ at) × (at ≤ moment (disk_of now))
       × ((left : FileMap) → left_since (disk_of now) at left → StandsSince before front back left)
+  -- what the disk told before each of them
+  pub tells : TellsEach before exchanges
   -- the last policy state that is known, and whether the folder keeps it
   pub desk : ComesFrom before start.desk exchanges now.desk
   pub known : KeepsKnown (decided_of now) now.desk (held_of now) after

@@ -1,11 +1,13 @@
 // What holds of all connections. These functions do nothing; their clauses are the laws.
 ghost use Rattle.std.specs.Prelude.{◌≡◌, ◌⊎◌, ◌++◌, ◌∷◌, [], ℕ, List, Option, Some, Ok};
+ghost use Rattle.std.specs.List.{AllByRecursion};
 ghost use Rattle.desk_ports.specs.FileMap.{FileMap};
 ghost use Rattle.desk_ports.specs.Disk.{DiskState};
 ghost use Rattle.desk_ports.specs.declared.file_sets.SetFile as file;
 ghost use Rattle.desk_state.specs.DeskState.{DeskState};
 ghost use Rattle.desk_state.specs.declared.commands.Command as command;
 ghost use Rattle.desk_keeper.specs.declared.keeper.Keeper as keeper;
+ghost use Rattle.desk_keeper.specs.Keeper.{disk_of, held_of};
 ghost use Rattle.desk_keeper.specs.Kept.{kept};
 ghost use Rattle.desk_keeper.specs.Keeping.{IsKept};
 ghost use Rattle.wire_messages.specs.Commands.{command_of};
@@ -14,10 +16,11 @@ ghost use Rattle.wire_messages.specs.declared.messages.Message as message;
 ghost use Rattle.wire_messages.specs.declared.messages.Message.TheVariants.{Done};
 ghost use Rattle.door_frames.specs.declared.endings.Ended as ended;
 ghost use Rattle.door_frames.specs.declared.endings.Ended.TheVariants.{Closed, Stopped, Memory};
-ghost use Rattle.admin_door.specs.Side.{AdminSide};
+ghost use Rattle.admin_door.specs.Side.{AdminSide, decided_of};
+ghost use Rattle.admin_door.specs.Stops.{KeepsKnown};
 ghost use Rattle.admin_door.specs.Answering.{Answers};
 ghost use Rattle.admin_door.specs.Serving.{AdminTalk, Exchange, Serves};
-ghost use Rattle.admin_door.specs.Running.{Standing, LeadsTo, LeadsWithin, RunsOver, StandsSince, HasCommit};
+ghost use Rattle.admin_door.specs.Running.{Standing, LeadsTo, LeadsWithin, IsReached, RunsOver, StandsSince, HasCommit};
 ghost use Rattle.admin_door.specs.Complete.{Stays, Receives, AnswersEach, AnswersFront, IsDecided, FindsDamage};
 
 use desk_ports::Disk;
@@ -54,4 +57,14 @@ pub fn a_folder_that_is_known_leads_on()
     ensures { (desk : DeskState) (held : Option (List file.SetFile)) (before : DiskState) (front back : List Exchange)
         (left : FileMap) → IsKept desk held before → StandsSince before front back left
         → (between : Standing) × LeadsTo (Ok desk) front between × LeadsWithin between back (kept left) }
+{}
+
+/// Each state that a connection publishes is one that the first few of its frames lead to: from the policy state that was known
+/// last, or from what a stop before them may leave.
+pub fn each_published_state_is_reached<D: Disk>()
+    ensures { (result : ended.Ended) (start now : AdminTalk) (first last : keeper.Keeper D) (before : DiskState)
+        (served : Serves start now result (RunsOver D.state D.moment D.left_since first last)) → D.state (disk_of first) ≡ Some before
+        → KeepsKnown (decided_of first) first.desk (held_of first) before
+        → (more : List DeskState) × (now.side.published ≡ start.side.published ++ more)
+        × AllByRecursion (IsReached before start.side.desk (served.answered ++ served.last)) more }
 {}

@@ -16,4 +16,5 @@ pub use commands::answer_command;
 pub use laws::{
     a_command_is_decided_where_no_call_fails, a_folder_that_is_known_leads_on,
     an_acknowledged_command_lasts, each_frame_of_an_administrator_is_answered,
+    each_published_state_is_reached,
 };

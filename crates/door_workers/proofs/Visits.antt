@@ -1,13 +1,15 @@
 -- One more connection of a worker.
-use Rattle.std.proofs.Common.{◌≡◌, ◌∙◌, ℕ, List, [], ◌∷◌, ◌++◌, map, Option, Some, inl, inr, refl, sym, ap, subst, append_assoc, append-nil}
+use Rattle.std.proofs.Common.{◌≡◌, ◌∙◌, ◌⊎◌, ℕ, Bool, true, false, List, [], ◌∷◌, ◌++◌, map, Option, Some, inl, inr, refl, sym, ap, subst, append_assoc, append-nil}
 use Rattle.std.proofs.lemmas.List.{map-append}
+use Rattle.std.specs.Bool.{OnTrue, OnFalse}
 use Rattle.std.specs.List.{AllByRecursion}
 use Rattle.link_ports.specs.LinkMarks.{LinkMarks}
 use Rattle.link_ports.specs.Told.{AppendsTold}
 use Rattle.door_frames.specs.declared.endings.Ended.{Ended}
 use Rattle.door_frames.specs.declared.endings.Ended.TheVariants.{Stopped as EndedByStop}
+use Rattle.locked_hall.specs.StopNews.{StopsTold, told_on, told_so}
 use Rattle.admin_door.specs.Serving.{AdminTalk, Exchange, Serves}
-use Rattle.door_workers.specs.Visit.{Visit, IsFresh, InTurn, GivesBack, GoesOn, AllGoOn, Works, EndsWorking, door_faults_after}
+use Rattle.door_workers.specs.Visit.{Visit, IsFresh, InTurn, GivesBack, GoesOn, AllGoOn, Works, IsOver, IsNotOver, told_each, GoesOnTold, EndsWorking, door_faults_after}
 use Rattle.door_workers.specs.Administrators.{EndsOffice}
 use Rattle.door_workers.specs.declared.workers.WorkerEnd.{WorkerEnd}
 use Rattle.door_workers.specs.declared.workers.WorkerEnd.TheVariants.{Stopped, DoorFailed, Memory}
@@ -65,99 +67,119 @@ visit_frames start now ended Keeps served = (
   },
 )
 
+-- ---- what a worker is told
+
+told_more : {L : Type 0} (visits : List (Visit L)) (visit : Visit L) (told : StopsTold)
+    → told_each (visits ++ visit ∷ []) told ≡ told_on (told_each visits told)
+told_more [] visit told = refl
+told_more (first ∷ visits) visit told = told_more visits visit (told_on told)
+
+-- what it is told, behind a connection that did not end for a stop
+pub over_told : (over : Bool) (ended : Ended) (told told_now : StopsTold) → GoesOn ended → told_now ≡ told_so over told
+    → OnTrue over (IsOver ended told told_now)
+over_told true ended told told_now on is = inr (on, is)
+over_told false ended told told_now on is = tt
+
+pub on_told : (over : Bool) (ended : Ended) (told told_now : StopsTold) → GoesOn ended → told_now ≡ told_so over told
+    → OnFalse over (IsNotOver ended told told_now)
+on_told true ended told told_now on is = tt
+on_told false ended told told_now on is = (on, is)
+
+-- it goes on behind one more connection
+pub goes_told : {L : Type 0} (told was is : StopsTold) (visit : Visit L) → IsNotOver visit.ended was is → (visits : List (Visit L))
+    → GoesOnTold told was visits → GoesOnTold told is (visits ++ visit ∷ [])
+goes_told {L} told was is visit (on, asked) visits (all, so) = (
+  all_more (λ (v : Visit L). GoesOn v.ended) visits visit all on,
+  asked ∙ (ap (λ (t : StopsTold). told_on t) so ∙ sym (told_more visits visit told)),
+)
+
+-- it is over behind one more
+pub stops_told : {L : Type 0} (told was is : StopsTold) (visit : Visit L) → IsOver visit.ended was is → (visits : List (Visit L))
+    → GoesOnTold told was visits → EndsWorking told is Stopped (visits ++ visit ∷ [])
+stops_told told was is visit over visits (all, so) =
+    (visits, visit, refl, all, subst (λ (t : StopsTold). IsOver visit.ended t is) so over)
+
+-- its door accepts none
+pub refused_told : {L : Type 0} (told told_now : StopsTold) (end : WorkerEnd) → (end ≡ DoorFailed) ⊎ (end ≡ Memory)
+    → (visits : List (Visit L)) → GoesOnTold told told_now visits → EndsWorking told told_now end visits
+refused_told told told_now end (inl is) visits goes = subst (λ (e : WorkerEnd). EndsWorking told told_now e visits) (sym is) goes
+refused_told told told_now end (inr is) visits goes = subst (λ (e : WorkerEnd). EndsWorking told told_now e visits) (sym is) goes
+
+-- ---- administrators
+
+pub goes_office : {L : Type 0} (visit : Visit L) → GoesOn visit.ended → (visits : List (Visit L)) → AllGoOn visits
+    → AllGoOn (visits ++ visit ∷ [])
+goes_office {L} visit on visits all = all_more (λ (v : Visit L). GoesOn v.ended) visits visit all on
+
+-- the stop was answered
+pub stops_office : {L : Type 0} (visit : Visit L) → visit.ended ≡ EndedByStop → (visits : List (Visit L)) → AllGoOn visits
+    → EndsOffice Stopped (visits ++ visit ∷ [])
+stops_office visit by_stop visits all = (visits, visit, refl, all, by_stop)
+
+pub refused_office : {L : Type 0} (end : WorkerEnd) → (end ≡ DoorFailed) ⊎ (end ≡ Memory) → (visits : List (Visit L)) → AllGoOn visits
+    → EndsOffice end visits
+refused_office end (inl is) visits all = subst (λ (e : WorkerEnd). EndsOffice e visits) (sym is) all
+refused_office end (inr is) visits all = subst (λ (e : WorkerEnd). EndsOffice e visits) (sym is) all
+
 -- ---- turns
 
 module _ {S L : Type 0} (step : S → Visit L → S → Type 0) (marks : L → LinkMarks) (faults : L → ℕ) where
   -- nothing was done yet
-  pub begins : (start : S) (given : Option (List L)) (count : ℕ) → SoFar step marks faults start start given given count count
-  begins start given count = record {
+  pub begins : (goes : List (Visit L) → Type 0) (start : S) (given : Option (List L)) (count : ℕ) → goes []
+      → SoFar step goes marks faults start start given given count count
+  begins goes start given count none = record {
     visits = [];
     fresh = tt;
     in_turn = refl;
-    go_on = tt;
+    go_on = none;
     given_back = λ after told. (after, told, sym (append-nil after));
     counted = refl;
   }
 
-  module _ (start old now : S) (given given_old given_kept given_now : Option (List L)) (count count_old count_now : ℕ) (visit : Visit L) where
+  module _ (start old now : S) (given given_old given_kept given_now : Option (List L)) (count count_old count_now : ℕ) (visit : Visit L)
+      (was : List (Visit L) → Type 0) where
     -- the worker goes on behind a connection
-    pub goes_on : SoFar step marks faults start old given given_old count count_old → IsFresh marks faults visit
-        → step old visit now → GoesOn visit.ended → given_kept ≡ given_old → AppendsTold given_kept visit.returned given_now → count_now ≡ count_old
-        → SoFar step marks faults start now given given_now count count_now
-    goes_on so_far fresh one on kept appends same = record {
+    pub goes_on : (is : List (Visit L) → Type 0) → SoFar step was marks faults start old given given_old count count_old
+        → IsFresh marks faults visit → step old visit now → ((visits : List (Visit L)) → was visits → is (visits ++ visit ∷ []))
+        → given_kept ≡ given_old → AppendsTold given_kept visit.returned given_now → count_now ≡ count_old
+        → SoFar step is marks faults start now given given_now count count_now
+    goes_on is so_far fresh one goes kept appends same = record {
       visits = so_far.visits ++ visit ∷ [];
       fresh = all_more (IsFresh marks faults) so_far.visits visit so_far.fresh fresh;
       in_turn = in_turn_more step start old now so_far.visits visit so_far.in_turn one;
-      go_on = all_more (λ (v : Visit L). GoesOn v.ended) so_far.visits visit so_far.go_on on;
+      go_on = goes so_far.visits so_far.go_on;
       given_back = gives_more given given_old given_now so_far.visits visit so_far.given_back
           (subst (λ (told : Option (List L)). AppendsTold told visit.returned given_now) kept appends);
       counted = same ∙ so_far.counted;
     }
 
     -- it ends as stopped behind one
-    pub stops : SoFar step marks faults start old given given_old count count_old → IsFresh marks faults visit
-        → step old visit now → given_kept ≡ given_old → AppendsTold given_kept visit.returned given_now → count_now ≡ count_old
-        → Works step EndsWorking marks faults Stopped start now given given_now count count_now
-    stops so_far fresh one kept appends same = record {
+    pub stops : (ends : WorkerEnd → List (Visit L) → Type 0) → SoFar step was marks faults start old given given_old count count_old
+        → IsFresh marks faults visit → step old visit now
+        → ((visits : List (Visit L)) → was visits → ends Stopped (visits ++ visit ∷ []))
+        → given_kept ≡ given_old → AppendsTold given_kept visit.returned given_now → count_now ≡ count_old
+        → Works step ends marks faults Stopped start now given given_now count count_now
+    stops ends so_far fresh one over kept appends same = record {
       visits = so_far.visits ++ visit ∷ [];
       fresh = all_more (IsFresh marks faults) so_far.visits visit so_far.fresh fresh;
       in_turn = in_turn_more step start old now so_far.visits visit so_far.in_turn one;
-      ending = (so_far.visits, visit, refl, so_far.go_on);
+      ending = over so_far.visits so_far.go_on;
       given_back = gives_more given given_old given_now so_far.visits visit so_far.given_back
           (subst (λ (told : Option (List L)). AppendsTold told visit.returned given_now) kept appends);
       counted = same ∙ so_far.counted;
     }
 
-    -- it ends as stopped behind one whose stop was answered
-    pub stops_office : SoFar step marks faults start old given given_old count count_old → IsFresh marks faults visit
-        → step old visit now → visit.ended ≡ EndedByStop → given_kept ≡ given_old → AppendsTold given_kept visit.returned given_now → count_now ≡ count_old
-        → Works step EndsOffice marks faults Stopped start now given given_now count count_now
-    stops_office so_far fresh one by_stop kept appends same = record {
-      visits = so_far.visits ++ visit ∷ [];
-      fresh = all_more (IsFresh marks faults) so_far.visits visit so_far.fresh fresh;
-      in_turn = in_turn_more step start old now so_far.visits visit so_far.in_turn one;
-      ending = (so_far.visits, visit, refl, so_far.go_on, by_stop);
-      given_back = gives_more given given_old given_now so_far.visits visit so_far.given_back
-          (subst (λ (told : Option (List L)). AppendsTold told visit.returned given_now) kept appends);
-      counted = same ∙ so_far.counted;
-    }
-
-  module _ (start now : S) (given given_old given_now : Option (List L)) (count count_old count_now : ℕ) (end : WorkerEnd) where
-    -- the door accepts no link
-    pub refused : SoFar step marks faults start now given given_old count count_old → given_now ≡ given_old
-        → RefusesLink end count_old count_now → Works step EndsWorking marks faults end start now given given_now count count_now
-    refused so_far same (inl is, counted) = record {
-      visits = so_far.visits;
-      fresh = so_far.fresh;
-      in_turn = so_far.in_turn;
-      ending = subst (λ (e : WorkerEnd). EndsWorking e so_far.visits) (sym is) so_far.go_on;
-      given_back = subst (λ (told : Option (List L)). GivesBack given so_far.visits told) (sym same) so_far.given_back;
-      counted = counted ∙ ap (λ (n : ℕ). door_faults_after end n) so_far.counted;
-    }
-    refused so_far same (inr is, counted) = record {
-      visits = so_far.visits;
-      fresh = so_far.fresh;
-      in_turn = so_far.in_turn;
-      ending = subst (λ (e : WorkerEnd). EndsWorking e so_far.visits) (sym is) so_far.go_on;
-      given_back = subst (λ (told : Option (List L)). GivesBack given so_far.visits told) (sym same) so_far.given_back;
-      counted = counted ∙ ap (λ (n : ℕ). door_faults_after end n) so_far.counted;
-    }
-
-    pub refused_office : SoFar step marks faults start now given given_old count count_old → given_now ≡ given_old
-        → RefusesLink end count_old count_now → Works step EndsOffice marks faults end start now given given_now count count_now
-    refused_office so_far same (inl is, counted) = record {
-      visits = so_far.visits;
-      fresh = so_far.fresh;
-      in_turn = so_far.in_turn;
-      ending = subst (λ (e : WorkerEnd). EndsOffice e so_far.visits) (sym is) so_far.go_on;
-      given_back = subst (λ (told : Option (List L)). GivesBack given so_far.visits told) (sym same) so_far.given_back;
-      counted = counted ∙ ap (λ (n : ℕ). door_faults_after end n) so_far.counted;
-    }
-    refused_office so_far same (inr is, counted) = record {
-      visits = so_far.visits;
-      fresh = so_far.fresh;
-      in_turn = so_far.in_turn;
-      ending = subst (λ (e : WorkerEnd). EndsOffice e so_far.visits) (sym is) so_far.go_on;
-      given_back = subst (λ (told : Option (List L)). GivesBack given so_far.visits told) (sym same) so_far.given_back;
-      counted = counted ∙ ap (λ (n : ℕ). door_faults_after end n) so_far.counted;
-    }
+  -- the door accepts no link
+  pub refused : (start now : S) (given given_old given_now : Option (List L)) (count count_old count_now : ℕ) (end : WorkerEnd)
+      (was : List (Visit L) → Type 0) (ends : WorkerEnd → List (Visit L) → Type 0)
+      → SoFar step was marks faults start now given given_old count count_old
+      → ((visits : List (Visit L)) → was visits → ends end visits) → given_now ≡ given_old → RefusesLink end count_old count_now
+      → Works step ends marks faults end start now given given_now count count_now
+  refused start now given given_old given_now count count_old count_now end was ends so_far ending same refuses = record {
+    visits = so_far.visits;
+    fresh = so_far.fresh;
+    in_turn = so_far.in_turn;
+    ending = ending so_far.visits so_far.go_on;
+    given_back = subst (λ (told : Option (List L)). GivesBack given so_far.visits told) (sym same) so_far.given_back;
+    counted = refuses.1 ∙ ap (λ (n : ℕ). door_faults_after end n) so_far.counted;
+  }

@@ -5,7 +5,7 @@ use Rattle.link_ports.specs.LinkMarks.{LinkMarks}
 use Rattle.desk_state.specs.DeskState.{DeskState}
 use Rattle.desk_keeper.specs.Keeper.{disk_of}
 use Rattle.desk_keeper.specs.declared.keeper.Keeper.{Keeper}
-use Rattle.server_hall.specs.Tally.{Tally, no_calls}
+use Rattle.server_hall.specs.Tally.{Tally, no_calls, after_stop}
 use Rattle.door_frames.specs.declared.endings.Ended.{Ended}
 use Rattle.door_frames.specs.declared.endings.Ended.TheVariants.{Stopped as EndedByStop}
 use Rattle.admin_door.specs.Side.{AdminSide, decided_of}
@@ -62,3 +62,8 @@ abbrev pub EndsOffice : {L : Type 0} → WorkerEnd → List (Visit L) → Type 0
 EndsOffice {L} Stopped visits = (front : List (Visit L)) × (last : Visit L)
     × (visits ≡ front ++ last ∷ []) × AllGoOn front × (last.ended ≡ EndedByStop)
 EndsOffice end visits = AllGoOn visits
+
+-- what its own hall counts behind a worker of administrators: it stopped the service itself, unless a stop was answered
+abbrev pub tally_behind : WorkerEnd → Tally → Tally
+tally_behind Stopped tally = tally
+tally_behind end tally = after_stop tally

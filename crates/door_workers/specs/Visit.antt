@@ -1,9 +1,10 @@
 -- The connections that a worker serves, one after the other.
-use Rattle.std.specs.Prelude.{◌≡◌, ℕ, List, [], ◌∷◌, ◌++◌, map, Option, Some}
+use Rattle.std.specs.Prelude.{◌≡◌, ◌⊎◌, ℕ, List, [], ◌∷◌, ◌++◌, map, Option, Some}
 use Rattle.std.specs.List.{AllByRecursion}
 use Rattle.desk_ports.specs.Faults.{next_count}
 use Rattle.link_ports.specs.LinkMarks.{LinkMarks, fresh_marks}
 use Rattle.link_ports.specs.Told.{IfTold}
+use Rattle.locked_hall.specs.StopNews.{StopsTold, told_on, told_stop}
 use Rattle.door_frames.specs.declared.endings.Ended.{Ended}
 use Rattle.door_frames.specs.declared.endings.Ended.TheVariants.{Stopped as EndedByStop}
 use Rattle.door_workers.specs.declared.workers.WorkerEnd.{WorkerEnd}
@@ -42,12 +43,32 @@ abbrev pub door_faults_after : WorkerEnd → ℕ → ℕ
 door_faults_after DoorFailed count = next_count count
 door_faults_after end count = count
 
--- A worker that serves until the service is stopped ends behind a connection, and no one before it ended for a stop; or its
--- door accepts none.
-abbrev pub EndsWorking : {L : Type 0} → WorkerEnd → List (Visit L) → Type 0
-EndsWorking {L} Stopped visits = (front : List (Visit L)) × (last : Visit L)
-    × (visits ≡ front ++ last ∷ []) × AllGoOn front
-EndsWorking end visits = AllGoOn visits
+-- ---- a worker that asks whether the service is stopped
+
+-- It goes on behind a connection that did not end for a stop, once it is told that the service is not stopped.
+abbrev pub IsNotOver : Ended → StopsTold → StopsTold → Type 0
+IsNotOver ended told told_now = GoesOn ended × (told_now ≡ told_on told)
+
+-- It is over behind a connection that ended for a stop, or where it is told that the service is stopped.
+abbrev pub IsOver : Ended → StopsTold → StopsTold → Type 0
+IsOver ended told told_now =
+    ((ended ≡ EndedByStop) × (told_now ≡ told)) ⊎ (GoesOn ended × (told_now ≡ told_stop told))
+
+-- it was told that it is not, behind each of so many connections
+abbrev pub told_each : {L : Type 0} → List (Visit L) → StopsTold → StopsTold
+told_each [] told = told
+told_each (visit ∷ more) told = told_each more (told_on told)
+
+-- it went on behind all of them
+abbrev pub GoesOnTold : {L : Type 0} → StopsTold → StopsTold → List (Visit L) → Type 0
+GoesOnTold told told_now visits = AllGoOn visits × (told_now ≡ told_each visits told)
+
+-- A worker that serves until the service is stopped ends as stopped exactly behind the first connection where that is over. Else
+-- its door accepts none.
+abbrev pub EndsWorking : {L : Type 0} → StopsTold → StopsTold → WorkerEnd → List (Visit L) → Type 0
+EndsWorking {L} told told_now Stopped visits = (front : List (Visit L)) × (last : Visit L)
+    × (visits ≡ front ++ last ∷ []) × AllGoOn front × IsOver last.ended (told_each front told) told_now
+EndsWorking told told_now end visits = GoesOnTold told told_now visits
 
 -- What a worker did, with a step for each connection, and what its end says of them.
 pub record Works {S L : Type 0} (step : S → Visit L → S → Type 0) (ends : WorkerEnd → List (Visit L) → Type 0)

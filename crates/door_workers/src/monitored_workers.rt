@@ -1,7 +1,8 @@
 // Workers of clients whose checks are recorded.
 ghost use Rattle.std.specs.Prelude.{◌≡◌, ℕ, List, Option, MatchResult};
 ghost use Rattle.check_monitor.specs.Monitor.{IsSame};
-ghost use Rattle.door_workers.specs.Visit.{Works, EndsWorking};
+ghost use Rattle.locked_hall.specs.StopNews.{StopsTold};
+ghost use Rattle.door_workers.specs.Visit.{Works, EndsWorking, GoesOnTold};
 ghost use Rattle.door_workers.specs.Monitored.{Post, post_of, VisitsWatched};
 ghost use Rattle.door_workers.specs.parts.Turn.{SoFar};
 
@@ -11,7 +12,7 @@ use desk_server::serve_monitored;
 use link_ports::{Door, Gate, HangEnd, Link};
 use live_desk::Seat;
 use live_roll::Roll;
-use locked_hall::QuestionDesk;
+use locked_hall::{QuestionDesk, StopNews};
 use std::alloc::Global;
 use std::sync::{Mutex, Wait};
 
@@ -32,8 +33,9 @@ pub fn work_for_monitored_clients<
     door: &mut D,
     gate: &G,
     recorder: &mut Recorder,
+    news: &mut StopNews,
 ) -> WorkerEnd
-    ensures worked { Works (VisitsWatched L.traffic L.marks L.faults) EndsWorking L.marks L.faults result
+    ensures worked { Works (VisitsWatched L.traffic L.marks L.faults) (EndsWorking news.old news.new) L.marks L.faults result
         (post_of seat.old recorder.old) (post_of seat.new recorder.new)
         (D.given_back door.old) (D.given_back door.new) (D.faults door.old) (D.faults door.new) }
     ensures same { IsSame recorder.old recorder.new }
@@ -41,7 +43,7 @@ pub fn work_for_monitored_clients<
 {
     for _ in rt.forever() {
         if let Err(end) = serve_next_monitored(
-            rt, alloc, seat, roll, questions, door, gate, recorder,
+            rt, alloc, seat, roll, questions, door, gate, recorder, news,
         ) {
             return end;
         }
@@ -59,13 +61,14 @@ fn serve_next_monitored<R: Wait, H: HangEnd, L: Link<End = H>, D: Door<Link = L>
     door: &mut D,
     gate: &G,
     recorder: &mut Recorder,
+    news: &mut StopNews,
 ) -> Result<(), WorkerEnd>
-    ensures worked { (start : Post) (given : Option (List L)) (count : ℕ)
-        → SoFar (VisitsWatched L.traffic L.marks L.faults) L.marks L.faults start (post_of seat.old recorder.old)
-        given (D.given_back door.old) count (D.faults door.old) → MatchResult result
-        (λ _. SoFar (VisitsWatched L.traffic L.marks L.faults) L.marks L.faults start (post_of seat.new recorder.new)
-        given (D.given_back door.new) count (D.faults door.new))
-        (λ end. Works (VisitsWatched L.traffic L.marks L.faults) EndsWorking L.marks L.faults end start
+    ensures worked { (told : StopsTold) (start : Post) (given : Option (List L)) (count : ℕ)
+        → SoFar (VisitsWatched L.traffic L.marks L.faults) (GoesOnTold told news.old) L.marks L.faults
+        start (post_of seat.old recorder.old) given (D.given_back door.old) count (D.faults door.old) → MatchResult result
+        (λ _. SoFar (VisitsWatched L.traffic L.marks L.faults) (GoesOnTold told news.new) L.marks L.faults
+        start (post_of seat.new recorder.new) given (D.given_back door.new) count (D.faults door.new))
+        (λ end. Works (VisitsWatched L.traffic L.marks L.faults) (EndsWorking told news.new) L.marks L.faults end start
         (post_of seat.new recorder.new) given (D.given_back door.new) count (D.faults door.new)) }
     ensures same { IsSame recorder.old recorder.new }
     ensures kind { D.kind door.new ≡ D.kind door.old }
@@ -76,7 +79,7 @@ fn serve_next_monitored<R: Wait, H: HangEnd, L: Link<End = H>, D: Door<Link = L>
     };
     let ended = serve_monitored(rt, alloc, seat, roll, questions, &mut link, gate, recorder);
     door.give_back(link);
-    if is_over(rt, questions, &ended) {
+    if is_over(rt, questions, news, &ended) {
         return Err(WorkerEnd::Stopped);
     }
     Ok(())

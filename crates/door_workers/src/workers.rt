@@ -4,7 +4,8 @@ ghost use Rattle.std.specs.Bool.{OnTrue, OnFalse};
 ghost use Rattle.link_ports.specs.LinkMarks.{fresh_marks};
 ghost use Rattle.live_desk.specs.Seat.{SeatState};
 ghost use Rattle.door_frames.specs.declared.endings.Ended.TheVariants.{Stopped as EndedByStop};
-ghost use Rattle.door_workers.specs.Visit.{Works, EndsWorking, GoesOn};
+ghost use Rattle.locked_hall.specs.StopNews.{StopsTold};
+ghost use Rattle.door_workers.specs.Visit.{Works, EndsWorking, GoesOn, GoesOnTold, IsOver, IsNotOver};
 ghost use Rattle.door_workers.specs.Clients.{VisitsClients};
 ghost use Rattle.door_workers.specs.Agents.{VisitsAgents};
 ghost use Rattle.door_workers.specs.parts.Turn.{SoFar, RefusesLink};
@@ -15,7 +16,7 @@ use door_frames::Ended;
 use link_ports::{Door, Gate, HangEnd, Link};
 use live_desk::Seat;
 use live_roll::Roll;
-use locked_hall::QuestionDesk;
+use locked_hall::{QuestionDesk, StopNews};
 use std::alloc::Global;
 use std::sync::{Mutex, Wait};
 
@@ -31,7 +32,8 @@ pub enum WorkerEnd {
 }
 
 /// Serves connections of clients, one after the other, in the place of the seat. It ends behind one that ended for a stop, or
-/// at whose end the service was stopped, or where its door accepts none. It may wait.
+/// at whose end it is told that the service is stopped, or where its door accepts none. What it is told is kept in `news`. It
+/// may wait.
 pub fn work_for_clients<R: Wait, H: HangEnd, L: Link<End = H>, D: Door<Link = L>, G: Gate>(
     rt: &R,
     alloc: Global,
@@ -40,13 +42,14 @@ pub fn work_for_clients<R: Wait, H: HangEnd, L: Link<End = H>, D: Door<Link = L>
     questions: &QuestionDesk,
     door: &mut D,
     gate: &G,
+    news: &mut StopNews,
 ) -> WorkerEnd
-    ensures worked { Works (VisitsClients L.traffic L.marks L.faults) EndsWorking L.marks L.faults result seat.old seat.new
-        (D.given_back door.old) (D.given_back door.new) (D.faults door.old) (D.faults door.new) }
+    ensures worked { Works (VisitsClients L.traffic L.marks L.faults) (EndsWorking news.old news.new) L.marks L.faults result
+        seat.old seat.new (D.given_back door.old) (D.given_back door.new) (D.faults door.old) (D.faults door.new) }
     ensures kind { D.kind door.new ≡ D.kind door.old }
 {
     for _ in rt.forever() {
-        if let Err(end) = serve_next_client(rt, alloc, seat, roll, questions, door, gate) {
+        if let Err(end) = serve_next_client(rt, alloc, seat, roll, questions, door, gate, news) {
             return end;
         }
     }
@@ -62,13 +65,14 @@ fn serve_next_client<R: Wait, H: HangEnd, L: Link<End = H>, D: Door<Link = L>, G
     questions: &QuestionDesk,
     door: &mut D,
     gate: &G,
+    news: &mut StopNews,
 ) -> Result<(), WorkerEnd>
-    ensures worked { (start : SeatState) (given : Option (List L)) (count : ℕ)
-        → SoFar (VisitsClients L.traffic L.marks L.faults) L.marks L.faults start seat.old given (D.given_back door.old)
-        count (D.faults door.old) → MatchResult result
-        (λ _. SoFar (VisitsClients L.traffic L.marks L.faults) L.marks L.faults start seat.new given (D.given_back door.new)
-        count (D.faults door.new))
-        (λ end. Works (VisitsClients L.traffic L.marks L.faults) EndsWorking L.marks L.faults end start seat.new
+    ensures worked { (told : StopsTold) (start : SeatState) (given : Option (List L)) (count : ℕ)
+        → SoFar (VisitsClients L.traffic L.marks L.faults) (GoesOnTold told news.old) L.marks L.faults start seat.old
+        given (D.given_back door.old) count (D.faults door.old) → MatchResult result
+        (λ _. SoFar (VisitsClients L.traffic L.marks L.faults) (GoesOnTold told news.new) L.marks L.faults start seat.new
+        given (D.given_back door.new) count (D.faults door.new))
+        (λ end. Works (VisitsClients L.traffic L.marks L.faults) (EndsWorking told news.new) L.marks L.faults end start seat.new
         given (D.given_back door.new) count (D.faults door.new)) }
     ensures kind { D.kind door.new ≡ D.kind door.old }
 {
@@ -78,7 +82,7 @@ fn serve_next_client<R: Wait, H: HangEnd, L: Link<End = H>, D: Door<Link = L>, G
     };
     let ended = serve_client(rt, alloc, seat, roll, questions, &mut link, gate);
     door.give_back(link);
-    if is_over(rt, questions, &ended) {
+    if is_over(rt, questions, news, &ended) {
         return Err(WorkerEnd::Stopped);
     }
     Ok(())
@@ -91,13 +95,14 @@ pub fn work_for_agents<R: Wait, H: HangEnd, L: Link, D: Door<Link = L>>(
     roll: &Mutex<Roll<H>>,
     questions: &QuestionDesk,
     door: &mut D,
+    news: &mut StopNews,
 ) -> WorkerEnd
-    ensures worked { Works (VisitsAgents L.traffic L.marks L.faults) EndsWorking L.marks L.faults result tt tt
+    ensures worked { Works (VisitsAgents L.traffic L.marks L.faults) (EndsWorking news.old news.new) L.marks L.faults result tt tt
         (D.given_back door.old) (D.given_back door.new) (D.faults door.old) (D.faults door.new) }
     ensures kind { D.kind door.new ≡ D.kind door.old }
 {
     for _ in rt.forever() {
-        if let Err(end) = serve_next_agent(rt, alloc, roll, questions, door) {
+        if let Err(end) = serve_next_agent(rt, alloc, roll, questions, door, news) {
             return end;
         }
     }
@@ -111,13 +116,14 @@ fn serve_next_agent<R: Wait, H: HangEnd, L: Link, D: Door<Link = L>>(
     roll: &Mutex<Roll<H>>,
     questions: &QuestionDesk,
     door: &mut D,
+    news: &mut StopNews,
 ) -> Result<(), WorkerEnd>
-    ensures worked { (given : Option (List L)) (count : ℕ)
-        → SoFar (VisitsAgents L.traffic L.marks L.faults) L.marks L.faults tt tt given (D.given_back door.old)
-        count (D.faults door.old) → MatchResult result
-        (λ _. SoFar (VisitsAgents L.traffic L.marks L.faults) L.marks L.faults tt tt given (D.given_back door.new)
-        count (D.faults door.new))
-        (λ end. Works (VisitsAgents L.traffic L.marks L.faults) EndsWorking L.marks L.faults end tt tt
+    ensures worked { (told : StopsTold) (given : Option (List L)) (count : ℕ)
+        → SoFar (VisitsAgents L.traffic L.marks L.faults) (GoesOnTold told news.old) L.marks L.faults tt tt
+        given (D.given_back door.old) count (D.faults door.old) → MatchResult result
+        (λ _. SoFar (VisitsAgents L.traffic L.marks L.faults) (GoesOnTold told news.new) L.marks L.faults tt tt
+        given (D.given_back door.new) count (D.faults door.new))
+        (λ end. Works (VisitsAgents L.traffic L.marks L.faults) (EndsWorking told news.new) L.marks L.faults end tt tt
         given (D.given_back door.new) count (D.faults door.new)) }
     ensures kind { D.kind door.new ≡ D.kind door.old }
 {
@@ -127,7 +133,7 @@ fn serve_next_agent<R: Wait, H: HangEnd, L: Link, D: Door<Link = L>>(
     };
     let ended = serve_agent(rt, alloc, roll, questions, &mut link);
     door.give_back(link);
-    if is_over(rt, questions, &ended) {
+    if is_over(rt, questions, news, &ended) {
         return Err(WorkerEnd::Stopped);
     }
     Ok(())
@@ -149,14 +155,21 @@ pub(crate) fn accept<D: Door>(door: &mut D) -> Result<D::Link, WorkerEnd>
     }
 }
 
-// Whether the service is stopped by the time that a connection ended so.
-pub(crate) fn is_over<R: Wait>(rt: &R, questions: &QuestionDesk, ended: &Ended) -> bool
-    ensures { OnFalse result (GoesOn ended.now) }
+/// Whether the worker ends behind a connection that ended so: for a stop, or since the service is stopped.
+#[tactic(auto, using(crate::proofs::Visits::over_told, crate::proofs::Visits::on_told))]
+pub(crate) fn is_over<R: Wait>(
+    rt: &R,
+    questions: &QuestionDesk,
+    news: &mut StopNews,
+    ended: &Ended,
+) -> bool
+    ensures over { OnTrue result (IsOver ended.now news.old news.new) }
+    ensures on { OnFalse result (IsNotOver ended.now news.old news.new) }
 {
     if is_stop(ended) {
         return true;
     }
-    questions.is_stopped(rt)
+    news.is_stopped(rt, questions)
 }
 
 /// Whether a connection ended for a stop of the service.

@@ -6,5 +6,7 @@
 #![tactic(auto)]
 
 mod locked;
+mod stop_news;
 
 pub use locked::{Locked, QuestionDesk};
+pub use stop_news::StopNews;

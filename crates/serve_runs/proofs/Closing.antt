@@ -1,14 +1,16 @@
 -- Doors that are closed one after the other, and what that does to the count of their net.
-use Rattle.std.proofs.Common.{◌≡◌, ◌∙◌, ◌≤◌, ℕ, List, [], ◌∷◌, ◌++◌, Option, Some, refl, sym, ap, subst, append_assoc, append-nil, arith}
+use Rattle.std.proofs.Common.{◌≡◌, ◌∙◌, ◌≤◌, inr, ℕ, List, [], ◌∷◌, ◌++◌, Option, Some, refl, sym, ap, subst, append_assoc, append-nil, arith}
 use Rattle.desk_ports.specs.Faults.{next_count}
 use Rattle.link_ports.specs.NetCounts.{count_after_close}
 use Rattle.link_ports.specs.Told.{AppendsTold}
+use Rattle.link_ports.specs.declared.door_kinds.DoorKind.{DoorKind}
+use Rattle.link_ports.specs.declared.door_kinds.DoorKind.TheVariants.{Admin}
 use Rattle.door_workers.specs.Visit.{door_faults_after}
 use Rattle.door_workers.specs.declared.workers.WorkerEnd.{WorkerEnd}
 use Rattle.door_workers.specs.declared.workers.WorkerEnd.TheVariants.{DoorFailed}
 use Rattle.run_endings.specs.declared.endings.Ending.{Ending}
 use Rattle.run_endings.specs.declared.endings.Ending.TheVariants.{Done, Memory, Words, Line, Source, Sink, Disk, Net, Damaged, Reply, TooLong}
-use Rattle.serve_runs.specs.Serving.{ClosesDoors, HasRisen, EndsUnopened}
+use Rattle.serve_runs.specs.Serving.{ClosesDoors, ClosesOpened, HasRisen, EndsUnopened}
 
 pub closes_none : {E : Type 0} (told : Option (List E)) → ClosesDoors told [] told
 closes_none told = λ after is. (after, is, sym (append-nil after))
@@ -22,6 +24,18 @@ closes_then {E} old between new first more some others = λ after told.
     let (middle, middle_told, after_is) = others after told in
     let (before, old_told, middle_is) = some middle middle_told in
     (before, old_told, after_is ∙ (ap (λ (doors : List E). doors ++ more) middle_is ∙ append_assoc before first more))
+
+-- the door for administrators is closed again, and then what else was opened
+pub closes_again : {E : Type 0} (kind : E → Option DoorKind) (old opened closed new : Option (List E)) (door : E) → opened ≡ old
+    → kind door ≡ Some Admin → AppendsTold opened door closed → (others : List E) × ClosesDoors closed others new
+    → ClosesOpened kind old new
+closes_again {E} kind old opened closed new door same theirs appends (others, closes) = inr (
+  door,
+  others,
+  theirs,
+  closes_then old closed new (door ∷ []) others
+      (subst (λ (told : Option (List E)). AppendsTold told door closed) same appends) closes,
+)
 
 risen_since : (before between after : ℕ) → before ≤ between → next_count between ≤ after → HasRisen before after
 risen_since before between after no_less risen = omega (arith, no_less, risen)

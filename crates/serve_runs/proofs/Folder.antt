@@ -1,16 +1,28 @@
 -- A folder that was mounted, and what a service leaves of it.
-use Rattle.std.proofs.Common.{◌≡◌, inl, inr, ⊎_elim, ℕ, List, [], Option, Ok}
+use Rattle.std.proofs.Common.{◌≡◌, inl, inr, ⊎_elim, ℕ, List, [], ◌∷◌, Option, Ok, refl, sym, subst, append-nil}
+use Rattle.std.specs.List.{AllByRecursion}
 use Rattle.desk_ports.specs.FileMap.{FileMap}
-use Rattle.desk_ports.specs.Disk.{DiskState, WhereTold}
+use Rattle.desk_ports.specs.Disk.{DiskState, MayLeave, WhereTold}
 use Rattle.desk_ports.specs.Moments.{LeavesOnly}
 use Rattle.desk_keeper.specs.Kept.{kept}
 use Rattle.desk_keeper.specs.Keeper.{disk_of, held_of}
 use Rattle.desk_keeper.specs.Keeping.{EndsKept, StandsAsAllowed}
 use Rattle.desk_keeper.specs.declared.keeper.Keeper.{Keeper}
+use Rattle.desk_state.specs.DeskState.{DeskState}
+use Rattle.link_ports.specs.Traffic.{Traffic}
+use Rattle.link_ports.specs.LinkMarks.{LinkMarks}
 use Rattle.admin_door.specs.Serving.{Exchange}
-use Rattle.admin_door.specs.Running.{RunsOver}
-use Rattle.run_endings.specs.Outside.{disk_seen}
-use Rattle.serve_runs.specs.Folder.{KeepsService}
+use Rattle.admin_door.specs.Running.{Standing, LeadsTo, ComesFrom, IsReached, RunsOver}
+use Rattle.door_workers.specs.Visit.{Works}
+use Rattle.door_workers.specs.Administrators.{Office, VisitsOffice, EndsOffice}
+use Rattle.door_workers.specs.declared.workers.WorkerEnd.{WorkerEnd}
+use Rattle.door_workers.proofs.Offices.{office-holds}
+use Rattle.run_endings.specs.Outside.{DiskSeen, disk_seen}
+use Rattle.run_endings.specs.Saying.{silence}
+use Rattle.run_endings.specs.declared.endings.Ending.TheVariants.{Memory}
+use Rattle.folder_runs.specs.Folder.{RefusesFolder}
+use Rattle.serve_runs.specs.Folder.{KeepsService, IsMadeBy, AreMadeBy}
+use Rattle.serve_runs.specs.Serving.{opening}
 
 module _ {D : Type 0} (state : D → Option DiskState) (moment : D → ℕ) (left_since : D → ℕ → FileMap → Type 0) (faults : D → ℕ)
     (old : D) (first last : Keeper D) where
@@ -37,7 +49,48 @@ module _ {D : Type 0} (state : D → Option DiskState) (moment : D → ℕ) (lef
             (through.leaves.adds.nothing_else (moment old) map mounting.adds.later was);
         running = through.leaves.each;
         since = through.since;
+        tells = through.tells;
         now = through.after;
         told = through.told;
         behind = through.behind;
       }
+
+-- memory was wanting before the folder was looked at
+module _ {D : Type 0} (state : D → Option DiskState) (moment : D → ℕ) (left_since : D → ℕ → FileMap → Type 0) (faults : D → ℕ) (disk : D) where
+  pub refuses-early : ((left : FileMap) → WhereTold (state disk) (λ now. left_since disk (moment disk) left → MayLeave now left))
+      → RefusesFolder silence Memory (disk_seen state moment left_since faults disk) (disk_seen state moment left_since faults disk)
+  refuses-early only_now =
+      record {
+        refused = tt;
+        silent = refl;
+        moments = λ entry told map was.
+            let may = only_now map entry told was in
+            (map, may, refl, λ name foreign free. may name free);
+      }
+
+-- ---- what was published
+
+module _ (mounted : DiskState) (start : DeskState) (alone : (map : FileMap) → MayLeave mounted map → kept map ≡ Ok start)
+    (frames : List Exchange) where
+  made-so : (front : List Exchange) (desk : DeskState) → ComesFrom mounted start front desk → LeadsTo (Ok start) front (Ok desk)
+  made-so front desk (inl leads) = leads
+  made-so front desk (inr (other, may, leads)) =
+      subst (λ (at : Standing). LeadsTo at front (Ok desk)) (alone other may) leads
+
+  all-made : (published : List DeskState) → AllByRecursion (IsReached mounted start frames) published → AreMadeBy start frames published
+  all-made [] all = tt
+  all-made (desk ∷ published) ((front, back, cut, comes), all) =
+      ((front, back, cut, made-so front desk comes), all-made published all)
+
+-- each state that a service published is what the first few of its frames made of the state that was mounted
+module _ {L : Type 0} (traffic : L → Option Traffic) (marks : L → LinkMarks) (faults : L → ℕ) where
+  pub published-made : (entry : DiskState) (before after : DiskSeen) (start : DeskState) (last : Office) (disk : ℕ) (end : WorkerEnd)
+      (given given_now : Option (List L)) (count : ℕ)
+      → Works (VisitsOffice traffic marks faults) EndsOffice marks faults end (opening start disk) last given given_now 0 count
+      → KeepsService entry before after start last.frames → AreMadeBy start last.frames last.published
+  published-made entry before after start last disk end given given_now count works keeps =
+      let holds = office-holds traffic marks faults keeps.mounted start (start ∷ []) last.frames keeps.tells (opening start disk)
+      works.visits last [] works.in_turn (sym (append-nil last.frames))
+      (record { comes = inl refl; more = []; published_is = refl; each = tt }) in
+      subst (λ (published : List DeskState). AreMadeBy start last.frames published) (sym holds.published_is)
+      (([], last.frames, refl, refl), all-made keeps.mounted start keeps.alone last.frames holds.more holds.each)

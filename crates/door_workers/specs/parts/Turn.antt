@@ -15,12 +15,12 @@ use Rattle.door_workers.specs.declared.workers.WorkerEnd.{WorkerEnd}
 use Rattle.door_workers.specs.declared.workers.WorkerEnd.TheVariants.{DoorFailed, Memory}
 
 -- what a worker has done so far, that goes on
-pub record SoFar {S L : Type 0} (step : S → Visit L → S → Type 0) (marks : L → LinkMarks) (faults : L → ℕ)
+pub record SoFar {S L : Type 0} (step : S → Visit L → S → Type 0) (goes : List (Visit L) → Type 0) (marks : L → LinkMarks) (faults : L → ℕ)
     (start now : S) (given given_now : Option (List L)) (count count_now : ℕ) : Type 0 where
   pub visits : List (Visit L)
   pub fresh : AllByRecursion (IsFresh marks faults) visits
   pub in_turn : InTurn step start visits now
-  pub go_on : AllGoOn visits
+  pub go_on : goes visits
   pub given_back : GivesBack given visits given_now
   pub counted : count_now ≡ count
 
@@ -37,7 +37,7 @@ module _ {D L : Type 0} (faults : D → ℕ) (state : D → Option DiskState) (m
   -- frames that came.
   abbrev pub HoldsOffice : Keeper D → Office → Option (List L) → ℕ → Keeper D → List DeskState → Option (List L) → ℕ → Type 0
   HoldsOffice first start given count keeper published given_now count_now = (frames : List Exchange)
-      × SoFar (VisitsOffice traffic marks link_faults) marks link_faults start (office_of faults keeper published frames)
+      × SoFar (VisitsOffice traffic marks link_faults) AllGoOn marks link_faults start (office_of faults keeper published frames)
       given given_now count count_now
       × RunsOver state moment left_since first keeper frames
 

@@ -1,11 +1,13 @@
 -- What the calling thread does while the others work.
-use Rattle.std.specs.Prelude.{◌≡◌, ◌≤◌, ℕ, Bool, true, false, List, [], ◌∷◌, Option}
+use Rattle.std.specs.Prelude.{◌≡◌, ◌≤◌, ℕ, Bool, true, false, List, [], ◌∷◌, Option, Some}
 use Rattle.std.specs.Bool.{OnFalse}
 use Rattle.desk_ports.specs.FileMap.{FileMap}
 use Rattle.desk_ports.specs.Disk.{DiskState}
 use Rattle.link_ports.specs.Told.{IfTold}
 use Rattle.link_ports.specs.Traffic.{Traffic}
 use Rattle.link_ports.specs.LinkMarks.{LinkMarks}
+use Rattle.link_ports.specs.declared.door_kinds.DoorKind.{DoorKind}
+use Rattle.link_ports.specs.declared.door_kinds.DoorKind.TheVariants.{Admin}
 use Rattle.desk_state.specs.DeskState.{DeskState}
 use Rattle.desk_keeper.specs.Keeper.{IsSameDisk}
 use Rattle.desk_keeper.specs.declared.keeper.Keeper.{Keeper}
@@ -27,7 +29,7 @@ pub record Knocks {N C : Type 0} (net_faults : N → ℕ) (net_closed : N → Op
 -- Administrators were served until their worker ended, and then the net was knocked at.
 pub record Officiates {D L E N C : Type 0} (disk_faults : D → ℕ) (state : D → Option DiskState) (moment : D → ℕ)
     (left_since : D → ℕ → FileMap → Type 0) (traffic : L → Option Traffic) (marks : L → LinkMarks)
-    (faults : L → ℕ) (given_back : E → Option (List L)) (door_faults : E → ℕ) (net_faults : N → ℕ) (net_closed : N → Option (List C))
+    (faults : L → ℕ) (given_back : E → Option (List L)) (door_faults : E → ℕ) (kind : E → Option DoorKind) (net_faults : N → ℕ) (net_closed : N → Option (List C))
     (end : WorkerEnd) (keeper keeper_now : Keeper D) (published published_now : List DeskState) (door door_now : E)
     (net net_now : N) : Type 0 where
   -- the frames that came, each with its answer
@@ -37,18 +39,20 @@ pub record Officiates {D L E N C : Type 0} (disk_faults : D → ℕ) (state : D 
       (given_back door) (given_back door_now) (door_faults door) (door_faults door_now)
   pub runs : RunsOver state moment left_since keeper keeper_now frames
   pub same_disk : IsSameDisk keeper keeper_now
+  pub same_kind : kind door_now ≡ kind door
   pub knocks : Knocks net_faults net_closed net net_now
 
 -- What a service did between its opening and its end: whether memory was wanting at a door, and the rest as of `Administers`.
 pub record Staffs {D L E : Type 0} (disk_faults : D → ℕ) (state : D → Option DiskState) (moment : D → ℕ)
     (left_since : D → ℕ → FileMap → Type 0) (traffic : L → Option Traffic) (marks : L → LinkMarks)
-    (faults : L → ℕ) (given_back : E → Option (List L)) (door_faults : E → ℕ)
+    (faults : L → ℕ) (given_back : E → Option (List L)) (door_faults : E → ℕ) (kind : E → Option DoorKind)
     (lacked : Bool) (keeper keeper_now : Keeper D) (net net_now : ℕ) (closed closed_now : Option (List E)) : Type 0 where
   pub end : WorkerEnd
   pub published : List DeskState
   pub given : Option (List L)
   pub door : E
   pub others : List E
+  pub is_theirs : kind door ≡ Some Admin
   pub unused : IfTold given (λ links. links ≡ [])
   pub frames : List Exchange
   pub works : Works (VisitsOffice traffic marks faults) EndsOffice marks faults end

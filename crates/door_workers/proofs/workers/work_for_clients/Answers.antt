@@ -1,5 +1,6 @@
 use Rattle.std.proofs.Common.{refl}
 use Rattle.door_workers.specs.Clients.{VisitsClients}
+use Rattle.door_workers.specs.Visit.{GoesOnTold}
 use Rattle.door_workers.proofs.Visits.{begins}
 use Rattle.door_workers.proofs.workers.work_for_clients.Goals as goal
 
@@ -9,8 +10,9 @@ loop-init g c = (
   (
     tt,
     (
-      begins (VisitsClients g.L.Link.traffic g.L.Link.marks g.L.Link.faults) g.L.Link.marks g.L.Link.faults c.args.seat.now
-          (g.D.Door.given_back c.args.door.now) (g.D.Door.faults c.args.door.now),
+      begins (VisitsClients g.L.Link.traffic g.L.Link.marks g.L.Link.faults) g.L.Link.marks g.L.Link.faults
+          (GoesOnTold c.args.news.now c.args.news.now) c.args.seat.now
+          (g.D.Door.given_back c.args.door.now) (g.D.Door.faults c.args.door.now) (tt, refl),
       refl,
     ),
   ),
@@ -18,4 +20,4 @@ loop-init g c = (
 
 pub returns-in-Err-clause-worked : goal.returns-in-Err-clause-worked
 returns-in-Err-clause-worked g c =
-    c.in-Err.ensures.worked c.args.seat.now (g.D.Door.given_back c.args.door.now) (g.D.Door.faults c.args.door.now) c.loop.invariant.1.1.0
+    c.in-Err.ensures.worked c.args.news.now c.args.seat.now (g.D.Door.given_back c.args.door.now) (g.D.Door.faults c.args.door.now) c.loop.invariant.1.1.0

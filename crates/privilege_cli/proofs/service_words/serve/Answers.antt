@@ -14,6 +14,7 @@ returns-clause-run g c = λ source sink.
       closed = g.N.Net.closed;
       door_faults = g.N.Door.Door.faults;
       door_given_back = g.N.Door.Door.given_back;
+      door_kind = g.N.Door.Door.kind;
       accepted = record { faults = g.N.Door.Link.Link.faults; marks = g.N.Door.Link.Link.marks; traffic = g.N.Door.Link.Link.traffic };
     }) (Some (Serve c.args.workers)) c.args.workers c.run_serve.result source sink
     (disk_seen g.D.Disk.state g.D.Disk.moment g.D.Disk.left_since g.D.Disk.faults c.args.disk.now)
@@ -22,7 +23,7 @@ returns-clause-run g c = λ source sink.
 
 pub returns-clause-source_count : goal.returns-clause-source_count
 returns-clause-source_count g c = λ count.
-    reads-nothing g.N.Door.Link.Link.traffic g.N.Door.Link.Link.marks g.N.Door.Link.Link.faults g.N.Door.Door.given_back g.N.Door.Door.faults
+    reads-nothing g.N.Door.Link.Link.traffic g.N.Door.Link.Link.marks g.N.Door.Link.Link.faults g.N.Door.Door.given_back g.N.Door.Door.faults g.N.Door.Door.kind
     (disk_seen g.D.Disk.state g.D.Disk.moment g.D.Disk.left_since g.D.Disk.faults c.args.disk.now)
     (disk_seen g.D.Disk.state g.D.Disk.moment g.D.Disk.left_since g.D.Disk.faults c.run_serve.new.disk)
     (g.N.Dial.faults c.args.net.now) (g.N.Dial.faults c.run_serve.new.net) (g.N.Net.closed c.args.net.now) (g.N.Net.closed c.run_serve.new.net)
