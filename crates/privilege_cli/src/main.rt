@@ -10,12 +10,13 @@ use door_workers::Notes;
 use explanations::explain;
 use folder_disk::FolderDisk;
 use host_ports::{
-    InputSource, OutputSink, directory_path, folder_in, host_words, take_descriptors,
+    InputSource, OutputSink, directory_path, folder_path, host_words, sockets_path,
+    take_descriptors,
 };
 use link_ports::OpenGate;
 use program::run_on;
 use socket_net::SocketNet;
-use std::alloc::{AllocError, Global};
+use std::alloc::AllocError;
 use std::io::IsTerminal;
 use std::process::ExitCode;
 use std::sync::Wait;
@@ -23,9 +24,6 @@ use std::thread::Threads;
 
 /// The status of a run that found no memory.
 const NO_MEMORY: u8 = 1;
-
-/// The path in place of a directory's that can't be one: no socket has such a path.
-const NO_DIRECTORY: &str = "\0";
 
 fn main(rt: HostRuntime) -> ExitCode {
     match run_on_host(&rt, &rt) {
@@ -51,9 +49,9 @@ impl Notes for ErrorNotes<'_> {
 fn run_on_host<T: Threads + Wait + Sync>(rt: &HostRuntime, threads: &T) -> Result<u8, AllocError> {
     take_descriptors(rt);
     let directory = directory_path(rt, rt.alloc())?;
-    let folder = folder_of(rt.alloc(), &directory)?;
+    let folder = folder_path(rt.alloc(), &directory)?;
     let mut disk = FolderDisk::open(rt.clone()?, folder.as_str())?;
-    let mut net = SocketNet::new(rt.clone()?, sockets_of(&directory))?;
+    let mut net = SocketNet::new(rt.clone()?, sockets_path(&directory))?;
     let mut source = InputSource::over(rt.stdin());
     let mut sink = OutputSink::over(rt.stdout(), rt.stderr());
     greet(rt)?;
@@ -76,22 +74,6 @@ fn run_on_host<T: Threads + Wait + Sync>(rt: &HostRuntime, threads: &T) -> Resul
     }
     explain(rt, status, folder.as_str(), &disk, &net);
     Ok(status)
-}
-
-// The path of the folder. It is empty where there is no directory: no folder has that path.
-fn folder_of(alloc: Global, directory: &Option<String>) -> Result<String, AllocError> {
-    match directory {
-        Some(directory) => folder_in(alloc, directory.as_str()),
-        None => Ok(String::new(alloc)),
-    }
-}
-
-// The path of the directory of the sockets.
-fn sockets_of(directory: &Option<String>) -> &str {
-    match directory {
-        Some(directory) => directory.as_str(),
-        None => NO_DIRECTORY,
-    }
 }
 
 // Tells a person at a terminal what standard input is read for.
