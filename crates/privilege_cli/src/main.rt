@@ -3,7 +3,6 @@
 
 mod explanations;
 mod program;
-mod service_words;
 
 use command_words::Command;
 use door_workers::Notes;
