@@ -1,0 +1,68 @@
+// An agent's run over the service.
+use crate::answers::said;
+use crate::gates::HoldingGate;
+use agent_runs::agent_client;
+use case_words::{Failure, fails, first_number};
+use cynara_keys::Kind;
+use desk_ports::{Bytes, Failed, MemSink, PortFault};
+use link_ports::{Dial, DoorKind, Link};
+use std::alloc::Global;
+use std::sync::Wait;
+use std::time::Clock;
+
+/// A link that tells a gate each time that something came over it.
+#[derive(Drop)]
+pub struct HeardLink<'a, R: Wait + Clock, L: Link> {
+    link: L,
+    gate: &'a HoldingGate<'a, R>,
+}
+
+impl<'a, R: Wait + Clock, L: Link> Link for HeardLink<'a, R, L> {
+    type End = L::End;
+
+    ghost faults = { λ heard. L.faults heard.link };
+
+    ghost marks = { λ heard. L.marks heard.link };
+
+    ghost traffic = { λ heard. L.traffic heard.link };
+
+    ghost content = { λ heard. L.content heard.link };
+
+    fn send(&mut self, from: &[u8]) -> Result<(), Failed> {
+        self.link.send(from)
+    }
+
+    fn receive(&mut self, into: &mut [u8]) -> Result<usize, Failed> {
+        let received = self.link.receive(into);
+        self.gate.count(0, 0, 1);
+        received
+    }
+
+    fn is_up(&mut self) -> bool {
+        self.link.is_up()
+    }
+
+    fn hang_end(&mut self) -> Result<L::End, PortFault> {
+        self.link.hang_end()
+    }
+}
+
+/// Runs an agent until its link ends, by the words `KIND ANSWER`. How it ended, and what it wrote.
+pub fn run<'a, R: Wait + Clock, N: Dial>(
+    rt: &R,
+    alloc: Global,
+    gate: &'a HoldingGate<'a, R>,
+    net: &mut N,
+    words: &str,
+) -> Result<String, Failure> {
+    let (kind, answer) = first_number(words)?;
+    let Ok(kind) = u16::try_from(kind) else {
+        return Err(Failure::Words);
+    };
+    let mut sink = MemSink::new(Bytes::new(alloc), fails(alloc, "-")?)?;
+    let link = net.dial(DoorKind::Agent)?;
+    let mut link = HeardLink { link, gate };
+    let allowed = answer == "allow";
+    let ending = agent_client(rt, alloc, Kind(kind), allowed, &mut link, &mut sink);
+    Ok(said(alloc, ending, &mut sink)?)
+}
