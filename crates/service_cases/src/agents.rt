@@ -48,13 +48,14 @@ impl<'a, R: Wait + Clock, L: Link> Link for HeardLink<'a, R, L> {
 }
 
 /// Runs an agent until its link ends, by the words `KIND ANSWER`. How it ended, and what it wrote.
-pub fn run<'a, R: Wait + Clock, N: Dial>(
+pub fn run<'a, R: Wait + Clock, N: Dial + Drop>(
     rt: &R,
     alloc: Global,
     gate: &'a HoldingGate<'a, R>,
-    net: &mut N,
+    net: N,
     words: &str,
 ) -> Result<String, Failure> {
+    let mut net = net;
     let (kind, answer) = first_number(words)?;
     let Ok(kind) = u16::try_from(kind) else {
         return Err(Failure::Words);

@@ -7,7 +7,7 @@ use case_words::{Failure, fails, first_number, first_word, put_word};
 use desk_ports::{Disk, FileSet, MemDisk};
 use door_workers::Unheard;
 use joined_net::JoinedNet;
-use link_ports::{Dial, Door, Gate, Link, Net};
+use link_ports::{Door, Gate, Link, Net};
 use run_endings::Ending;
 use serve_runs::{MOST_CLIENT_WORKERS, run_serve};
 use std::alloc::Global;
@@ -47,12 +47,12 @@ fn run<R: Threads + Wait + Sync + Clock>(
 ) -> Result<String, Failure> {
     let gate = HoldingGate::new(rt, holds);
     let mut net = JoinedNet::new(rt, alloc)?;
-    let mut agent = net.share()?;
+    let agent = net.share()?;
     let theirs = net.share()?;
     let client = net.share()?;
     let (talked, ending) = join(
         rt,
-        || talk(rt, alloc, &gate, theirs, client, &mut agent, steps),
+        || talk(rt, alloc, &gate, theirs, client, agent, steps),
         || service(rt, alloc, workers, disk, &mut net, &gate),
     );
     let mut told = talked?;
@@ -89,13 +89,13 @@ where
 
 // Those who talk with the service. It is they who stop it. An agent whose words stand between two `|` runs beside the last
 // of them.
-fn talk<'a, R: Threads + Wait + Sync + Clock, N: Dial + Send + Drop>(
+fn talk<'a, R: Threads + Wait + Sync + Clock>(
     rt: &'a R,
     alloc: Global,
     gate: &'a HoldingGate<'a, R>,
-    net: N,
-    client: N,
-    agent: &mut N,
+    net: JoinedNet<&'a R>,
+    client: JoinedNet<&'a R>,
+    agent: JoinedNet<&'a R>,
     steps: &str,
 ) -> Result<String, Failure> {
     let mut people = People::new(alloc, gate, net, client)?;
