@@ -11,6 +11,7 @@ use Rattle.wire_messages.specs.declared.operations.Heard.{Heard}
 use Rattle.wire_messages.specs.declared.operations.Heard.TheVariants.{Replies}
 use Rattle.wire_messages.specs.declared.refusals.WireRefusal.TheVariants.{TooShort, TooLong, BadOperation, BadField, Trailing, Memory}
 use Rattle.client_connection.specs.Reading.{IsRead, Receives}
+use Rattle.client_connection.proofs.Sizes.{whole_within}
 use Rattle.client_connection.specs.declared.faults.Broken.{Broken}
 use Rattle.client_connection.specs.declared.faults.Broken.TheVariants.{Lost, Wrong}
 use Rattle.client_connection.specs.declared.faults.ReplyFault.{ReplyFault}
@@ -110,7 +111,8 @@ refused_behind wanted sequence rows bytes behind (Wrong (BadField n)) are heard 
     IsBad.no_frame (BadField n) behind refl (record { rows = rows; heard = heard; are_rows = are }) read
 refused_behind wanted sequence rows bytes behind (Wrong (Trailing n)) are heard read =
     IsBad.no_frame (Trailing n) behind refl (record { rows = rows; heard = heard; are_rows = are }) read
-refused_behind wanted sequence rows bytes behind (Wrong (Memory error)) are heard read = tt
+refused_behind wanted sequence rows bytes behind (Wrong (Memory error)) are heard read =
+    (behind, record { rows = rows; heard = heard; are_rows = are }, read.within)
 
 pub refused_read : (wanted : Wanted) (sequence : ℕ) (rows : List Framed) (broken : Broken) (start between end : Option Traffic)
     → AreRows wanted sequence 0 rows → TookBytes (λ bytes. Hears Replies bytes rows []) start between
@@ -155,8 +157,19 @@ whole_reply wanted sequence n rows framed replies start end place are whole all 
       bytes.2,
     )
 
--- no memory was found for it
-pub refused_memory : (wanted : Wanted) (sequence : ℕ) (P : List ℕ → Type 0) (error : AllocError) (start end : Option Traffic)
-    → TookBytes P start end → TookBytes (IsRefused wanted sequence (refusal.Memory error)) start end
-refused_memory wanted sequence P error start end took before told =
-    let all = took before told in (all.0, tt, all.2)
+-- no memory was found for a reply that was read
+pub refused_memory : (wanted : Wanted) (sequence : ℕ) (rows : List Framed) (framed : Framed) (error : AllocError) (start between end : Option Traffic)
+    → AreRows wanted sequence 0 rows → TookBytes (λ bytes. Hears Replies bytes rows []) start between
+    → Receives Replies (Ok framed) between end
+    → TookBytes (IsRefused wanted sequence (refusal.Memory error)) start end
+refused_memory wanted sequence rows framed error start between end are one two before told =
+    let first = one before told in
+    let then = two (with_received first.0 before) first.2 in (
+      first.0 ++ then.0,
+      (
+        then.0,
+        record { rows = rows; heard = hears_more Replies first.0 then.0 rows [] first.1; are_rows = are },
+        whole_within Replies then.0 framed then.1,
+      ),
+      then.2 ∙ ap (λ bytes. Some (record before { received = bytes })) (append_assoc before.received first.0 then.0),
+    )

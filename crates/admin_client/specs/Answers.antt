@@ -1,13 +1,14 @@
 -- The bytes of the replies to a message, and what they come to.
-use Rattle.std.specs.Prelude.{◌≡◌, ℕ, List, [], ◌∷◌, ◌++◌, length, map, Option, Some}
+use Rattle.std.specs.Prelude.{◌≡◌, ◌≤◌, ℕ, List, [], ◌∷◌, ◌++◌, length, map, Option, Some}
 use Rattle.link_ports.specs.Told.{IfTold}
 use Rattle.link_ports.specs.Traffic.{Traffic, with_received}
-use Rattle.wire_messages.specs.Stream.{Hears, BeginsWrong, IsOpen}
+use Rattle.wire_messages.specs.Stream.{Hears, IsOpen}
 use Rattle.wire_messages.specs.declared.messages.Framed.{Framed}
 use Rattle.wire_messages.specs.declared.messages.Message.{Message}
 use Rattle.wire_messages.specs.declared.operations.Heard.TheVariants.{Replies}
 use Rattle.wire_messages.specs.declared.refusals.WireRefusal.{WireRefusal}
 use Rattle.wire_messages.specs.declared.refusals.WireRefusal.TheVariants as wire
+use Rattle.client_connection.specs.Reading.{size_of, IsWrong}
 use Rattle.client_connection.specs.declared.faults.Broken.{Broken}
 use Rattle.client_connection.specs.declared.faults.Broken.TheVariants as broken
 use Rattle.client_connection.specs.declared.faults.ReplyFault.{ReplyFault}
@@ -38,20 +39,22 @@ pub record IsWhole (wanted : Wanted) (sequence : ℕ) (replies : List Message) (
   pub whole : next_of wanted sequence (length rows) last ≡ Whole
   pub are_all : replies ≡ map (λ framed. framed.message) (rows ++ last ∷ [])
 
--- the bytes are no answer: behind rows they go on with what is no frame, or with a reply that is wrong there
+-- The bytes are no answer, and go no further than what is wrong in them: behind rows they go on with what is no frame, or with a
+-- reply that is wrong there.
 pub data IsBad (wanted : Wanted) (sequence : ℕ) (fault : ReplyFault) (bytes : List ℕ) : Type 0 where
   no_frame : (refusal : WireRefusal) (behind : List ℕ) → fault ≡ Frame refusal → BeginsWithRows wanted sequence bytes behind
-      → BeginsWrong Replies behind refusal → IsBad wanted sequence fault bytes
+      → IsWrong Replies behind refusal → IsBad wanted sequence fault bytes
   no_answer : (rows : List Framed) (wrong : Framed) → Hears Replies bytes (rows ++ wrong ∷ []) [] → AreRows wanted sequence 0 rows
       → next_of wanted sequence (length rows) wrong ≡ Wrong fault → IsBad wanted sequence fault bytes
 
--- what the bytes are behind which a message has no answer
+-- What the bytes are behind which a message has no answer. Where no memory was found for a reply, they do not pass its frame.
 abbrev pub IsRefused : Wanted → ℕ → AdminRefusal → List ℕ → Type 0
 IsRefused wanted sequence Unavailable bytes =
     (behind : List ℕ) × BeginsWithRows wanted sequence bytes behind × IsOpen Replies behind
 IsRefused wanted sequence (BadReply fault) bytes = IsBad wanted sequence fault bytes
 IsRefused wanted sequence (TooLong n) bytes = ⊥
-IsRefused wanted sequence (Memory error) bytes = Unit {0}
+IsRefused wanted sequence (Memory error) bytes =
+    (behind : List ℕ) × BeginsWithRows wanted sequence bytes behind × (length behind ≤ size_of behind)
 
 abbrev pub IfUnavailable : AdminRefusal → Type 0 → Type 0
 IfUnavailable Unavailable fact = fact

@@ -1,10 +1,11 @@
 -- A message that was received piece by piece, and heard.
 use Rattle.std.proofs.Common.{◌≡◌, ◌<◌, ℕ, List, [], ◌∷◌, ◌++◌, length, true, false, Result, Ok, Err, refl, sym, ap, ◌∙◌, subst, append-nil, arith}
-use Rattle.wire_messages.specs.Stream.{Feeding, Hears, BeginsWrong, IsOpen, first_of, unfed}
+use Rattle.wire_messages.specs.Stream.{Feeding, Hears, IsOpen, first_of, unfed}
 use Rattle.wire_messages.specs.declared.messages.Framed.{Framed}
 use Rattle.wire_messages.specs.declared.operations.Heard.{Heard}
 use Rattle.wire_messages.specs.declared.operations.Heard.TheVariants.{AgentReplies}
 use Rattle.wire_messages.specs.declared.refusals.WireRefusal.{WireRefusal}
+use Rattle.client_connection.specs.Reading.{IsWrong}
 use Rattle.agent_runs.specs.LinkSeen.{LinkSeen, Carries}
 use Rattle.agent_runs.specs.parts.Hearing.{HearsNext, HearsPiece, Came, TakesPiece}
 use Rattle.agent_runs.specs.declared.hearing.Stop.{Stop}
@@ -89,7 +90,7 @@ module _ (heard : Heard) (old : Feeding) (a b c : LinkSeen) (is : old ≡ record
       → HearsNext heard (Err (stop.Wrong refusal)) a c
   ends-wrong new refusal came = record {
     bytes = old.partial ++ came.bytes;
-    are_heard = subst (λ side. BeginsWrong side (old.partial ++ came.bytes) refusal) side came.heard;
+    are_heard = subst (λ side. IsWrong side (old.partial ++ came.bytes) refusal) side came.heard;
     carried = more came.bytes came.carried;
     faults = came.faults ∙ count;
   }

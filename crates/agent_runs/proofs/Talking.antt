@@ -271,19 +271,19 @@ module _ (kind : Kind) (allowed : Bool) (messages : List Framed) (start : LinkSe
         unheard (stop.Wrong (NoMemory error)) Memory h false h.carried (h.faults ∙ t.faults) (inl (count, refl)) (t.goes_on, tt, refl)
     served-unheard (stop.Wrong (TooShort n)) h =
         unheard (stop.Wrong (TooShort n)) Reply h false h.carried (h.faults ∙ t.faults) (count, refl)
-        (refl, t.goes_on, IsBadReply.wrong (TooShort n) h.are_heard refl)
+        (refl, t.goes_on, IsBadReply.wrong (TooShort n) h.are_heard.begins h.are_heard.within refl)
     served-unheard (stop.Wrong (TooLong n)) h =
         unheard (stop.Wrong (TooLong n)) Reply h false h.carried (h.faults ∙ t.faults) (count, refl)
-        (refl, t.goes_on, IsBadReply.wrong (TooLong n) h.are_heard refl)
+        (refl, t.goes_on, IsBadReply.wrong (TooLong n) h.are_heard.begins h.are_heard.within refl)
     served-unheard (stop.Wrong (BadOperation n)) h =
         unheard (stop.Wrong (BadOperation n)) Reply h false h.carried (h.faults ∙ t.faults) (count, refl)
-        (refl, t.goes_on, IsBadReply.wrong (BadOperation n) h.are_heard refl)
+        (refl, t.goes_on, IsBadReply.wrong (BadOperation n) h.are_heard.begins h.are_heard.within refl)
     served-unheard (stop.Wrong (BadField n)) h =
         unheard (stop.Wrong (BadField n)) Reply h false h.carried (h.faults ∙ t.faults) (count, refl)
-        (refl, t.goes_on, IsBadReply.wrong (BadField n) h.are_heard refl)
+        (refl, t.goes_on, IsBadReply.wrong (BadField n) h.are_heard.begins h.are_heard.within refl)
     served-unheard (stop.Wrong (Trailing n)) h =
         unheard (stop.Wrong (Trailing n)) Reply h false h.carried (h.faults ∙ t.faults) (count, refl)
-        (refl, t.goes_on, IsBadReply.wrong (Trailing n) h.are_heard refl)
+        (refl, t.goes_on, IsBadReply.wrong (Trailing n) h.are_heard.begins h.are_heard.within refl)
 
   -- one more message was heard
   module _ (framed : Framed) (link after : LinkSeen) (sink sink_after : SinkSeen)

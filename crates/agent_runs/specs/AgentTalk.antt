@@ -1,5 +1,5 @@
 -- What an agent hears, writes and sends on a connection, over all messages at once.
-use Rattle.std.specs.Prelude.{◌≡◌, ◌⊎◌, ◌<◌, ℕ, Bool, true, false, List, [], ◌∷◌, ◌++◌, length}
+use Rattle.std.specs.Prelude.{◌≡◌, ◌⊎◌, ◌<◌, ◌≤◌, ℕ, Bool, true, false, List, [], ◌∷◌, ◌++◌, length}
 use Rattle.std.specs.List.{flat_map, AllByRecursion}
 use Rattle.cynara_keys.specs.declared.results.Kind.{Kind}
 use Rattle.line_script.specs.Answers.{question_text, taken_text}
@@ -10,6 +10,7 @@ use Rattle.wire_messages.specs.declared.operations.Heard.TheVariants.{AgentRepli
 use Rattle.wire_messages.specs.declared.refusals.WireRefusal.{WireRefusal}
 use Rattle.wire_messages.specs.Frame.{spelling, with_sequence}
 use Rattle.wire_messages.specs.Stream.{Hears, IsOpen, Wrong, first_of}
+use Rattle.client_connection.specs.Reading.{size_of}
 use Rattle.run_endings.specs.Ending.{net_faults_after}
 use Rattle.run_endings.specs.Outside.{SinkSeen}
 use Rattle.run_endings.specs.Saying.{Said, silence, WritesAnswers}
@@ -85,10 +86,11 @@ AreInPlace messages = GoesOn messages ⊎ IsTaken messages
 
 -- ---- how it ends
 
--- Behind these messages the bytes are a bad reply: a frame that is wrong, the end of the input within a frame, or a message
--- out of its place.
+-- Behind these messages the bytes are a bad reply: a frame that is wrong, and no byte past it; the end of the input within a
+-- frame; or a message out of its place.
 pub data IsBadReply (messages : List Framed) (behind : List ℕ) (found : Bool) : Type 0 where
-  wrong : (refusal : WireRefusal) → first_of AgentReplies behind ≡ Wrong refusal → found ≡ false → IsBadReply messages behind found
+  wrong : (refusal : WireRefusal) → first_of AgentReplies behind ≡ Wrong refusal → length behind ≤ size_of behind → found ≡ false
+      → IsBadReply messages behind found
   cut : 0 < length behind → IsOpen AgentReplies behind → found ≡ true → IsBadReply messages behind found
   misplaced : (framed : Framed) → Hears AgentReplies behind (framed ∷ []) [] → (AreInPlace (messages ++ framed ∷ []) → ⊥)
       → found ≡ false → IsBadReply messages behind found

@@ -6,6 +6,7 @@ use Rattle.wire_messages.specs.declared.operations.Heard.{Heard}
 use Rattle.wire_messages.specs.declared.refusals.WireRefusal.{WireRefusal}
 use Rattle.wire_messages.specs.declared.refusals.WireRefusal.TheVariants.{TooShort, TooLong, BadOperation, BadField, Trailing, Memory}
 use Rattle.client_connection.specs.parts.Pieces.{HearsPiece}
+use Rattle.client_connection.proofs.Sizes.{piece_within}
 use Rattle.client_connection.specs.declared.reading.Piece.TheVariants as piece
 
 -- what is known of pieces: one message at most
@@ -63,13 +64,16 @@ nothing_wrong heard bytes (BadField n) wrong = cc
 nothing_wrong heard bytes (Trailing n) wrong = cc
 nothing_wrong heard bytes (Memory error) wrong = tt
 
--- the frame is wrong with the piece
+-- the frame is wrong with the piece, which does not pass its end
 pub wrong : Law → (old new : Feeding) (bytes : List ℕ) (refusal : WireRefusal)
     → IsOpen old.heard old.partial → length bytes ≤ wanted old.partial
     → Failed old new bytes refusal → HearsPiece (piece.Wrong refusal) old new bytes
-wrong law old new bytes refusal open_frame up h =
-    elim (law old.heard old.partial bytes h.messages h.behind open_frame up h.heard) [
-      | HearsOne.none messages behind ↦ subst (λ rest. BeginsWrong old.heard rest refusal) behind h.wrong
-      | HearsOne.one other messages behind ↦
-          nothing_wrong old.heard (old.partial ++ bytes) refusal (subst (λ rest. BeginsWrong old.heard rest refusal) behind h.wrong)
-    ]
+wrong law old new bytes refusal open_frame up h = record {
+  begins =
+      elim (law old.heard old.partial bytes h.messages h.behind open_frame up h.heard) [
+        | HearsOne.none messages behind ↦ subst (λ rest. BeginsWrong old.heard rest refusal) behind h.wrong
+        | HearsOne.one other messages behind ↦
+            nothing_wrong old.heard (old.partial ++ bytes) refusal (subst (λ rest. BeginsWrong old.heard rest refusal) behind h.wrong)
+      ];
+  within = piece_within old.heard old.partial bytes open_frame up;
+}

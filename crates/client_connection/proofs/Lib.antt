@@ -1,3 +1,4 @@
+pub mod Sizes
 mod Hearing
 mod Receiving
 mod Exchanging

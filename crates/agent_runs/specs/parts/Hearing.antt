@@ -1,10 +1,11 @@
 -- One message is heard over a link, or none.
 use Rattle.std.specs.Prelude.{◌≡◌, ◌<◌, ℕ, Bool, true, false, List, [], ◌∷◌, ◌++◌, length, Result, Ok, Err}
 use Rattle.desk_ports.specs.Faults.{next_count}
-use Rattle.wire_messages.specs.Stream.{Feeding, Hears, BeginsWrong, IsOpen, unfed}
+use Rattle.wire_messages.specs.Stream.{Feeding, Hears, IsOpen, unfed}
 use Rattle.wire_messages.specs.declared.messages.Framed.{Framed}
 use Rattle.wire_messages.specs.declared.operations.Heard.{Heard}
 use Rattle.wire_messages.specs.declared.refusals.WireRefusal.TheVariants.{Memory as NoMemory}
+use Rattle.client_connection.specs.Reading.{IsWrong}
 use Rattle.run_endings.specs.declared.endings.Ending.{Ending}
 use Rattle.run_endings.specs.declared.endings.Ending.TheVariants.{Done, Memory, Net, Reply}
 use Rattle.agent_runs.specs.LinkSeen.{LinkSeen, Carries}
@@ -17,12 +18,12 @@ use Rattle.agent_runs.specs.declared.hearing.Piece.TheVariants as piece
 abbrev pub IsUnused : Feeding → Type 0
 IsUnused feeder = feeder ≡ unfed feeder.heard
 
--- What the bytes are that were received: the one frame of a message, none, less than a frame, or a front that is wrong.
+-- What the bytes are that were received: the one frame of a message, none, less than a frame, or one that is wrong.
 abbrev pub AreHeard : Heard → Result Framed Stop → List ℕ → Type 0
 AreHeard heard (Ok framed) bytes = Hears heard bytes (framed ∷ []) []
 AreHeard heard (Err stop.Ended) bytes = bytes ≡ []
 AreHeard heard (Err stop.Cut) bytes = (0 < length bytes) × IsOpen heard bytes
-AreHeard heard (Err (stop.Wrong refusal)) bytes = BeginsWrong heard bytes refusal
+AreHeard heard (Err (stop.Wrong refusal)) bytes = IsWrong heard bytes refusal
 AreHeard heard (Err stop.Lost) bytes = IsOpen heard bytes
 
 -- whether the end of the input was found
@@ -59,7 +60,7 @@ HearsPiece piece.More old new bytes =
     (new ≡ record old { partial = old.partial ++ bytes }) × IsOpen old.heard new.partial
 HearsPiece (piece.Whole framed) old new bytes =
     (new ≡ record old { partial = [] }) × Hears old.heard (old.partial ++ bytes) (framed ∷ []) []
-HearsPiece (piece.Wrong refusal) old new bytes = BeginsWrong old.heard (old.partial ++ bytes) refusal
+HearsPiece (piece.Wrong refusal) old new bytes = IsWrong old.heard (old.partial ++ bytes) refusal
 HearsPiece other old new bytes = ⊥
 
 -- some bytes were received and heard

@@ -3,8 +3,8 @@ use Rattle.std.specs.Prelude.{◌≡◌, ◌<◌, ℕ, List, [], ◌∷◌, ◌+
 use Rattle.link_ports.specs.Told.{IfTold}
 use Rattle.link_ports.specs.Traffic.{Traffic, with_received}
 use Rattle.link_ports.specs.LinkMarks.{LinkMarks}
-use Rattle.wire_messages.specs.Stream.{Feeding, Hears, BeginsWrong, IsOpen}
-use Rattle.client_connection.specs.Reading.{IsTrouble}
+use Rattle.wire_messages.specs.Stream.{Feeding, Hears, IsOpen}
+use Rattle.client_connection.specs.Reading.{IsTrouble, IsWrong}
 use Rattle.client_connection.specs.declared.reading.Piece.{Piece}
 use Rattle.client_connection.specs.declared.reading.Piece.TheVariants as piece
 
@@ -14,7 +14,7 @@ HearsPiece piece.More old new bytes =
     (new ≡ record old { partial = old.partial ++ bytes }) × IsOpen old.heard new.partial
 HearsPiece (piece.Whole framed) old new bytes =
     (new ≡ record old { partial = [] }) × Hears old.heard (old.partial ++ bytes) (framed ∷ []) []
-HearsPiece (piece.Wrong refusal) old new bytes = BeginsWrong old.heard (old.partial ++ bytes) refusal
+HearsPiece (piece.Wrong refusal) old new bytes = IsWrong old.heard (old.partial ++ bytes) refusal
 HearsPiece piece.Lost old new bytes = ⊥
 
 -- some bytes were received and heard

@@ -1,7 +1,5 @@
-use Rattle.std.proofs.Common.{◌≡◌, ◌∙◌, ◌++◌, List, [], ◌∷◌, Ok, Err, refl, sym, ap, subst, arith, length, length-append}
-use Rattle.wire_messages.specs.Stream.{Hears}
+use Rattle.std.proofs.Common.{◌∙◌, ◌++◌, List, [], ◌∷◌, Ok, Err, refl, sym, ap, subst, arith, length, length-append}
 use Rattle.wire_messages.specs.declared.messages.Message.{Message}
-use Rattle.wire_messages.specs.declared.operations.Heard.TheVariants.{Replies}
 use Rattle.admin_client.specs.Answers.{TookBytes, IsRefused}
 use Rattle.admin_client.specs.declared.refusals.AdminRefusal.{AdminRefusal}
 use Rattle.admin_client.proofs.Taking.{more_rows, mapped_more, rows_count, one_more, as_replies, took_more, refused_read, refused_reply, whole_reply, refused_memory}
@@ -73,7 +71,5 @@ returns-in-NoRoom-clause-refused g c =
     let start = g.L.Link.traffic c.args.link.now in
     let between = g.L.Link.traffic c.loop-framed.link in
     let end = g.L.Link.traffic c.read_frame.new.link in
-    refused_memory c.args.wanted c.args.sequence (λ bytes. Hears Replies bytes (so_far.0 ++ c.in-Ok.framed ∷ []) [])
-    c.in-NoRoom.error start end
-    (took_more so_far.0 c.in-Ok.framed start between end so_far.3
-    (as_replies c.loop-framed.feeder (Ok c.in-Ok.framed) between end so_far.4 c.in-Ok.ensures.received))
+    refused_memory c.args.wanted c.args.sequence so_far.0 c.in-Ok.framed c.in-NoRoom.error start between end so_far.2 so_far.3
+    (as_replies c.loop-framed.feeder (Ok c.in-Ok.framed) between end so_far.4 c.in-Ok.ensures.received)
