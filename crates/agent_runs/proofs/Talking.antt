@@ -141,10 +141,10 @@ module _ (kind : Kind) (allowed : Bool) (link after : LinkSeen) (sink : SinkSeen
       → Served kind allowed ending link after sink sink
   served-unsent Memory sends =
       silent Memory (carries-same link after sends) (ap (λ link. link.faults) sends) (inl (refl, refl))
-      (record { unregistered = tt; said_is = refl; sent_is = refl; received_is = refl; found_is = refl })
+      (record { unregistered = tt; said_is = refl; nothing = (refl, refl, refl) })
   served-unsent Net sends =
       silent Net sends.0 sends.1 (refl, refl)
-      (record { unregistered = tt; said_is = refl; sent_is = refl; received_is = refl; found_is = refl })
+      (record { unregistered = tt; said_is = refl; nothing = (refl, refl, refl) })
   served-unsent ending sends = absurd sends
 
 -- ---- one message more

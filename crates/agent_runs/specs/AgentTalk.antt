@@ -139,9 +139,7 @@ IsUnregistered ending = ⊥
 pub record IsSilent (ending : Ending) (said : Said) (sent received : List ℕ) (found : Bool) : Type 0 where
   pub unregistered : IsUnregistered ending
   pub said_is : said ≡ silence
-  pub sent_is : sent ≡ []
-  pub received_is : received ≡ []
-  pub found_is : found ≡ false
+  pub nothing : (sent ≡ []) × (received ≡ []) × (found ≡ false)
 
 -- What an agent of this kind that gives this answer says, and how it ends, over a link before and after.
 pub record Serves (kind : Kind) (allowed : Bool) (said : Said) (ending : Ending) (before after : LinkSeen) : Type 0 where

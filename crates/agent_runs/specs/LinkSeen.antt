@@ -4,6 +4,8 @@ use Rattle.std.specs.Option.{option_map}
 use Rattle.link_ports.specs.Told.{IfTold}
 use Rattle.link_ports.specs.Traffic.{Traffic, with_received, with_sent}
 use Rattle.link_ports.specs.LinkMarks.{LinkMarks}
+use Rattle.link_ports.specs.declared.links.Link.{Ghosts as LinkTells}
+use Rattle.link_ports.specs.declared.dials.Dial.{Ghosts as DialTells}
 
 -- a link: what went over it, where it tells that, its marks and its count
 pub record LinkSeen : Type 0 where
@@ -11,8 +13,9 @@ pub record LinkSeen : Type 0 where
   pub marks : LinkMarks
   pub faults : ℕ
 
-abbrev pub link_seen : {L : Type 0} → (L → Option Traffic) → (L → LinkMarks) → (L → ℕ) → L → LinkSeen
-link_seen traffic marks faults link = record { traffic = traffic link; marks = marks link; faults = faults link }
+-- of a link, by what its type tells
+abbrev pub link_seen : {L H : Type 0} → LinkTells L H → L → LinkSeen
+link_seen tells link = record { traffic = tells.traffic link; marks = tells.marks link; faults = tells.faults link }
 
 -- with the end of the input found, or not
 abbrev pub with_end : Bool → LinkMarks → LinkMarks
@@ -23,12 +26,11 @@ pub record Carries (sent received : List ℕ) (found : Bool) (before after : Lin
   pub traffic : IfTold before.traffic (λ traffic. after.traffic ≡ Some (with_received received (with_sent sent traffic)))
   pub marks : after.marks ≡ with_end found before.marks
 
--- a dialler: the links given back to it, where it tells them, how many dials were made, and its count
+-- a dialler: the links given back to it, where it tells them, and its count
 pub record DialSeen : Type 0 where
   pub given : Option (List LinkSeen)
-  pub dials : ℕ
   pub faults : ℕ
 
-abbrev pub dial_seen : {N L : Type 0} → (N → Option (List L)) → (N → ℕ) → (N → ℕ) → (L → LinkSeen) → N → DialSeen
-dial_seen given dials faults seen dial =
-    record { given = option_map (map seen) (given dial); dials = dials dial; faults = faults dial }
+-- of a dialler, by what its type tells, and that of its links
+abbrev pub dial_seen : {N L H : Type 0} → DialTells N L H → LinkTells L H → N → DialSeen
+dial_seen tells link dial = record { given = option_map (map (link_seen link)) (tells.given_back dial); faults = tells.faults dial }

@@ -37,8 +37,8 @@ pub fn agent_client<R: Wait, L: Link, K: Sink>(
     link: &mut L,
     sink: &mut K,
 ) -> Ending
-    ensures { Served kind allowed result (link_seen L.traffic L.marks L.faults link.old)
-        (link_seen L.traffic L.marks L.faults link.new) (sink_seen K.taken K.faults sink.old)
+    ensures { Served kind allowed result (link_seen L.Link link.old)
+        (link_seen L.Link link.new) (sink_seen K.taken K.faults sink.old)
         (sink_seen K.taken K.faults sink.new) }
 {
     let mut agent = Agent::new(alloc, allowed);
@@ -76,7 +76,7 @@ impl Agent {
     // Says of what kind it is.
     fn register<L: Link>(&mut self, kind: Kind, link: &mut L) -> Result<(), Ending>
         ensures sends { SendsFrame (spelling (with_sequence 0 (Register kind))) result
-            (link_seen L.traffic L.marks L.faults link.old) (link_seen L.traffic L.marks L.faults link.new) }
+            (link_seen L.Link link.old) (link_seen L.Link link.new) }
         ensures unused { self.new.feeder ≡ self.old.feeder }
         ensures answer { self.new.allowed ≡ self.old.allowed }
     {
@@ -96,9 +96,9 @@ impl Agent {
     ) -> Ending
         requires unused { self.old.feeder ≡ unfed AgentReplies }
         ensures { (kind : kind_type.Kind) (start : LinkSeen) (sink_start : SinkSeen)
-            → Talked kind self.old.allowed [] start (link_seen L.traffic L.marks L.faults link.old)
+            → Talked kind self.old.allowed [] start (link_seen L.Link link.old)
             sink_start (sink_seen K.taken K.faults sink.old)
-            → Served kind self.old.allowed result start (link_seen L.traffic L.marks L.faults link.new)
+            → Served kind self.old.allowed result start (link_seen L.Link link.new)
             sink_start (sink_seen K.taken K.faults sink.new) }
     {
         match hear_next(link, &mut self.feeder) {
@@ -121,9 +121,9 @@ impl Agent {
     ) -> Ending
         requires unused { self.old.feeder ≡ unfed AgentReplies }
         ensures { (kind : kind_type.Kind) (start : LinkSeen) (sink_start : SinkSeen)
-            → Met kind self.old.allowed [] first.now start (link_seen L.traffic L.marks L.faults link.old)
+            → Met kind self.old.allowed [] first.now start (link_seen L.Link link.old)
             sink_start (sink_seen K.taken K.faults sink.old)
-            → Served kind self.old.allowed result start (link_seen L.traffic L.marks L.faults link.new)
+            → Served kind self.old.allowed result start (link_seen L.Link link.new)
             sink_start (sink_seen K.taken K.faults sink.new) }
     {
         match &first.message {
@@ -144,8 +144,8 @@ impl Agent {
         sink: &mut K,
     ) -> Ending
         requires unused { self.old.feeder ≡ unfed AgentReplies }
-        ensures { EndsAll self.old.allowed result (link_seen L.traffic L.marks L.faults link.old)
-            (link_seen L.traffic L.marks L.faults link.new) (sink_seen K.taken K.faults sink.old)
+        ensures { EndsAll self.old.allowed result (link_seen L.Link link.old)
+            (link_seen L.Link link.new) (sink_seen K.taken K.faults sink.old)
             (sink_seen K.taken K.faults sink.new) }
     {
         'turns: for _ in rt.forever() {
@@ -160,8 +160,8 @@ impl Agent {
     // Hears the next message, and follows it.
     fn turn<L: Link, K: Sink>(&mut self, link: &mut L, sink: &mut K) -> Result<(), Ending>
         requires unused { self.old.feeder ≡ unfed AgentReplies }
-        ensures turn { TakesTurn self.old.allowed result (link_seen L.traffic L.marks L.faults link.old)
-            (link_seen L.traffic L.marks L.faults link.new) (sink_seen K.taken K.faults sink.old)
+        ensures turn { TakesTurn self.old.allowed result (link_seen L.Link link.old)
+            (link_seen L.Link link.new) (sink_seen K.taken K.faults sink.old)
             (sink_seen K.taken K.faults sink.new) }
         ensures unused { OnOk result (self.new.feeder ≡ self.old.feeder) }
         ensures answer { self.new.allowed ≡ self.old.allowed }

@@ -43,8 +43,8 @@ pub(crate) enum Piece {
 /// wait.
 pub(crate) fn hear_next<L: Link>(link: &mut L, feeder: &mut Feeder) -> Result<Framed, Stop>
     requires { IsUnused feeder.old }
-    ensures next { HearsNext feeder.old.heard result (link_seen L.traffic L.marks L.faults link.old)
-        (link_seen L.traffic L.marks L.faults link.new) }
+    ensures next { HearsNext feeder.old.heard result (link_seen L.Link link.old)
+        (link_seen L.Link link.new) }
     ensures again { OnOk result (feeder.new ≡ feeder.old) }
 {
     let mut room = [0u8; MOST_PIECE];
@@ -79,8 +79,8 @@ fn take_piece<L: Link>(link: &mut L, feeder: &mut Feeder, room: &mut [u8]) -> Pi
     requires waiting { feeder.old.waiting ≡ [] }
     requires sound { feeder.old.failed ≡ None }
     requires open_frame { IsOpen feeder.old.heard feeder.old.partial }
-    ensures { TakesPiece result feeder.old feeder.new (link_seen L.traffic L.marks L.faults link.old)
-        (link_seen L.traffic L.marks L.faults link.new) }
+    ensures { TakesPiece result feeder.old feeder.new (link_seen L.Link link.old)
+        (link_seen L.Link link.new) }
 {
     match link.receive(room) {
         Ok(0) => Piece::Ended,

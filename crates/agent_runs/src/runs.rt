@@ -26,8 +26,8 @@ pub fn run_agent<R: Wait, N: Dial, K: Sink>(
 ) -> Ending
     ensures run { (said : Said)
         × RunsAgent kind allowed said result
-        (dial_seen N.given_back N.dials N.faults (link_seen N.Link.traffic N.Link.marks N.Link.faults) dial.old)
-        (dial_seen N.given_back N.dials N.faults (link_seen N.Link.traffic N.Link.marks N.Link.faults) dial.new)
+        (dial_seen N.Dial N.Link.Link dial.old)
+        (dial_seen N.Dial N.Link.Link dial.new)
         × WritesAnswers result said (sink_seen K.taken K.faults sink.old) (sink_seen K.taken K.faults sink.new) }
     ensures dials { N.dials dial.new ≡ next_count (N.dials dial.old) }
     ensures count { DialCounts result (N.faults dial.old) (N.faults dial.new) }
@@ -49,9 +49,9 @@ fn serve<R: Wait, N: Dial, K: Sink>(
     dial: &mut N,
     sink: &mut K,
 ) -> Ending
-    ensures serves { ServesDialled kind allowed result (link_seen N.Link.traffic N.Link.marks N.Link.faults link)
-        (dial_seen N.given_back N.dials N.faults (link_seen N.Link.traffic N.Link.marks N.Link.faults) dial.old)
-        (dial_seen N.given_back N.dials N.faults (link_seen N.Link.traffic N.Link.marks N.Link.faults) dial.new)
+    ensures serves { ServesDialled kind allowed result (link_seen N.Link.Link link)
+        (dial_seen N.Dial N.Link.Link dial.old)
+        (dial_seen N.Dial N.Link.Link dial.new)
         (sink_seen K.taken K.faults sink.old) (sink_seen K.taken K.faults sink.new) }
     ensures dials { N.dials dial.new ≡ N.dials dial.old }
 {

@@ -30,8 +30,8 @@ pub(crate) fn follow<L: Link, K: Sink>(
     link: &mut L,
     sink: &mut K,
 ) -> Result<(), Ending>
-    ensures { Follows allowed framed.now result (link_seen L.traffic L.marks L.faults link.old)
-        (link_seen L.traffic L.marks L.faults link.new) (sink_seen K.taken K.faults sink.old)
+    ensures { Follows allowed framed.now result (link_seen L.Link link.old)
+        (link_seen L.Link link.new) (sink_seen K.taken K.faults sink.old)
         (sink_seen K.taken K.faults sink.new) }
 {
     match &framed.message {
@@ -69,7 +69,7 @@ fn answer<L: Link, K: Sink>(
     sink: &mut K,
 ) -> Result<(), Ending>
     ensures { WritesAndSends (answer_text line.now) (spelling (with_sequence sequence (AgentAnswer number allowed))) result
-        (link_seen L.traffic L.marks L.faults link.old) (link_seen L.traffic L.marks L.faults link.new)
+        (link_seen L.Link link.old) (link_seen L.Link link.new)
         (sink_seen K.taken K.faults sink.old) (sink_seen K.taken K.faults sink.new) }
 {
     match write_line(&mut room.line, line, sink) {
@@ -86,7 +86,7 @@ fn send_answer<L: Link>(
     link: &mut L,
 ) -> Result<(), Ending>
     ensures { SendsFrame (spelling (with_sequence sequence (AgentAnswer number allowed))) result
-        (link_seen L.traffic L.marks L.faults link.old) (link_seen L.traffic L.marks L.faults link.new) }
+        (link_seen L.Link link.old) (link_seen L.Link link.new) }
 {
     let message = Message::AgentAnswer { number, allowed };
     let sent = send_message(room, sequence, &message, link);
@@ -123,7 +123,7 @@ pub(crate) fn send_message<L: Link>(
 ) -> Result<(), Ending>
     requires short { length (body (with_sequence sequence message.now)) ≤ 1048576 }
     ensures { SendsFrame (spelling (with_sequence sequence message.now)) result
-        (link_seen L.traffic L.marks L.faults link.old) (link_seen L.traffic L.marks L.faults link.new) }
+        (link_seen L.Link link.old) (link_seen L.Link link.new) }
 {
     match encode_message_into(room, sequence, message) {
         Ok(()) => match link.send(room.as_slice()) {

@@ -1,7 +1,7 @@
 -- What `check` and `simple` say, and how they end.
-use Rattle.std.specs.Prelude.{◌≡◌, ◌≤◌, ℕ, Bool, List, Option, Result}
-use Rattle.link_ports.specs.Traffic.{Traffic}
-use Rattle.link_ports.specs.LinkMarks.{LinkMarks}
+use Rattle.std.specs.Prelude.{◌≡◌, ◌≤◌, ℕ, Bool, Result}
+use Rattle.link_ports.specs.declared.dials.Dial.{Ghosts as DialTells}
+use Rattle.link_ports.specs.declared.links.Link.{Ghosts as LinkTells}
 use Rattle.cynara_keys.specs.Key.{Question}
 use Rattle.command_words.specs.declared.commands.AskedNames.{AskedNames}
 use Rattle.client_connection.specs.Asking.{counted}
@@ -10,19 +10,19 @@ use Rattle.cynara_client.specs.declared.refusals.Checked.{Checked}
 use Rattle.cynara_client.specs.declared.refusals.ClientRefusal.{ClientRefusal}
 use Rattle.run_endings.specs.Saying.{Said}
 use Rattle.run_endings.specs.declared.endings.Ending.{Ending}
-use Rattle.run_endings.specs.declared.endings.Ending.TheVariants.{Net}
+use Rattle.run_endings.specs.declared.endings.Ending.TheVariants.{Done, Memory, Sink, Net, Reply}
 use Rattle.client_runs.specs.AnswerLine.{Says}
 
 -- the session is for those that ask more than once
 abbrev pub question_of : AskedNames → Question
 question_of asked = record { client = asked.client; user = asked.user; privilege = asked.privilege }
 
--- the question was asked once, and this is said of the answer
-abbrev pub RunsCheck : {N L : Type 0} → (L → ℕ) → (L → LinkMarks) → (L → Option Traffic) → (N → ℕ) → (N → ℕ) → (N → Option (List L))
-    → AskedNames → Bool → Said → Ending → N → N → Type 0
-RunsCheck link_faults marks traffic faults dials given_back asked simple said ending before after =
+-- The question was asked once, and this is said of the answer; by what a dialler tells, and its links.
+abbrev pub RunsCheck : {N L H : Type 0} → DialTells N L H → LinkTells L H → AskedNames → Bool → Said → Ending → N → N → Type 0
+RunsCheck dial link asked simple said ending before after =
     (answer : Result Checked ClientRefusal)
-    × AsksOnce link_faults marks traffic faults dials given_back (first_frame simple (question_of asked)) answer before after
+    × AsksOnce link.faults link.marks link.traffic dial.faults dial.dials dial.given_back (first_frame simple (question_of asked))
+    answer before after
     × Says answer said ending
 
 -- The count of the dialler behind a run: three dials or links failed where the service was out of reach. Else up to three
@@ -30,3 +30,12 @@ RunsCheck link_faults marks traffic faults dials given_back asked simple said en
 abbrev pub IsCounted : Ending → ℕ → ℕ → Type 0
 IsCounted Net before after = after ≡ counted 3 before
 IsCounted ending before after = (rise : ℕ) × (rise ≤ 3) × (after ≡ counted rise before)
+
+-- How a run may end. It reads no source and touches no disk, so that no call of them ends it.
+abbrev pub EndsCheck : Ending → Type 0
+EndsCheck Done = Unit {0}
+EndsCheck Memory = Unit {0}
+EndsCheck Sink = Unit {0}
+EndsCheck Net = Unit {0}
+EndsCheck Reply = Unit {0}
+EndsCheck ending = ⊥

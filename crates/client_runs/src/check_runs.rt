@@ -3,7 +3,7 @@ ghost use Rattle.std.specs.Prelude.{◌≡◌, true, false};
 ghost use Rattle.run_endings.specs.Outside.{sink_seen};
 ghost use Rattle.run_endings.specs.Saying.{Said, WritesAnswers};
 ghost use Rattle.cynara_client.specs.Single.{first_frame, AsksOnce};
-ghost use Rattle.client_runs.specs.CheckRun.{IsCounted, RunsCheck, question_of};
+ghost use Rattle.client_runs.specs.CheckRun.{EndsCheck, IsCounted, RunsCheck, question_of};
 ghost use Rattle.client_runs.specs.AnswerLine.{Says};
 
 use crate::answer_lines::answer_line;
@@ -24,10 +24,10 @@ pub fn run_check<N: Dial, K: Sink>(
     sink: &mut K,
 ) -> Ending
     ensures run { (said : Said)
-        × RunsCheck N.Link.faults N.Link.marks N.Link.traffic N.faults N.dials N.given_back
-        asked.now false said result dial.old dial.new
+        × RunsCheck N.Dial N.Link.Link asked.now false said result dial.old dial.new
         × WritesAnswers result said (sink_seen K.taken K.faults sink.old) (sink_seen K.taken K.faults sink.new) }
     ensures count { IsCounted result (N.faults dial.old) (N.faults dial.new) }
+    ensures ends { EndsCheck result }
 {
     run(alloc, asked, false, dial, sink)
 }
@@ -40,10 +40,10 @@ pub fn run_simple<N: Dial, K: Sink>(
     sink: &mut K,
 ) -> Ending
     ensures run { (said : Said)
-        × RunsCheck N.Link.faults N.Link.marks N.Link.traffic N.faults N.dials N.given_back
-        asked.now true said result dial.old dial.new
+        × RunsCheck N.Dial N.Link.Link asked.now true said result dial.old dial.new
         × WritesAnswers result said (sink_seen K.taken K.faults sink.old) (sink_seen K.taken K.faults sink.new) }
     ensures count { IsCounted result (N.faults dial.old) (N.faults dial.new) }
+    ensures ends { EndsCheck result }
 {
     run(alloc, asked, true, dial, sink)
 }
@@ -56,10 +56,10 @@ fn run<N: Dial, K: Sink>(
     sink: &mut K,
 ) -> Ending
     ensures run { (said : Said)
-        × RunsCheck N.Link.faults N.Link.marks N.Link.traffic N.faults N.dials N.given_back
-        asked.now simple said result dial.old dial.new
+        × RunsCheck N.Dial N.Link.Link asked.now simple said result dial.old dial.new
         × WritesAnswers result said (sink_seen K.taken K.faults sink.old) (sink_seen K.taken K.faults sink.new) }
     ensures count { IsCounted result (N.faults dial.old) (N.faults dial.new) }
+    ensures ends { EndsCheck result }
 {
     let answer = answer_to(alloc, asked, simple, dial);
     say(alloc, &answer, sink)

@@ -8,6 +8,6 @@ mod standard_streams;
 mod zeros;
 
 pub use argument_words::host_words;
-pub use host_folders::{DIRECTORY, MOST_PATH_BYTES, directory_path, folder_in};
+pub use host_folders::{DIRECTORY, MOST_PATH_BYTES, directory_path, folder_path, sockets_path};
 pub use standard_descriptors::take_descriptors;
 pub use standard_streams::{InputSource, OutputSink};

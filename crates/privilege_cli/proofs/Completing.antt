@@ -1,37 +1,41 @@
 -- A run that no failing call stops.
-use Rattle.std.proofs.Common.{◌≡◌, ℕ, Option, Some, None}
+use Rattle.std.proofs.Common.{◌≡◌, ◌⊎◌, ℕ, List, Option, Some, None}
+use Rattle.link_ports.specs.declared.dials.Dial.{Ghosts as DialTells}
+use Rattle.link_ports.specs.declared.links.Link.{Ghosts as LinkTells}
+use Rattle.link_ports.specs.declared.doors.Door.{Ghosts as DoorTells}
 use Rattle.run_endings.specs.Outside.{Outside}
-use Rattle.run_endings.specs.Ending.{NoCallFails}
+use Rattle.run_endings.specs.Ending.{status_of, source_faults_after, disk_faults_after, IsUnfailed, NoCallFails}
+use Rattle.run_endings.specs.Saying.{Said, Writes}
+use Rattle.run_endings.specs.declared.endings.Ending.{Ending}
+use Rattle.run_endings.specs.declared.endings.Ending.TheVariants.{Done, Memory}
 use Rattle.run_endings.proofs.Completing.{is-unfailed, gives}
 use Rattle.command_words.specs.declared.commands.Command.{Command}
-use Rattle.command_words.specs.declared.commands.Command.TheVariants.{Local, Serve, Check, Simple, Admin, Agent, SmackAccess, SmackLoad, Sample}
+use Rattle.command_words.specs.declared.commands.Command.TheVariants.{Local, SmackAccess, SmackLoad, Sample}
 use Rattle.folder_runs.proofs.Completing.{completes-load}
 use Rattle.local_runs.proofs.Completing.{completes-local}
 use Rattle.access_runs.proofs.Completing.{completes-access}
 use Rattle.sample_runs.proofs.Completing.{completes-sample}
-use Rattle.privilege_cli.specs.Program.{NetTells, Ends, Completes}
+use Rattle.privilege_cli.specs.Program.{RunsCommand, CountsDisk, Gives, Completes}
 
-pub Ends-completes : {N L E A : Type 0} (tells : NetTells N L E A) (command : Option Command) (status : ℕ) (before after : Outside) (net net_after : N)
-    → Ends tells command status before after net net_after → NoCallFails before after → Completes command status before after
-Ends-completes tells (Some Local) status before after net net_after e none = λ input start told right stands.
-    let unfailed = is-unfailed e.ending e.said before after (record { source = e.source_count; disk = e.disk_count }) e.writes none in
-    gives e.ending e.said status before.sink after.sink _ e.status_is e.writes
-    (completes-local e.said before.source after.source before.disk after.disk input start told right stands e.ending unfailed e.runs)
-Ends-completes tells (Some SmackLoad) status before after net net_after e none = λ start stands.
-    let unfailed = is-unfailed e.ending e.said before after (record { source = e.source_count; disk = e.disk_count }) e.writes none in
-    gives e.ending e.said status before.sink after.sink _ e.status_is e.writes
-    (completes-load e.said before.disk after.disk start stands e.ending unfailed e.runs)
-Ends-completes tells (Some (SmackAccess subject object asked)) status before after net net_after e none = λ input rules told right.
-    let unfailed = is-unfailed e.ending e.said before after (record { source = e.source_count; disk = e.disk_count }) e.writes none in
-    gives e.ending e.said status before.sink after.sink _ e.status_is e.writes
-    (completes-access subject object asked e.said before.source after.source input rules told right e.ending unfailed e.runs)
-Ends-completes tells (Some (Sample count)) status before after net net_after e none = λ found comes_to.
-    let unfailed = is-unfailed e.ending e.said before after (record { source = e.source_count; disk = e.disk_count }) e.writes none in
-    gives e.ending e.said status before.sink after.sink _ e.status_is e.writes
-    (completes-sample count e.said found comes_to e.ending unfailed e.runs)
-Ends-completes tells None status before after net net_after e none = tt
-Ends-completes tells (Some (Serve workers)) status before after net net_after e none = tt
-Ends-completes tells (Some (Check asked)) status before after net net_after e none = tt
-Ends-completes tells (Some (Simple asked)) status before after net net_after e none = tt
-Ends-completes tells (Some Admin) status before after net net_after e none = tt
-Ends-completes tells (Some (Agent kind allowed)) status before after net net_after e none = tt
+module _ {N L H E A J : Type 0} (dial : DialTells N L H) (link : LinkTells L H) (closed : N → Option (List E)) (door : DoorTells E A J)
+    (accepted : LinkTells A J) (status : ℕ) (before after : Outside) (net net_after : N) (said : Said) (ending : Ending)
+    (status_is : status ≡ status_of ending) (writes : Writes ending said before.sink after.sink)
+    (source_count : after.source.faults ≡ source_faults_after ending before.source.faults) (none : NoCallFails before after) where
+  unfailed : after.disk.faults ≡ disk_faults_after ending before.disk.faults → IsUnfailed ending
+  unfailed disk_count = is-unfailed ending said before after (record { source = source_count; disk = disk_count }) writes none
+
+  given : (answer : List ℕ) → ((ending ≡ Done) × (said.due ≡ answer)) ⊎ (ending ≡ Memory) → Gives status before after answer
+  given answer due = gives ending said status before.sink after.sink answer status_is writes due
+
+  pub completes : (command : Option Command)
+      → RunsCommand dial link closed door accepted said ending before.source after.source before.disk after.disk net net_after command
+      → CountsDisk command ending before.disk.faults after.disk.faults → Completes command status before after
+  completes (Some Local) runs count = λ input start told right stands.
+      given _ (completes-local said before.source after.source before.disk after.disk input start told right stands ending (unfailed count) runs)
+  completes (Some SmackLoad) runs count = λ start stands.
+      given _ (completes-load said before.disk after.disk start stands ending (unfailed count) runs)
+  completes (Some (SmackAccess subject object asked)) runs count = λ input rules told right.
+      given _ (completes-access subject object asked said before.source after.source input rules told right ending (unfailed count) runs)
+  completes (Some (Sample number)) runs count = λ found comes_to.
+      given _ (completes-sample number said found comes_to ending (unfailed count) runs)
+  completes command runs count = tt

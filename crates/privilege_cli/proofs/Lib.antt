@@ -1,5 +1,3 @@
-pub mod Refusing
+pub mod Silent
 pub mod Completing
 pub mod Noting
-pub mod Serving
-pub mod Asking

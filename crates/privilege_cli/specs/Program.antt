@@ -1,18 +1,22 @@
 -- What a run of the program reads, says and keeps: one line for each command.
 use Rattle.std.specs.Prelude.{◌≡◌, ◌⊎◌, ℕ, true, false, List, [], Option, Some, None, Ok}
 use Rattle.desk_ports.specs.Content.{Appended}
-use Rattle.link_ports.specs.Traffic.{Traffic}
-use Rattle.link_ports.specs.LinkMarks.{LinkMarks}
-use Rattle.link_ports.specs.declared.door_kinds.DoorKind.{DoorKind}
+use Rattle.desk_ports.specs.declared.streams.Source.{Ghosts as SourceTells}
+use Rattle.desk_ports.specs.declared.streams.Sink.{Ghosts as SinkTells}
+use Rattle.desk_ports.specs.declared.disks.Disk.{Ghosts as DiskTells}
+use Rattle.link_ports.specs.declared.dials.Dial.{Ghosts as DialTells}
+use Rattle.link_ports.specs.declared.links.Link.{Ghosts as LinkTells}
+use Rattle.link_ports.specs.declared.doors.Door.{Ghosts as DoorTells}
 use Rattle.smack_rules.specs.declared.rule.Rule.{Rule}
 use Rattle.smack_rules.specs.Effective.{effective}
 use Rattle.smack_rules.specs.Decision.{decision}
 use Rattle.desk_state.specs.DeskState.{DeskState}
-use Rattle.run_endings.specs.Ending.{status_of, source_faults_after, disk_faults_after}
-use Rattle.run_endings.specs.Outside.{Outside, SourceSeen, DiskSeen}
+use Rattle.run_endings.specs.Ending.{status_of, source_faults_after, disk_faults_after, NoCallFails}
+use Rattle.run_endings.specs.Outside.{Outside, SourceSeen, DiskSeen, source_seen, sink_seen, disk_seen, seen}
 use Rattle.run_endings.specs.Saying.{Said, silence, Writes}
 use Rattle.run_endings.specs.declared.endings.Ending.{Ending}
 use Rattle.run_endings.specs.declared.endings.Ending.TheVariants.{Words}
+use Rattle.command_words.specs.Commands.{uses_net}
 use Rattle.command_words.specs.declared.commands.Command.{Command}
 use Rattle.command_words.specs.declared.commands.Command.TheVariants.{Local, Serve, Check, Simple, Admin, Agent, SmackAccess, SmackLoad, Sample}
 use Rattle.script_replies.specs.Script.{wrong_line, replies}
@@ -23,85 +27,23 @@ use Rattle.local_runs.specs.LocalRun.{read_local, RunsLocal}
 use Rattle.access_runs.specs.AccessRun.{rules_read, RunsAccess}
 use Rattle.sample_runs.specs.Sample.{Outcome, outcome, sample_text}
 use Rattle.sample_runs.specs.SampleRun.{RunsSample}
-use Rattle.client_runs.specs.CheckRun.{RunsCheck, IsCounted}
-use Rattle.admin_runs.specs.AdminRun.{RunsAdmin, IsCounted as AdminCounts}
-use Rattle.agent_runs.specs.LinkSeen.{DialSeen, link_seen, dial_seen}
-use Rattle.agent_runs.specs.AgentRun.{RunsAgent, DialCounts}
+use Rattle.client_runs.specs.CheckRun.{RunsCheck}
+use Rattle.admin_runs.specs.AdminRun.{RunsAdmin}
+use Rattle.agent_runs.specs.LinkSeen.{dial_seen}
+use Rattle.agent_runs.specs.AgentRun.{RunsAgent}
 use Rattle.serve_runs.specs.Run.{RunsServe}
 
--- What a link tells, and a net of itself, of the links that it dials and of its doors, as functions of their types.
-pub record LinkTells (L : Type 0) : Type 0 where
-  pub faults : L → ℕ
-  pub marks : L → LinkMarks
-  pub traffic : L → Option Traffic
-
-pub record NetTells (N L E A : Type 0) : Type 0 where
-  pub faults : N → ℕ
-  pub dials : N → ℕ
-  pub given_back : N → Option (List L)
-  pub link : LinkTells L
-  pub closed : N → Option (List E)
-  pub door_faults : E → ℕ
-  pub door_given_back : E → Option (List A)
-  pub door_kind : E → Option DoorKind
-  pub accepted : LinkTells A
-
-module _ {N L E A : Type 0} (tells : NetTells N L E A) where
-  -- what a dialler of an agent tells
-  abbrev pub dial_of : N → DialSeen
-  dial_of net = dial_seen tells.given_back tells.dials tells.faults
-      (link_seen tells.link.traffic tells.link.marks tells.link.faults) net
-
-  -- What the command that words name says, and how it ends, over a source, a disk and a net before and after.
-  abbrev pub RunsCommand : Option Command → Said → Ending → SourceSeen → SourceSeen → DiskSeen → DiskSeen → N → N → Type 0
-  RunsCommand None said ending source source_after disk disk_after net net_after = (ending ≡ Words) × (said ≡ silence)
-  RunsCommand (Some Local) said ending source source_after disk disk_after net net_after =
-      RunsLocal said ending source source_after disk disk_after
-  RunsCommand (Some SmackLoad) said ending source source_after disk disk_after net net_after = RunsLoad said ending disk disk_after
-  RunsCommand (Some (SmackAccess subject object asked)) said ending source source_after disk disk_after net net_after =
-      RunsAccess subject object asked said ending source source_after
-  RunsCommand (Some (Sample count)) said ending source source_after disk disk_after net net_after = RunsSample count said ending
-  RunsCommand (Some (Serve workers)) said ending source source_after disk disk_after net net_after = (said ≡ silence)
-      × RunsServe tells.accepted.traffic tells.accepted.marks tells.accepted.faults tells.door_given_back tells.door_faults tells.door_kind ending
-      disk disk_after (tells.faults net) (tells.faults net_after) (tells.closed net) (tells.closed net_after)
-  RunsCommand (Some (Check asked)) said ending source source_after disk disk_after net net_after =
-      RunsCheck tells.link.faults tells.link.marks tells.link.traffic tells.faults tells.dials tells.given_back asked false said ending net net_after
-  RunsCommand (Some (Simple asked)) said ending source source_after disk disk_after net net_after =
-      RunsCheck tells.link.faults tells.link.marks tells.link.traffic tells.faults tells.dials tells.given_back asked true said ending net net_after
-  RunsCommand (Some Admin) said ending source source_after disk disk_after net net_after =
-      RunsAdmin tells.link.faults tells.link.marks tells.link.traffic tells.faults tells.dials tells.given_back said ending
-      source source_after net net_after
-  RunsCommand (Some (Agent kind allowed)) said ending source source_after disk disk_after net net_after =
-      RunsAgent kind allowed said ending (dial_of net) (dial_of net_after)
-
--- ---- counts
+-- what a run sees of these objects, by what their types tell
+abbrev pub seen_of : {S K D N L H : Type 0} → SourceTells S → SinkTells K → DiskTells D → DialTells N L H → S → K → D → N → Outside
+seen_of source_tells sink_tells disk_tells dial_tells source sink disk net = seen
+    (source_seen source_tells.left source_tells.faults source) (sink_seen sink_tells.taken sink_tells.faults sink)
+    (disk_seen disk_tells.state disk_tells.moment disk_tells.left_since disk_tells.faults disk) (record { faults = dial_tells.faults net })
 
 -- How often calls of the disk failed by the end of a run. A service goes on behind one that failed: what it counts is told by
 -- `RunsServe`.
 abbrev pub CountsDisk : Option Command → Ending → ℕ → ℕ → Type 0
 CountsDisk (Some (Serve workers)) ending before after = Unit {0}
 CountsDisk command ending before after = after ≡ disk_faults_after ending before
-
--- how often calls of the net failed
-abbrev pub CountsNet : Option Command → Ending → ℕ → ℕ → Type 0
-CountsNet (Some (Serve workers)) ending before after = Unit {0}
-CountsNet (Some (Check asked)) ending before after = IsCounted ending before after
-CountsNet (Some (Simple asked)) ending before after = IsCounted ending before after
-CountsNet (Some Admin) ending before after = AdminCounts ending before after
-CountsNet (Some (Agent kind allowed)) ending before after = DialCounts ending before after
-CountsNet command ending before after = after ≡ before
-
--- How a run ends, with the words' command and a status.
-pub record Ends {N L E A : Type 0} (tells : NetTells N L E A) (command : Option Command) (status : ℕ) (before after : Outside)
-    (net net_after : N) : Type 0 where
-  pub ending : Ending
-  pub said : Said
-  pub status_is : status ≡ status_of ending
-  pub runs : RunsCommand tells command said ending before.source after.source before.disk after.disk net net_after
-  pub writes : Writes ending said before.sink after.sink
-  pub source_count : after.source.faults ≡ source_faults_after ending before.source.faults
-  pub disk_count : CountsDisk command ending before.disk.faults after.disk.faults
-  pub net_count : CountsNet command ending before.net.faults after.net.faults
 
 -- ---- a run that no failing call stops
 
@@ -122,3 +64,38 @@ Completes (Some (SmackAccess subject object asked)) status before after =
 Completes (Some (Sample count)) status before after =
     (found : Outcome) → outcome count ≡ Some found → Gives status before after (sample_text count found)
 Completes command status before after = Unit {0}
+
+-- ---- the whole
+
+-- By what a net tells, and the links that it dials, and what it tells of its doors, with the links that these accept.
+module _ {N L H E A J : Type 0} (dial : DialTells N L H) (link : LinkTells L H) (closed : N → Option (List E)) (door : DoorTells E A J)
+    (accepted : LinkTells A J) where
+  module _ (said : Said) (ending : Ending) (source source_after : SourceSeen) (disk disk_after : DiskSeen) (net net_after : N) where
+    -- what the command that words name says, and how it ends, over a source, a disk and a net before and after
+    abbrev pub RunsCommand : Option Command → Type 0
+    RunsCommand None = (ending ≡ Words) × (said ≡ silence)
+    RunsCommand (Some Local) = RunsLocal said ending source source_after disk disk_after
+    RunsCommand (Some SmackLoad) = RunsLoad said ending disk disk_after
+    RunsCommand (Some (SmackAccess subject object asked)) = RunsAccess subject object asked said ending source source_after
+    RunsCommand (Some (Sample count)) = RunsSample count said ending
+    RunsCommand (Some (Serve workers)) = (said ≡ silence)
+        × RunsServe accepted.traffic accepted.marks accepted.faults door.given_back door.faults door.kind ending disk disk_after
+        (dial.faults net) (dial.faults net_after) (closed net) (closed net_after)
+    RunsCommand (Some (Check asked)) = RunsCheck dial link asked false said ending net net_after
+    RunsCommand (Some (Simple asked)) = RunsCheck dial link asked true said ending net net_after
+    RunsCommand (Some Admin) =
+        RunsAdmin link.faults link.marks link.traffic dial.faults dial.dials dial.given_back said ending source source_after net net_after
+    RunsCommand (Some (Agent kind allowed)) = RunsAgent kind allowed said ending (dial_seen dial link net) (dial_seen dial link net_after)
+
+  -- How a run ends, with the words' command and a status.
+  pub record Ends (command : Option Command) (status : ℕ) (before after : Outside) (net net_after : N) : Type 0 where
+    pub ending : Ending
+    pub said : Said
+    pub status_is : status ≡ status_of ending
+    pub runs : RunsCommand said ending before.source after.source before.disk after.disk net net_after command
+    pub writes : Writes ending said before.sink after.sink
+    pub source_count : after.source.faults ≡ source_faults_after ending before.source.faults
+    pub disk_count : CountsDisk command ending before.disk.faults after.disk.faults
+    -- a command over the net says what that counts
+    pub net_count : uses_net command ≡ false → after.net.faults ≡ before.net.faults
+    pub completes : NoCallFails before after → Completes command status before after

@@ -1,21 +1,18 @@
 //! The program: the words of the command line, standard input and output, the folder and the sockets.
 #![tactic(auto)]
 
-mod explanations;
 mod program;
-mod service_words;
 
-use command_words::Command;
 use door_workers::Notes;
-use explanations::explain;
 use folder_disk::FolderDisk;
+use host_notes::{explain, explain_streams, greet};
 use host_ports::{
-    InputSource, OutputSink, directory_path, folder_in, host_words, take_descriptors,
+    InputSource, OutputSink, directory_path, folder_path, sockets_path, take_descriptors,
 };
 use link_ports::OpenGate;
 use program::run_on;
 use socket_net::SocketNet;
-use std::alloc::{AllocError, Global};
+use std::alloc::AllocError;
 use std::io::IsTerminal;
 use std::process::ExitCode;
 use std::sync::Wait;
@@ -23,9 +20,6 @@ use std::thread::Threads;
 
 /// The status of a run that found no memory.
 const NO_MEMORY: u8 = 1;
-
-/// The path in place of a directory's that can't be one: no socket has such a path.
-const NO_DIRECTORY: &str = "\0";
 
 fn main(rt: HostRuntime) -> ExitCode {
     match run_on_host(&rt, &rt) {
@@ -51,12 +45,14 @@ impl Notes for ErrorNotes<'_> {
 fn run_on_host<T: Threads + Wait + Sync>(rt: &HostRuntime, threads: &T) -> Result<u8, AllocError> {
     take_descriptors(rt);
     let directory = directory_path(rt, rt.alloc())?;
-    let folder = folder_of(rt.alloc(), &directory)?;
+    let folder = folder_path(rt.alloc(), &directory)?;
     let mut disk = FolderDisk::open(rt.clone()?, folder.as_str())?;
-    let mut net = SocketNet::new(rt.clone()?, sockets_of(&directory))?;
+    let mut net = SocketNet::new(rt.clone()?, sockets_path(&directory))?;
     let mut source = InputSource::over(rt.stdin());
     let mut sink = OutputSink::over(rt.stdout(), rt.stderr());
-    greet(rt)?;
+    if rt.stdin().is_terminal() {
+        greet(rt)?;
+    }
     let status = run_on(
         rt,
         threads,
@@ -68,56 +64,14 @@ fn run_on_host<T: Threads + Wait + Sync>(rt: &HostRuntime, threads: &T) -> Resul
         &OpenGate,
         &ErrorNotes { rt },
     );
-    if let Some(failure) = &source.failure {
-        let _ = eprintln!(rt; "privilege: cannot read standard input: {failure}");
-    }
-    if let Some(failure) = &sink.failure {
-        let _ = eprintln!(rt; "privilege: cannot write standard output: {failure}");
-    }
+    explain_streams(rt, &source.failure, &sink.failure);
     explain(
         rt,
         status,
-        sockets_of(&directory),
+        sockets_path(&directory),
         folder.as_str(),
-        &disk,
-        &net,
+        disk.failure(),
+        net.failure(),
     );
     Ok(status)
-}
-
-// The path of the folder. It is empty where there is no directory: no folder has that path.
-fn folder_of(alloc: Global, directory: &Option<String>) -> Result<String, AllocError> {
-    match directory {
-        Some(directory) => folder_in(alloc, directory.as_str()),
-        None => Ok(String::new(alloc)),
-    }
-}
-
-// The path of the directory of the sockets.
-fn sockets_of(directory: &Option<String>) -> &str {
-    match directory {
-        Some(directory) => directory.as_str(),
-        None => NO_DIRECTORY,
-    }
-}
-
-// Tells a person at a terminal what standard input is read for.
-fn greet(rt: &HostRuntime) -> Result<(), AllocError> {
-    if !rt.stdin().is_terminal() {
-        return Ok(());
-    }
-    match Command::read(rt.alloc(), &host_words(rt, rt.alloc())?) {
-        Ok(Command::SmackAccess { .. }) => {
-            let _ = eprintln!(rt;
-                "privilege: type rules, a line each, and end them with control-d"
-            );
-        }
-        Ok(Command::Local | Command::Admin) => {
-            let _ = eprintln!(rt;
-                "privilege: type commands and questions, a line each, and end them with control-d"
-            );
-        }
-        _ => {}
-    }
-    Ok(())
 }

@@ -1,15 +1,15 @@
 ghost use Rattle.std.specs.Prelude.{◌≡◌, ◌⊎◌, String, List, false};
 ghost use Rattle.std.specs.declared.alloc.Global.{Global};
-ghost use Rattle.run_endings.specs.Ending.{source_faults_after, NoCallFails};
-ghost use Rattle.run_endings.specs.Outside.{source_seen, sink_seen, disk_seen, seen};
+ghost use Rattle.run_endings.specs.Ending.{source_faults_after};
+ghost use Rattle.run_endings.specs.Outside.{source_seen, sink_seen, disk_seen};
 ghost use Rattle.run_endings.specs.Saying.{Said, WritesAnswers};
 ghost use Rattle.command_words.specs.Commands.{command_of, reads_source, mounts_folder, uses_net};
-ghost use Rattle.privilege_cli.specs.Program.{RunsCommand, CountsDisk, CountsNet, Ends, Completes};
+ghost use Rattle.privilege_cli.specs.Program.{RunsCommand, CountsDisk, Ends, seen_of};
 
-use crate::service_words::{check, serve, simple};
 use access_runs::run_access;
 use admin_runs::run_admin;
 use agent_runs::run_agent;
+use client_runs::{run_check, run_simple};
 use command_words::{Command, CommandRefusal, note_words};
 use desk_ports::{Disk, Sink, Source};
 use door_workers::Notes;
@@ -20,6 +20,7 @@ use local_runs::run_local;
 use run_endings::Ending;
 use sample_runs::run_sample;
 use script_notes::note_damage;
+use serve_runs::run_serve;
 use std::alloc::Global;
 use std::env::Env;
 use std::sync::Wait;
@@ -56,27 +57,9 @@ where
     N::Door: Send,
     <N::Door as Door>::Link: Send,
     <<N::Door as Door>::Link as Link>::End: Send,
-    ensures run { let before = seen (source_seen S.left S.faults source.old) (sink_seen K.taken K.faults sink.old)
-        (disk_seen D.state D.moment D.left_since D.faults disk.old) (record { faults = N.faults net.old }) in
-        let after = seen (source_seen S.left S.faults source.new) (sink_seen K.taken K.faults sink.new)
-        (disk_seen D.state D.moment D.left_since D.faults disk.new) (record { faults = N.faults net.new }) in
-        Ends (record {
-          faults = N.faults;
-          dials = N.dials;
-          given_back = N.given_back;
-          link = record { faults = N.Link.faults; marks = N.Link.marks; traffic = N.Link.traffic };
-          closed = N.closed;
-          door_faults = N.Door.faults;
-          door_given_back = N.Door.given_back;
-          door_kind = N.Door.kind;
-          accepted = record { faults = N.Door.Link.faults; marks = N.Door.Link.marks; traffic = N.Door.Link.traffic };
-        })
-        (command_of words.now) result before after net.old net.new }
-    ensures complete { let before = seen (source_seen S.left S.faults source.old) (sink_seen K.taken K.faults sink.old)
-        (disk_seen D.state D.moment D.left_since D.faults disk.old) (record { faults = N.faults net.old }) in
-        let after = seen (source_seen S.left S.faults source.new) (sink_seen K.taken K.faults sink.new)
-        (disk_seen D.state D.moment D.left_since D.faults disk.new) (record { faults = N.faults net.new }) in
-        NoCallFails before after → Completes (command_of words.now) result before after }
+    ensures run { Ends N.Dial N.Link.Link N.closed N.Door.Door N.Door.Link.Link (command_of words.now) result
+        (seen_of S.Source K.Sink D.Disk N.Dial source.old sink.old disk.old net.old)
+        (seen_of S.Source K.Sink D.Disk N.Dial source.new sink.new disk.new net.new) net.old net.new }
     ensures source { reads_source (command_of words.now) ≡ false → source.new ≡ source.old }
     ensures disk { mounts_folder (command_of words.now) ≡ false → disk.new ≡ disk.old }
     ensures net { uses_net (command_of words.now) ≡ false → net.new ≡ net.old }
@@ -112,24 +95,13 @@ where
     <N::Door as Door>::Link: Send,
     <<N::Door as Door>::Link as Link>::End: Send,
     ensures run { (said : Said)
-        × RunsCommand (record {
-          faults = N.faults;
-          dials = N.dials;
-          given_back = N.given_back;
-          link = record { faults = N.Link.faults; marks = N.Link.marks; traffic = N.Link.traffic };
-          closed = N.closed;
-          door_faults = N.Door.faults;
-          door_given_back = N.Door.given_back;
-          door_kind = N.Door.kind;
-          accepted = record { faults = N.Door.Link.faults; marks = N.Door.Link.marks; traffic = N.Door.Link.traffic };
-        })
-        (command_of words.now) said result (source_seen S.left S.faults source.old)
-        (source_seen S.left S.faults source.new) (disk_seen D.state D.moment D.left_since D.faults disk.old)
-        (disk_seen D.state D.moment D.left_since D.faults disk.new) net.old net.new
+        × RunsCommand N.Dial N.Link.Link N.closed N.Door.Door N.Door.Link.Link said result
+        (source_seen S.left S.faults source.old) (source_seen S.left S.faults source.new)
+        (disk_seen D.state D.moment D.left_since D.faults disk.old) (disk_seen D.state D.moment D.left_since D.faults disk.new)
+        net.old net.new (command_of words.now)
         × WritesAnswers result said (sink_seen K.taken K.faults sink.old) (sink_seen K.taken K.faults sink.new) }
     ensures source_count { S.faults source.new ≡ source_faults_after result (S.faults source.old) }
     ensures disk_count { CountsDisk (command_of words.now) result (D.faults disk.old) (D.faults disk.new) }
-    ensures net_count { CountsNet (command_of words.now) result (N.faults net.old) (N.faults net.new) }
     ensures source { reads_source (command_of words.now) ≡ false → source.new ≡ source.old }
     ensures disk { mounts_folder (command_of words.now) ≡ false → disk.new ≡ disk.old }
     ensures net { uses_net (command_of words.now) ≡ false → net.new ≡ net.old }
@@ -145,9 +117,9 @@ where
             },
         ) => run_access(alloc, &subject, &object, asked, source, sink),
         Ok(Command::Sample { count }) => run_sample(alloc, count, sink),
-        Ok(Command::Serve { workers }) => serve(rt, alloc, workers, disk, net, gate, notes),
-        Ok(Command::Check(asked)) => check(alloc, &asked, net, sink),
-        Ok(Command::Simple(asked)) => simple(alloc, &asked, net, sink),
+        Ok(Command::Serve { workers }) => run_serve(rt, alloc, workers, disk, net, gate, notes),
+        Ok(Command::Check(asked)) => run_check(alloc, &asked, net, sink),
+        Ok(Command::Simple(asked)) => run_simple(alloc, &asked, net, sink),
         Ok(Command::Admin) => run_admin(alloc, source, sink, net),
         Ok(Command::Agent { kind, allowed }) => run_agent(rt, alloc, kind, allowed, net, sink),
         Err(CommandRefusal::Unknown(fault)) => {
@@ -184,22 +156,10 @@ where
     N::Door: Send,
     <N::Door as Door>::Link: Send,
     <<N::Door as Door>::Link as Link>::End: Send,
-    ensures { let before = seen (source_seen S.left S.faults source.old) (sink_seen K.taken K.faults sink.old)
-        (disk_seen D.state D.moment D.left_since D.faults disk.old) (record { faults = N.faults net.old }) in
-        let after = seen (source_seen S.left S.faults source.new) (sink_seen K.taken K.faults sink.new)
-        (disk_seen D.state D.moment D.left_since D.faults disk.new) (record { faults = N.faults net.new }) in
-        ((words : List (String Global)) × Ends (record {
-          faults = N.faults;
-          dials = N.dials;
-          given_back = N.given_back;
-          link = record { faults = N.Link.faults; marks = N.Link.marks; traffic = N.Link.traffic };
-          closed = N.closed;
-          door_faults = N.Door.faults;
-          door_given_back = N.Door.given_back;
-          door_kind = N.Door.kind;
-          accepted = record { faults = N.Door.Link.faults; marks = N.Door.Link.marks; traffic = N.Door.Link.traffic };
-        })
-        (command_of words) result before after net.old net.new)
+    ensures { ((words : List (String Global))
+        × Ends N.Dial N.Link.Link N.closed N.Door.Door N.Door.Link.Link (command_of words) result
+        (seen_of S.Source K.Sink D.Disk N.Dial source.old sink.old disk.old net.old)
+        (seen_of S.Source K.Sink D.Disk N.Dial source.new sink.new disk.new net.new) net.old net.new)
         ⊎ ((result ≡ 1) × (source.new ≡ source.old) × (sink.new ≡ sink.old) × (disk.new ≡ disk.old) × (net.new ≡ net.old)) }
 {
     match host_words(host, alloc) {

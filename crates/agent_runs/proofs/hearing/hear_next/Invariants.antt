@@ -9,8 +9,8 @@ invariant-pieces g l =
     record {
       feeder : l.feeder ≡ record (unfed l.fn.feeder.heard) { partial = l.feeder.partial };
       unfinished : IsOpen l.fn.feeder.heard l.feeder.partial;
-      carried : Carries [] l.feeder.partial false (link_seen g.L.Link.traffic g.L.Link.marks g.L.Link.faults l.fn.link)
-          (link_seen g.L.Link.traffic g.L.Link.marks g.L.Link.faults l.link);
+      carried : Carries [] l.feeder.partial false (link_seen g.L.Link l.fn.link)
+          (link_seen g.L.Link l.link);
       faults : g.L.Link.faults l.link ≡ g.L.Link.faults l.fn.link;
     }
 

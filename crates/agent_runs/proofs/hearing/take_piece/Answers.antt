@@ -10,8 +10,8 @@ returns-in-Ok g c =
     let some : 0 < c.in-Ok.count = search rules in
     let long : length bytes ≡ c.in-Ok.count = search rules in
     came c.hear_piece.result c.args.feeder.now c.hear_piece.new.feeder
-    (link_seen g.L.Link.traffic g.L.Link.marks g.L.Link.faults c.args.link.now)
-    (link_seen g.L.Link.traffic g.L.Link.marks g.L.Link.faults c.receive.new.self)
+    (link_seen g.L.Link c.args.link.now)
+    (link_seen g.L.Link c.receive.new.self)
     bytes (omega (arith, some, long)) c.hear_piece.ensures
     (carries-received bytes false _ _ c.in-Ok.ensures.received
     (c.in-Ok.ensures.marks ∙ marks-some c.in-Ok.count (length c.args.room.now) _ some))

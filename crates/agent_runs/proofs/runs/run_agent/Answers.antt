@@ -8,20 +8,20 @@ use Rattle.agent_runs.proofs.runs.run_agent.Goals as goal
 
 pub returns-in-Err-Failed-clause-run : goal.returns-in-Err-Failed-clause-run
 returns-in-Err-Failed-clause-run g c =
-    let seen = link_seen g.N.Link.Link.traffic g.N.Link.Link.marks g.N.Link.Link.faults in
+    let seen = link_seen g.N.Link.Link in
     undialled c.args.kind c.args.allowed Net
-    (dial_seen g.N.Dial.given_back g.N.Dial.dials g.N.Dial.faults seen c.args.dial.now)
-    (dial_seen g.N.Dial.given_back g.N.Dial.dials g.N.Dial.faults seen c.dial.new.self)
+    (dial_seen g.N.Dial g.N.Link.Link c.args.dial.now)
+    (dial_seen g.N.Dial g.N.Link.Link c.dial.new.self)
     (sink_seen g.K.Sink.taken g.K.Sink.faults c.args.sink.now)
     (rw c.in-Err-Failed.field-0-is at c.in-Err-Failed.ensures.count)
     (ap (λ given. option_map (map seen) given) c.dial.ensures.kept) (refl, refl)
 
 pub returns-in-Err-Memory-clause-run : goal.returns-in-Err-Memory-clause-run
 returns-in-Err-Memory-clause-run g c =
-    let seen = link_seen g.N.Link.Link.traffic g.N.Link.Link.marks g.N.Link.Link.faults in
+    let seen = link_seen g.N.Link.Link in
     undialled c.args.kind c.args.allowed Memory
-    (dial_seen g.N.Dial.given_back g.N.Dial.dials g.N.Dial.faults seen c.args.dial.now)
-    (dial_seen g.N.Dial.given_back g.N.Dial.dials g.N.Dial.faults seen c.dial.new.self)
+    (dial_seen g.N.Dial g.N.Link.Link c.args.dial.now)
+    (dial_seen g.N.Dial g.N.Link.Link c.dial.new.self)
     (sink_seen g.K.Sink.taken g.K.Sink.faults c.args.sink.now)
     (rw c.in-Err-Memory.field-0-is at c.in-Err-Memory.ensures.count)
     (ap (λ given. option_map (map seen) given) c.dial.ensures.kept) (inl (refl, refl))

@@ -15,6 +15,6 @@ returns-in-AgentQuestion g c =
     (ruling (c.kind.ensures i) ((c.as_slice.ensures.bytes ∙ c.metadata.ensures.metadata) i)))
     ∙ ap line_for (sym c.in-AgentQuestion.is) in
     follows-question c.args.allowed framed c.answer.result _ _
-    (link_seen g.L.Link.traffic g.L.Link.marks g.L.Link.faults c.args.link.now) (link_seen g.L.Link.traffic g.L.Link.marks g.L.Link.faults c.answer.new.link) (sink_seen g.K.Sink.taken g.K.Sink.faults c.args.sink.now) (sink_seen g.K.Sink.taken g.K.Sink.faults c.answer.new.sink)
+    (link_seen g.L.Link c.args.link.now) (link_seen g.L.Link c.answer.new.link) (sink_seen g.K.Sink.taken g.K.Sink.faults c.args.sink.now) (sink_seen g.K.Sink.taken g.K.Sink.faults c.answer.new.sink)
     (subst IsQuestion (sym c.in-AgentQuestion.is) tt) line
     (sym (ap (answer_for c.args.allowed framed.sequence) c.in-AgentQuestion.is)) c.answer.ensures

@@ -1,6 +1,7 @@
 use Rattle.client_runs.specs.CheckRun.{question_of}
 use Rattle.cynara_client.specs.Single.{first_frame}
 use Rattle.client_runs.proofs.Counting.{counts}
+use Rattle.client_runs.proofs.Ends.{ends}
 use Rattle.client_runs.proofs.check_runs.run.Goals as goal
 
 pub returns-clause-count : goal.returns-clause-count
@@ -8,3 +9,6 @@ returns-clause-count g c =
     counts g.N.Link.Link.faults g.N.Link.Link.marks g.N.Link.Link.traffic g.N.Dial.faults g.N.Dial.dials g.N.Dial.given_back
     (first_frame c.args.simple (question_of c.args.asked.now)) c.args.dial.now c.answer_to-answer.new.dial
     c.answer_to-answer.result c.say.ensures.0 c.say.result c.answer_to-answer.ensures c.say.ensures.1
+
+pub returns-clause-ends : goal.returns-clause-ends
+returns-clause-ends g c = ends c.answer_to-answer.result c.say.ensures.0 c.say.result c.say.ensures.1

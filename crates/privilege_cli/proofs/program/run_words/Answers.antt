@@ -1,69 +1,54 @@
-use Rattle.std.proofs.Common.{Err, Option, Some, refl, sym, ap, ◌∙◌, subst}
-use Rattle.desk_ports.proofs.Appends.{Appended-none}
-use Rattle.run_endings.specs.Outside.{source_seen, sink_seen, disk_seen}
-use Rattle.run_endings.specs.Saying.{Said, WritesAnswers}
-use Rattle.command_words.specs.declared.commands.Command.{Command}
+use Rattle.std.proofs.Common.{Err, Option, Some, sym, ap, ◌∙◌, subst}
+use Rattle.run_endings.specs.Outside.{sink_seen, disk_seen}
 use Rattle.command_words.specs.Commands.{ReadsCommand, command_of}
-use Rattle.privilege_cli.specs.Program.{RunsCommand}
-use Rattle.privilege_cli.proofs.Refusing.{without_memory, without_command, uncounted}
+use Rattle.command_words.specs.declared.commands.Command.{Command}
+use Rattle.privilege_cli.specs.Program.{seen_of, CountsDisk}
+use Rattle.privilege_cli.proofs.Silent.{uncounted, without_memory, without_command, serves-as, reads-nothing}
 use Rattle.privilege_cli.proofs.program.run_words.Goals as goal
 
 pub returns-in-Err-Memory-clause-run : goal.returns-in-Err-Memory-clause-run
 returns-in-Err-Memory-clause-run g c =
-    without_memory (record {
-      faults = g.N.Dial.faults;
-      dials = g.N.Dial.dials;
-      given_back = g.N.Dial.given_back;
-      link = record { faults = g.N.Link.Link.faults; marks = g.N.Link.Link.marks; traffic = g.N.Link.Link.traffic };
-      closed = g.N.Net.closed;
-      door_faults = g.N.Door.Door.faults;
-      door_given_back = g.N.Door.Door.given_back;
-      door_kind = g.N.Door.Door.kind;
-      accepted = record { faults = g.N.Door.Link.Link.faults; marks = g.N.Door.Link.Link.marks; traffic = g.N.Door.Link.Link.traffic };
-    }) c.in-Err-Memory.field-0-0 c.args.words.now
-    (source_seen g.S.Source.left g.S.Source.faults c.args.source.now) (sink_seen g.K.Sink.taken g.K.Sink.faults c.args.sink.now)
-    (disk_seen g.D.Disk.state g.D.Disk.moment g.D.Disk.left_since g.D.Disk.faults c.args.disk.now) c.args.net.now
-    (subst (λ refusal. ReadsCommand (Err refusal) (command_of c.args.words.now)) c.in-Err-Memory.field-0-is c.in-Err-Memory.ensures.command)
-
-pub returns-in-Err-Memory-clause-net_count : goal.returns-in-Err-Memory-clause-net_count
-returns-in-Err-Memory-clause-net_count g c =
-    uncounted c.args.words.now c.in-Err-Memory.field-0-0 (g.N.Dial.faults c.args.net.now)
+    without_memory g.N.Dial g.N.Link.Link g.N.Net.closed g.N.Door.Door g.N.Door.Link.Link c.args.words.now
+    (seen_of g.S.Source g.K.Sink g.D.Disk g.N.Dial c.args.source.now c.args.sink.now c.args.disk.now c.args.net.now) c.args.net.now
+    c.in-Err-Memory.field-0-0
     (subst (λ refusal. ReadsCommand (Err refusal) (command_of c.args.words.now)) c.in-Err-Memory.field-0-is c.in-Err-Memory.ensures.command)
 
 pub returns-in-Err-Unknown-clause-run : goal.returns-in-Err-Unknown-clause-run
 returns-in-Err-Unknown-clause-run g c =
-    without_command (record {
-      faults = g.N.Dial.faults;
-      dials = g.N.Dial.dials;
-      given_back = g.N.Dial.given_back;
-      link = record { faults = g.N.Link.Link.faults; marks = g.N.Link.Link.marks; traffic = g.N.Link.Link.traffic };
-      closed = g.N.Net.closed;
-      door_faults = g.N.Door.Door.faults;
-      door_given_back = g.N.Door.Door.given_back;
-      door_kind = g.N.Door.Door.kind;
-      accepted = record { faults = g.N.Door.Link.Link.faults; marks = g.N.Door.Link.Link.marks; traffic = g.N.Door.Link.Link.traffic };
-    }) c.args.words.now (source_seen g.S.Source.left g.S.Source.faults c.args.source.now)
-    (sink_seen g.K.Sink.taken g.K.Sink.faults c.args.sink.now) (sink_seen g.K.Sink.taken g.K.Sink.faults c.note_words.new.sink)
-    (disk_seen g.D.Disk.state g.D.Disk.moment g.D.Disk.left_since g.D.Disk.faults c.args.disk.now) c.args.net.now
+    without_command g.N.Dial g.N.Link.Link g.N.Net.closed g.N.Door.Door g.N.Door.Link.Link c.args.words.now
+    (seen_of g.S.Source g.K.Sink g.D.Disk g.N.Dial c.args.source.now c.args.sink.now c.args.disk.now c.args.net.now) c.args.net.now
+    (sink_seen g.K.Sink.taken g.K.Sink.faults c.note_words.new.sink)
     (subst (λ refusal. ReadsCommand (Err refusal) (command_of c.args.words.now)) c.in-Err-Unknown.field-0-is
     c.in-Err-Unknown.ensures.command) c.note_words.ensures.taken c.note_words.ensures.count
 
 pub returns-in-Ok-Serve-clause-run : goal.returns-in-Ok-Serve-clause-run
 returns-in-Ok-Serve-clause-run g c =
-    let source = source_seen g.S.Source.left g.S.Source.faults c.args.source.now in
-    let sink = sink_seen g.K.Sink.taken g.K.Sink.faults c.args.sink.now in
-    subst (λ (command : Option Command). (said : Said) × RunsCommand (record {
-      faults = g.N.Dial.faults;
-      dials = g.N.Dial.dials;
-      given_back = g.N.Dial.given_back;
-      link = record { faults = g.N.Link.Link.faults; marks = g.N.Link.Link.marks; traffic = g.N.Link.Link.traffic };
-      closed = g.N.Net.closed;
-      door_faults = g.N.Door.Door.faults;
-      door_given_back = g.N.Door.Door.given_back;
-      door_kind = g.N.Door.Door.kind;
-      accepted = record { faults = g.N.Door.Link.Link.faults; marks = g.N.Door.Link.Link.marks; traffic = g.N.Door.Link.Link.traffic };
-    }) command said c.serve.result source source
-    (disk_seen g.D.Disk.state g.D.Disk.moment g.D.Disk.left_since g.D.Disk.faults c.args.disk.now)
-    (disk_seen g.D.Disk.state g.D.Disk.moment g.D.Disk.left_since g.D.Disk.faults c.serve.new.disk) c.args.net.now c.serve.new.net
-    × WritesAnswers c.serve.result said sink sink)
-    (sym (c.in-Ok-Serve.ensures.command ∙ ap Some c.in-Ok-Serve.field-0-is)) (c.serve.ensures.run source sink)
+    serves-as g.N.Dial g.N.Link.Link g.N.Net.closed g.N.Door.Door g.N.Door.Link.Link c.args.words.now
+    (seen_of g.S.Source g.K.Sink g.D.Disk g.N.Dial c.args.source.now c.args.sink.now c.args.disk.now c.args.net.now) c.args.net.now
+    (disk_seen g.D.Disk.state g.D.Disk.moment g.D.Disk.left_since g.D.Disk.faults c.run_serve.new.disk) c.run_serve.new.net
+    _ c.run_serve.result (c.in-Ok-Serve.ensures.command ∙ ap Some c.in-Ok-Serve.field-0-is) c.run_serve.ensures
+
+pub returns-in-Ok-Serve-clause-source_count : goal.returns-in-Ok-Serve-clause-source_count
+returns-in-Ok-Serve-clause-source_count g c =
+    reads-nothing g.N.Dial g.N.Link.Link g.N.Net.closed g.N.Door.Door g.N.Door.Link.Link c.args.words.now
+    (seen_of g.S.Source g.K.Sink g.D.Disk g.N.Dial c.args.source.now c.args.sink.now c.args.disk.now c.args.net.now) c.args.net.now
+    (disk_seen g.D.Disk.state g.D.Disk.moment g.D.Disk.left_since g.D.Disk.faults c.run_serve.new.disk) c.run_serve.new.net
+    c.run_serve.result c.run_serve.ensures
+
+pub returns-in-Ok-Check-clause-source_count : goal.returns-in-Ok-Check-clause-source_count
+returns-in-Ok-Check-clause-source_count g c = (uncounted c.run_check.result (g.S.Source.faults c.args.source.now) c.run_check.ensures.ends).0
+
+pub returns-in-Ok-Check-clause-disk_count : goal.returns-in-Ok-Check-clause-disk_count
+returns-in-Ok-Check-clause-disk_count g c =
+    let count = g.D.Disk.faults c.args.disk.now in
+    subst (λ (command : Option Command). CountsDisk command c.run_check.result count count)
+    (sym (c.in-Ok-Check.ensures.command ∙ ap Some c.in-Ok-Check.field-0-is)) (uncounted c.run_check.result count c.run_check.ensures.ends).1
+
+pub returns-in-Ok-Simple-clause-source_count : goal.returns-in-Ok-Simple-clause-source_count
+returns-in-Ok-Simple-clause-source_count g c = (uncounted c.run_simple.result (g.S.Source.faults c.args.source.now) c.run_simple.ensures.ends).0
+
+pub returns-in-Ok-Simple-clause-disk_count : goal.returns-in-Ok-Simple-clause-disk_count
+returns-in-Ok-Simple-clause-disk_count g c =
+    let count = g.D.Disk.faults c.args.disk.now in
+    subst (λ (command : Option Command). CountsDisk command c.run_simple.result count count)
+    (sym (c.in-Ok-Simple.ensures.command ∙ ap Some c.in-Ok-Simple.field-0-is)) (uncounted c.run_simple.result count c.run_simple.ensures.ends).1

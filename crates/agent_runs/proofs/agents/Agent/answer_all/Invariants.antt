@@ -12,4 +12,4 @@ invariant-turns g l =
     (goal.iterator-turns g).can_next l.iterator' × (goal.iterator-turns g).is_finite l.iterator'
     × (l.self.feeder ≡ unfed AgentReplies) × (l.self.allowed ≡ l.fn.self.allowed)
     × ((turns : List Framed) × Turned l.fn.self.allowed turns
-    (link_seen g.L.Link.traffic g.L.Link.marks g.L.Link.faults l.fn.link) (link_seen g.L.Link.traffic g.L.Link.marks g.L.Link.faults l.link) (sink_seen g.K.Sink.taken g.K.Sink.faults l.fn.sink) (sink_seen g.K.Sink.taken g.K.Sink.faults l.sink))
+    (link_seen g.L.Link l.fn.link) (link_seen g.L.Link l.link) (sink_seen g.K.Sink.taken g.K.Sink.faults l.fn.sink) (sink_seen g.K.Sink.taken g.K.Sink.faults l.sink))

@@ -8,16 +8,16 @@ use Rattle.agent_runs.proofs.agents.Agent.hear_registration.Goals as goal
 
 pub returns-in-Ok : goal.returns-in-Ok
 returns-in-Ok g c = λ kind start sink_start talked.
-    let before = link_seen g.L.Link.traffic g.L.Link.marks g.L.Link.faults c.args.link.now in
-    let after = link_seen g.L.Link.traffic g.L.Link.marks g.L.Link.faults c.hear_next.new.link in
+    let before = link_seen g.L.Link c.args.link.now in
+    let after = link_seen g.L.Link c.hear_next.new.link in
     c.begin-ending.ensures kind start sink_start
     (met kind c.args.self.now.allowed [] start sink_start c.in-Ok.framed before after (sink_seen g.K.Sink.taken g.K.Sink.faults c.args.sink.now) talked
     (as_agent c.args.self.now.feeder (Ok c.in-Ok.framed) before after c.requires.unused c.in-Ok.ensures.next))
 
 pub returns-in-Err : goal.returns-in-Err
 returns-in-Err g c = λ kind start sink_start talked.
-    let before = link_seen g.L.Link.traffic g.L.Link.marks g.L.Link.faults c.args.link.now in
-    let after = link_seen g.L.Link.traffic g.L.Link.marks g.L.Link.faults c.hear_next.new.link in
+    let before = link_seen g.L.Link c.args.link.now in
+    let after = link_seen g.L.Link c.hear_next.new.link in
     subst (λ ending. Served kind c.args.self.now.allowed ending start after sink_start (sink_seen g.K.Sink.taken g.K.Sink.faults c.end_of.new.sink))
     (sym c.end_of.ensures.ending)
     (served-unheard kind c.args.self.now.allowed [] start sink_start before after (sink_seen g.K.Sink.taken g.K.Sink.faults c.args.sink.now) (sink_seen g.K.Sink.taken g.K.Sink.faults c.end_of.new.sink)
