@@ -1,3 +1,4 @@
 pub mod Visits
 pub mod Offices
 pub mod Watched
+pub mod Forgetting

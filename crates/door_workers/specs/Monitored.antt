@@ -8,7 +8,8 @@ use Rattle.server_hall.specs.declared.calls.HallCall.{HallCall}
 use Rattle.door_frames.specs.declared.endings.Ended.{Ended}
 use Rattle.client_door.specs.Serving.{client_side}
 use Rattle.check_monitor.specs.Monitor.{RecorderState}
-use Rattle.monitor_door.specs.Monitoring.{ServesMonitored}
+use Rattle.client_door.specs.declared.judgements.Judgement.{Judgement}
+use Rattle.monitor_door.specs.Monitoring.{ServesMonitored, RecordsEach}
 use Rattle.door_workers.specs.Visit.{Visit}
 
 -- what one connection leaves to the next: the seat, and the recorder
@@ -29,3 +30,7 @@ ServesWatched traffic marks faults ended post link post_now link_now = (tally : 
 abbrev pub VisitsWatched : {L : Type 0} → (L → Option Traffic) → (L → LinkMarks) → (L → ℕ) → Post → Visit L → Post → Type 0
 VisitsWatched traffic marks faults post visit post_now =
     ServesWatched traffic marks faults visit.ended post visit.accepted post_now visit.returned
+
+-- A recorder, and what it is once some checks were recorded, each once and in turn.
+abbrev pub RecordsSome : RecorderState → RecorderState → Type 0
+RecordsSome old new = (judged : List Judgement) × RecordsEach old judged new

@@ -8,6 +8,7 @@ ghost use Rattle.admin_door.specs.Running.{RunsOver};
 ghost use Rattle.door_workers.specs.Administrators.{office_of, VisitsOffice, EndsOffice, tally_behind};
 ghost use Rattle.door_workers.specs.parts.Turn.{TurnsOffice};
 
+use crate::chores::Chore;
 use crate::notes::{Notes, note_store};
 use crate::workers::{WorkerEnd, accept, is_stop};
 use desk_keeper::Keeper;
@@ -21,9 +22,9 @@ use server_hall::Hall;
 use std::alloc::Global;
 use std::sync::{Mutex, Wait};
 
-/// Serves connections of administrators, one after the other, until one of them has stopped the service. Where its door
-/// accepts none it stops the service itself, by way of its own hall. What a stop at any moment may leave in the folder is told
-/// of the frames that came (`RunsOver`). It may wait.
+/// Serves connections of administrators, one after the other, and does the chore behind each, until one of them has stopped the
+/// service. Where its door accepts none it stops the service itself, by way of its own hall. What a stop at any moment may
+/// leave in the folder is told of the frames that came (`RunsOver`). It may wait.
 pub fn work_for_administrators<
     R: Wait,
     D: Disk,
@@ -32,6 +33,7 @@ pub fn work_for_administrators<
     E: Door<Link = L>,
     A: Hall,
     T: Notes,
+    C: Chore,
 >(
     rt: &R,
     alloc: Global,
@@ -42,6 +44,7 @@ pub fn work_for_administrators<
     door: &mut E,
     hall: &mut A,
     notes: &T,
+    chore: &mut C,
 ) -> WorkerEnd
     requires behind { last_commit 0 publisher.old ≤ keeper.old.desk.commit }
     ensures worked { (frames : List Exchange)
@@ -52,8 +55,11 @@ pub fn work_for_administrators<
     ensures same_disk { IsSameDisk keeper.old keeper.new }
     ensures kind { E.kind door.new ≡ E.kind door.old }
     ensures stopped { A.tally hall.new ≡ tally_behind result (A.tally hall.old) }
+    ensures chore { C.goes chore.old chore.new }
 {
-    let end = serve_administrators(rt, alloc, keeper, publisher, roll, questions, door, notes);
+    let end = serve_administrators(
+        rt, alloc, keeper, publisher, roll, questions, door, notes, chore,
+    );
     stop_behind(hall, end);
     end
 }
@@ -69,7 +75,15 @@ fn stop_behind<A: Hall>(hall: &mut A, end: WorkerEnd)
 }
 
 // The same, but for the stop of the service where the door accepts none.
-fn serve_administrators<R: Wait, D: Disk, H: HangEnd, L: Link, E: Door<Link = L>, T: Notes>(
+fn serve_administrators<
+    R: Wait,
+    D: Disk,
+    H: HangEnd,
+    L: Link,
+    E: Door<Link = L>,
+    T: Notes,
+    C: Chore,
+>(
     rt: &R,
     alloc: Global,
     keeper: &mut Keeper<'_, D>,
@@ -78,6 +92,7 @@ fn serve_administrators<R: Wait, D: Disk, H: HangEnd, L: Link, E: Door<Link = L>
     questions: &QuestionDesk,
     door: &mut E,
     notes: &T,
+    chore: &mut C,
 ) -> WorkerEnd
     requires behind { last_commit 0 publisher.old ≤ keeper.old.desk.commit }
     ensures worked { (frames : List Exchange)
@@ -87,9 +102,12 @@ fn serve_administrators<R: Wait, D: Disk, H: HangEnd, L: Link, E: Door<Link = L>
         × RunsOver D.state D.moment D.left_since keeper.old keeper.new frames }
     ensures same_disk { IsSameDisk keeper.old keeper.new }
     ensures kind { E.kind door.new ≡ E.kind door.old }
+    ensures chore { C.goes chore.old chore.new }
 {
     for _ in rt.forever() {
-        if let Err(end) = serve_next(rt, alloc, keeper, publisher, roll, questions, door, notes) {
+        if let Err(end) = serve_next(
+            rt, alloc, keeper, publisher, roll, questions, door, notes, chore,
+        ) {
             return end;
         }
     }
@@ -97,7 +115,7 @@ fn serve_administrators<R: Wait, D: Disk, H: HangEnd, L: Link, E: Door<Link = L>
 }
 
 // Serves the next administrator, and says whether the worker ends behind it.
-fn serve_next<R: Wait, D: Disk, H: HangEnd, L: Link, E: Door<Link = L>, T: Notes>(
+fn serve_next<R: Wait, D: Disk, H: HangEnd, L: Link, E: Door<Link = L>, T: Notes, C: Chore>(
     rt: &R,
     alloc: Global,
     keeper: &mut Keeper<'_, D>,
@@ -106,6 +124,7 @@ fn serve_next<R: Wait, D: Disk, H: HangEnd, L: Link, E: Door<Link = L>, T: Notes
     questions: &QuestionDesk,
     door: &mut E,
     notes: &T,
+    chore: &mut C,
 ) -> Result<(), WorkerEnd>
     requires behind { last_commit 0 publisher.old ≤ keeper.old.desk.commit }
     ensures worked { TurnsOffice D.faults D.state D.moment D.left_since L.traffic L.marks L.faults result
@@ -114,6 +133,7 @@ fn serve_next<R: Wait, D: Disk, H: HangEnd, L: Link, E: Door<Link = L>, T: Notes
     ensures behind { last_commit 0 publisher.new ≤ keeper.new.desk.commit }
     ensures same_disk { IsSameDisk keeper.old keeper.new }
     ensures kind { E.kind door.new ≡ E.kind door.old }
+    ensures chore { C.goes chore.old chore.new }
 {
     let mut link = match accept(door) {
         Ok(link) => link,
@@ -123,6 +143,7 @@ fn serve_next<R: Wait, D: Disk, H: HangEnd, L: Link, E: Door<Link = L>, T: Notes
     let ended = serve_admin(rt, alloc, keeper, publisher, roll, questions, &mut link);
     note_store(notes, was_decided, keeper.is_decided());
     door.give_back(link);
+    chore.turn(rt);
     if is_stop(&ended) {
         return Err(WorkerEnd::Stopped);
     }

@@ -20,7 +20,7 @@ loop-init g c = (
         runs-none g.D.Disk.state g.D.Disk.moment g.D.Disk.left_since c.args.keeper.now
             (g.met.D.Disk.only_now (disk_of c.args.keeper.now)),
       ),
-      (c.requires.behind, (refl, refl)),
+      (c.requires.behind, (refl, (refl, g.met.C.Chore.stays c.args.chore.now))),
     ),
   ),
 )
@@ -37,7 +37,11 @@ loop-preserved g c = (
         c.in_default.ensures.behind,
         (
           c.in_default.ensures.same_disk ∙ c.loop.invariant.1.1.1.1.0,
-          c.in_default.ensures.kind ∙ c.loop.invariant.1.1.1.1.1,
+          (
+            c.in_default.ensures.kind ∙ c.loop.invariant.1.1.1.1.1.0,
+            g.met.C.Chore.goes_further c.args.chore.now c.loop.chore _ c.loop.invariant.1.1.1.1.1.1
+                c.in_default.ensures.chore,
+          ),
         ),
       ),
     ),
@@ -48,3 +52,7 @@ pub returns-in-Err-clause-worked : goal.returns-in-Err-clause-worked
 returns-in-Err-clause-worked g c =
     c.in-Err.ensures.worked c.args.keeper.now (office_of g.D.Disk.faults c.args.keeper.now c.args.publisher.now [])
     (g.E.Door.given_back c.args.door.now) (g.E.Door.faults c.args.door.now) c.loop.invariant.1.1.0
+
+pub returns-in-Err-clause-chore : goal.returns-in-Err-clause-chore
+returns-in-Err-clause-chore g c =
+    g.met.C.Chore.goes_further c.args.chore.now c.loop.chore _ c.loop.invariant.1.1.1.1.1.1 c.in-Err.ensures.chore

@@ -15,4 +15,5 @@ invariant-loop g l =
     l.keeper l.publisher (g.E.Door.given_back l.door) (g.E.Door.faults l.door)
     × ((last_commit 0 l.publisher ≤ l.keeper.desk.commit)
     × (IsSameDisk l.fn.keeper l.keeper
-    × (g.E.Door.kind l.door ≡ g.E.Door.kind l.fn.door)))))
+    × ((g.E.Door.kind l.door ≡ g.E.Door.kind l.fn.door)
+    × g.C.Chore.goes l.fn.chore l.chore)))))

@@ -76,3 +76,6 @@ returns-clause-worked g c first start given count (frames, so_far, runs) =
       runs-then g.D.Disk.state g.D.Disk.moment g.D.Disk.left_since first c.args.keeper.now c.serve_admin-ended.new.keeper
           frames more runs keeps,
     )
+
+pub returns-in-Err-clause-chore : goal.returns-in-Err-clause-chore
+returns-in-Err-clause-chore g c = g.met.C.Chore.stays c.args.chore.now
