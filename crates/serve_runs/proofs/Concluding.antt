@@ -2,11 +2,14 @@
 use Rattle.std.proofs.Common.{◌≡◌, ◌∙◌, ◌≤◌, ◌<◌, ℕ, Bool, true, false, List, Option, refl, sym, ap, subst, arith}
 use Rattle.std.specs.Bool.{OnFalse}
 use Rattle.desk_ports.specs.Faults.{next_count}
+use Rattle.desk_keeper.specs.declared.refusals.KeeperRefusal.{KeeperRefusal}
+use Rattle.desk_keeper.specs.declared.refusals.KeeperRefusal.TheVariants.{StoreFault, Damaged as FolderDamaged, Memory as NoMemory}
+use Rattle.folder_runs.specs.Mounting.{mounting_ending}
 use Rattle.door_workers.specs.declared.workers.WorkerEnd.{WorkerEnd}
 use Rattle.door_workers.specs.declared.workers.WorkerEnd.TheVariants.{Stopped, DoorFailed, Memory as LacksMemory}
 use Rattle.run_endings.specs.declared.endings.Ending.{Ending}
 use Rattle.run_endings.specs.declared.endings.Ending.TheVariants.{Done, Memory, Words, Line, Source, Sink, Disk, Net, Damaged, Reply, TooLong}
-use Rattle.serve_runs.specs.Serving.{HasRisen, HasNotRisen, FoundMemory, EndsService}
+use Rattle.serve_runs.specs.Serving.{HasRisen, HasNotRisen, FoundMemory, EndsService, EndsUnopened, IsUndone}
 use Rattle.serve_runs.specs.parts.Officiating.{EndsBy}
 
 apart : {P : Type 0} (before after : ℕ) → HasRisen before after → HasNotRisen before after → P
@@ -37,3 +40,23 @@ concludes Sink lacked end disk disk_now net net_now found failed by = absurd by
 concludes (Damaged file line) lacked end disk disk_now net net_now found failed by = absurd by
 concludes Reply lacked end disk disk_now net net_now found failed by = absurd by
 concludes (TooLong size) lacked end disk disk_now net net_now found failed by = absurd by
+
+-- ---- nobody was served
+
+pub mount_undone : (refusal : KeeperRefusal) → IsUndone (mounting_ending refusal)
+mount_undone StoreFault = tt
+mount_undone (FolderDamaged file line) = tt
+mount_undone (NoMemory error) = tt
+
+pub unopened_undone : (ending : Ending) (net net_now : ℕ) → EndsUnopened ending net net_now → IsUndone ending
+unopened_undone Memory net net_now ends = tt
+unopened_undone Net net net_now ends = tt
+unopened_undone Done net net_now ends = absurd ends
+unopened_undone Words net net_now ends = absurd ends
+unopened_undone (Line number) net net_now ends = absurd ends
+unopened_undone Source net net_now ends = absurd ends
+unopened_undone Sink net net_now ends = absurd ends
+unopened_undone Disk net net_now ends = absurd ends
+unopened_undone (Damaged file line) net net_now ends = absurd ends
+unopened_undone Reply net net_now ends = absurd ends
+unopened_undone (TooLong size) net net_now ends = absurd ends

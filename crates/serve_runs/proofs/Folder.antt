@@ -18,6 +18,9 @@ use Rattle.door_workers.specs.Administrators.{Office, VisitsOffice, EndsOffice}
 use Rattle.door_workers.specs.declared.workers.WorkerEnd.{WorkerEnd}
 use Rattle.door_workers.proofs.Offices.{office-holds}
 use Rattle.run_endings.specs.Outside.{DiskSeen, disk_seen}
+use Rattle.run_endings.specs.Saying.{silence}
+use Rattle.run_endings.specs.declared.endings.Ending.TheVariants.{Memory}
+use Rattle.folder_runs.specs.Folder.{RefusesFolder}
 use Rattle.serve_runs.specs.Folder.{KeepsService, IsMadeBy, AreMadeBy}
 use Rattle.serve_runs.specs.Serving.{opening}
 
@@ -50,6 +53,19 @@ module _ {D : Type 0} (state : D → Option DiskState) (moment : D → ℕ) (lef
         now = through.after;
         told = through.told;
         behind = through.behind;
+      }
+
+-- memory was wanting before the folder was looked at
+module _ {D : Type 0} (state : D → Option DiskState) (moment : D → ℕ) (left_since : D → ℕ → FileMap → Type 0) (faults : D → ℕ) (disk : D) where
+  pub refuses-early : ((left : FileMap) → WhereTold (state disk) (λ now. left_since disk (moment disk) left → MayLeave now left))
+      → RefusesFolder silence Memory (disk_seen state moment left_since faults disk) (disk_seen state moment left_since faults disk)
+  refuses-early only_now =
+      record {
+        refused = tt;
+        silent = refl;
+        moments = λ entry told map was.
+            let may = only_now map entry told was in
+            (map, may, refl, λ name foreign free. may name free);
       }
 
 -- ---- what was published

@@ -45,6 +45,11 @@ EndsUnopened Memory net net_now = Unit {0}
 EndsUnopened Net net net_now = HasRisen net net_now
 EndsUnopened ending net net_now = ⊥
 
+-- the work was not done
+abbrev pub IsUndone : Ending → Type 0
+IsUndone Done = ⊥
+IsUndone ending = Unit {0}
+
 -- ---- administrators
 
 -- what the first administrator meets: the state of the folder is kept, and published

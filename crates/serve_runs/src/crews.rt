@@ -1,6 +1,10 @@
 // The workers that run on threads of their own, each with its door.
+ghost use Rattle.std.specs.Prelude.{◌≡◌, ◌+◌, ◌<◌, ◌≤◌, ◌++◌, [], length, vec_len, vec_capacity, IfOk, OnOk};
+ghost use Rattle.std.specs.Option.{option_to_list};
+ghost use Rattle.serve_runs.specs.parts.Crews.{duty_at, duty_of, duties_of, DutyGoes};
+
 use crate::telling::note_end;
-use door_workers::{Notes, WorkerEnd, work_for_agents, work_for_clients};
+use door_workers::{ClientDuty, Notes, WorkerEnd, work_for_agents};
 use link_ports::{Door, DoorKind, Gate, Link};
 use live_desk::Seat;
 use live_roll::Roll;
@@ -13,22 +17,65 @@ pub const AGENT_WORKERS: u32 = 8;
 
 /// Whom a worker serves.
 #[derive(Drop)]
-pub(crate) enum Station {
-    /// Clients, in the place of this seat.
-    Clients(Seat),
+pub(crate) enum Station<X: Drop> {
+    /// Clients, in the place of this seat, with what is done beside.
+    Clients(Seat, X),
     Agents,
 }
 
 /// A worker, its door, once it is opened, and how the worker ended, once it has.
 #[derive(Drop)]
-pub(crate) struct Worker<D: Door> {
-    station: Station,
+pub(crate) struct Worker<D: Drop, X: Drop> {
+    station: Station<X>,
     door: Option<D>,
     end: Option<WorkerEnd>,
 }
 
-impl<D: Door> Worker<D> {
-    fn at(station: Station) -> Worker<D> {
+impl<X: ClientDuty> Station<X> {
+    // Serves one connection after the other at this door.
+    fn work<R: Wait, D: Door, G: Gate>(
+        &mut self,
+        rt: &R,
+        alloc: Global,
+        door: &mut D,
+        roll: &Mutex<Roll<<D::Link as Link>::End>>,
+        questions: &QuestionDesk,
+        gate: &G,
+        news: &mut StopNews,
+    ) -> WorkerEnd
+        ensures { DutyGoes X.goes (duty_at self.old) (duty_at self.new) }
+    {
+        match self {
+            Station::Clients(seat, duty) => {
+                duty.work(rt, alloc, seat, roll, questions, door, gate, news)
+            }
+            Station::Agents => work_for_agents(rt, alloc, roll, questions, door, news),
+        }
+    }
+
+    // The kind of its door.
+    fn kind(&self) -> DoorKind {
+        match self {
+            Station::Clients(_, _) => DoorKind::Client,
+            Station::Agents => DoorKind::Agent,
+        }
+    }
+
+    // What is done beside serving clients, where it serves them.
+    fn into_duty(self) -> Option<X>
+        ensures { result ≡ duty_at self }
+    {
+        match self {
+            Station::Clients(_, duty) => Some(duty),
+            Station::Agents => None,
+        }
+    }
+}
+
+impl<D: Door, X: ClientDuty> Worker<D, X> {
+    fn at(station: Station<X>) -> Worker<D, X>
+        ensures { duty_of result ≡ duty_at station }
+    {
         Worker {
             station,
             door: None,
@@ -38,19 +85,20 @@ impl<D: Door> Worker<D> {
 
     /// The kind of its door.
     pub fn kind(&self) -> DoorKind {
-        match &self.station {
-            Station::Clients(_) => DoorKind::Client,
-            Station::Agents => DoorKind::Agent,
-        }
+        self.station.kind()
     }
 
     /// From now on it stands at this door.
-    pub fn take_door(&mut self, door: D) {
+    pub fn take_door(&mut self, door: D)
+        ensures { duty_of self.new ≡ duty_of self.old }
+    {
         self.door = Some(door);
     }
 
     /// The door at which it stood, if any. It stands at none then.
-    pub fn leave_door(&mut self) -> Option<D> {
+    pub fn leave_door(&mut self) -> Option<D>
+        ensures { duty_of self.new ≡ duty_of self.old }
+    {
         self.door.take()
     }
 
@@ -63,17 +111,16 @@ impl<D: Door> Worker<D> {
         questions: &QuestionDesk,
         gate: &G,
         notes: &T,
-    ) {
+    )
+        ensures { DutyGoes X.goes (duty_of self.old) (duty_of self.new) }
+    {
         let Some(door) = &mut self.door else {
             return;
         };
         let mut news = StopNews::new();
-        let end = match &mut self.station {
-            Station::Clients(seat) => {
-                work_for_clients(rt, alloc, seat, roll, questions, door, gate, &mut news)
-            }
-            Station::Agents => work_for_agents(rt, alloc, roll, questions, door, &mut news),
-        };
+        let end = self
+            .station
+            .work(rt, alloc, door, roll, questions, gate, &mut news);
         self.end = Some(end);
         note_end(notes, self.kind(), end);
     }
@@ -82,25 +129,96 @@ impl<D: Door> Worker<D> {
     pub fn lacked_memory(&self) -> bool {
         self.end == Some(WorkerEnd::Memory)
     }
+
+    /// What it does beside serving clients, where it serves them.
+    pub fn into_duty(self) -> Option<X>
+        ensures { result ≡ duty_of self }
+    {
+        let Worker { station, .. } = self;
+        station.into_duty()
+    }
 }
 
-/// A worker for each of these seats, and those for agents. No door of them is open.
-pub(crate) fn crew_of<D: Door>(
+/// A worker for each of these seats with the duty of the same place, and those for agents. No door of them is open.
+pub(crate) fn crew_of<D: Door, X: ClientDuty>(
     alloc: Global,
     seats: Vec<Seat>,
-) -> Result<Vec<Worker<D>>, AllocError> {
-    let count = seats.len().saturating_add(AGENT_WORKERS as usize);
+    duties: Vec<X>,
+) -> Result<Vec<Worker<D, X>>, AllocError>
+    requires { length duties.items ≤ length seats.items }
+    ensures { IfOk result (λ crew. duties_of crew.items ≡ duties.items) }
+{
+    let count = duties.len().saturating_add(AGENT_WORKERS as usize);
     let mut crew = Vec::with_capacity(alloc, count)?;
-    for seat in seats {
-        crew.push(Worker::at(Station::Clients(seat)))?;
+    let mut seats = seats;
+    seats.reverse();
+    for duty in duties {
+        let Some(seat) = seats.pop() else {
+            unreachable!()
+        };
+        if let Err(error) = put_worker(&mut crew, Station::Clients(seat, duty)) {
+            return Err(error);
+        }
     }
+    match put_agents(&mut crew) {
+        Ok(()) => Ok(crew),
+        Err(error) => Err(error),
+    }
+}
+
+// Puts the workers of agents behind the others.
+fn put_agents<D: Door, X: ClientDuty>(crew: &mut Vec<Worker<D, X>>) -> Result<(), AllocError>
+    ensures { OnOk result (duties_of crew.new.items ≡ duties_of crew.old.items) }
+{
     for _ in 0..AGENT_WORKERS {
-        crew.push(Worker::at(Station::Agents))?;
+        if let Err(error) = put_worker(crew, Station::Agents) {
+            return Err(error);
+        }
     }
-    Ok(crew)
+    Ok(())
+}
+
+// Puts a worker behind the others.
+fn put_worker<D: Door, X: ClientDuty>(
+    crew: &mut Vec<Worker<D, X>>,
+    station: Station<X>,
+) -> Result<(), AllocError>
+    ensures { OnOk result (duties_of crew.new.items ≡ duties_of crew.old.items ++ option_to_list (duty_at station)) }
+{
+    crew.push(Worker::at(station))?;
+    Ok(())
+}
+
+/// What the workers of clients do beside, once all have ended. The list has room for that of each worker.
+pub(crate) fn duties_back<D: Door, X: ClientDuty>(room: Vec<X>, crew: Vec<Worker<D, X>>) -> Vec<X>
+    requires empty { room.items ≡ [] }
+    requires room { vec_len room + length crew.items ≤ vec_capacity room }
+    ensures { result.items ≡ duties_of crew.items }
+{
+    let mut duties = room;
+    for worker in crew {
+        put_back(&mut duties, worker.into_duty());
+    }
+    duties
+}
+
+// Puts a duty behind the others, where there is one.
+fn put_back<X: Drop>(duties: &mut Vec<X>, duty: Option<X>)
+    requires { vec_len duties.old < vec_capacity duties.old }
+    ensures items { duties.new.items ≡ duties.old.items ++ option_to_list duty }
+    ensures len { vec_len duties.new ≤ vec_len duties.old + 1 }
+    ensures capacity { vec_capacity duties.old ≤ vec_capacity duties.new }
+{
+    let Some(duty) = duty else {
+        return;
+    };
+    match duties.push(duty) {
+        Ok(()) => {}
+        Err(_) => unreachable!(),
+    }
 }
 
 /// Whether one of the crew found no memory at its door.
-pub(crate) fn lacked_memory<D: Door>(crew: &[Worker<D>]) -> bool {
+pub(crate) fn lacked_memory<D: Door, X: ClientDuty>(crew: &[Worker<D, X>]) -> bool {
     crew.iter().any(|worker| worker.lacked_memory())
 }

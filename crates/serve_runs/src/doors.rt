@@ -1,11 +1,13 @@
 // The doors of a service: opened, knocked at, and closed.
-ghost use Rattle.std.specs.Prelude.{◌≡◌, ◌≤◌, List, [], Some, IfOk, IfErr};
+ghost use Rattle.std.specs.Prelude.{◌≡◌, ◌≤◌, List, [], map, Some, IfOk, IfErr};
 ghost use Rattle.link_ports.specs.Told.{IfTold};
 ghost use Rattle.serve_runs.specs.Serving.{EndsUnopened, ClosesDoors};
+ghost use Rattle.serve_runs.specs.parts.Crews.{duty_of};
 ghost use Rattle.serve_runs.specs.parts.Officiating.{Knocks};
 
 use crate::crews::{AGENT_WORKERS, Worker};
 use desk_ports::PortFault;
+use door_workers::ClientDuty;
 use link_ports::{DoorKind, Net};
 use run_endings::Ending;
 
@@ -27,10 +29,14 @@ pub(crate) fn open<N: Net>(net: &mut N, kind: DoorKind) -> Result<N::Door, Endin
 
 /// Opens the doors of the crew, until one is refused.
 #[tactic(auto, using(crate::proofs::Closing::unopened_since))]
-pub(crate) fn open_doors<N: Net>(net: &mut N, crew: &mut [Worker<N::Door>]) -> Result<(), Ending>
+pub(crate) fn open_doors<N: Net, X: ClientDuty>(
+    net: &mut N,
+    crew: &mut [Worker<N::Door, X>],
+) -> Result<(), Ending>
     ensures refused { IfErr result (λ ending. EndsUnopened ending (N.faults net.old) (N.faults net.new)) }
     ensures no_less { N.faults net.old ≤ N.faults net.new }
     ensures closed { N.closed net.new ≡ N.closed net.old }
+    ensures duties { map duty_of crew.new ≡ map duty_of crew.old }
 {
     for worker in crew.iter_mut() {
         if let Err(ending) = open_one(net, worker) {
@@ -40,10 +46,14 @@ pub(crate) fn open_doors<N: Net>(net: &mut N, crew: &mut [Worker<N::Door>]) -> R
     Ok(())
 }
 
-fn open_one<N: Net>(net: &mut N, worker: &mut Worker<N::Door>) -> Result<(), Ending>
+fn open_one<N: Net, X: ClientDuty>(
+    net: &mut N,
+    worker: &mut Worker<N::Door, X>,
+) -> Result<(), Ending>
     ensures refused { IfErr result (λ ending. EndsUnopened ending (N.faults net.old) (N.faults net.new)) }
     ensures no_less { N.faults net.old ≤ N.faults net.new }
     ensures closed { N.closed net.new ≡ N.closed net.old }
+    ensures duty { duty_of worker.new ≡ duty_of worker.old }
 {
     match open(net, worker.kind()) {
         Ok(door) => {
@@ -73,9 +83,10 @@ fn knock<N: Net>(net: &mut N, kind: DoorKind, times: u32)
 
 /// Closes the doors of the crew that are open.
 #[tactic(auto, using(crate::proofs::Closing::closes_none))]
-pub(crate) fn close_doors<N: Net>(net: &mut N, crew: &mut [Worker<N::Door>])
+pub(crate) fn close_doors<N: Net, X: ClientDuty>(net: &mut N, crew: &mut [Worker<N::Door, X>])
     ensures no_less { N.faults net.old ≤ N.faults net.new }
     ensures closed { (doors : List N.Door) × ClosesDoors (N.closed net.old) doors (N.closed net.new) }
+    ensures duties { map duty_of crew.new ≡ map duty_of crew.old }
 {
     for worker in crew.iter_mut() {
         close_one(net, worker);
@@ -83,9 +94,10 @@ pub(crate) fn close_doors<N: Net>(net: &mut N, crew: &mut [Worker<N::Door>])
 }
 
 #[tactic(auto, using(crate::proofs::Closing::closes_none))]
-fn close_one<N: Net>(net: &mut N, worker: &mut Worker<N::Door>)
+fn close_one<N: Net, X: ClientDuty>(net: &mut N, worker: &mut Worker<N::Door, X>)
     ensures no_less { N.faults net.old ≤ N.faults net.new }
     ensures closed { (doors : List N.Door) × ClosesDoors (N.closed net.old) doors (N.closed net.new) }
+    ensures duty { duty_of worker.new ≡ duty_of worker.old }
 {
     let Some(door) = worker.leave_door() else {
         return;

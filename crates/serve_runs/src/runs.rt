@@ -1,18 +1,20 @@
-// `serve W`.
-ghost use Rattle.std.specs.Prelude.{◌<◌, ◌≤◌};
+// `serve W`, and what it shares with a service that does more beside.
+ghost use Rattle.std.specs.Prelude.{◌≡◌, ◌<◌, ◌≤◌, length, IfOk, IfSome, IfNone, OnSome};
+ghost use Rattle.std.specs.List.{AllZip};
 ghost use Rattle.run_endings.specs.Outside.{disk_seen};
 ghost use Rattle.serve_runs.specs.Run.{RunsServe};
+ghost use Rattle.serve_runs.specs.Serving.{IsUndone};
 
 use crate::endings::ending_of;
 use crate::serving::serve_folder;
 use crate::telling::note_over;
 use desk_keeper::{Keeper, KeptDesk};
 use desk_ports::Disk;
-use door_workers::Notes;
+use door_workers::{Chore, ClientDuty, NoChore, Notes, Unrecorded};
 use folder_runs::ending_of_mount;
 use link_ports::{Door, Gate, Link, Net};
 use run_endings::Ending;
-use std::alloc::Global;
+use std::alloc::{AllocError, Global};
 use std::sync::Wait;
 use std::thread::Threads;
 
@@ -42,25 +44,121 @@ where
         (disk_seen D.state D.moment D.left_since D.faults disk.new)
         (N.faults net.old) (N.faults net.new) (N.closed net.old) (N.closed net.new) }
 {
+    let Ok(duties) = unrecorded(alloc, workers) else {
+        return Ending::Memory;
+    };
+    let run = run_service(
+        rt,
+        alloc,
+        workers,
+        duties,
+        disk,
+        net,
+        gate,
+        notes,
+        &mut NoChore,
+    );
+    run.ending
+}
+
+// Nothing to do beside, for each of so many workers.
+fn unrecorded(alloc: Global, workers: u32) -> Result<Vec<Unrecorded>, AllocError>
+    ensures { IfOk result (λ duties. length duties.items ≡ workers) }
+{
+    let mut duties = Vec::with_capacity(alloc, workers as usize)?;
+    for _ in 0..workers {
+        duties.push(Unrecorded)?;
+    }
+    Ok(duties)
+}
+
+/// How a service ended; and what has become of what its workers of clients did beside, in their order, where there was a service.
+#[derive(Drop)]
+pub struct ServiceRun<X: Drop> {
+    pub ending: Ending,
+    pub duties: Option<Vec<X>>,
+}
+
+/// Serves as `run_serve` does, by a worker of clients for each of these duties, which does that beside answering, and does the
+/// chore behind each connection of an administrator. It may wait.
+pub fn run_service<
+    R: Threads + Wait + Sync,
+    D: Disk,
+    N: Net,
+    G: Gate + Sync,
+    T: Notes + Sync,
+    X: ClientDuty + Send,
+    C: Chore,
+>(
+    rt: &R,
+    alloc: Global,
+    workers: u32,
+    duties: Vec<X>,
+    disk: &mut D,
+    net: &mut N,
+    gate: &G,
+    notes: &T,
+    chore: &mut C,
+) -> ServiceRun<X>
+where
+    N::Door: Send,
+    <N::Door as Door>::Link: Send,
+    <<N::Door as Door>::Link as Link>::End: Send,
+    requires some { 0 < workers }
+    requires most { workers ≤ 64 }
+    requires duties { length duties.items ≡ workers }
+    ensures runs { RunsServe N.Door.Link.traffic N.Door.Link.marks N.Door.Link.faults N.Door.given_back N.Door.faults N.Door.kind result.ending
+        (disk_seen D.state D.moment D.left_since D.faults disk.old)
+        (disk_seen D.state D.moment D.left_since D.faults disk.new)
+        (N.faults net.old) (N.faults net.new) (N.closed net.old) (N.closed net.new) }
+    ensures duties { IfSome result.duties (λ now. AllZip X.goes duties.items now.items) }
+    ensures chore { OnSome result.duties (C.goes chore.old chore.new) }
+    ensures undone { IfNone result.duties (IsUndone result.ending) }
+    ensures untouched { IfNone result.duties (chore.new ≡ chore.old) }
+{
     let disk_faults = disk.faults();
     let net_faults = net.faults();
     let found = match KeptDesk::find(alloc, disk) {
         Ok(found) => found,
-        Err(refusal) => return ending_of_mount(refusal),
+        Err(refusal) => {
+            return ServiceRun {
+                ending: ending_of_mount(refusal),
+                duties: None,
+            };
+        }
     };
     let mut keeper = Keeper::of(alloc, disk, found);
-    let served = serve_folder(rt, alloc, workers, &mut keeper, net, gate, notes);
+    let served = serve_folder(
+        rt,
+        alloc,
+        workers,
+        duties,
+        &mut keeper,
+        net,
+        gate,
+        notes,
+        chore,
+    );
     let _ = keeper.into_disk();
     note_over(notes);
-    let lacked_memory = match served {
-        Ok(lacked) => lacked,
-        Err(ending) => return ending,
+    let met = match served {
+        Ok(met) => met,
+        Err(ending) => {
+            return ServiceRun {
+                ending,
+                duties: None,
+            };
+        }
     };
-    ending_of(
-        lacked_memory,
+    let ending = ending_of(
+        met.lacked_memory,
         disk_faults,
         disk.faults(),
         net_faults,
         net.faults(),
-    )
+    );
+    ServiceRun {
+        ending,
+        duties: Some(met.duties),
+    }
 }

@@ -1,18 +1,20 @@
 // The service, once the folder is mounted.
-ghost use Rattle.std.specs.Prelude.{◌≡◌, ◌<◌, ◌≤◌, ◌∷◌, [], MatchResult, OnErr};
+ghost use Rattle.std.specs.Prelude.{◌≡◌, ◌<◌, ◌≤◌, ◌∷◌, [], length, map, MatchResult, OnErr, OnOk, IfOk};
+ghost use Rattle.std.specs.List.{AllZip};
 ghost use Rattle.desk_keeper.specs.Keeper.{IsSameDisk};
 ghost use Rattle.live_desk.specs.History.{last_commit};
 ghost use Rattle.serve_runs.specs.Serving.{EndsUnopened, ClosesOpened};
+ghost use Rattle.serve_runs.specs.parts.Crews.{duty_of, DutyGoes};
 ghost use Rattle.serve_runs.specs.parts.Officiating.{Officiates, Staffs};
 
 use crate::beside::beside;
-use crate::crews::{Worker, crew_of, lacked_memory};
+use crate::crews::{Worker, crew_of, duties_back, lacked_memory};
 use crate::doors::{close_doors, open, open_doors};
 use crate::endings::lacks_memory;
 use crate::telling::{note_end, note_ready};
 use desk_keeper::Keeper;
 use desk_ports::Disk;
-use door_workers::{Notes, WorkerEnd};
+use door_workers::{Chore, ClientDuty, Notes, WorkerEnd};
 use link_ports::{Door, DoorKind, Gate, Link, Net};
 use live_desk::{Publisher, Seat, start};
 use live_roll::Roll;
@@ -22,36 +24,51 @@ use std::alloc::Global;
 use std::sync::{Mutex, Wait};
 use std::thread::Threads;
 
-/// Serves over the folder of the keeper, by so many workers of clients, until the service is stopped. Whether an `accept`
-/// found no memory, or why nobody was served.
+/// What a service met: whether memory was wanting at a door; and what has become of what the workers of clients did beside.
+#[derive(Drop)]
+pub(crate) struct Met<X: Drop> {
+    pub lacked_memory: bool,
+    pub duties: Vec<X>,
+}
+
+/// Serves over the folder of the keeper, by a worker of clients for each of these duties, until the service is stopped, and
+/// does the chore behind each connection of an administrator. What was met, or why nobody was served.
 pub(crate) fn serve_folder<
     R: Threads + Wait + Sync,
     D: Disk,
     N: Net,
     G: Gate + Sync,
     T: Notes + Sync,
+    X: ClientDuty + Send,
+    C: Chore,
 >(
     rt: &R,
     alloc: Global,
     workers: u32,
+    duties: Vec<X>,
     keeper: &mut Keeper<'_, D>,
     net: &mut N,
     gate: &G,
     notes: &T,
-) -> Result<bool, Ending>
+    chore: &mut C,
+) -> Result<Met<X>, Ending>
 where
     N::Door: Send,
     <N::Door as Door>::Link: Send,
     <<N::Door as Door>::Link as Link>::End: Send,
     requires some { 0 < workers }
     requires most { workers ≤ 64 }
+    requires duties { length duties.items ≡ workers }
     ensures served { MatchResult result
-        (λ lacked. Staffs D.faults D.state D.moment D.left_since N.Door.Link.traffic N.Door.Link.marks N.Door.Link.faults N.Door.given_back N.Door.faults N.Door.kind lacked
+        (λ met. Staffs D.faults D.state D.moment D.left_since N.Door.Link.traffic N.Door.Link.marks N.Door.Link.faults N.Door.given_back N.Door.faults N.Door.kind met.lacked_memory
         keeper.old keeper.new (N.faults net.old) (N.faults net.new) (N.closed net.old) (N.closed net.new))
         (λ ending. EndsUnopened ending (N.faults net.old) (N.faults net.new)) }
     ensures closed { OnErr result (ClosesOpened N.Door.kind (N.closed net.old) (N.closed net.new)) }
     ensures kept { OnErr result (keeper.new ≡ keeper.old) }
     ensures same_disk { IsSameDisk keeper.old keeper.new }
+    ensures duties { IfOk result (λ met. AllZip X.goes duties.items met.duties.items) }
+    ensures chore { OnOk result (C.goes chore.old chore.new) }
+    ensures untouched { OnErr result (chore.new ≡ chore.old) }
 {
     let Ok((publisher, seats, roll)) = start(rt, alloc, keeper.desk(), workers) else {
         return Err(Ending::Memory);
@@ -64,62 +81,97 @@ where
         keeper,
         &mut publisher,
         seats,
+        duties,
         roll,
         net,
         gate,
         notes,
+        chore,
     );
     publisher.end(rt);
     served
 }
 
 // The same, with the seats and the roll of a state that was just published.
-fn staff<R: Threads + Wait + Sync, D: Disk, N: Net, G: Gate + Sync, T: Notes + Sync>(
+fn staff<
+    R: Threads + Wait + Sync,
+    D: Disk,
+    N: Net,
+    G: Gate + Sync,
+    T: Notes + Sync,
+    X: ClientDuty + Send,
+    C: Chore,
+>(
     rt: &R,
     alloc: Global,
     clients: u32,
     keeper: &mut Keeper<'_, D>,
     publisher: &mut Publisher,
     seats: Vec<Seat>,
+    duties: Vec<X>,
     roll: Roll<<<N::Door as Door>::Link as Link>::End>,
     net: &mut N,
     gate: &G,
     notes: &T,
-) -> Result<bool, Ending>
+    chore: &mut C,
+) -> Result<Met<X>, Ending>
 where
     N::Door: Send,
     <N::Door as Door>::Link: Send,
     <<N::Door as Door>::Link as Link>::End: Send,
     requires published { publisher.old ≡ keeper.old.desk ∷ [] }
+    requires seats { length duties.items ≤ length seats.items }
     ensures served { MatchResult result
-        (λ lacked. Staffs D.faults D.state D.moment D.left_since N.Door.Link.traffic N.Door.Link.marks N.Door.Link.faults N.Door.given_back N.Door.faults N.Door.kind lacked
+        (λ met. Staffs D.faults D.state D.moment D.left_since N.Door.Link.traffic N.Door.Link.marks N.Door.Link.faults N.Door.given_back N.Door.faults N.Door.kind met.lacked_memory
         keeper.old keeper.new (N.faults net.old) (N.faults net.new) (N.closed net.old) (N.closed net.new))
         (λ ending. EndsUnopened ending (N.faults net.old) (N.faults net.new)) }
     ensures closed { OnErr result (ClosesOpened N.Door.kind (N.closed net.old) (N.closed net.new)) }
     ensures kept { OnErr result (keeper.new ≡ keeper.old) }
     ensures same_disk { IsSameDisk keeper.old keeper.new }
+    ensures duties { IfOk result (λ met. AllZip X.goes duties.items met.duties.items) }
+    ensures chore { OnOk result (C.goes chore.old chore.new) }
+    ensures untouched { OnErr result (chore.new ≡ chore.old) }
 {
-    let Ok(crew) = crew_of(alloc, seats) else {
+    let Ok(crew) = crew_of(alloc, seats, duties) else {
         return Err(Ending::Memory);
     };
     let mut crew = crew;
-    open_and_serve(
-        rt, alloc, clients, keeper, publisher, &mut crew, roll, net, gate, notes,
-    )
+    let Ok(room) = Vec::with_capacity(alloc, crew.len()) else {
+        return Err(Ending::Memory);
+    };
+    let lacked_memory = match open_and_serve(
+        rt, alloc, clients, keeper, publisher, &mut crew, roll, net, gate, notes, chore,
+    ) {
+        Ok(lacked) => lacked,
+        Err(ending) => return Err(ending),
+    };
+    Ok(Met {
+        lacked_memory,
+        duties: duties_back(room, crew),
+    })
 }
 
 // Opens the doors, serves, and closes them.
-fn open_and_serve<R: Threads + Wait + Sync, D: Disk, N: Net, G: Gate + Sync, T: Notes + Sync>(
+fn open_and_serve<
+    R: Threads + Wait + Sync,
+    D: Disk,
+    N: Net,
+    G: Gate + Sync,
+    T: Notes + Sync,
+    X: ClientDuty + Send,
+    C: Chore,
+>(
     rt: &R,
     alloc: Global,
     clients: u32,
     keeper: &mut Keeper<'_, D>,
     publisher: &mut Publisher,
-    crew: &mut [Worker<N::Door>],
+    crew: &mut [Worker<N::Door, X>],
     roll: Roll<<<N::Door as Door>::Link as Link>::End>,
     net: &mut N,
     gate: &G,
     notes: &T,
+    chore: &mut C,
 ) -> Result<bool, Ending>
 where
     N::Door: Send,
@@ -133,6 +185,9 @@ where
     ensures closed { OnErr result (ClosesOpened N.Door.kind (N.closed net.old) (N.closed net.new)) }
     ensures kept { OnErr result (keeper.new ≡ keeper.old) }
     ensures same_disk { IsSameDisk keeper.old keeper.new }
+    ensures duties { OnOk result (AllZip (DutyGoes X.goes) (map duty_of crew.old) (map duty_of crew.new)) }
+    ensures chore { OnOk result (C.goes chore.old chore.new) }
+    ensures untouched { OnErr result (chore.new ≡ chore.old) }
 {
     let mut door = match open(net, DoorKind::Admin) {
         Ok(door) => door,
@@ -144,7 +199,7 @@ where
         return Err(ending);
     }
     let end = serve(
-        rt, alloc, clients, keeper, publisher, crew, roll, net, &mut door, gate, notes,
+        rt, alloc, clients, keeper, publisher, crew, roll, net, &mut door, gate, notes, chore,
     );
     net.close(door);
     close_doors(net, crew);
@@ -159,42 +214,40 @@ fn serve<
     N: Net,
     G: Gate + Sync,
     T: Notes + Sync,
+    X: ClientDuty + Send,
+    C: Chore,
 >(
     rt: &R,
     alloc: Global,
     clients: u32,
     keeper: &mut Keeper<'_, D>,
     publisher: &mut Publisher,
-    crew: &mut [Worker<E>],
+    crew: &mut [Worker<E, X>],
     roll: Roll<<E::Link as Link>::End>,
     net: &mut N,
     door: &mut E,
     gate: &G,
     notes: &T,
+    chore: &mut C,
 ) -> WorkerEnd
 where
     E::Link: Send,
     <E::Link as Link>::End: Send,
     requires { last_commit 0 publisher.old ≤ keeper.old.desk.commit }
-    ensures { Officiates D.faults D.state D.moment D.left_since E.Link.traffic E.Link.marks E.Link.faults E.given_back E.faults E.kind N.faults N.closed result
+    ensures officiates { Officiates D.faults D.state D.moment D.left_since E.Link.traffic E.Link.marks E.Link.faults E.given_back E.faults E.kind N.faults N.closed result
         keeper.old keeper.new publisher.old publisher.new door.old door.new net.old net.new }
+    ensures chore { C.goes chore.old chore.new }
+    ensures duties { AllZip (DutyGoes X.goes) (map duty_of crew.old) (map duty_of crew.new) }
 {
     let roll = Mutex::new(roll);
     let questions = QuestionDesk::new(alloc);
+    let each = |_: usize, worker: &mut Worker<E, X>|
+        ensures { DutyGoes X.goes (duty_of worker.entry.now) (duty_of worker.exit.now) }
+    { worker.work(rt, alloc, &roll, &questions, gate, notes) };
     note_ready(notes);
     let end = beside(
-        rt,
-        alloc,
-        clients,
-        crew,
-        &|_: usize, worker: &mut Worker<E>| worker.work(rt, alloc, &roll, &questions, gate, notes),
-        keeper,
-        publisher,
-        &roll,
-        &questions,
-        net,
-        door,
-        notes,
+        rt, alloc, clients, crew, &each, keeper, publisher, &roll, &questions, net, door, notes,
+        chore,
     );
     note_end(notes, DoorKind::Admin, end);
     end

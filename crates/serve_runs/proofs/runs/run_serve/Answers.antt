@@ -1,96 +1,10 @@
-use Rattle.std.proofs.Common.{rules, ◌≡◌, ◌∙◌, ◌∷◌, [], ℕ, Bool, Option, List, Ok, refl, sym, ap, subst}
-use Rattle.desk_ports.specs.Disk.{DiskState, WhereTold}
-use Rattle.desk_ports.specs.Moments.{LeavesOnly}
-use Rattle.desk_ports.specs.declared.file_sets.SetFile.{SetFile}
-use Rattle.desk_state.specs.DeskState.{DeskState}
-use Rattle.desk_keeper.specs.Kept.{kept}
-use Rattle.desk_keeper.specs.Keeper.{disk_of}
-use Rattle.desk_keeper.specs.declared.keeper.Keeper.{Keeper}
-use Rattle.admin_door.specs.Running.{RunsOver}
-use Rattle.admin_door.proofs.Running.{runs-none}
-use Rattle.door_workers.specs.Visit.{Works}
-use Rattle.door_workers.specs.Administrators.{Office, VisitsOffice, EndsOffice, office_of}
-use Rattle.folder_runs.proofs.Mounting.{refuses-folder, refuses-count}
-use Rattle.serve_runs.specs.Serving.{opening}
+use Rattle.std.proofs.Common.{refl}
 use Rattle.serve_runs.specs.Run.{RunsServe}
-use Rattle.serve_runs.proofs.Concluding.{concludes}
-use Rattle.run_endings.specs.Outside.{disk_seen}
-use Rattle.serve_runs.proofs.Folder.{keeps_service, published-made}
+use Rattle.serve_runs.proofs.Folder.{refuses-early}
 use Rattle.serve_runs.proofs.runs.run_serve.Goals as goal
 
-pub returns-in-Err : goal.returns-in-Err
-returns-in-Err g c =
-    rw c.ending_of_mount.ensures (RunsServe.refused
-    (refuses-folder g.D.Disk.state g.D.Disk.moment g.D.Disk.left_since g.D.Disk.faults c.args.disk.now c.find.new.disk
-    c.in-Err.refusal c.in-Err.ensures.damaged c.in-Err.ensures.moments)
-    (c.in-Err.ensures.count ∙ refuses-count c.in-Err.refusal (g.D.Disk.faults c.args.disk.now))
-    refl refl)
-
-pub returns-in-Err-served : goal.returns-in-Err-served
-returns-in-Err-served g c =
-    let first = c.of-keeper.result in
-    let last = c.serve_folder-served.new.keeper in
-    let of = c.of-keeper.ensures in
-    let found = c.in-Ok.ensures in
-    let still : last ≡ first = c.in-Err-served.ensures.kept in
-    let final : last.vault.disk.now ≡ c.disk-1.given.0 = search rules in
-    rw (sym final)
-    (RunsServe.unopened first.desk
-    (keeps_service g.D.Disk.state g.D.Disk.moment g.D.Disk.left_since g.D.Disk.faults c.args.disk.now first last []
-    (rw of.desk found.desk) (rw (of.desk, of.held, of.disk) found.settled) (rw of.disk found.moments)
-    (subst (λ (k : Keeper g.row.D.Denot). RunsOver g.D.Disk.state g.D.Disk.moment g.D.Disk.left_since first k []) (sym still)
-    (runs-none g.D.Disk.state g.D.Disk.moment g.D.Disk.left_since first (g.met.D.Disk.only_now (disk_of first)))))
-    (ap (λ (k : Keeper g.row.D.Denot). g.D.Disk.faults (disk_of k)) still ∙ (ap g.D.Disk.faults of.disk ∙ found.count))
-    c.in-Err-served.ensures.served c.in-Err-served.ensures.closed)
-
-pub returns : goal.returns
-returns g c =
-    let first = c.of-keeper.result in
-    let last = c.serve_folder-served.new.keeper in
-    let of = c.of-keeper.ensures in
-    let found = c.in-Ok.ensures in
-    let staffs = c.in-Ok-served.ensures.served in
-    let count : g.D.Disk.faults (disk_of first) ≡ g.D.Disk.faults c.args.disk.now = ap g.D.Disk.faults of.disk ∙ found.count in
-    let opens : office_of g.D.Disk.faults first (first.desk ∷ []) [] ≡ opening first.desk (g.D.Disk.faults c.args.disk.now) =
-    λ i. record { desk = first.desk; decided = of.decided i; published = first.desk ∷ []; faults = count i; frames = [] } in
-    let final : last.vault.disk.now ≡ c.disk-1.given.0 = search rules in
-    let works = subst (λ (start : Office). Works
-    (VisitsOffice g.N.Door.Link.Link.traffic g.N.Door.Link.Link.marks g.N.Door.Link.Link.faults) EndsOffice
-    g.N.Door.Link.Link.marks g.N.Door.Link.Link.faults staffs.end start
-    (office_of g.D.Disk.faults last staffs.published staffs.frames)
-    staffs.given (g.N.Door.Door.given_back staffs.door) 0 (g.N.Door.Door.faults staffs.door))
-    opens staffs.works in
-    let keeps = keeps_service g.D.Disk.state g.D.Disk.moment g.D.Disk.left_since g.D.Disk.faults c.args.disk.now first last staffs.frames
-    (rw of.desk found.desk) (rw (of.desk, of.held, of.disk) found.settled) (rw of.disk found.moments) staffs.runs in
-    rw (sym final)
-    (RunsServe.served first.desk
-    (record {
-      end = staffs.end;
-      last = office_of g.D.Disk.faults last staffs.published staffs.frames;
-      given = staffs.given;
-      door = staffs.door;
-      others = staffs.others;
-      is_theirs = staffs.is_theirs;
-      unused = staffs.unused;
-      works = works;
-      counted = refl;
-      doors = staffs.doors;
-      ends = concludes c.ending_of.result c.in-Ok-served.lacked staffs.end (g.D.Disk.faults c.args.disk.now)
-          (g.D.Disk.faults last.vault.disk.now) (g.N.Dial.faults c.args.net.now) (g.N.Dial.faults c.serve_folder-served.new.net)
-          staffs.memory staffs.failed
-          (rw (
-            c.faults-disk_faults.ensures,
-            c.faults.ensures,
-            sym final,
-            c.faults-net_faults.ensures,
-            c.faults-2.ensures,
-          ) at c.ending_of.ensures);
-    })
-    (λ entry told. (
-      keeps entry told,
-      published-made g.N.Door.Link.Link.traffic g.N.Door.Link.Link.marks g.N.Door.Link.Link.faults entry
-          (disk_seen g.D.Disk.state g.D.Disk.moment g.D.Disk.left_since g.D.Disk.faults c.args.disk.now)
-          (disk_seen g.D.Disk.state g.D.Disk.moment g.D.Disk.left_since g.D.Disk.faults (disk_of last))
-          first.desk (office_of g.D.Disk.faults last staffs.published staffs.frames) (g.D.Disk.faults c.args.disk.now) staffs.end
-          staffs.given (g.N.Door.Door.given_back staffs.door) (g.N.Door.Door.faults staffs.door) works (keeps entry told),
-    )))
+pub returns-in_default : goal.returns-in_default
+returns-in_default g c =
+    RunsServe.refused
+    (refuses-early g.D.Disk.state g.D.Disk.moment g.D.Disk.left_since g.D.Disk.faults c.args.disk.now (g.met.D.Disk.only_now c.args.disk.now))
+    refl refl refl
