@@ -10,7 +10,7 @@
 
 Requests for memory are counted by `fail_alloc.c`: the difference of two runs, of which one makes more checks of the kind. Takes seconds, and
 some minutes for a first build of `cynara_client` and the crates below it, where nothing of them is kept; PROGRAM is `client_hits` where it
-is built. Ends with status 1 where one is not as wanted. Needs `rt` and `gcc`."""
+is built. Ends with status 1 where one is not as wanted. Needs `rt`, `gcc` and the command `time`."""
 
 import os
 import pathlib
@@ -42,13 +42,11 @@ def requests(program, shim, counted, *words):
 
 
 def held(program, entries):
-    """The bytes that a run held at most, which asks 4,096 questions and keeps so many answers."""
-    with subprocess.Popen([program, "hits", str(MOST_ENTRIES), str(entries), "0"]) as process:
-        _, status, usage = os.wait4(process.pid, 0)
-        process.returncode = os.waitstatus_to_exitcode(status)
-    if process.returncode:
-        sys.exit(f"a run with {entries} entries ends with {process.returncode}")
-    return usage.ru_maxrss * 1024
+    """The bytes that a run held at most, which asks 4,096 questions and keeps so many answers. It is started by `time`: what Python starts
+    is told to have held at least what Python does."""
+    words = ["time", "-f", "%M", program, "hits", str(MOST_ENTRIES), str(entries), "0"]
+    said = subprocess.run(words, check=True, stdout=subprocess.DEVNULL, stderr=subprocess.PIPE).stderr
+    return int(said.split()[-1]) * 1024
 
 
 def memory(program, scratch):
