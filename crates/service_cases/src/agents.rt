@@ -67,6 +67,13 @@ pub fn run<R: Wait, W: Wait + Clock + Copy + Drop, N: Dial>(
     let mut sink = MemSink::new(Bytes::new(alloc), fails(alloc, "-")?)?;
     let link = net.dial(DoorKind::Agent)?;
     let mut link = HeardLink { link, gate };
-    let ending = agent_client(rt, alloc, Kind(kind), answer == "allow", &mut link, &mut sink);
+    let ending = agent_client(
+        rt,
+        alloc,
+        Kind(kind),
+        answer == "allow",
+        &mut link,
+        &mut sink,
+    );
     Ok(said(alloc, ending, &mut sink)?)
 }

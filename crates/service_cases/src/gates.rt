@@ -7,7 +7,9 @@ use std::time::{Clock, Duration};
 
 // How often those who talk look at most, how often a connection that is held, and the milliseconds between two looks.
 const MOST_LOOKS: u32 = 2_000;
+
 const MOST_TURNS: u32 = 1_000;
+
 const TURN: u64 = 10;
 
 /// A count that several threads raise and look at.
