@@ -1,4 +1,4 @@
--- Runs that say nothing on standard output but a last line: without a command, without memory for its words, and a service.
+-- Runs that give no answers: without a command, without memory for its words, and a service, which may write lines.
 use Rattle.std.proofs.Common.{◌≡◌, ◌++◌, [], ℕ, String, List, Option, Some, None, IsTrue, true, false, Err, inl, inr, refl, sym, subst}
 use Rattle.std.specs.declared.alloc.Global.{Global}
 use Rattle.std.specs.declared.alloc.AllocError.{AllocError}
@@ -16,13 +16,15 @@ use Rattle.run_endings.specs.declared.endings.Ending.TheVariants.{Memory, Words,
 use Rattle.run_endings.proofs.Hads.{Took-Had}
 use Rattle.command_words.specs.Commands.{ReadsCommand, command_of, copies_words}
 use Rattle.command_words.specs.declared.commands.Command.{Command}
-use Rattle.command_words.specs.declared.commands.Command.TheVariants.{Serve, Check, Simple, SmackAccess}
+use Rattle.command_words.specs.declared.commands.Command.TheVariants.{Serve, Watch, Check, Simple, SmackAccess}
 use Rattle.command_words.specs.declared.commands.CommandRefusal.TheVariants.{Memory as NoMemory}
 use Rattle.cynara_client.specs.declared.refusals.ClientRefusal.TheVariants as refusal
 use Rattle.client_runs.specs.CheckRun.{EndsCheck}
-use Rattle.serve_runs.specs.Run.{RunsServe}
 use Rattle.serve_runs.specs.Run.RunsServe.{refused, unopened, served}
-use Rattle.privilege_cli.specs.Program.{RunsCommand}
+use Rattle.monitor_journal.specs.declared.writing.Writing.{Writing}
+use Rattle.watch_runs.specs.Watching.{Journaled, ending_with, WritesLines}
+use Rattle.watch_runs.proofs.Lines as lines
+use Rattle.privilege_cli.specs.Program.{Serves, RunsCommand, AnswersBy}
 
 untrue : IsTrue false → ⊥
 untrue is = let wrong : false ≡ true = is in cc
@@ -35,76 +37,95 @@ uncounted ending count ends = (refl, refl)
 
 module _ {N L H E A J : Type 0} (dial : DialTells N L H) (link : LinkTells L H) (closed : N → Option (List E)) (door : DoorTells E A J)
     (accepted : LinkTells A J) (words : List (String Global)) (before : Outside) (net : N) where
-  -- a run says this, which is no answer, and leaves the source as it was
-  abbrev Says : Ending → DiskSeen → N → Option Command → Type 0
-  Says ending disk net_after command =
+  -- a run gives no answers, and leaves the source as it was
+  abbrev Says : Ending → SinkSeen → DiskSeen → N → Option Command → Type 0
+  Says ending sink disk net_after command =
       RunsCommand dial link closed door accepted silence ending before.source before.source before.disk disk net net_after command
+      × AnswersBy command ending silence before.sink sink
 
   abbrev Stops : Ending → SinkSeen → DiskSeen → N → Type 0
   Stops ending sink disk net_after =
       (said : Said) × RunsCommand dial link closed door accepted said ending before.source before.source before.disk disk net net_after (command_of words)
-      × WritesAnswers ending said before.sink sink
+      × AnswersBy (command_of words) ending said before.sink sink
 
   -- ---- without a command: nothing is read, and nothing dialled
 
+  unwritten : WritesAnswers Memory silence before.sink before.sink
+  unwritten = record { taken = Appended-none before.sink.taken; are_written = inl (refl, refl) }
+
   -- there is no memory for the words of a command
-  unread : (error : AllocError) (command : Command) → IsTrue (copies_words command) → Says Memory before.disk net (Some command)
+  unread : (error : AllocError) (command : Command) → IsTrue (copies_words command) → Says Memory before.sink before.disk net (Some command)
   unread error (SmackAccess subject object asked) copies =
       let had = Took-Had before.source.left before.source.left [] (Took-nothing before.source.left) in
-      record { input = [] ++ had.0; rest = had.0; had = had.1; answered = refl }
+      (record { input = [] ++ had.0; rest = had.0; had = had.1; answered = refl }, unwritten)
   unread error (Check asked) copies =
-      (Err (refusal.Memory error), inr (record { error = error; answer_is = refl; same = refl }), (refl, refl))
+      ((Err (refusal.Memory error), inr (record { error = error; answer_is = refl; same = refl }), (refl, refl)), unwritten)
   unread error (Simple asked) copies =
-      (Err (refusal.Memory error), inr (record { error = error; answer_is = refl; same = refl }), (refl, refl))
+      ((Err (refusal.Memory error), inr (record { error = error; answer_is = refl; same = refl }), (refl, refl)), unwritten)
   unread error command copies = absurd (untrue copies)
 
   pub without_memory : (error : AllocError) → ReadsCommand (Err (NoMemory error)) (command_of words) → Stops Memory before.sink before.disk net
-  without_memory error named = (
-    silence,
-    subst (Says Memory before.disk net) (sym named.1) (unread error named.0 named.2),
-    record { taken = Appended-none before.sink.taken; are_written = inl (refl, refl) },
-  )
+  without_memory error named =
+      let says = subst (Says Memory before.sink before.disk net) (sym named.1) (unread error named.0 named.2) in
+      (silence, says.0, says.1)
 
   -- the words name no command, and only a note is made of them
   pub without_command : (after : SinkSeen) → command_of words ≡ None → after.taken ≡ before.sink.taken
       → after.faults ≡ before.sink.faults → Stops Words after before.disk net
-  without_command after none taken faults = (
-    silence,
-    subst (Says Words before.disk net) (sym none) (refl, refl),
-    record {
-      taken = subst (λ (now : Option (List ℕ)). Appended before.sink.taken [] now) (sym taken) (Appended-none before.sink.taken);
-      are_written = (faults, refl);
-    },
-  )
+  without_command after none taken faults =
+      let answers : WritesAnswers Words silence before.sink after = record {
+        taken = subst (λ (now : Option (List ℕ)). Appended before.sink.taken [] now) (sym taken) (Appended-none before.sink.taken);
+        are_written = (faults, refl);
+      } in
+      let says = subst (Says Words after before.disk net) (sym none) ((refl, refl), answers) in
+      (silence, says.0, says.1)
 
   -- ---- a service: it is given no source and no sink, and so no call of them ends it
 
   module _ (disk : DiskSeen) (net_after : N) where
-    abbrev Serves : Ending → Type 0
-    Serves ending = RunsServe accepted.traffic accepted.marks accepted.faults door.given_back door.faults door.kind ending before.disk disk
-        (dial.faults net) (dial.faults net_after) (closed net) (closed net_after)
+    abbrev IsServed : Ending → Type 0
+    IsServed = Serves dial link closed door accepted before.disk disk net net_after
 
-    never-sink : Serves Sink → ⊥
+    never-sink : IsServed Sink → ⊥
     never-sink (refused folder counted same doors) = folder.refused
     never-sink (unopened start keeps counted ends doors) = ends
     never-sink (served start administers keeps) = administers.ends
 
-    never-source : Serves Source → ⊥
+    never-source : IsServed Source → ⊥
     never-source (refused folder counted same doors) = folder.refused
     never-source (unopened start keeps counted ends doors) = ends
     never-source (served start administers keeps) = administers.ends
 
-    says-nothing : (ending : Ending) → Serves ending → WritesAnswers ending silence before.sink before.sink
+    says-nothing : (ending : Ending) → IsServed ending → WritesAnswers ending silence before.sink before.sink
     says-nothing Sink serves = absurd (never-sink serves)
-    says-nothing Memory serves = record { taken = Appended-none before.sink.taken; are_written = inl (refl, refl) }
+    says-nothing Memory serves = unwritten
     says-nothing ending serves = record { taken = Appended-none before.sink.taken; are_written = (refl, refl) }
 
-    pub reads-nothing : (ending : Ending) → Serves ending → before.source.faults ≡ source_faults_after ending before.source.faults
+    pub reads-nothing : (ending : Ending) → IsServed ending → before.source.faults ≡ source_faults_after ending before.source.faults
     reads-nothing Source serves = absurd (never-source serves)
     reads-nothing ending serves = refl
 
     -- the words' command is that service
-    pub serves-as : (workers : ℕ) (ending : Ending) → command_of words ≡ Some (Serve workers) → Serves ending
+    pub serves-as : (workers : ℕ) (ending : Ending) → command_of words ≡ Some (Serve workers) → IsServed ending
         → Stops ending before.sink disk net_after
     serves-as workers ending is serves =
-        (silence, subst (Says ending disk net_after) (sym is) (refl, serves), says-nothing ending serves)
+        let says = subst (Says ending before.sink disk net_after) (sym is) ((refl, serves), says-nothing ending serves) in
+        (silence, says.0, says.1)
+
+    -- ---- a service that writes lines
+
+    module _ (workers : ℕ) (ending : Ending) (sink : SinkSeen) where
+      abbrev Watches : Type 0
+      Watches = (met : Ending) × (writing : Writing) × IsServed met × Journaled workers met writing before.sink sink
+          × (ending ≡ ending_with met writing)
+
+      pub watches-as : command_of words ≡ Some (Watch workers) → Watches → Stops ending sink disk net_after
+      watches-as is (met, writing, serves, journal, ends) =
+          let lines : WritesLines workers ending before.sink sink = (met, writing, ends, (λ (is_sink : met ≡ Sink). never-sink (subst IsServed is_sink serves)), journal) in
+          let says = subst (Says ending sink disk net_after) (sym is) ((refl, (met, writing, ends, serves)), lines) in
+          (silence, says.0, says.1)
+
+      pub watches-unread : Watches → before.source.faults ≡ source_faults_after ending before.source.faults
+      watches-unread (met, writing, serves, journal, ends) =
+          subst (λ e. before.source.faults ≡ source_faults_after e before.source.faults) (sym ends)
+          (lines.reads_nothing met writing before.source.faults (λ is. never-source (subst IsServed is serves)))

@@ -12,13 +12,13 @@ use Rattle.smack_rules.specs.Effective.{effective}
 use Rattle.smack_rules.specs.Decision.{decision}
 use Rattle.desk_state.specs.DeskState.{DeskState}
 use Rattle.run_endings.specs.Ending.{status_of, source_faults_after, disk_faults_after, NoCallFails}
-use Rattle.run_endings.specs.Outside.{Outside, SourceSeen, DiskSeen, source_seen, sink_seen, disk_seen, seen}
-use Rattle.run_endings.specs.Saying.{Said, silence, Writes}
+use Rattle.run_endings.specs.Outside.{Outside, SourceSeen, SinkSeen, DiskSeen, source_seen, sink_seen, disk_seen, seen}
+use Rattle.run_endings.specs.Saying.{Said, silence, WritesAnswers, Writes}
 use Rattle.run_endings.specs.declared.endings.Ending.{Ending}
 use Rattle.run_endings.specs.declared.endings.Ending.TheVariants.{Words}
 use Rattle.command_words.specs.Commands.{uses_net}
 use Rattle.command_words.specs.declared.commands.Command.{Command}
-use Rattle.command_words.specs.declared.commands.Command.TheVariants.{Local, Serve, Check, Simple, Admin, Agent, SmackAccess, SmackLoad, Sample}
+use Rattle.command_words.specs.declared.commands.Command.TheVariants.{Local, Serve, Watch, Check, Simple, Admin, Agent, SmackAccess, SmackLoad, Sample}
 use Rattle.script_replies.specs.Script.{wrong_line, replies}
 use Rattle.script_replies.specs.Reply.{decided_text}
 use Rattle.folder_runs.specs.Folder.{StandsFor}
@@ -32,6 +32,8 @@ use Rattle.admin_runs.specs.AdminRun.{RunsAdmin}
 use Rattle.agent_runs.specs.LinkSeen.{dial_seen}
 use Rattle.agent_runs.specs.AgentRun.{RunsAgent}
 use Rattle.serve_runs.specs.Run.{RunsServe}
+use Rattle.monitor_journal.specs.declared.writing.Writing.{Writing}
+use Rattle.watch_runs.specs.Watching.{ending_with, WritesLines, WritesLast}
 
 -- what a run sees of these objects, by what their types tell
 abbrev pub seen_of : {S K D N L H : Type 0} → SourceTells S → SinkTells K → DiskTells D → DialTells N L H → S → K → D → N → Outside
@@ -43,7 +45,21 @@ seen_of source_tells sink_tells disk_tells dial_tells source sink disk net = see
 -- `RunsServe`.
 abbrev pub CountsDisk : Option Command → Ending → ℕ → ℕ → Type 0
 CountsDisk (Some (Serve workers)) ending before after = Unit {0}
+CountsDisk (Some (Watch workers)) ending before after = Unit {0}
 CountsDisk command ending before after = after ≡ disk_faults_after ending before
+
+-- ---- what is written
+
+-- what a command wrote before the last line
+abbrev pub AnswersBy : Option Command → Ending → Said → SinkSeen → SinkSeen → Type 0
+AnswersBy (Some (Watch workers)) ending said before after = WritesLines workers ending before after
+AnswersBy command ending said before after = WritesAnswers ending said before after
+
+-- and with it
+abbrev pub WritesBy : Option Command → Ending → Said → SinkSeen → SinkSeen → Type 0
+WritesBy (Some (Watch workers)) ending said before after =
+    (between : SinkSeen) × WritesLines workers ending before between × WritesLast ending between after
+WritesBy command ending said before after = Writes ending said before after
 
 -- ---- a run that no failing call stops
 
@@ -70,6 +86,12 @@ Completes command status before after = Unit {0}
 -- By what a net tells, and the links that it dials, and what it tells of its doors, with the links that these accept.
 module _ {N L H E A J : Type 0} (dial : DialTells N L H) (link : LinkTells L H) (closed : N → Option (List E)) (door : DoorTells E A J)
     (accepted : LinkTells A J) where
+  -- a service that ended so
+  abbrev pub Serves : DiskSeen → DiskSeen → N → N → Ending → Type 0
+  Serves disk disk_after net net_after met =
+      RunsServe accepted.traffic accepted.marks accepted.faults door.given_back door.faults door.kind met disk disk_after
+      (dial.faults net) (dial.faults net_after) (closed net) (closed net_after)
+
   module _ (said : Said) (ending : Ending) (source source_after : SourceSeen) (disk disk_after : DiskSeen) (net net_after : N) where
     -- what the command that words name says, and how it ends, over a source, a disk and a net before and after
     abbrev pub RunsCommand : Option Command → Type 0
@@ -78,9 +100,10 @@ module _ {N L H E A J : Type 0} (dial : DialTells N L H) (link : LinkTells L H) 
     RunsCommand (Some SmackLoad) = RunsLoad said ending disk disk_after
     RunsCommand (Some (SmackAccess subject object asked)) = RunsAccess subject object asked said ending source source_after
     RunsCommand (Some (Sample count)) = RunsSample count said ending
-    RunsCommand (Some (Serve workers)) = (said ≡ silence)
-        × RunsServe accepted.traffic accepted.marks accepted.faults door.given_back door.faults door.kind ending disk disk_after
-        (dial.faults net) (dial.faults net_after) (closed net) (closed net_after)
+    RunsCommand (Some (Serve workers)) = (said ≡ silence) × Serves disk disk_after net net_after ending
+    -- a service that ended in its own way, and how the writing of its lines stood then
+    RunsCommand (Some (Watch workers)) = (said ≡ silence) × ((met : Ending) × (writing : Writing)
+        × (ending ≡ ending_with met writing) × Serves disk disk_after net net_after met)
     RunsCommand (Some (Check asked)) = RunsCheck dial link asked false said ending net net_after
     RunsCommand (Some (Simple asked)) = RunsCheck dial link asked true said ending net net_after
     RunsCommand (Some Admin) =
@@ -93,7 +116,7 @@ module _ {N L H E A J : Type 0} (dial : DialTells N L H) (link : LinkTells L H) 
     pub said : Said
     pub status_is : status ≡ status_of ending
     pub runs : RunsCommand said ending before.source after.source before.disk after.disk net net_after command
-    pub writes : Writes ending said before.sink after.sink
+    pub writes : WritesBy command ending said before.sink after.sink
     pub source_count : after.source.faults ≡ source_faults_after ending before.source.faults
     pub disk_count : CountsDisk command ending before.disk.faults after.disk.faults
     -- a command over the net says what that counts

@@ -2,9 +2,9 @@ ghost use Rattle.std.specs.Prelude.{◌≡◌, ◌⊎◌, String, List, false};
 ghost use Rattle.std.specs.declared.alloc.Global.{Global};
 ghost use Rattle.run_endings.specs.Ending.{source_faults_after};
 ghost use Rattle.run_endings.specs.Outside.{source_seen, sink_seen, disk_seen};
-ghost use Rattle.run_endings.specs.Saying.{Said, WritesAnswers};
+ghost use Rattle.run_endings.specs.Saying.{Said};
 ghost use Rattle.command_words.specs.Commands.{command_of, reads_source, mounts_folder, uses_net};
-ghost use Rattle.privilege_cli.specs.Program.{RunsCommand, CountsDisk, Ends, seen_of};
+ghost use Rattle.privilege_cli.specs.Program.{RunsCommand, AnswersBy, CountsDisk, Ends, seen_of};
 
 use access_runs::run_access;
 use admin_runs::run_admin;
@@ -25,6 +25,7 @@ use std::alloc::Global;
 use std::env::Env;
 use std::sync::Wait;
 use std::thread::Threads;
+use watch_runs::run_watch;
 
 /// Runs the command that the words name, writes the last line that belongs to the way in which the run ends, and answers
 /// the status.
@@ -99,7 +100,7 @@ where
         (source_seen S.left S.faults source.old) (source_seen S.left S.faults source.new)
         (disk_seen D.state D.moment D.left_since D.faults disk.old) (disk_seen D.state D.moment D.left_since D.faults disk.new)
         net.old net.new (command_of words.now)
-        × WritesAnswers result said (sink_seen K.taken K.faults sink.old) (sink_seen K.taken K.faults sink.new) }
+        × AnswersBy (command_of words.now) result said (sink_seen K.taken K.faults sink.old) (sink_seen K.taken K.faults sink.new) }
     ensures source_count { S.faults source.new ≡ source_faults_after result (S.faults source.old) }
     ensures disk_count { CountsDisk (command_of words.now) result (D.faults disk.old) (D.faults disk.new) }
     ensures source { reads_source (command_of words.now) ≡ false → source.new ≡ source.old }
@@ -118,6 +119,9 @@ where
         ) => run_access(alloc, &subject, &object, asked, source, sink),
         Ok(Command::Sample { count }) => run_sample(alloc, count, sink),
         Ok(Command::Serve { workers }) => run_serve(rt, alloc, workers, disk, net, gate, notes),
+        Ok(Command::Watch { workers }) => {
+            run_watch(rt, alloc, workers, disk, net, gate, notes, sink)
+        }
         Ok(Command::Check(asked)) => run_check(alloc, &asked, net, sink),
         Ok(Command::Simple(asked)) => run_simple(alloc, &asked, net, sink),
         Ok(Command::Admin) => run_admin(alloc, source, sink, net),

@@ -2,7 +2,7 @@ use Rattle.std.proofs.Common.{ap}
 use Rattle.command_words.specs.Commands.{command_of}
 use Rattle.privilege_cli.specs.Program.{seen_of}
 use Rattle.privilege_cli.proofs.Completing.{completes}
-use Rattle.privilege_cli.proofs.Noting.{noted}
+use Rattle.privilege_cli.proofs.Noting.{written_by}
 use Rattle.privilege_cli.proofs.program.run.Goals as goal
 
 pub returns-clause-run : goal.returns-clause-run
@@ -11,8 +11,9 @@ returns-clause-run g c =
     let before = seen_of g.S.Source g.K.Sink g.D.Disk g.N.Dial c.args.source.now c.args.sink.now c.args.disk.now c.args.net.now in
     let after = seen_of g.S.Source g.K.Sink g.D.Disk g.N.Dial c.run_words-ending.new.source c.note_damage.new.sink
     c.run_words-ending.new.disk c.run_words-ending.new.net in
-    let writes = noted c.run_words-ending.result run.0 g.K.Sink.taken g.K.Sink.faults before.sink c.write_last_line.new.sink
-    c.note_damage.new.sink (c.write_last_line.ensures run.0 before.sink run.2) c.note_damage.ensures.taken c.note_damage.ensures.count in
+    let writes = written_by (command_of c.args.words.now) c.run_words-ending.result run.0 g.K.Sink.taken g.K.Sink.faults before.sink
+    c.run_words-ending.new.sink c.write_last_line.new.sink c.note_damage.new.sink run.2 c.write_last_line.ensures
+    c.note_damage.ensures.taken c.note_damage.ensures.count in
     record {
       ending = c.run_words-ending.result;
       said = run.0;
@@ -23,6 +24,6 @@ returns-clause-run g c =
       disk_count = c.run_words-ending.ensures.disk_count;
       net_count = λ unused. ap g.N.Dial.faults (c.run_words-ending.ensures.net unused);
       completes = λ none. completes g.N.Dial g.N.Link.Link g.N.Net.closed g.N.Door.Door g.N.Door.Link.Link c.status.result before after
-          c.args.net.now c.run_words-ending.new.net run.0 c.run_words-ending.result c.status.ensures writes
-          c.run_words-ending.ensures.source_count none (command_of c.args.words.now) run.1 c.run_words-ending.ensures.disk_count;
+          c.args.net.now c.run_words-ending.new.net run.0 c.run_words-ending.result c.status.ensures
+          c.run_words-ending.ensures.source_count none (command_of c.args.words.now) run.1 writes c.run_words-ending.ensures.disk_count;
     }

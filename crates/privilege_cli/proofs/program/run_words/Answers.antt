@@ -3,7 +3,7 @@ use Rattle.run_endings.specs.Outside.{sink_seen, disk_seen}
 use Rattle.command_words.specs.Commands.{ReadsCommand, command_of}
 use Rattle.command_words.specs.declared.commands.Command.{Command}
 use Rattle.privilege_cli.specs.Program.{seen_of, CountsDisk}
-use Rattle.privilege_cli.proofs.Silent.{uncounted, without_memory, without_command, serves-as, reads-nothing}
+use Rattle.privilege_cli.proofs.Silent.{uncounted, without_memory, without_command, serves-as, reads-nothing, watches-as, watches-unread}
 use Rattle.privilege_cli.proofs.program.run_words.Goals as goal
 
 pub returns-in-Err-Memory-clause-run : goal.returns-in-Err-Memory-clause-run
@@ -52,3 +52,18 @@ returns-in-Ok-Simple-clause-disk_count g c =
     let count = g.D.Disk.faults c.args.disk.now in
     subst (λ (command : Option Command). CountsDisk command c.run_simple.result count count)
     (sym (c.in-Ok-Simple.ensures.command ∙ ap Some c.in-Ok-Simple.field-0-is)) (uncounted c.run_simple.result count c.run_simple.ensures.ends).1
+
+pub returns-in-Ok-Watch-clause-run : goal.returns-in-Ok-Watch-clause-run
+returns-in-Ok-Watch-clause-run g c =
+    watches-as g.N.Dial g.N.Link.Link g.N.Net.closed g.N.Door.Door g.N.Door.Link.Link c.args.words.now
+    (seen_of g.S.Source g.K.Sink g.D.Disk g.N.Dial c.args.source.now c.args.sink.now c.args.disk.now c.args.net.now) c.args.net.now
+    (disk_seen g.D.Disk.state g.D.Disk.moment g.D.Disk.left_since g.D.Disk.faults c.run_watch.new.disk) c.run_watch.new.net
+    _ c.run_watch.result (sink_seen g.K.Sink.taken g.K.Sink.faults c.run_watch.new.sink)
+    (c.in-Ok-Watch.ensures.command ∙ ap Some c.in-Ok-Watch.field-0-is) c.run_watch.ensures
+
+pub returns-in-Ok-Watch-clause-source_count : goal.returns-in-Ok-Watch-clause-source_count
+returns-in-Ok-Watch-clause-source_count g c =
+    watches-unread g.N.Dial g.N.Link.Link g.N.Net.closed g.N.Door.Door g.N.Door.Link.Link c.args.words.now
+    (seen_of g.S.Source g.K.Sink g.D.Disk g.N.Dial c.args.source.now c.args.sink.now c.args.disk.now c.args.net.now) c.args.net.now
+    (disk_seen g.D.Disk.state g.D.Disk.moment g.D.Disk.left_since g.D.Disk.faults c.run_watch.new.disk) c.run_watch.new.net
+    _ c.run_watch.result (sink_seen g.K.Sink.taken g.K.Sink.faults c.run_watch.new.sink) c.run_watch.ensures
