@@ -30,7 +30,7 @@ AS_FAST, EVERY_SECONDS = 0.97, 0.01
 # The longest pause of an administrator, in seconds, while the checks are counted.
 LONGEST_PAUSE = 0.05
 # Where the kind of the answer stands in the frame of a reply.
-KIND_AT = 7
+KIND_AT = 15
 MISSED_NOTE = "some checks were not written"
 WRONG = []
 
