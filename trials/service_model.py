@@ -6,6 +6,8 @@ hangs up who entered before it, and a stop all. It shares nothing with the produ
 
 import sys
 
+import admin_model
+from agent_model import End, shown
 from admin_door_model import Disk, Ended, Link, Service, file_of, frame, n1, n2, n4, n8, numbers, result_fields, serve, step_of, text, whole_frame
 from frame_model import bytes_in
 from server_model import Fault, read
@@ -35,6 +37,8 @@ class Running:
         self.service = Service(disk)
         self.free = {"client": workers, "agent": AGENT_WORKERS, "admin": 1}
         self.waiting, self.working = [], []
+        # the runs of agents that answer by themselves
+        self.beside = []
         # of each kind the questions that were put: the number, the connection, the question and the metadata
         self.agents, self.put, self.next_number = {}, {}, 0
         self.replies = 0
@@ -53,7 +57,7 @@ class Running:
 
     def go_on(self):
         """Goes on until nobody has anything to do. Who entered before the last commit is hung up."""
-        while any([self.take_next(), *(self.work(connection) for connection in list(self.working))]):
+        while any([self.take_next(), *map(self.work, list(self.working)), *(agent.go_on() for agent in self.beside)]):
             for connection in self.working:
                 if connection.door == "client" and connection.entered < self.service.note:
                     connection.served = False
@@ -224,29 +228,71 @@ class Running:
         self.waiting = []
 
 
+class AgentRun:
+    """The run of an agent that answers each question alike, until its link ends: how it ends, and what it writes."""
+
+    def __init__(self, running, kind, allowed):
+        self.link, self.allowed, self.written, self.frames = running.dial("agent"), allowed, "", 0
+        self.link.heard += frame(0, 0x20, n2(kind))
+        running.beside.append(self)
+        running.go_on()
+
+    def go_on(self):
+        """Whether there was a frame to follow."""
+        if not self.link.sent:
+            return False
+        reply = bytes.fromhex(frame_of(self.link))
+        self.frames += 1
+        fields = reply[7:]
+        if reply[6] == 0xA1:
+            self.written += f"taken {int.from_bytes(fields, 'big')}\n"
+        if reply[6] == 0xA2:
+            number, rest, names = int.from_bytes(fields[:4], "big"), fields[4:], []
+            for _ in range(3):
+                name, rest = text_in(rest)
+                names.append(name)
+            metadata, _ = text_in(rest[2:])
+            self.written += f"question {number} {' '.join(names)} agent:{int.from_bytes(rest[:2], 'big')}:{metadata}\n"
+            self.link.heard += frame(int.from_bytes(reply[4:6], "big"), 0x21, n4(number) + n1(self.allowed))
+        return True
+
+    def told(self):
+        return f"agent 0 {shown(self.written.encode())}"
+
+
 class People:
-    """Those who talk with a run of the service: links by name, a client that keeps its answers, an administrator's client."""
+    """Those who talk with a run of the service: links by name, a client that keeps its answers, administrators, and an agent
+    that runs beside them."""
 
     def __init__(self, running):
         self.running, self.links, self.told = running, {}, []
         self.link, self.kept, self.least, self.sequence = None, {}, 0, 0
-        self.admin = None
+        self.agent = None
 
     def talk(self, steps):
-        for step in steps.split(";"):
-            self.step(*step.strip().partition(" ")[::2])
-        for link in [*self.links.values(), self.link, self.admin]:
+        first, _, rest = steps.partition("|")
+        words, _, last = rest.partition("|")
+        self.do_steps(first)
+        if words.strip():
+            kind, answer = words.split()
+            self.agent = AgentRun(self.running, int(kind), answer == "allow")
+        self.do_steps(last)
+        for link in [*self.links.values(), self.link]:
             if link:
                 link.open = False
         self.running.go_on()
         if not self.running.stopped:
             self.running.service.stop()
             self.running.stop()
-        return self.told
+        return [*self.told, self.agent.told()] if self.agent else self.told
+
+    def do_steps(self, steps):
+        for step in steps.split(";"):
+            self.step(*step.strip().partition(" ")[::2])
 
     def step(self, word, rest):
         match word:
-            case "" | "wait":
+            case "":
                 pass
             case "client" | "admin" | "agent":
                 self.links[rest] = self.running.dial(word)
@@ -254,13 +300,15 @@ class People:
                 self.told.append(self.check(word == "simple", tuple(letter.encode() for letter in rest)))
             case "tell":
                 self.least = max(self.least, int(rest))
-            case "set":
-                self.told.append(self.send(change_of(rest)))
-            case "stop":
-                self.told.append(self.send(frame(0, 0x1C)))
+            case "do":
+                self.told.append(self.command(rest))
             case "answered":
                 if self.running.replies < int(rest):
                     raise SystemExit(f"never answered: {rest}")
+            case "heard":
+                # a frame is received in two pieces
+                if 2 * self.agent.frames < int(rest):
+                    raise SystemExit(f"never heard: {rest}")
             case _:
                 self.use(word[:-1], word[-1], rest)
 
@@ -289,7 +337,7 @@ class People:
         self.running.go_on()
         reply = frame_of(self.link)
         if reply == "end":
-            return "the service is not there"
+            return "Unavailable"
         return self.answer(question, bytes.fromhex(reply))
 
     def answer(self, question, reply):
@@ -297,38 +345,38 @@ class People:
         if commit < self.least:
             self.link.open, self.link, self.kept = False, None, {}
             self.running.go_on()
-            return f"older:{self.least}:{commit}"
+            return f"Older {{ told: {self.least}, got: {commit} }}"
         kind, number = int.from_bytes(reply[15:17], "big"), int.from_bytes(reply[17:21], "big")
+        of_kind = f"commit: {commit}, kind: Kind({kind})"
         match reply[6]:
             case 0x81:
-                told = f"judged:{commit}:{kind}"
+                told = f"Judged {commit} {kind}"
                 self.kept[question] = commit, told
                 return told
             case 0x82:
-                return f"agent:{commit}:{kind}:{number}:{'true' if reply[21] else 'false'}"
+                return f"FromAgent {{ {of_kind}, number: {number}, allowed: {'true' if reply[21] else 'false'} }}"
             case 0x83:
-                return f"not-resolved:{commit}:{kind}"
+                return f"NotResolved {{ {of_kind} }}"
             case 0x84:
-                return f"no-agent:{commit}:{kind}"
+                return f"NoAgent {{ {of_kind} }}"
             case 0x85:
-                return f"agent-gone:{commit}:{int.from_bytes(reply[15:19], 'big')}"
+                return f"AgentGone {{ commit: {commit}, number: {int.from_bytes(reply[15:19], 'big')} }}"
 
-    # ---- an administrator's client
+    # ---- a script of one line, sent by the command `admin`
 
-    def send(self, message):
-        if self.admin is None or not self.admin.served:
-            self.admin = self.running.dial("admin")
-        self.admin.heard += message
+    def command(self, line):
+        operation, fields = admin_model.message(line)
+        link = self.running.dial("admin")
+        link.heard += frame(0, operation, fields)
         self.running.go_on()
-        reply = bytes.fromhex(frame_of(self.admin))
-        match reply[6]:
-            case 0x90:
-                return f"done:{int.from_bytes(reply[7:15], 'big')}:{int.from_bytes(reply[15:19], 'big')}"
-            case 0x91:
-                return "refused"
-            case 0x95:
-                return "store-fault"
-        return "replies"
+        status, lines = 0, []
+        try:
+            lines = admin_model.answer(operation, admin_model.Link(link.sent), 0)
+        except End as end:
+            status = end.args[0]
+        link.open = False
+        self.running.go_on()
+        return f"{status} {shown(''.join(f'{each}{chr(10)}' for each in lines).encode())}"
 
 
 def at_the_end(heard):
@@ -346,12 +394,10 @@ def frame_of(link):
     return "end"
 
 
-def change_of(word):
-    """The message that sets the policy of a word `CUP=KIND:METADATA`."""
-    key, _, result = word.partition("=")
-    kind, _, metadata = result.partition(":")
-    fields = b"".join(text(letter.encode()) for letter in key) + result_fields((int(kind), metadata.encode()))
-    return frame(0, 0x12, n4(1) + n1(1) + text(b"") + fields)
+def text_in(fields):
+    """The text at the front of these fields, and the fields behind it."""
+    size = int.from_bytes(fields[:2], "big")
+    return fields[2 : 2 + size].decode(), fields[2 + size :]
 
 
 # ---- cases as lines
