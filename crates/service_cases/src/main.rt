@@ -8,6 +8,11 @@
 //! commas between them, or `-`. At each `/` a new service runs on the same folder. Where an agent's words stand between two
 //! `|`, it begins behind the steps before them, and runs beside the others.
 //!
+//!     memory W FAILS NET_FAILS BYTES | BYTES | ..
+//!
+//! is a service over a net in memory, whose calls of `dial` and `door` with the numbers `NET_FAILS` fail, and at whose door for
+//! administrators come links with these bytes, or none for `-`. Its answer has what was sent on each of these links.
+//!
 //! Steps: `client X`, `admin X` and `agent X` dial a link of the name X; `X> BYTES` sends a frame on it, in digits and quoted
 //! texts; `X<` reads a frame; `X-` lets the link go; `check CUP` and `simple CUP` ask by a client that keeps its answers, and
 //! `tell N` tells it of a commit; `do LINE` runs the command `admin` with a script of this line; `answered N` waits until so
@@ -19,6 +24,7 @@
 mod agents;
 mod answers;
 mod gates;
+mod memory;
 mod people;
 mod runs;
 
@@ -35,10 +41,12 @@ fn answered<R: Threads + Wait + Sync + Clock>(
     line: &str,
 ) -> Result<String, AllocError> {
     let (word, rest) = first_word(line);
-    if word != "serve" {
-        return String::from_str(alloc, "no case");
-    }
-    match runs::serve(rt, alloc, rest) {
+    let answer = match word {
+        "serve" => runs::serve(rt, alloc, rest),
+        "memory" => memory::serve(rt, alloc, rest),
+        _ => Err(Failure::Words),
+    };
+    match answer {
         Ok(text) => Ok(text),
         Err(Failure::Memory(error)) => Err(error),
         Err(_) => String::from_str(alloc, "no case"),
