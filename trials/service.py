@@ -118,17 +118,18 @@ class Link:
 class Service:
     """A service in a folder, with so many workers of clients."""
 
-    def __init__(self, folder, path=None, workers=4, **kept):
-        self.folder, self.workers = pathlib.Path(folder), workers
+    def __init__(self, folder, path=None, workers=4, word="serve", **kept):
+        self.folder, self.workers, self.word = pathlib.Path(folder), workers, word
         self.path, self.kept = pathlib.Path(path or program.PROGRAM), kept
         self.process = None
 
     def start(self):
         kept = {**os.environ, "PRIVILEGE_DIR": str(self.folder), **self.kept}
-        errors = open(self.folder / "errors", "ab")
-        words = [self.path, "serve", str(self.workers)]
-        self.process = subprocess.Popen(words, env=kept, cwd=self.folder, stdin=subprocess.DEVNULL, stderr=errors)
-        errors.close()
+        words = [self.path, self.word, str(self.workers)]
+        with open(self.folder / "errors", "ab") as errors, open(self.folder / "output", "ab") as output:
+            self.process = subprocess.Popen(
+                words, env=kept, cwd=self.folder, stdin=subprocess.DEVNULL, stdout=output, stderr=errors
+            )
         until = time.monotonic() + PATIENCE
         while not self.answers():
             if self.process.poll() is not None or time.monotonic() > until:

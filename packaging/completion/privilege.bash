@@ -8,8 +8,8 @@ _privilege() {
     word=${words[at]}
     COMPREPLY=()
     case $at-${words[1]} in
-    1-*) offered='admin agent check local sample serve simple smack-access smack-load' ;;
-    2-serve) offered='1 2 4 8 16 32 64' ;;
+    1-*) offered='admin agent check local sample serve simple smack-access smack-load watch' ;;
+    2-serve | 2-watch) offered='1 2 4 8 16 32 64' ;;
     2-check | 2-simple) offered='System User User::Pkg::' ;;
     4-check | 4-simple) offered=$(cut -d : -f 3 /etc/passwd) ;;
     5-check | 5-simple) offered=http://tizen.org/privilege/ ;;

@@ -5,7 +5,7 @@ ghost use Rattle.std.specs.String.{string_bytes};
 ghost use Rattle.cynara_keys.specs.Name.{name_fault};
 ghost use Rattle.smack_rules.specs.Label.{label_fault};
 ghost use Rattle.command_words.specs.Commands.{is_option, named, single_of, of_two, of_three, of_four, of_five};
-ghost use Rattle.command_words.specs.Commands.{serve_of, sample_of, allowed_of, agent_of, access_of, names_of, command_of};
+ghost use Rattle.command_words.specs.Commands.{serve_of, watch_of, sample_of, allowed_of, agent_of, access_of, names_of, command_of};
 ghost use Rattle.command_words.specs.Commands.{ReadsCommand, KeepsBounds};
 ghost use Rattle.command_words.specs.parts.Names.{ReadsNames};
 
@@ -102,7 +102,7 @@ fn words_behind(name: &[u8]) -> Option<usize> {
     {
         return Some(0);
     }
-    if name == b"serve".as_slice() || name == b"sample".as_slice() {
+    if name == b"serve".as_slice() || name == b"watch".as_slice() || name == b"sample".as_slice() {
         return Some(1);
     }
     if name == b"agent".as_slice() {
@@ -142,6 +142,9 @@ fn read_two(word: &[u8], number: &[u8]) -> Result<Command, CommandRefusal>
     if word == b"serve".as_slice() {
         return read_serve(number);
     }
+    if word == b"watch".as_slice() {
+        return read_watch(number);
+    }
     if word == b"sample".as_slice() {
         return read_sample(number);
     }
@@ -154,6 +157,16 @@ fn read_serve(workers: &[u8]) -> Result<Command, CommandRefusal>
 {
     match number_within(workers, 1, 64) {
         Some(workers) => Ok(Command::Serve { workers }),
+        None => Err(CommandRefusal::Unknown(number_fault(1, 64))),
+    }
+}
+
+fn read_watch(workers: &[u8]) -> Result<Command, CommandRefusal>
+    ensures command { ReadsCommand result (watch_of workers.now) }
+    ensures bounds { IfOk result KeepsBounds }
+{
+    match number_within(workers, 1, 64) {
+        Some(workers) => Ok(Command::Watch { workers }),
         None => Err(CommandRefusal::Unknown(number_fault(1, 64))),
     }
 }

@@ -7,7 +7,7 @@ use run_endings::{MOST_SHOWN_BYTES, note_text};
 use std::alloc::{AllocError, Global};
 
 /// The forms of the command line.
-const FORMS: [&str; 18] = [
+const FORMS: [&str; 20] = [
     "usage: privilege local",
     "           answers the commands and questions on standard input, a line each, over the folder",
     "       privilege smack-load",
@@ -16,6 +16,8 @@ const FORMS: [&str; 18] = [
     "           decides one request under the rules on standard input",
     "       privilege serve WORKERS",
     "           serves launchers, administrators and agents over the sockets, with the policies of the folder",
+    "       privilege watch WORKERS",
+    "           serves so, and writes each check that was answered",
     "       privilege check CLIENT SESSION USER PRIVILEGE",
     "           asks the service",
     "       privilege simple CLIENT SESSION USER PRIVILEGE",

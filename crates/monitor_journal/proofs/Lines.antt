@@ -1,5 +1,5 @@
 -- Lines that are spelled one after the other, and written.
-use Rattle.std.proofs.Common.{◌≡◌, ◌∙◌, ◌≤◌, ◌+◌, ℕ, suc, List, [], ◌∷◌, ◌++◌, length, Option, Some, None, refl, sym, ap, subst, append_assoc, append-nil, arith}
+use Rattle.std.proofs.Common.{◌≡◌, ◌∙◌, ◌≤◌, ◌+◌, ℕ, List, [], ◌∷◌, ◌++◌, length, Option, Some, None, refl, sym, ap, subst, append_assoc, append-nil, arith}
 use Rattle.std.proofs.lemmas.List.{length-append}
 use Rattle.std.proofs.lemmas.Grind.{flat_map-append}
 use Rattle.desk_ports.specs.Content.{Appended}
@@ -7,7 +7,7 @@ use Rattle.run_endings.specs.Outside.{SinkSeen}
 use Rattle.monitor_rule.specs.declared.entries.Entry.{Entry}
 use Rattle.monitor_lines.specs.Lines.{entry_text}
 use Rattle.check_monitor.specs.Monitor.{ReaderState, HandsOut}
-use Rattle.monitor_journal.specs.Journal.{entries_text, Writes, HandsOn}
+use Rattle.monitor_journal.specs.Journal.{entries_text, Writes}
 use Rattle.monitor_journal.specs.parts.Spelling.{Spells, SpellsEntries}
 use Rattle.monitor_journal.specs.declared.writing.Writing.{Writing}
 use Rattle.monitor_journal.specs.declared.writing.Writing.TheVariants.{GoesOn, SinkFailed, OutOfMemory}

@@ -1,12 +1,12 @@
 -- The lines that a run of `watch` writes, and how their writing stands.
-use Rattle.std.specs.Prelude.{◌≡◌, ◌≤◌, ℕ, List, [], ◌∷◌, ◌++◌, length, take}
+use Rattle.std.specs.Prelude.{◌≡◌, ◌≤◌, ℕ, List, ◌++◌, length, take}
 use Rattle.std.specs.List.{flat_map}
 use Rattle.desk_ports.specs.Content.{Appended, AppendedPart}
 use Rattle.desk_ports.specs.Faults.{next_count}
 use Rattle.run_endings.specs.Outside.{SinkSeen}
 use Rattle.monitor_rule.specs.declared.entries.Entry.{Entry}
-use Rattle.monitor_lines.specs.Lines.{entry_text}
-use Rattle.check_monitor.specs.Monitor.{ReaderState}
+use Rattle.monitor_lines.specs.Lines.{entry_text, missed_text}
+use Rattle.check_monitor.specs.Monitor.{RecorderState, ReaderState, AreWhole}
 use Rattle.monitor_journal.specs.declared.writing.Writing.{Writing}
 use Rattle.monitor_journal.specs.declared.writing.Writing.TheVariants.{GoesOn, SinkFailed, OutOfMemory}
 
@@ -29,3 +29,20 @@ pub record HandsOn (most : ℕ) (reader reader_now : ReaderState) (writing now :
   pub few : length entries ≤ most
   pub handed : reader_now ≡ record reader { handed = reader.handed ++ entries }
   pub written : Writes writing (entries_text entries) before now after
+
+-- Some entries were handed out meanwhile, and their lines were to be written.
+pub record Journals (reader reader_now : ReaderState) (writing now : Writing) (before after : SinkSeen) : Type 0 where
+  pub entries : List Entry
+  pub handed : reader_now ≡ record reader { handed = reader.handed ++ entries }
+  pub written : Writes writing (entries_text entries) before now after
+
+-- for each recorder a line with the count of its checks that were missed, in turn
+abbrev pub missed_lines : List RecorderState → List ℕ
+missed_lines recorders = flat_map (λ recorder. missed_text recorder.worker recorder.missed) recorders
+
+-- The recorders have ended: what was left was to be written, so that what each put was handed out before or is written here, and
+-- then how many checks of each were missed.
+pub record EndsJournal (reader : ReaderState) (recorders : List RecorderState) (writing now : Writing) (before after : SinkSeen) : Type 0 where
+  pub left : List Entry
+  pub whole : AreWhole (reader.handed ++ left) recorders
+  pub written : Writes writing (entries_text left ++ missed_lines recorders) before now after

@@ -30,23 +30,8 @@ pub fn hand_on<R: Wait, K: Sink>(
     write_room(room, spelled, sink)
 }
 
-/// Writes the line that says how many checks of a worker were missed.
-pub fn write_missed<K: Sink>(
-    room: &mut Bytes,
-    writing: Writing,
-    worker: u32,
-    count: u64,
-    sink: &mut K,
-) -> Writing
-    ensures { Writes writing (missed_text worker count) (sink_seen K.taken K.faults sink.old) result
-        (sink_seen K.taken K.faults sink.new) }
-{
-    room.clear();
-    let spelled = spell_missed(room, writing, worker, count);
-    write_room(room, spelled, sink)
-}
-
-fn spell_missed(room: &mut Bytes, writing: Writing, worker: u32, count: u64) -> Writing
+/// Spells the line that says how many checks of a worker were missed.
+pub(crate) fn spell_missed(room: &mut Bytes, writing: Writing, worker: u32, count: u64) -> Writing
     ensures { Spells writing room.old (missed_text worker count) result room.new }
 {
     match writing {
@@ -80,8 +65,8 @@ fn spell_entries<R: Wait>(
     spelled
 }
 
-// Spells the line of an entry behind those that wait.
-fn spell(room: &mut Bytes, writing: Writing, entry: &Entry) -> Writing
+/// Spells the line of an entry behind those that wait.
+pub(crate) fn spell(room: &mut Bytes, writing: Writing, entry: &Entry) -> Writing
     ensures { Spells writing room.old (entry_text entry.now) result room.new }
 {
     match writing {
@@ -94,8 +79,8 @@ fn spell(room: &mut Bytes, writing: Writing, entry: &Entry) -> Writing
     }
 }
 
-// Writes what was spelled.
-fn write_room<K: Sink>(room: &Bytes, writing: Writing, sink: &mut K) -> Writing
+/// Writes what was spelled.
+pub(crate) fn write_room<K: Sink>(room: &Bytes, writing: Writing, sink: &mut K) -> Writing
     ensures { Writes writing room.now (sink_seen K.taken K.faults sink.old) result (sink_seen K.taken K.faults sink.new) }
 {
     match writing {

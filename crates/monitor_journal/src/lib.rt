@@ -3,7 +3,9 @@
 #![tactic(auto)]
 
 mod journals;
+mod last_lines;
 mod writing;
 
-pub use journals::{MOST_AT_ONCE, hand_on, write_missed};
+pub use journals::{MOST_AT_ONCE, hand_on};
+pub use last_lines::write_end;
 pub use writing::Writing;

@@ -4,7 +4,7 @@ use Rattle.run_endings.specs.Outside.{Outside}
 use Rattle.run_endings.specs.Ending.{NoCallFails}
 use Rattle.run_endings.proofs.Completing.{is-unfailed, gives}
 use Rattle.command_words.specs.declared.commands.Command.{Command}
-use Rattle.command_words.specs.declared.commands.Command.TheVariants.{Local, Serve, Check, Simple, Admin, Agent, SmackAccess, SmackLoad, Sample}
+use Rattle.command_words.specs.declared.commands.Command.TheVariants.{Local, Serve, Watch, Check, Simple, Admin, Agent, SmackAccess, SmackLoad, Sample}
 use Rattle.folder_runs.proofs.Completing.{completes-load}
 use Rattle.local_runs.proofs.Completing.{completes-local}
 use Rattle.access_runs.proofs.Completing.{completes-access}
@@ -31,6 +31,7 @@ Ends-completes tells (Some (Sample count)) status before after net net_after e n
     (completes-sample count e.said found comes_to e.ending unfailed e.runs)
 Ends-completes tells None status before after net net_after e none = tt
 Ends-completes tells (Some (Serve workers)) status before after net net_after e none = tt
+Ends-completes tells (Some (Watch workers)) status before after net net_after e none = tt
 Ends-completes tells (Some (Check asked)) status before after net net_after e none = tt
 Ends-completes tells (Some (Simple asked)) status before after net net_after e none = tt
 Ends-completes tells (Some Admin) status before after net net_after e none = tt

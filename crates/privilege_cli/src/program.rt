@@ -2,11 +2,11 @@ ghost use Rattle.std.specs.Prelude.{◌≡◌, ◌⊎◌, String, List, false};
 ghost use Rattle.std.specs.declared.alloc.Global.{Global};
 ghost use Rattle.run_endings.specs.Ending.{source_faults_after, NoCallFails};
 ghost use Rattle.run_endings.specs.Outside.{source_seen, sink_seen, disk_seen, seen};
-ghost use Rattle.run_endings.specs.Saying.{Said, WritesAnswers};
+ghost use Rattle.run_endings.specs.Saying.{Said};
 ghost use Rattle.command_words.specs.Commands.{command_of, reads_source, mounts_folder, uses_net};
-ghost use Rattle.privilege_cli.specs.Program.{RunsCommand, CountsDisk, CountsNet, Ends, Completes};
+ghost use Rattle.privilege_cli.specs.Program.{RunsCommand, AnswersBy, CountsDisk, CountsNet, Ends, Completes};
 
-use crate::service_words::{check, serve, simple};
+use crate::service_words::{check, serve, simple, watch};
 use access_runs::run_access;
 use admin_runs::run_admin;
 use agent_runs::run_agent;
@@ -126,7 +126,8 @@ where
         (command_of words.now) said result (source_seen S.left S.faults source.old)
         (source_seen S.left S.faults source.new) (disk_seen D.state D.moment D.left_since D.faults disk.old)
         (disk_seen D.state D.moment D.left_since D.faults disk.new) net.old net.new
-        × WritesAnswers result said (sink_seen K.taken K.faults sink.old) (sink_seen K.taken K.faults sink.new) }
+        × AnswersBy (command_of words.now) result said (sink_seen K.taken K.faults sink.old)
+        (sink_seen K.taken K.faults sink.new) }
     ensures source_count { S.faults source.new ≡ source_faults_after result (S.faults source.old) }
     ensures disk_count { CountsDisk (command_of words.now) result (D.faults disk.old) (D.faults disk.new) }
     ensures net_count { CountsNet (command_of words.now) result (N.faults net.old) (N.faults net.new) }
@@ -146,6 +147,7 @@ where
         ) => run_access(alloc, &subject, &object, asked, source, sink),
         Ok(Command::Sample { count }) => run_sample(alloc, count, sink),
         Ok(Command::Serve { workers }) => serve(rt, alloc, workers, disk, net, gate, notes),
+        Ok(Command::Watch { workers }) => watch(rt, alloc, workers, disk, net, gate, notes, sink),
         Ok(Command::Check(asked)) => check(alloc, &asked, net, sink),
         Ok(Command::Simple(asked)) => simple(alloc, &asked, net, sink),
         Ok(Command::Admin) => run_admin(alloc, source, sink, net),

@@ -1,8 +1,9 @@
 -- Lines that were spelled and are not written yet.
-use Rattle.std.specs.Prelude.{◌≡◌, ◌≤◌, ℕ, List, ◌++◌, length}
+use Rattle.std.specs.Prelude.{◌≡◌, ◌≤◌, ℕ, List, [], ◌++◌, length}
 use Rattle.monitor_rule.specs.declared.entries.Entry.{Entry}
-use Rattle.check_monitor.specs.Monitor.{ReaderState, RecorderState}
-use Rattle.monitor_journal.specs.Journal.{entries_text}
+use Rattle.run_endings.specs.Outside.{SinkSeen}
+use Rattle.check_monitor.specs.Monitor.{ReaderState}
+use Rattle.monitor_journal.specs.Journal.{entries_text, Writes}
 use Rattle.monitor_journal.specs.declared.writing.Writing.{Writing}
 use Rattle.monitor_journal.specs.declared.writing.Writing.TheVariants.{GoesOn, SinkFailed, OutOfMemory}
 
@@ -20,9 +21,13 @@ pub record SpellsEntries (most : ℕ) (reader reader_now : ReaderState) (writing
   pub handed : reader_now ≡ record reader { handed = reader.handed ++ entries }
   pub spelled : Spells writing before (entries_text entries) now room
 
--- the same of what is left
-pub record SpellsRest (most : ℕ) (left left_now : List Entry) (writing now : Writing) (before room : List ℕ) : Type 0 where
+-- the first of what was left were taken, and their lines were to be spelled
+pub record SpellsLeft (left left_now : List Entry) (now : Writing) (before room : List ℕ) : Type 0 where
   pub entries : List Entry
-  pub few : length entries ≤ most
   pub first : left ≡ entries ++ left_now
-  pub spelled : Spells writing before (entries_text entries) now room
+  pub spelled : Spells GoesOn before (entries_text entries) now room
+
+-- A text that was spelled is written, where the writing still goes on.
+abbrev pub WritesSpelled : Writing → List ℕ → Writing → SinkSeen → Writing → SinkSeen → Type 0
+WritesSpelled spelled room writing before now after =
+    (text : List ℕ) → Spells GoesOn [] text spelled room → Writes writing text before now after

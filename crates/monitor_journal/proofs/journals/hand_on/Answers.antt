@@ -1,4 +1,4 @@
-use Rattle.std.proofs.Common.{rules, ◌≡◌, List, ℕ, [], subst}
+use Rattle.std.proofs.Common.{List, ℕ, subst}
 use Rattle.monitor_journal.specs.Journal.{entries_text}
 use Rattle.monitor_journal.specs.parts.Spelling.{SpellsEntries}
 use Rattle.monitor_journal.proofs.Lines.{writes_spelled}

@@ -1,4 +1,4 @@
-use Rattle.std.proofs.Common.{rules, suc, arith}
+use Rattle.std.proofs.Common.{rules, arith}
 use Rattle.monitor_journal.proofs.Lines.{spells_nothing, spells_next, spells_fewer}
 use Rattle.monitor_journal.proofs.journals.spell_entries.Goals as goal
 

@@ -4,7 +4,7 @@ use Rattle.run_endings.specs.Saying.{Writes}
 use Rattle.command_words.specs.Commands.{command_of}
 use Rattle.privilege_cli.specs.Program.{NetTells, Ends}
 use Rattle.privilege_cli.proofs.Completing.{Ends-completes}
-use Rattle.privilege_cli.proofs.Noting.{noted}
+use Rattle.privilege_cli.proofs.Noting.{written_by}
 use Rattle.privilege_cli.proofs.program.run.Goals as goal
 
 pub returns-clause-run : goal.returns-clause-run
@@ -15,9 +15,9 @@ returns-clause-run g c =
       said = run.0;
       status_is = c.status.ensures;
       runs = run.1;
-      writes = noted c.run_words-ending.result run.0 g.K.Sink.taken g.K.Sink.faults _ _ _
-          (c.write_last_line.ensures run.0 (sink_seen g.K.Sink.taken g.K.Sink.faults c.args.sink.now) run.2)
-          c.note_damage.ensures.taken c.note_damage.ensures.count;
+      writes = written_by (command_of c.args.words.now) c.run_words-ending.result run.0 g.K.Sink.taken g.K.Sink.faults
+          (sink_seen g.K.Sink.taken g.K.Sink.faults c.args.sink.now) c.run_words-ending.new.sink c.write_last_line.new.sink c.note_damage.new.sink
+          run.2 c.write_last_line.ensures c.note_damage.ensures.taken c.note_damage.ensures.count;
       source_count = c.run_words-ending.ensures.source_count;
       disk_count = c.run_words-ending.ensures.disk_count;
       net_count = c.run_words-ending.ensures.net_count;
@@ -50,9 +50,9 @@ returns-clause-complete g c =
       said = run.0;
       status_is = c.status.ensures;
       runs = run.1;
-      writes = noted c.run_words-ending.result run.0 g.K.Sink.taken g.K.Sink.faults _ _ _
-          (c.write_last_line.ensures run.0 (sink_seen g.K.Sink.taken g.K.Sink.faults c.args.sink.now) run.2)
-          c.note_damage.ensures.taken c.note_damage.ensures.count;
+      writes = written_by (command_of c.args.words.now) c.run_words-ending.result run.0 g.K.Sink.taken g.K.Sink.faults
+          (sink_seen g.K.Sink.taken g.K.Sink.faults c.args.sink.now) c.run_words-ending.new.sink c.write_last_line.new.sink c.note_damage.new.sink
+          run.2 c.write_last_line.ensures c.note_damage.ensures.taken c.note_damage.ensures.count;
       source_count = c.run_words-ending.ensures.source_count;
       disk_count = c.run_words-ending.ensures.disk_count;
       net_count = c.run_words-ending.ensures.net_count;

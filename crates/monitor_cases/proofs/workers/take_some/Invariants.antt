@@ -1,0 +1,5 @@
+use Rattle.monitor_cases.specs.Cases.{IsSameReader}
+use Rattle.monitor_cases.proofs.workers.take_some.Given as goal
+
+abbrev pub invariant-loop : goal.invariant-loop
+invariant-loop g l = IsSameReader l.fn.reader l.reader

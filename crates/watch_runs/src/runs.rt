@@ -1,0 +1,161 @@
+// `watch W`.
+ghost use Rattle.std.specs.Prelude.{◌≡◌, ◌<◌, ◌≤◌, length, IfSome, IfNone, OnSome};
+ghost use Rattle.std.specs.List.{AllZip};
+ghost use Rattle.run_endings.specs.Outside.{disk_seen, sink_seen};
+ghost use Rattle.run_endings.specs.declared.endings.Ending.{Ending};
+ghost use Rattle.monitor_journal.specs.declared.writing.Writing.{Writing};
+ghost use Rattle.monitor_journal.specs.declared.writing.Writing.TheVariants.{GoesOn};
+ghost use Rattle.monitor_journal.specs.Journal.{Journals};
+ghost use Rattle.door_workers.specs.Monitored.{RecordsSome};
+ghost use Rattle.serve_runs.specs.Serving.{IsUndone};
+ghost use Rattle.serve_runs.specs.Run.{RunsServe};
+ghost use Rattle.watch_runs.specs.Watching.{Journaled, ending_with};
+
+use crate::endings::ending_with;
+use crate::journals::Journal;
+use check_monitor::{Reader, Recorder, open};
+use desk_ports::{Disk, Sink};
+use door_workers::Notes;
+use link_ports::{Door, Gate, Link, Net};
+use monitor_journal::{MOST_AT_ONCE, Writing, write_end};
+use run_endings::Ending;
+use serve_runs::{ServiceRun, run_service};
+use std::alloc::Global;
+use std::sync::Wait;
+use std::thread::Threads;
+
+/// Serves as `run_serve` does, and has the sink take a line for each check that a worker answered by the policies: behind each
+/// connection of an administrator those that were recorded by then, at most 1,024, and at the end those that are left and for
+/// each worker the count of its checks that were missed. After a call of the sink has failed nothing further is written; the
+/// service goes on, and ends for that where it would have been done. It may wait.
+pub fn run_watch<
+    R: Threads + Wait + Sync,
+    D: Disk,
+    N: Net,
+    G: Gate + Sync,
+    T: Notes + Sync,
+    K: Sink,
+>(
+    rt: &R,
+    alloc: Global,
+    workers: u32,
+    disk: &mut D,
+    net: &mut N,
+    gate: &G,
+    notes: &T,
+    sink: &mut K,
+) -> Ending
+where
+    N::Door: Send,
+    <N::Door as Door>::Link: Send,
+    <<N::Door as Door>::Link as Link>::End: Send,
+    requires some { 0 < workers }
+    requires most { workers ≤ 64 }
+    ensures { (met : Ending) × (writing : Writing)
+        × RunsServe N.Door.Link.traffic N.Door.Link.marks N.Door.Link.faults N.Door.given_back N.Door.faults N.Door.kind met
+        (disk_seen D.state D.moment D.left_since D.faults disk.old)
+        (disk_seen D.state D.moment D.left_since D.faults disk.new)
+        (N.faults net.old) (N.faults net.new) (N.closed net.old) (N.closed net.new)
+        × Journaled workers met writing (sink_seen K.taken K.faults sink.old) (sink_seen K.taken K.faults sink.new)
+        × (result ≡ ending_with met writing) }
+{
+    let Ok((recorders, reader)) = open(alloc, workers, MOST_AT_ONCE) else {
+        return Ending::Memory;
+    };
+    let watched = serve_watched(
+        rt, alloc, workers, recorders, reader, disk, net, gate, notes, sink,
+    );
+    let Watched {
+        ending,
+        recorders,
+        reader,
+        writing,
+    } = watched;
+    let Some(recorders) = recorders else {
+        return ending;
+    };
+    note_missed(&recorders, notes);
+    let writing = write_end(rt, alloc, writing, reader, recorders, sink);
+    ending_with(ending, writing)
+}
+
+// How a service ended that was watched; its recorders, where there was a service; and what has become of the journal.
+#[derive(Drop)]
+struct Watched {
+    ending: Ending,
+    recorders: Option<Vec<Recorder>>,
+    reader: Reader,
+    writing: Writing,
+}
+
+// Serves, and writes behind each connection of an administrator what was recorded.
+fn serve_watched<
+    R: Threads + Wait + Sync,
+    D: Disk,
+    N: Net,
+    G: Gate + Sync,
+    T: Notes + Sync,
+    K: Sink,
+>(
+    rt: &R,
+    alloc: Global,
+    workers: u32,
+    recorders: Vec<Recorder>,
+    reader: Reader,
+    disk: &mut D,
+    net: &mut N,
+    gate: &G,
+    notes: &T,
+    sink: &mut K,
+) -> Watched
+where
+    N::Door: Send,
+    <N::Door as Door>::Link: Send,
+    <<N::Door as Door>::Link as Link>::End: Send,
+    requires some { 0 < workers }
+    requires most { workers ≤ 64 }
+    requires recorders { length recorders.items ≡ workers }
+    ensures runs { RunsServe N.Door.Link.traffic N.Door.Link.marks N.Door.Link.faults N.Door.given_back N.Door.faults N.Door.kind result.ending
+        (disk_seen D.state D.moment D.left_since D.faults disk.old)
+        (disk_seen D.state D.moment D.left_since D.faults disk.new)
+        (N.faults net.old) (N.faults net.new) (N.closed net.old) (N.closed net.new) }
+    ensures recorders { IfSome result.recorders (λ now. AllZip RecordsSome recorders.items now.items) }
+    ensures journal { OnSome result.recorders (Journals reader result.reader GoesOn result.writing
+        (sink_seen K.taken K.faults sink.old) (sink_seen K.taken K.faults sink.new)) }
+    ensures undone { IfNone result.recorders (IsUndone result.ending) }
+    ensures untouched { IfNone result.recorders (sink.new ≡ sink.old) }
+{
+    let mut journal = Journal::new(alloc, reader, sink);
+    let run = run_service(
+        rt,
+        alloc,
+        workers,
+        recorders,
+        disk,
+        net,
+        gate,
+        notes,
+        &mut journal,
+    );
+    let ServiceRun { ending, duties } = run;
+    let Journal {
+        reader,
+        writing,
+        sink: lent,
+        ..
+    } = journal;
+    let _ = lent;
+    Watched {
+        ending,
+        recorders: duties,
+        reader,
+        writing,
+    }
+}
+
+// Whether some checks were missed is for a person too.
+fn note_missed<T: Notes>(recorders: &[Recorder], notes: &T) {
+    if recorders.iter().any(|recorder| recorder.missed() > 0) {
+        notes.note("privilege: some checks were not written: the monitor's queue was full");
+    }
+}
