@@ -75,7 +75,7 @@ module _ {N L : Type 0} (link_faults : L → ℕ) (marks : L → LinkMarks) (tra
     (faults dials : N → ℕ) (given_back : N → Option (List L)) where
   -- the link that the frame is to go out on: the one that was there, or one that was dialled, which is no failure
   pub record Begins (entry : Option L) (base : L) (old new : N) : Type 0 where
-    pub is_base : IsBase link_faults marks entry base
+    pub is_base : IsBase link_faults marks traffic entry base
     pub dialled : dials new ≡ (if is_some entry then dials old else next_count (dials old))
     pub counted : faults new ≡ faults old
     pub given : given_back new ≡ given_back old

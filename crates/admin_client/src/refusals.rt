@@ -1,8 +1,5 @@
-ghost use Rattle.std.specs.Prelude.{◌≡◌, alloc_error};
-ghost use Rattle.admin_client.specs.declared.refusals.AdminRefusal.TheVariants.{Memory};
-
 use client_connection::ReplyFault;
-use std::alloc::{AllocError, AllocFailed};
+use std::alloc::AllocError;
 use thiserror::Error;
 
 /// Why a message has no answer.
@@ -18,12 +15,4 @@ pub enum AdminRefusal {
     TooLong(u64),
     #[error("out of memory")]
     Memory(AllocError),
-}
-
-impl<T: Drop> From<AllocFailed<T>> for AdminRefusal {
-    ghost from_gives = { λ _ refusal. refusal ≡ Memory alloc_error };
-
-    fn from(failed: AllocFailed<T>) -> AdminRefusal {
-        AdminRefusal::Memory(AllocError::from(failed))
-    }
 }

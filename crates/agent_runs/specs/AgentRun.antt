@@ -4,6 +4,7 @@ use Rattle.desk_ports.specs.Faults.{next_count}
 use Rattle.cynara_keys.specs.declared.results.Kind.{Kind}
 use Rattle.link_ports.specs.Told.{AppendsTold}
 use Rattle.link_ports.specs.LinkMarks.{fresh_marks}
+use Rattle.link_ports.specs.Traffic.{IsSilent}
 use Rattle.link_ports.specs.NetCounts.{count_after_give_back}
 use Rattle.run_endings.specs.Saying.{Said, silence}
 use Rattle.run_endings.specs.declared.endings.Ending.{Ending}
@@ -30,6 +31,7 @@ pub record Dialled (kind : Kind) (allowed : Bool) (said : Said) (ending : Ending
   pub link_after : LinkSeen
   pub unmarked : link.marks ≡ fresh_marks
   pub unfailed : link.faults ≡ 0
+  pub silent : IsSilent link.traffic
   pub served : Serves kind allowed said ending link link_after
   pub given : AppendsTold before.given link_after after.given
   pub faults : after.faults ≡ count_after_give_back link_after.marks link_after.faults before.faults

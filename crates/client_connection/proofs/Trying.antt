@@ -192,7 +192,7 @@ module _ {L : Type 0} (link_faults : L → ℕ) (marks : L → LinkMarks) (traff
 
     -- the frame went over the link that was there, or over one that was dialled
     pub over : (before : Bool) (entry : Option L) (base : L) (result : Outcome L) (start old new : N)
-        → IsBase link_faults marks entry base
+        → IsBase link_faults marks traffic entry base
         → faults old ≡ faults start → given_back old ≡ given_back start → dials old ≡ counted (dials_in (is_some entry) 1) (dials start)
         → GoesOver link_faults marks traffic frame faults dials given_back (not (is_some entry)) base result old new
         → Asks link_faults marks traffic frame faults dials given_back 1 before entry result start new

@@ -1,7 +1,7 @@
 -- A frame is sent and answered over a link, or over a new one where that fails.
 use Rattle.std.specs.Prelude.{◌≡◌, ◌<◌, ℕ, zero, suc, Bool, true, false, ◌||◌, List, [], ◌∷◌, ◌++◌, length, Option, Some, None, is_some, not, Result, Ok, Err}
 use Rattle.desk_ports.specs.Faults.{next_count}
-use Rattle.link_ports.specs.Traffic.{Traffic}
+use Rattle.link_ports.specs.Traffic.{Traffic, IsSilent}
 use Rattle.link_ports.specs.LinkMarks.{LinkMarks, fresh_marks}
 use Rattle.link_ports.specs.NetCounts.{count_after_give_back}
 use Rattle.wire_messages.specs.declared.messages.Framed.{Framed}
@@ -48,16 +48,16 @@ dials_in true (suc n) = n
 dials_in false (suc n) = suc n
 
 -- The link as it was before the frame: the one that was there, or else one that was dialled. Of the latter all is said that a
--- dialler promises: no call of it has failed, and it bears no mark.
-abbrev pub IsBase : {L : Type 0} → (L → ℕ) → (L → LinkMarks) → Option L → L → Type 0
-IsBase link_faults marks (Some link) base = base ≡ link
-IsBase link_faults marks None base = (marks base ≡ fresh_marks) × (link_faults base ≡ 0)
+-- dialler promises: nothing went over it, no call of it has failed, and it bears no mark.
+abbrev pub IsBase : {L : Type 0} → (L → ℕ) → (L → LinkMarks) → (L → Option Traffic) → Option L → L → Type 0
+IsBase link_faults marks traffic (Some link) base = base ≡ link
+IsBase link_faults marks traffic None base = (marks base ≡ fresh_marks) × (link_faults base ≡ 0) × IsSilent (traffic base)
 
 module _ {L : Type 0} (link_faults : L → ℕ) (marks : L → LinkMarks) (traffic : L → Option Traffic) (frame : List ℕ) where
   -- the frame went out on a link, and this came over it
   pub record CameOver (entry : Option L) (result : Result Framed Broken) (link : L) : Type 0 where
     pub base : L
-    pub is_base : IsBase link_faults marks entry base
+    pub is_base : IsBase link_faults marks traffic entry base
     pub exchanged : Exchanges frame result (traffic base) (traffic link)
     pub ends : (marks link).ends ≡ 0
 

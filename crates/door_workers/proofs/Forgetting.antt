@@ -74,7 +74,7 @@ along seen step shown each start (visit ∷ visits) now (between, one, others) =
 module _ {L : Type 0} (traffic : L → Option Traffic) (marks : L → LinkMarks) (faults : L → ℕ) where
   visit-untold : (old : Post) (visit : Visit L) (new : Post) → VisitsWatched traffic marks faults old visit new
       → VisitsClients traffic marks faults old.seat visit new.seat
-  visit-untold old visit new (tally, calls, one) = (tally, calls, serves-untold one.serves)
+  visit-untold old visit new (silent, (tally, calls, one)) = (silent, (tally, calls, serves-untold one.serves))
 
   pub works-untold : (ends : WorkerEnd → List (Visit L) → Type 0) (end : WorkerEnd) (start now : Post) (given given_now : Option (List L))
       (count count_now : ℕ) → Works (VisitsWatched traffic marks faults) ends marks faults end start now given given_now count count_now

@@ -16,7 +16,7 @@ module _ {L : Type 0} (traffic : L → Option Traffic) (marks : L → LinkMarks)
   frames-grow : (start : Office) (visits : List (Visit L)) (now : Office) → InTurn (VisitsOffice traffic marks faults) start visits now
       → (more : List Exchange) × (now.frames ≡ start.frames ++ more)
   frames-grow start [] now is = ([], ap (λ (office : Office). office.frames) is ∙ sym (append-nil start.frames))
-  frames-grow start (visit ∷ visits) now (between, (tally, served), others) =
+  frames-grow start (visit ∷ visits) now (between, (silent, (tally, served)), others) =
       let (more, is) = frames-grow between visits now others in
       let came : List Exchange = served.answered ++ served.last in (
         came ++ more,
@@ -29,7 +29,7 @@ module _ {L : Type 0} (traffic : L → Option Traffic) (marks : L → LinkMarks)
         → Reaches before last first all start.frames start.desk start.published → Reaches before last first all now.frames now.desk now.published
     office-holds start [] now rest is cut holds =
         subst (λ (office : Office). Reaches before last first all office.frames office.desk office.published) (sym is) holds
-    office-holds start (visit ∷ visits) now rest (between, (tally, served), others) cut holds =
+    office-holds start (visit ∷ visits) now rest (between, (silent, (tally, served)), others) cut holds =
         let (more, is) = frames-grow between visits now others in
         let came : List Exchange = served.answered ++ served.last in
         let cut_here : all ≡ start.frames ++ (came ++ (more ++ rest)) =

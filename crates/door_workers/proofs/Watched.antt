@@ -13,6 +13,6 @@ same_then old between new first then = (then.0 ∙ first.0, then.1 ∙ first.1)
 pub visits_record : {L : Type 0} (traffic : L → Option Traffic) (marks : L → LinkMarks) (faults : L → ℕ) (visits : List (Visit L)) (start now : Post)
     → InTurn (VisitsWatched traffic marks faults) start visits now → RecordsSome start.recorder now.recorder
 visits_record traffic marks faults [] start now same = ([], ap (λ (post : Post). post.recorder) same)
-visits_record traffic marks faults (visit ∷ more) start now (between, (tally, calls, serves), rest) =
+visits_record traffic marks faults (visit ∷ more) start now (between, (silent, (tally, calls, serves)), rest) =
     let (judged, then) = visits_record traffic marks faults more between now rest in
     (serves.judged ++ judged, records_more serves.judged judged start.recorder between.recorder now.recorder serves.records then)

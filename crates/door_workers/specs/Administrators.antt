@@ -1,6 +1,6 @@
 -- A connection of an administrator.
 use Rattle.std.specs.Prelude.{◌≡◌, ◌++◌, ◌∷◌, [], ℕ, Bool, true, List, Option, None}
-use Rattle.link_ports.specs.Traffic.{Traffic}
+use Rattle.link_ports.specs.Traffic.{Traffic, IsSilent}
 use Rattle.link_ports.specs.LinkMarks.{LinkMarks}
 use Rattle.desk_state.specs.DeskState.{DeskState}
 use Rattle.desk_keeper.specs.Keeper.{disk_of}
@@ -53,9 +53,10 @@ ServesAdmin traffic marks faults ended office link office_now link_now = (tally 
     (talk_of (side_in office_now tally) (traffic link_now) (marks link_now) (faults link_now)) ended
     (λ exchanges. office_now.frames ≡ office.frames ++ exchanges)
 
+-- over a link over which nothing went before
 abbrev pub VisitsOffice : {L : Type 0} → (L → Option Traffic) → (L → LinkMarks) → (L → ℕ) → Office → Visit L → Office → Type 0
 VisitsOffice traffic marks faults office visit office_now =
-    ServesAdmin traffic marks faults visit.ended office visit.accepted office_now visit.returned
+    IsSilent (traffic visit.accepted) × ServesAdmin traffic marks faults visit.ended office visit.accepted office_now visit.returned
 
 -- A worker of administrators ends as stopped exactly behind a connection whose stop was answered.
 abbrev pub EndsOffice : {L : Type 0} → WorkerEnd → List (Visit L) → Type 0

@@ -1,6 +1,6 @@
 -- A connection of a client whose checks are recorded.
 use Rattle.std.specs.Prelude.{ℕ, List, Option, None}
-use Rattle.link_ports.specs.Traffic.{Traffic}
+use Rattle.link_ports.specs.Traffic.{Traffic, IsSilent}
 use Rattle.link_ports.specs.LinkMarks.{LinkMarks}
 use Rattle.live_desk.specs.Seat.{SeatState}
 use Rattle.server_hall.specs.Tally.{Tally, no_calls}
@@ -27,9 +27,10 @@ ServesWatched traffic marks faults ended post link post_now link_now = (tally : 
     (client_side post_now.seat tally calls (traffic link_now) (marks link_now) (faults link_now))
     post.recorder post_now.recorder
 
+-- over a link over which nothing went before
 abbrev pub VisitsWatched : {L : Type 0} → (L → Option Traffic) → (L → LinkMarks) → (L → ℕ) → Post → Visit L → Post → Type 0
 VisitsWatched traffic marks faults post visit post_now =
-    ServesWatched traffic marks faults visit.ended post visit.accepted post_now visit.returned
+    IsSilent (traffic visit.accepted) × ServesWatched traffic marks faults visit.ended post visit.accepted post_now visit.returned
 
 -- A recorder, and what it is once some checks were recorded, each once and in turn.
 abbrev pub RecordsSome : RecorderState → RecorderState → Type 0

@@ -2,6 +2,7 @@
 ghost use Rattle.std.specs.Prelude.{◌≡◌, ℕ, List, Option, IfOk, MatchResult};
 ghost use Rattle.std.specs.Bool.{OnTrue, OnFalse};
 ghost use Rattle.link_ports.specs.LinkMarks.{fresh_marks};
+ghost use Rattle.link_ports.specs.Traffic.{IsSilent};
 ghost use Rattle.live_desk.specs.Seat.{SeatState};
 ghost use Rattle.door_frames.specs.declared.endings.Ended.TheVariants.{Stopped as EndedByStop};
 ghost use Rattle.locked_hall.specs.StopNews.{StopsTold};
@@ -143,6 +144,7 @@ fn serve_next_agent<R: Wait, H: HangEnd, L: Link, D: Door<Link = L>>(
 pub(crate) fn accept<D: Door>(door: &mut D) -> Result<D::Link, WorkerEnd>
     ensures fresh { IfOk result (λ link. D.Link.faults link ≡ 0) }
     ensures unmarked { IfOk result (λ link. D.Link.marks link ≡ fresh_marks) }
+    ensures silent { IfOk result (λ link. IsSilent (D.Link.traffic link)) }
     ensures kept { D.given_back door.new ≡ D.given_back door.old }
     ensures kind { D.kind door.new ≡ D.kind door.old }
     ensures count { MatchResult result (λ _. D.faults door.new ≡ D.faults door.old)

@@ -19,7 +19,7 @@ returns-in-Ok g c =
     (sym c.in-None.is)
     (over g.N.Link.Link.faults g.N.Link.Link.marks g.N.Link.Link.traffic c.args.frame.now g.N.Dial.faults g.N.Dial.dials
     g.N.Dial.given_back c.args.is_tried None c.in-Ok.link c.ask_over-in-Ok.result c.args.dial.now c.dial.new.self
-    c.ask_over-in-Ok.new.dial (c.in-Ok.ensures.unmarked, c.in-Ok.ensures.fresh) c.in-Ok.ensures.count c.dial.ensures.kept
+    c.ask_over-in-Ok.new.dial (c.in-Ok.ensures.unmarked, c.in-Ok.ensures.fresh, c.in-Ok.ensures.silent) c.in-Ok.ensures.count c.dial.ensures.kept
     c.dial.ensures.dials c.ask_over-in-Ok.ensures)
 
 pub returns-in-Err-Failed : goal.returns-in-Err-Failed

@@ -40,7 +40,7 @@ returns-then-is_stop-clause-worked g c first start given count (frames, so_far, 
           given (g.E.Door.given_back c.args.door.now) (g.E.Door.given_back c.accept.new.door) (g.E.Door.given_back c.give_back.new.self)
           count (g.E.Door.faults c.args.door.now) (g.E.Door.faults c.give_back.new.self)
           visit AllGoOn EndsOffice
-          so_far (c.in-Ok.ensures.unmarked, c.in-Ok.ensures.fresh) (tally, told frames)
+          so_far (c.in-Ok.ensures.unmarked, c.in-Ok.ensures.fresh) (c.in-Ok.ensures.silent, (tally, told frames))
           (stops_office visit c.if-is_stop.ensures.stop)
           c.accept.ensures.kept c.give_back.ensures.given
           (c.give_back.ensures.count ∙ c.in-Ok.ensures.count),
@@ -69,7 +69,7 @@ returns-clause-worked g c first start given count (frames, so_far, runs) =
           given (g.E.Door.given_back c.args.door.now) (g.E.Door.given_back c.accept.new.door) (g.E.Door.given_back c.give_back.new.self)
           count (g.E.Door.faults c.args.door.now) (g.E.Door.faults c.give_back.new.self)
           visit AllGoOn AllGoOn
-          so_far (c.in-Ok.ensures.unmarked, c.in-Ok.ensures.fresh) (tally, told frames)
+          so_far (c.in-Ok.ensures.unmarked, c.in-Ok.ensures.fresh) (c.in-Ok.ensures.silent, (tally, told frames))
           (goes_office visit c.if-is_stop.ensures.other)
           c.accept.ensures.kept c.give_back.ensures.given
           (c.give_back.ensures.count ∙ c.in-Ok.ensures.count),

@@ -21,7 +21,7 @@ returns-then-is_over-clause-worked g c told given count so_far =
     count (g.D.Door.faults c.args.door.now) (g.D.Door.faults c.give_back.new.self)
     visit
     (GoesOnTold told c.args.news.now) (EndsWorking told c.is_over.new.news)
-    so_far (c.in-Ok.ensures.unmarked, c.in-Ok.ensures.fresh) c.serve_agent-ended.ensures
+    so_far (c.in-Ok.ensures.unmarked, c.in-Ok.ensures.fresh) (c.in-Ok.ensures.silent, c.serve_agent-ended.ensures)
     (stops_told told c.args.news.now c.is_over.new.news visit c.if-is_over.ensures.over)
     c.accept.ensures.kept c.give_back.ensures.given
     (c.give_back.ensures.count ∙ c.in-Ok.ensures.count)
@@ -35,7 +35,7 @@ returns-clause-worked g c told given count so_far =
     count (g.D.Door.faults c.args.door.now) (g.D.Door.faults c.give_back.new.self)
     visit
     (GoesOnTold told c.args.news.now) (GoesOnTold told c.is_over.new.news)
-    so_far (c.in-Ok.ensures.unmarked, c.in-Ok.ensures.fresh) c.serve_agent-ended.ensures
+    so_far (c.in-Ok.ensures.unmarked, c.in-Ok.ensures.fresh) (c.in-Ok.ensures.silent, c.serve_agent-ended.ensures)
     (goes_told told c.args.news.now c.is_over.new.news visit c.if-is_over.ensures.on)
     c.accept.ensures.kept c.give_back.ensures.given
     (c.give_back.ensures.count ∙ c.in-Ok.ensures.count)
