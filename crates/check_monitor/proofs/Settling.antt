@@ -9,7 +9,7 @@ use Rattle.monitor_rule.specs.declared.entries.Entry.{Entry}
 use Rattle.monitor_rule.specs.declared.knowing.Account.{Account}
 use Rattle.monitor_rule.specs.declared.knowing.View.{View}
 use Rattle.monitor_rule.specs.Entries.{of_worker}
-use Rattle.monitor_rule.specs.Steps.{AreAllJoined, AreSettled, TellsLeft}
+use Rattle.monitor_rule.specs.Steps.{AreAllJoined, AreKnown, AreSettled, TellsLeft}
 use Rattle.check_monitor.specs.Monitor.{RecorderState, AreWhole, Cover, account_in, with_joined_all}
 
 -- where all recorders were taken in, each worker has an account
@@ -35,12 +35,22 @@ all_whole recorders v left none settled =
 -- an entry came, and what is left behind it
 pub whole_some : (recorders : List RecorderState) (v joined w : View) (entry : Entry) (handed rest : List Entry) → v.joined ≡ [] → v.handed ≡ handed
     → joined ≡ with_joined_all recorders v → TellsLeft joined entry w → rest ≡ entry ∷ w.left → AreWhole (handed ++ rest) recorders
-whole_some recorders v joined w entry handed rest none is-handed is-joined (left, is, number, settled) is-rest =
+whole_some recorders v joined w entry handed rest none is-handed is-joined (left, is, number, settled, known) is-rest =
     let here : AreSettled (with_joined_all recorders v) (entry ∷ left) = subst (λ (u : View). AreSettled u (entry ∷ left)) is-joined settled in
     let same : rest ≡ entry ∷ left = is-rest ∙ ap (λ (u : View). entry ∷ u.left) is in
     subst (λ (entries : List Entry). AreWhole entries recorders)
     (ap (λ (front : List Entry). front ++ entry ∷ left) is-handed ∙ ap (λ (back : List Entry). handed ++ back) (sym same))
     (all_whole recorders v (entry ∷ left) none here)
+
+pub known_some : (recorders : List RecorderState) (v joined w : View) (entry : Entry) (made : ℕ) (rest : List Entry) → v.made ≡ made
+    → joined ≡ with_joined_all recorders v → TellsLeft joined entry w → rest ≡ entry ∷ w.left → AreKnown made rest
+known_some recorders v joined w entry made rest is-made is-joined (left, is, number, settled, known) is-rest =
+    let same : rest ≡ entry ∷ left = is-rest ∙ ap (λ (u : View). entry ∷ u.left) is in
+    let count : joined.made ≡ made = ap (λ (u : View). u.made) is-joined ∙ is-made in
+    subst (λ (entries : List Entry). AreKnown made entries) (sym same) (subst (λ (n : ℕ). AreKnown n (entry ∷ left)) count known)
+
+pub known_none : (made : ℕ) (rest : List Entry) → rest ≡ [] → AreKnown made rest
+known_none made rest is = subst (λ (entries : List Entry). AreKnown made entries) (sym is) tt
 
 -- the queue held nothing
 pub whole_none : (recorders : List RecorderState) (v joined : View) (handed rest : List Entry) → v.joined ≡ [] → v.handed ≡ handed

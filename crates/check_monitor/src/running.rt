@@ -61,9 +61,9 @@ pub struct Takes;
 
 impl Outcome<Entry, View> for Takes {
     ghost use Rattle.std.specs.Prelude.{◌≡◌};
-    ghost use Rattle.monitor_rule.specs.Steps.{with_handed, IsNumberedNext};
+    ghost use Rattle.monitor_rule.specs.Steps.{with_handed, IsKnown, IsNumberedNext};
 
-    ghost then = { λ v entry w. (w ≡ with_handed entry v) × IsNumberedNext v entry };
+    ghost then = { λ v entry w. (w ≡ with_handed entry v) × IsNumberedNext v entry × IsKnown v entry };
 }
 
 impl Lesson<Entry, View> for Takes {

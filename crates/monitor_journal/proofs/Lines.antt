@@ -1,8 +1,9 @@
 -- Lines that are spelled one after the other, and written.
-use Rattle.std.proofs.Common.{◌≡◌, ◌∙◌, ◌≤◌, ◌+◌, ℕ, List, [], ◌∷◌, ◌++◌, length, Option, Some, None, refl, sym, ap, subst, append_assoc, append-nil, arith}
+use Rattle.std.proofs.Common.{◌≡◌, ◌∙◌, ◌≤◌, ◌<◌, ◌+◌, ℕ, List, [], ◌∷◌, ◌++◌, length, Option, Some, None, refl, sym, ap, subst, append_assoc, append-nil, arith}
 use Rattle.std.proofs.lemmas.List.{length-append}
 use Rattle.std.proofs.lemmas.Grind.{flat_map-append}
 use Rattle.desk_ports.specs.Content.{Appended}
+use Rattle.monitor_rule.specs.Steps.{AreKnown}
 use Rattle.run_endings.specs.Outside.{SinkSeen}
 use Rattle.monitor_rule.specs.declared.entries.Entry.{Entry}
 use Rattle.monitor_lines.specs.Lines.{entry_text}
@@ -41,19 +42,24 @@ spells_more OutOfMemory second third before between after text more one then = s
     stays first GoesOn third between more after one then = cc
     stays first SinkFailed third between more after one then = cc
 
+pub known-more : (made : ℕ) (entries more : List Entry) → AreKnown made entries → AreKnown made more → AreKnown made (entries ++ more)
+known-more made [] more first then = then
+known-more made (entry ∷ entries) more (one, first) then = (one, known-more made entries more first then)
+
 pub spells_nothing : (reader : ReaderState) (writing : Writing) (room : List ℕ) → SpellsEntries 0 reader reader writing writing room room
 spells_nothing reader writing room = record {
   entries = [];
   few = omega arith;
+  known = tt;
   handed = ap (λ list. record reader { handed = list }) (sym (append-nil reader.handed));
   spelled = spells_none writing room;
 }
 
 pub spells_next : (count : ℕ) (reader then now : ReaderState) (writing spelled next : Writing) (before between room : List ℕ) (entry : Entry)
-    → SpellsEntries count reader then writing spelled before between → HandsOut then entry now
+    → SpellsEntries count reader then writing spelled before between → HandsOut then entry now → entry.worker < then.made
     → Spells spelled between (entry_text entry) next room
     → SpellsEntries (count + 1) reader now writing next before room
-spells_next count reader then now writing spelled next before between room entry s handed one =
+spells_next count reader then now writing spelled next before between room entry s handed is-known one =
     let longer : length (s.entries ++ entry ∷ []) ≡ length s.entries + 1 = length-append s.entries (entry ∷ []) in
     let few = s.few in
     let text : entries_text (s.entries ++ entry ∷ []) ≡ entries_text s.entries ++ entry_text entry =
@@ -61,6 +67,8 @@ spells_next count reader then now writing spelled next before between room entry
     record {
       entries = s.entries ++ entry ∷ [];
       few = omega (arith, longer, few);
+      known = known-more reader.made s.entries (entry ∷ []) s.known
+          (subst (λ (n : ℕ). entry.worker < n) (ap (λ (r : ReaderState). r.made) s.handed) is-known, tt);
       handed = handed.0 ∙ (ap (λ (r : ReaderState). record r { handed = r.handed ++ entry ∷ [] }) s.handed
           ∙ ap (λ list. record reader { handed = list }) (append_assoc reader.handed s.entries (entry ∷ [])));
       spelled = subst (λ list. Spells writing before list next room) (sym text)
@@ -72,6 +80,7 @@ pub spells_fewer : (few most : ℕ) (reader now : ReaderState) (writing next : W
 spells_fewer few most reader now writing next before room low s = let at = s.few in record {
   entries = s.entries;
   few = omega (arith, low, at);
+  known = s.known;
   handed = s.handed;
   spelled = s.spelled;
 }

@@ -8,6 +8,8 @@ use Rattle.monitor_rule.specs.declared.entries.Entry.{Entry}
 use Rattle.check_monitor.specs.Monitor.{ReaderState}
 use Rattle.monitor_lines.specs.Lines.{entry_text}
 use Rattle.std.proofs.lemmas.Grind.{flat_map-append}
+use Rattle.monitor_rule.specs.Steps.{AreKnown}
+use Rattle.monitor_journal.proofs.Lines.{known-more}
 use Rattle.monitor_journal.specs.Journal.{entries_text, Writes, HandsOn, Journals}
 use Rattle.monitor_journal.specs.declared.writing.Writing.{Writing}
 use Rattle.monitor_journal.specs.declared.writing.Writing.TheVariants.{GoesOn, SinkFailed, OutOfMemory}
@@ -117,6 +119,7 @@ pub journals_none : (reader : ReaderState) (writing : Writing) (sink : SinkSeen)
 journals_none reader writing sink =
     record {
       entries = [];
+      known = tt;
       handed = ap (λ list. record reader { handed = list }) (sym (append-nil reader.handed));
       written = writes_none writing sink;
     }
@@ -125,7 +128,7 @@ journals_none reader writing sink =
 pub journals_few : (most : ℕ) (reader now : ReaderState) (writing next : Writing) (before after : SinkSeen)
     → HandsOn most reader now writing next before after → Journals reader now writing next before after
 journals_few most reader now writing next before after hands =
-    record { entries = hands.entries; handed = hands.handed; written = hands.written }
+    record { entries = hands.entries; known = hands.known; handed = hands.handed; written = hands.written }
 
 pub journals_then : (a b c : ReaderState) (first second third : Writing) (before between after : SinkSeen)
     → Journals a b first second before between → Journals b c second third between after → Journals a c first third before after
@@ -134,6 +137,8 @@ journals_then a b c first second third before between after one then =
     flat_map-append entry_text one.entries then.entries in
     record {
       entries = one.entries ++ then.entries;
+      known = known-more a.made one.entries then.entries one.known
+          (subst (λ (n : ℕ). AreKnown n then.entries) (ap (λ (r : ReaderState). r.made) one.handed) then.known);
       handed = then.handed ∙ (ap (λ (r : ReaderState). record r { handed = r.handed ++ then.entries }) one.handed
           ∙ ap (λ (list : List Entry). record a { handed = list }) (append_assoc a.handed one.entries then.entries));
       written = subst (λ (list : List ℕ). Writes first list before third after) (sym text)

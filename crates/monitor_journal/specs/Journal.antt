@@ -5,6 +5,7 @@ use Rattle.desk_ports.specs.Content.{Appended, AppendedPart}
 use Rattle.desk_ports.specs.Faults.{next_count}
 use Rattle.run_endings.specs.Outside.{SinkSeen}
 use Rattle.monitor_rule.specs.declared.entries.Entry.{Entry}
+use Rattle.monitor_rule.specs.Steps.{AreKnown}
 use Rattle.monitor_lines.specs.Lines.{entry_text, missed_text}
 use Rattle.check_monitor.specs.Monitor.{RecorderState, ReaderState, AreWhole}
 use Rattle.monitor_journal.specs.declared.writing.Writing.{Writing}
@@ -23,16 +24,18 @@ Writes GoesOn text before OutOfMemory after =
     (after.faults ≡ before.faults) × ((n : ℕ) × (n ≤ length text) × Appended before.taken (take n text) after.taken)
 Writes writing text before now after = (now ≡ writing) × (after ≡ before)
 
--- So many entries at most were handed out, and their lines were to be written.
+-- So many entries at most were handed out, each of a worker that has a recorder, and their lines were to be written.
 pub record HandsOn (most : ℕ) (reader reader_now : ReaderState) (writing now : Writing) (before after : SinkSeen) : Type 0 where
   pub entries : List Entry
   pub few : length entries ≤ most
+  pub known : AreKnown reader.made entries
   pub handed : reader_now ≡ record reader { handed = reader.handed ++ entries }
   pub written : Writes writing (entries_text entries) before now after
 
--- Some entries were handed out meanwhile, and their lines were to be written.
+-- Some entries were handed out meanwhile, each of a worker that has a recorder, and their lines were to be written.
 pub record Journals (reader reader_now : ReaderState) (writing now : Writing) (before after : SinkSeen) : Type 0 where
   pub entries : List Entry
+  pub known : AreKnown reader.made entries
   pub handed : reader_now ≡ record reader { handed = reader.handed ++ entries }
   pub written : Writes writing (entries_text entries) before now after
 
@@ -41,8 +44,9 @@ abbrev pub missed_lines : List RecorderState → List ℕ
 missed_lines recorders = flat_map (λ recorder. missed_text recorder.worker recorder.missed) recorders
 
 -- The recorders have ended: what was left was to be written, so that what each put was handed out before or is written here, and
--- then how many checks of each were missed.
+-- nothing of another worker; and then how many checks of each were missed.
 pub record EndsJournal (reader : ReaderState) (recorders : List RecorderState) (writing now : Writing) (before after : SinkSeen) : Type 0 where
   pub left : List Entry
   pub whole : AreWhole (reader.handed ++ left) recorders
+  pub known : AreKnown reader.made left
   pub written : Writes writing (entries_text left ++ missed_lines recorders) before now after

@@ -1,6 +1,6 @@
 -- Each kind of step keeps the rule.
 use Rattle.std.proofs.Common.{◌≡◌, ◌≢◌, ℕ, suc, ◌+◌, ◌<◌, ◌≤◌, true, false, List, [], ◌∷◌, ◌++◌, length, set, refl, sym, ap, ◌∙◌, subst, ⊎_elim, inl, inr, zero, eq-eqb, ne_eqb, ◌==◌, append_assoc, lt_of_not-le, arith}
-use Rattle.std.proofs.lemmas.List.{append-nil}
+use Rattle.std.proofs.lemmas.List.{append-nil, length-append}
 use mathlib.Core.Option.{Option, some, none, some-injective, some-ne-none}
 use mathlib.Core.Bool.{Bool, cond}
 use mathlib.Core.Logic.{dite, ◌⊎◌}
@@ -13,7 +13,7 @@ use Rattle.monitor_rule.specs.declared.knowing.Account.{Account}
 use Rattle.monitor_rule.specs.declared.knowing.View.{View}
 use Rattle.monitor_rule.specs.Entries.{of_worker, NumberedFrom}
 use Rattle.monitor_rule.specs.Rule.{FitsRecorder, FitsReader, IsFinal, FitsEnd, Keeps, Delivers}
-use Rattle.monitor_rule.specs.Steps.{new_reader, new_recorder, ended, with_one_made, with_put, with_handed, with_joined, account_of, with_left, AreAllJoined, TellsLeft, TakesLeft, IsNext, IsNumberedNext, StandsIn, AreSettled}
+use Rattle.monitor_rule.specs.Steps.{new_reader, new_recorder, ended, with_one_made, with_put, with_handed, with_joined, account_of, with_left, AreAllJoined, TellsLeft, TakesLeft, IsNext, IsKnown, AreKnown, IsNumberedNext, StandsIn, AreSettled}
 use Rattle.monitor_rule.proofs.Counts.{of-append, of-its, of-others, numbered-more, numbered-at}
 
 false-ne-true : false ≡ true → ⊥
@@ -227,8 +227,32 @@ next-number : (handed items : List Entry) (entry : Entry) (v : View) → v.hande
 next-number handed items entry v is numbered =
     number-at handed items entry numbered ∙ ap (λ (l : List Entry). length (of_worker entry.worker l)) (sym is)
 
+-- where there is nothing of the workers from a number on, an entry is of a worker below it
+known-at : (made : ℕ) (handed items : List Entry) (entry : Entry) → ((worker : ℕ) → made ≤ worker → of_worker worker (handed ++ entry ∷ items) ≡ [])
+    → entry.worker < made
+known-at made handed items entry nothing = dite (dec_le made entry.worker)
+    (λ (low : made ≤ entry.worker).
+    let front : List Entry = of_worker entry.worker handed in
+    let behind : List Entry = of_worker entry.worker items in
+    let here : of_worker entry.worker (entry ∷ items) ≡ entry ∷ behind = ap (λ (b : Bool). cond b (entry ∷ behind) behind) (eq-eqb entry.worker entry.worker refl) in
+    let whole : of_worker entry.worker (handed ++ entry ∷ items) ≡ front ++ entry ∷ behind =
+    of-append entry.worker handed (entry ∷ items) ∙ ap (λ (l : List Entry). front ++ l) here in
+    let count : length (front ++ entry ∷ behind) ≡ length front + suc (length behind) = length-append front (entry ∷ behind) in
+    let none : length (front ++ entry ∷ behind) ≡ 0 = ap (λ (l : List Entry). length l) (sym whole ∙ nothing entry.worker low) in
+    absurd (omega (arith, count, none)))
+    (λ (high : ¬ (made ≤ entry.worker)). lt_of_not-le high)
+
+known-all : (made : ℕ) (handed items : List Entry) → ((worker : ℕ) → made ≤ worker → of_worker worker (handed ++ items) ≡ []) → AreKnown made items
+known-all made handed [] nothing = tt
+known-all made handed (entry ∷ items) nothing = (
+  known-at made handed items entry nothing,
+  known-all made (handed ++ entry ∷ []) items
+      (λ worker low. ap (λ (l : List Entry). of_worker worker l) (append_assoc handed (entry ∷ []) items) ∙ nothing worker low),
+)
+
 -- the reader takes an entry
-pub takes : (pass : ℕ) (v : View) → v.reads ≡ true → v.ends ≡ false → Pops Delivers pass v (λ entry w. (w ≡ with_handed entry v) × IsNumberedNext v entry)
+pub takes : (pass : ℕ) (v : View) → v.reads ≡ true → v.ends ≡ false
+    → Pops Delivers pass v (λ entry w. (w ≡ with_handed entry v) × IsNumberedNext v entry × IsKnown v entry)
 takes pass v reads not entry items views (reader, seat, handed, (numbered, each), ends) at =
     let mine = (each pass v at).1 reads in
     let w : View = with_handed entry v in (
@@ -240,7 +264,7 @@ takes pass v reads not entry items views (reader, seat, handed, (numbered, each)
         handing reader pass seat handed items entry v views v.ends v.left reads (numbered, each) at,
         ending reader pass seat handed (handed ++ entry ∷ items) items w views mine.0 each (not-ended seat items w not),
       ),
-      (refl, next-number handed items entry v mine.1 (numbered entry.worker)),
+      (refl, next-number handed items entry v mine.1 (numbered entry.worker), known-at v.made handed items entry (λ worker low. (mine.2 worker low).1)),
     )
 
 -- the reader takes an entry once all recorders are joined
@@ -266,6 +290,7 @@ takes-last pass v reads not joined entry items views (reader, seat, handed, (num
         next-number handed items entry v mine.1 (numbered entry.worker),
         (λ (place : ℕ) (account : Account) e.
             (mine.3 place account e).1 ∙ ap (λ (l : List Entry). of_worker account.worker (l ++ entry ∷ items)) (sym mine.1)),
+        known-all v.made handed (entry ∷ items) (λ worker low. (mine.2 worker low).1),
       ),
     )
 

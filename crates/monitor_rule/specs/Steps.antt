@@ -3,6 +3,7 @@
 -- none. A recorder that has ended is joined to the reader: their two views change. Once all were joined, a take also tells
 -- what is left.
 use Rattle.std.specs.Prelude.{◌≡◌, ◌<◌, ℕ, suc, true, false, List, [], ◌∷◌, ◌++◌, length}
+use Rattle.std.specs.List.{AllByRecursion}
 use mathlib.Core.Option.{some}
 use lib.ListN.{get_elem?}
 use Rattle.monitor_rule.specs.declared.entries.Entry.{Entry}
@@ -50,6 +51,14 @@ IsNext v entry = (entry.worker ≡ v.worker) × (entry.number ≡ length v.put)
 abbrev pub IsNumberedNext : View → Entry → Type 0
 IsNumberedNext v entry = entry.number ≡ length (of_worker entry.worker v.handed)
 
+-- the entry is of a worker for which the reader made a recorder
+abbrev pub IsKnown : View → Entry → Type 0
+IsKnown v entry = entry.worker < v.made
+
+-- each of these is of a worker below this number
+abbrev pub AreKnown : ℕ → List Entry → Type 0
+AreKnown made entries = AllByRecursion (λ entry. entry.worker < made) entries
+
 -- what the recorder put are its worker's entries that were handed out and those in the queue
 abbrev pub StandsIn : View → List Entry → Type 0
 StandsIn v items = (handed : List Entry) × (v.put ≡ of_worker v.worker (handed ++ items))
@@ -69,10 +78,10 @@ AreAllJoined v = (worker : ℕ) → worker < v.made → (place : ℕ) × (accoun
     × (get_elem? v.joined place ≡ some account) × (account.worker ≡ worker)
 
 -- An entry was handed out, and what is left is known from then on: what each worker put are its entries that were handed
--- out before, and those of this entry and of what is left.
+-- out before, and those of this entry and of what is left; and nothing of another worker is left.
 abbrev pub TellsLeft : View → Entry → View → Type 0
 TellsLeft v entry w = (left : List Entry)
-    × (w ≡ with_left left (with_handed entry v)) × IsNumberedNext v entry × AreSettled v (entry ∷ left)
+    × (w ≡ with_left left (with_handed entry v)) × IsNumberedNext v entry × AreSettled v (entry ∷ left) × AreKnown v.made (entry ∷ left)
 
 -- the first of what is left was handed out
 abbrev pub TakesLeft : View → Entry → View → Type 0

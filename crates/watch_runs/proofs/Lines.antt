@@ -69,7 +69,7 @@ last_of_failed before sink after risen last =
 failed : (workers : ℕ) (met : Ending) (writing : Writing) (before sink : SinkSeen) → ending.Sink ≡ ending_with met writing → (met ≡ ending.Sink → ⊥)
     → Journaled workers met writing before sink → sink.faults ≡ next_count before.faults
 failed workers ending.Done SinkFailed before sink is other (unserved undone none same) = cc
-failed workers ending.Done SinkFailed before sink is other (journaled entries recorders recorded whole (count, part)) = count
+failed workers ending.Done SinkFailed before sink is other (journaled entries recorders recorded whole known (count, part)) = count
 failed workers ending.Done GoesOn before sink is other lines = cc
 failed workers ending.Done OutOfMemory before sink is other lines = cc
 failed workers ending.Sink writing before sink is other lines = absurd (other refl)

@@ -8,6 +8,7 @@ use Rattle.run_endings.specs.declared.endings.Ending.{Ending}
 use Rattle.run_endings.specs.declared.endings.Ending.TheVariants as ending
 use Rattle.serve_runs.specs.Serving.{IsUndone}
 use Rattle.monitor_rule.specs.declared.entries.Entry.{Entry}
+use Rattle.monitor_rule.specs.Steps.{AreKnown}
 use Rattle.check_monitor.specs.Monitor.{RecorderState, ReaderState, AreAll, AreWhole, IsSame, new_recorder_of, new_recorders, new_reader_of}
 use Rattle.check_monitor.proofs.All.{all_new, all_same}
 use Rattle.monitor_door.proofs.Recordings.{stays_same}
@@ -16,6 +17,7 @@ use Rattle.monitor_journal.specs.declared.writing.Writing.{Writing}
 use Rattle.monitor_journal.specs.declared.writing.Writing.TheVariants.{GoesOn}
 use Rattle.std.proofs.lemmas.Grind.{flat_map-append}
 use Rattle.monitor_lines.specs.Lines.{entry_text}
+use Rattle.monitor_journal.proofs.Lines.{known-more}
 use Rattle.monitor_journal.proofs.Writes.{writes_then}
 use Rattle.door_workers.specs.Monitored.{RecordsSome}
 use Rattle.watch_runs.specs.Watching.{HaveRecorded, Journaled, ending_with}
@@ -56,6 +58,8 @@ pub journaled_all : (workers : ℕ) (met : Ending) (reader now : ReaderState) (r
 journaled_all workers met reader now recorders back writing next before between after is are all journals ends =
     let handed : now.handed ≡ journals.entries =
     ap (λ (r : ReaderState). r.handed) journals.handed ∙ ap (λ (r : ReaderState). r.handed ++ journals.entries) is in
+    let count : reader.made ≡ workers = ap (λ (r : ReaderState). r.made) is in
+    let still : now.made ≡ workers = ap (λ (r : ReaderState). r.made) journals.handed ∙ count in
     let text : entries_text (journals.entries ++ ends.left) ++ missed_lines back
     ≡ entries_text journals.entries ++ (entries_text ends.left ++ missed_lines back) =
     ap (λ (list : List ℕ). list ++ missed_lines back) (flat_map-append entry_text journals.entries ends.left)
@@ -63,6 +67,8 @@ journaled_all workers met reader now recorders back writing next before between 
     Journaled.journaled (journals.entries ++ ends.left) back
     (reader.queue, subst (λ (list : List RecorderState). AllZip RecordsSome list back) are all)
     (subst (λ (list : List Entry). AreWhole (list ++ ends.left) back) handed ends.whole)
+    (known-more workers journals.entries ends.left (subst (λ (n : ℕ). AreKnown n journals.entries) count journals.known)
+    (subst (λ (n : ℕ). AreKnown n ends.left) still ends.known))
     (subst (λ (list : List ℕ). Writes GoesOn list before next after) (sym text)
     (writes_then GoesOn writing next (entries_text journals.entries) (entries_text ends.left ++ missed_lines back) before between after
     journals.written ends.written))

@@ -10,6 +10,7 @@ use Rattle.run_endings.specs.Saying.{IsTried}
 use Rattle.run_endings.specs.declared.endings.Ending.{Ending}
 use Rattle.run_endings.specs.declared.endings.Ending.TheVariants.{Done, Memory, Sink}
 use Rattle.monitor_rule.specs.declared.entries.Entry.{Entry}
+use Rattle.monitor_rule.specs.Steps.{AreKnown}
 use Rattle.check_monitor.specs.Monitor.{RecorderState, AreWhole, new_recorders}
 use Rattle.monitor_journal.specs.Journal.{entries_text, missed_lines, Writes}
 use Rattle.monitor_journal.specs.declared.writing.Writing.{Writing}
@@ -33,11 +34,12 @@ abbrev pub HaveRecorded : ℕ → List RecorderState → Type 0
 HaveRecorded workers recorders = (queue : TableId) × AllZip RecordsSome (new_recorders queue 1024 workers) recorders
 
 -- What the sink was to take: nothing where nobody was served, whose run then did not do its work. Else a line for each entry, which are
--- for each worker all that its recorder put, in its order; and then for each worker the count of its checks that were missed. Where the
--- writing still goes on, the sink took all of it, and else a front of it.
+-- for each worker all that its recorder put, in its order, and none of any other worker; and then for each worker the count of its checks
+-- that were missed. Where the writing still goes on, the sink took all of it, and else a front of it.
 pub data Journaled (workers : ℕ) (met : Ending) (writing : Writing) (before after : SinkSeen) : Type 0 where
   unserved : IsUndone met → writing ≡ GoesOn → after ≡ before → Journaled workers met writing before after
   journaled : (entries : List Entry) → (recorders : List RecorderState) → HaveRecorded workers recorders → AreWhole entries recorders
+      → AreKnown workers entries
       → Writes GoesOn (entries_text entries ++ missed_lines recorders) before writing after
       → Journaled workers met writing before after
 

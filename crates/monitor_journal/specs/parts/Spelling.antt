@@ -1,6 +1,7 @@
 -- Lines that were spelled and are not written yet.
 use Rattle.std.specs.Prelude.{◌≡◌, ◌≤◌, ℕ, List, [], ◌++◌, length}
 use Rattle.monitor_rule.specs.declared.entries.Entry.{Entry}
+use Rattle.monitor_rule.specs.Steps.{AreKnown}
 use Rattle.run_endings.specs.Outside.{SinkSeen}
 use Rattle.check_monitor.specs.Monitor.{ReaderState}
 use Rattle.monitor_journal.specs.Journal.{entries_text, Writes}
@@ -18,6 +19,7 @@ Spells writing before text now room = now ≡ writing
 pub record SpellsEntries (most : ℕ) (reader reader_now : ReaderState) (writing now : Writing) (before room : List ℕ) : Type 0 where
   pub entries : List Entry
   pub few : length entries ≤ most
+  pub known : AreKnown reader.made entries
   pub handed : reader_now ≡ record reader { handed = reader.handed ++ entries }
   pub spelled : Spells writing before (entries_text entries) now room
 

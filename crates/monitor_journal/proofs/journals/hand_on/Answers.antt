@@ -11,6 +11,7 @@ returns g c =
     record {
       entries = s.entries;
       few = s.few;
+      known = s.known;
       handed = s.handed;
       written = writes_spelled c.args.writing c.spell_entries-spelled.result c.write_room.result (entries_text s.entries)
           c.spell_entries-spelled.new.room _ _ s.spelled c.write_room.ensures;

@@ -9,7 +9,7 @@ pub loop-taken-preserved : goal.loop-taken-preserved
 loop-taken-preserved g c = (
   search rules,
   spells_next c.loop-taken.taken c.args.reader.now c.loop-taken.reader c.next.new.self c.args.writing c.loop-taken.spelled c.spell-spelled.result c.args.room.now
-      c.loop-taken.room c.spell-spelled.new.room c.in-Some.entry c.loop-taken.invariant.1 (search rules) c.spell-spelled.ensures,
+      c.loop-taken.room c.spell-spelled.new.room c.in-Some.entry c.loop-taken.invariant.1 (search rules) c.in-Some.ensures.known c.spell-spelled.ensures,
 )
 
 pub returns-in_default : goal.returns-in_default

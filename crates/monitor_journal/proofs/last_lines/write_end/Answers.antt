@@ -8,7 +8,8 @@ pub returns : goal.returns
 returns g c =
     record {
       left = c.settle-settled.result;
-      whole = c.settle-settled.ensures;
+      whole = c.settle-settled.ensures.whole;
+      known = c.settle-settled.ensures.known;
       written = writes_then c.args.writing c.write_spelled-between.result c.write_spelled.result
           (entries_text c.settle-settled.result) (missed_lines c.args.recorders.items) _ _ _
           (c.write_spelled-between.ensures (entries_text c.settle-settled.result)
