@@ -28,7 +28,7 @@ module _ {N L H E A J : Type 0} (dial : DialTells N L H) (link : LinkTells L H) 
 
   pub completes : (command : Option Command)
       → RunsCommand dial link closed door accepted said ending before.source after.source before.disk after.disk net net_after command
-      → WritesBy command ending said before.sink after.sink → CountsDisk command ending before.disk.faults after.disk.faults → Completes command status before after
+      → WritesBy dial link closed door accepted ending before.disk after.disk net net_after said command before.sink after.sink → CountsDisk command ending before.disk.faults after.disk.faults → Completes command status before after
   completes (Some Local) runs writes count = λ input start told right stands.
       given writes _ (completes-local said before.source after.source before.disk after.disk input start told right stands ending (unfailed writes count) runs)
   completes (Some SmackLoad) runs writes count = λ start stands.

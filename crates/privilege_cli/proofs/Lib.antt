@@ -1,3 +1,4 @@
+pub mod Serving
 pub mod Silent
 pub mod Completing
 pub mod Noting

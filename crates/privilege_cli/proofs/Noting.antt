@@ -1,13 +1,18 @@
 -- The last line of a run, and a note for a person behind it.
 use Rattle.std.proofs.Common.{◌≡◌, ℕ, List, Option, Some, sym, subst}
-use Rattle.run_endings.specs.Outside.{SinkSeen, sink_seen}
+use Rattle.link_ports.specs.declared.dials.Dial.{Ghosts as DialTells}
+use Rattle.link_ports.specs.declared.links.Link.{Ghosts as LinkTells}
+use Rattle.link_ports.specs.declared.doors.Door.{Ghosts as DoorTells}
+use Rattle.run_endings.specs.Outside.{SinkSeen, DiskSeen, sink_seen}
 use Rattle.run_endings.specs.Saying.{Said, Writes}
 use Rattle.run_endings.specs.declared.endings.Ending.{Ending}
+use Rattle.run_endings.specs.declared.endings.Ending.TheVariants.{Sink}
 use Rattle.command_words.specs.declared.commands.Command.{Command}
 use Rattle.command_words.specs.declared.commands.Command.TheVariants.{Watch}
-use Rattle.watch_runs.specs.Watching.{WritesLast}
+use Rattle.watch_runs.specs.Watching.{WritesLines, WritesLast}
 use Rattle.watch_runs.proofs.Lines.{LastLine, last_line_behind}
-use Rattle.privilege_cli.specs.Program.{AnswersBy, WritesBy}
+use Rattle.privilege_cli.specs.Program.{Serves, Watches, AnswersBy, WritesBy}
+use Rattle.privilege_cli.proofs.Serving.{never-sink}
 
 -- what a sink took and counted before the note, it took and counted with it
 noted : (ending : Ending) (said : Said) {K : Type 0} (taken : K → Option (List ℕ)) (faults : K → ℕ) (before : SinkSeen) (sink after : K)
@@ -17,17 +22,32 @@ noted ending said taken faults before sink after writes same count =
     subst (λ number. Writes ending said before (record { taken = taken after; faults = number })) (sym count)
     (subst (λ bytes. Writes ending said before (record { taken = bytes; faults = faults sink })) (sym same) writes)
 
--- the same of any command, by what it wrote before the last line
-pub written_by : (command : Option Command) (ending : Ending) (said : Said) {K : Type 0} (taken : K → Option (List ℕ)) (faults : K → ℕ)
-    (before : SinkSeen) (sink last after : K) → AnswersBy command ending said before (sink_seen taken faults sink)
-    → LastLine ending (sink_seen taken faults sink) (sink_seen taken faults last) → taken after ≡ taken last → faults after ≡ faults last
-    → WritesBy command ending said before (sink_seen taken faults after)
-written_by (Some (Watch workers)) ending said {K} taken faults before sink last after lines writes same count = (
-  sink_seen taken faults sink,
-  lines,
-  subst (λ number. WritesLast ending (sink_seen taken faults sink) (record { taken = taken after; faults = number })) (sym count)
-      (subst (λ bytes. WritesLast ending (sink_seen taken faults sink) (record { taken = bytes; faults = faults last })) (sym same)
-      (last_line_behind workers ending before (sink_seen taken faults sink) (sink_seen taken faults last) lines writes)),
-)
-written_by command ending said {K} taken faults before sink last after answers writes same count =
-    noted ending said taken faults before last after (writes said before answers) same count
+module _ {N L H E A J : Type 0} (dial : DialTells N L H) (link : LinkTells L H) (closed : N → Option (List E)) (door : DoorTells E A J)
+    (accepted : LinkTells A J) (ending : Ending) (disk disk_after : DiskSeen) (net net_after : N) where
+  lines : (workers : ℕ) (before after : SinkSeen) → Watches dial link closed door accepted ending disk disk_after net net_after workers before after
+      → WritesLines workers ending before after
+  lines workers before after (met, writing, is, serves, journal) = (
+    met,
+    writing,
+    is,
+    (λ (is_sink : met ≡ Sink). never-sink dial link closed door accepted disk disk_after net net_after
+        (subst (Serves dial link closed door accepted disk disk_after net net_after) is_sink serves)),
+    journal,
+  )
+
+  -- the same of any command, by what it wrote before the last line
+  pub written_by : (said : Said) (command : Option Command) {K : Type 0} (taken : K → Option (List ℕ)) (faults : K → ℕ) (before : SinkSeen)
+      (sink last after : K)
+      → AnswersBy dial link closed door accepted ending disk disk_after net net_after said command before (sink_seen taken faults sink)
+      → LastLine ending (sink_seen taken faults sink) (sink_seen taken faults last) → taken after ≡ taken last → faults after ≡ faults last
+      → WritesBy dial link closed door accepted ending disk disk_after net net_after said command before (sink_seen taken faults after)
+  written_by said (Some (Watch workers)) {K} taken faults before sink last after watches writes same count = (
+    sink_seen taken faults sink,
+    watches,
+    subst (λ number. WritesLast ending (sink_seen taken faults sink) (record { taken = taken after; faults = number })) (sym count)
+        (subst (λ bytes. WritesLast ending (sink_seen taken faults sink) (record { taken = bytes; faults = faults last })) (sym same)
+        (last_line_behind workers ending before (sink_seen taken faults sink) (sink_seen taken faults last)
+        (lines workers before (sink_seen taken faults sink) watches) writes)),
+  )
+  written_by said command {K} taken faults before sink last after answers writes same count =
+      noted ending said taken faults before last after (writes said before answers) same count

@@ -20,11 +20,11 @@ use Rattle.command_words.specs.declared.commands.Command.TheVariants.{Serve, Wat
 use Rattle.command_words.specs.declared.commands.CommandRefusal.TheVariants.{Memory as NoMemory}
 use Rattle.cynara_client.specs.declared.refusals.ClientRefusal.TheVariants as refusal
 use Rattle.client_runs.specs.CheckRun.{EndsCheck}
-use Rattle.serve_runs.specs.Run.RunsServe.{refused, unopened, served}
 use Rattle.monitor_journal.specs.declared.writing.Writing.{Writing}
-use Rattle.watch_runs.specs.Watching.{Journaled, ending_with, WritesLines}
+use Rattle.watch_runs.specs.Watching.{Journaled, ending_with}
 use Rattle.watch_runs.proofs.Lines as lines
 use Rattle.privilege_cli.specs.Program.{Serves, RunsCommand, AnswersBy}
+use Rattle.privilege_cli.proofs.Serving.{never-sink, never-source}
 
 untrue : IsTrue false → ⊥
 untrue is = let wrong : false ≡ true = is in cc
@@ -41,12 +41,12 @@ module _ {N L H E A J : Type 0} (dial : DialTells N L H) (link : LinkTells L H) 
   abbrev Says : Ending → SinkSeen → DiskSeen → N → Option Command → Type 0
   Says ending sink disk net_after command =
       RunsCommand dial link closed door accepted silence ending before.source before.source before.disk disk net net_after command
-      × AnswersBy command ending silence before.sink sink
+      × AnswersBy dial link closed door accepted ending before.disk disk net net_after silence command before.sink sink
 
   abbrev Stops : Ending → SinkSeen → DiskSeen → N → Type 0
   Stops ending sink disk net_after =
       (said : Said) × RunsCommand dial link closed door accepted said ending before.source before.source before.disk disk net net_after (command_of words)
-      × AnswersBy (command_of words) ending said before.sink sink
+      × AnswersBy dial link closed door accepted ending before.disk disk net net_after said (command_of words) before.sink sink
 
   -- ---- without a command: nothing is read, and nothing dialled
 
@@ -86,23 +86,13 @@ module _ {N L H E A J : Type 0} (dial : DialTells N L H) (link : LinkTells L H) 
     abbrev IsServed : Ending → Type 0
     IsServed = Serves dial link closed door accepted before.disk disk net net_after
 
-    never-sink : IsServed Sink → ⊥
-    never-sink (refused folder counted same doors) = folder.refused
-    never-sink (unopened start keeps counted ends doors) = ends
-    never-sink (served start administers keeps) = administers.ends
-
-    never-source : IsServed Source → ⊥
-    never-source (refused folder counted same doors) = folder.refused
-    never-source (unopened start keeps counted ends doors) = ends
-    never-source (served start administers keeps) = administers.ends
-
     says-nothing : (ending : Ending) → IsServed ending → WritesAnswers ending silence before.sink before.sink
-    says-nothing Sink serves = absurd (never-sink serves)
+    says-nothing Sink serves = absurd (never-sink dial link closed door accepted before.disk disk net net_after serves)
     says-nothing Memory serves = unwritten
     says-nothing ending serves = record { taken = Appended-none before.sink.taken; are_written = (refl, refl) }
 
     pub reads-nothing : (ending : Ending) → IsServed ending → before.source.faults ≡ source_faults_after ending before.source.faults
-    reads-nothing Source serves = absurd (never-source serves)
+    reads-nothing Source serves = absurd (never-source dial link closed door accepted before.disk disk net net_after serves)
     reads-nothing ending serves = refl
 
     -- the words' command is that service
@@ -121,11 +111,10 @@ module _ {N L H E A J : Type 0} (dial : DialTells N L H) (link : LinkTells L H) 
 
       pub watches-as : command_of words ≡ Some (Watch workers) → Watches → Stops ending sink disk net_after
       watches-as is (met, writing, serves, journal, ends) =
-          let lines : WritesLines workers ending before.sink sink = (met, writing, ends, (λ (is_sink : met ≡ Sink). never-sink (subst IsServed is_sink serves)), journal) in
-          let says = subst (Says ending sink disk net_after) (sym is) ((refl, (met, writing, ends, serves)), lines) in
+          let says = subst (Says ending sink disk net_after) (sym is) (refl, (met, writing, ends, serves, journal)) in
           (silence, says.0, says.1)
 
       pub watches-unread : Watches → before.source.faults ≡ source_faults_after ending before.source.faults
       watches-unread (met, writing, serves, journal, ends) =
           subst (λ e. before.source.faults ≡ source_faults_after e before.source.faults) (sym ends)
-          (lines.reads_nothing met writing before.source.faults (λ is. never-source (subst IsServed is serves)))
+          (lines.reads_nothing met writing before.source.faults (λ is. never-source dial link closed door accepted before.disk disk net net_after (subst IsServed is serves)))

@@ -33,7 +33,7 @@ use Rattle.agent_runs.specs.LinkSeen.{dial_seen}
 use Rattle.agent_runs.specs.AgentRun.{RunsAgent}
 use Rattle.serve_runs.specs.Run.{RunsServe}
 use Rattle.monitor_journal.specs.declared.writing.Writing.{Writing}
-use Rattle.watch_runs.specs.Watching.{ending_with, WritesLines, WritesLast}
+use Rattle.watch_runs.specs.Watching.{ending_with, Journaled, WritesLast}
 
 -- what a run sees of these objects, by what their types tell
 abbrev pub seen_of : {S K D N L H : Type 0} → SourceTells S → SinkTells K → DiskTells D → DialTells N L H → S → K → D → N → Outside
@@ -47,19 +47,6 @@ abbrev pub CountsDisk : Option Command → Ending → ℕ → ℕ → Type 0
 CountsDisk (Some (Serve workers)) ending before after = Unit {0}
 CountsDisk (Some (Watch workers)) ending before after = Unit {0}
 CountsDisk command ending before after = after ≡ disk_faults_after ending before
-
--- ---- what is written
-
--- what a command wrote before the last line
-abbrev pub AnswersBy : Option Command → Ending → Said → SinkSeen → SinkSeen → Type 0
-AnswersBy (Some (Watch workers)) ending said before after = WritesLines workers ending before after
-AnswersBy command ending said before after = WritesAnswers ending said before after
-
--- and with it
-abbrev pub WritesBy : Option Command → Ending → Said → SinkSeen → SinkSeen → Type 0
-WritesBy (Some (Watch workers)) ending said before after =
-    (between : SinkSeen) × WritesLines workers ending before between × WritesLast ending between after
-WritesBy command ending said before after = Writes ending said before after
 
 -- ---- a run that no failing call stops
 
@@ -101,14 +88,31 @@ module _ {N L H E A J : Type 0} (dial : DialTells N L H) (link : LinkTells L H) 
     RunsCommand (Some (SmackAccess subject object asked)) = RunsAccess subject object asked said ending source source_after
     RunsCommand (Some (Sample count)) = RunsSample count said ending
     RunsCommand (Some (Serve workers)) = (said ≡ silence) × Serves disk disk_after net net_after ending
-    -- a service that ended in its own way, and how the writing of its lines stood then
-    RunsCommand (Some (Watch workers)) = (said ≡ silence) × ((met : Ending) × (writing : Writing)
-        × (ending ≡ ending_with met writing) × Serves disk disk_after net net_after met)
+    -- how it serves is told with what it writes
+    RunsCommand (Some (Watch workers)) = said ≡ silence
     RunsCommand (Some (Check asked)) = RunsCheck dial link asked false said ending net net_after
     RunsCommand (Some (Simple asked)) = RunsCheck dial link asked true said ending net net_after
     RunsCommand (Some Admin) =
         RunsAdmin link.faults link.marks link.traffic dial.faults dial.dials dial.given_back said ending source source_after net net_after
     RunsCommand (Some (Agent kind allowed)) = RunsAgent kind allowed said ending (dial_seen dial link net) (dial_seen dial link net_after)
+
+  -- ---- what is written
+
+  module _ (ending : Ending) (disk disk_after : DiskSeen) (net net_after : N) where
+    -- a service that ended in its own way, and how the writing of its lines stood then
+    abbrev pub Watches : ℕ → SinkSeen → SinkSeen → Type 0
+    Watches workers before after = (met : Ending) × (writing : Writing) × (ending ≡ ending_with met writing)
+        × Serves disk disk_after net net_after met × Journaled workers met writing before after
+
+    -- what a command wrote before the last line
+    abbrev pub AnswersBy : Said → Option Command → SinkSeen → SinkSeen → Type 0
+    AnswersBy said (Some (Watch workers)) before after = Watches workers before after
+    AnswersBy said command before after = WritesAnswers ending said before after
+
+    -- and with it
+    abbrev pub WritesBy : Said → Option Command → SinkSeen → SinkSeen → Type 0
+    WritesBy said (Some (Watch workers)) before after = (between : SinkSeen) × Watches workers before between × WritesLast ending between after
+    WritesBy said command before after = Writes ending said before after
 
   -- How a run ends, with the words' command and a status.
   pub record Ends (command : Option Command) (status : ℕ) (before after : Outside) (net net_after : N) : Type 0 where
@@ -116,7 +120,7 @@ module _ {N L H E A J : Type 0} (dial : DialTells N L H) (link : LinkTells L H) 
     pub said : Said
     pub status_is : status ≡ status_of ending
     pub runs : RunsCommand said ending before.source after.source before.disk after.disk net net_after command
-    pub writes : WritesBy command ending said before.sink after.sink
+    pub writes : WritesBy ending before.disk after.disk net net_after said command before.sink after.sink
     pub source_count : after.source.faults ≡ source_faults_after ending before.source.faults
     pub disk_count : CountsDisk command ending before.disk.faults after.disk.faults
     -- a command over the net says what that counts

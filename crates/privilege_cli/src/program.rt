@@ -100,7 +100,9 @@ where
         (source_seen S.left S.faults source.old) (source_seen S.left S.faults source.new)
         (disk_seen D.state D.moment D.left_since D.faults disk.old) (disk_seen D.state D.moment D.left_since D.faults disk.new)
         net.old net.new (command_of words.now)
-        × AnswersBy (command_of words.now) result said (sink_seen K.taken K.faults sink.old) (sink_seen K.taken K.faults sink.new) }
+        × AnswersBy N.Dial N.Link.Link N.closed N.Door.Door N.Door.Link.Link result
+        (disk_seen D.state D.moment D.left_since D.faults disk.old) (disk_seen D.state D.moment D.left_since D.faults disk.new)
+        net.old net.new said (command_of words.now) (sink_seen K.taken K.faults sink.old) (sink_seen K.taken K.faults sink.new) }
     ensures source_count { S.faults source.new ≡ source_faults_after result (S.faults source.old) }
     ensures disk_count { CountsDisk (command_of words.now) result (D.faults disk.old) (D.faults disk.new) }
     ensures source { reads_source (command_of words.now) ≡ false → source.new ≡ source.old }

@@ -11,7 +11,8 @@ returns-clause-run g c =
     let before = seen_of g.S.Source g.K.Sink g.D.Disk g.N.Dial c.args.source.now c.args.sink.now c.args.disk.now c.args.net.now in
     let after = seen_of g.S.Source g.K.Sink g.D.Disk g.N.Dial c.run_words-ending.new.source c.note_damage.new.sink
     c.run_words-ending.new.disk c.run_words-ending.new.net in
-    let writes = written_by (command_of c.args.words.now) c.run_words-ending.result run.0 g.K.Sink.taken g.K.Sink.faults before.sink
+    let writes = written_by g.N.Dial g.N.Link.Link g.N.Net.closed g.N.Door.Door g.N.Door.Link.Link c.run_words-ending.result
+    before.disk after.disk c.args.net.now c.run_words-ending.new.net run.0 (command_of c.args.words.now) g.K.Sink.taken g.K.Sink.faults before.sink
     c.run_words-ending.new.sink c.write_last_line.new.sink c.note_damage.new.sink run.2 c.write_last_line.ensures
     c.note_damage.ensures.taken c.note_damage.ensures.count in
     record {
