@@ -1,5 +1,5 @@
-//! The lines of cases programs: what stands in a line for bytes that cannot stand there themselves, and how a case is
-//! printed beside its answers.
+//! The lines of cases programs: what stands in a line for bytes that cannot stand there themselves, which lines are cases, and
+//! how a case is printed beside its answers.
 #![tactic(auto)]
 
 ghost use Rattle.std.specs.Prelude.{◌<◌};
@@ -135,8 +135,28 @@ pub fn cut_word(text: &str) -> (&str, &str) {
     }
 }
 
-/// A case as it is printed: its line, ` => `, and the lines of the answers with ` / ` between them.
-pub fn printed_case(alloc: Global, line: &str, answers: &Bytes) -> Result<String, AllocError> {
+/// What a program answers its cases from.
+pub trait Cases {
+    /// Puts the answers to a case, which begins with this word and a space and has this text behind them. `None` where it is not
+    /// known.
+    fn answer(&mut self, alloc: Global, verb: &str, text: &str, out: &mut Bytes) -> Option<()>;
+}
+
+/// What is printed of a line. A case is printed with its answers; a blank line, and one that begins with `#`, as it is.
+pub fn answered<C: Cases>(alloc: Global, cases: &mut C, line: &str) -> Result<String, AllocError> {
+    if line.is_empty() || line.starts_with('#') {
+        return String::from_str(alloc, line);
+    }
+    let (verb, text) = cut_word(line);
+    let mut out = Bytes::new(alloc);
+    if cases.answer(alloc, verb, text, &mut out).is_none() {
+        out.append(b"no such case")?;
+    }
+    printed_case(alloc, line, &out)
+}
+
+// A case as it is printed: its line, ` => `, and the lines of the answers with ` / ` between them.
+fn printed_case(alloc: Global, line: &str, answers: &Bytes) -> Result<String, AllocError> {
     let mut text = String::new(alloc);
     text.push_str(line)?;
     text.push_str(" => ")?;

@@ -2,7 +2,6 @@
 use crate::trial::Trial;
 use desk_ports::{Disk, FileName};
 use folder_disk::FolderDisk;
-use std::fs;
 
 pub fn run(rt: &HostRuntime) -> anyhow::Result<()> {
     first_call(rt)?;
@@ -17,8 +16,7 @@ fn first_call(rt: &HostRuntime) -> anyhow::Result<()> {
     )?;
     let mut trial = Trial::over(rt, "first")?;
     trial.count_names()?;
-    let count = fs::read_dir(rt, "first")?.count();
-    println!(rt; "  entries: {count}")?;
+    trial.count_entries()?;
     unused.show_faults()?;
     unused.show_failure()
 }

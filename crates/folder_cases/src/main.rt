@@ -2,18 +2,16 @@
 //! `stdout` has what is wanted. What is proved of these functions is that they are safe.
 //!
 //! A line `story FOLDER WORDS` of standard input begins a case, with a folder and a disk of its own, and each line behind it is a
-//! step, in one of the forms of `stories`. What takes more than steps stands in `writes`, `texts` and `locks`.
+//! step, in one of the forms of `stories`. What takes more than steps stands in `writes` and `locks`.
 #![tactic(auto)]
 
 mod locks;
 mod stories;
-mod texts;
 mod trial;
 mod writes;
 
 fn main(rt: HostRuntime) -> anyhow::Result<()> {
     stories::run(&rt)?;
     writes::run(&rt)?;
-    texts::run(&rt)?;
     locks::run(&rt)
 }

@@ -1,5 +1,6 @@
 // Cases that are told by the lines of standard input.
-use crate::trial::{Trial, wait_a_tick};
+use crate::trial::{Trial, begin, wait_a_tick};
+use case_texts::bytes_of;
 use std::io;
 
 /// The disk of a story, and a file of it as it was seen.
@@ -33,8 +34,8 @@ fn ask(trial: &mut Trial, verb: &str, rest: &str) -> anyhow::Result<bool> {
     Ok(true)
 }
 
-// What another program does in the folder: `place NAME TEXT`, `symlink TO NAME`, `link NAME OTHER`, `folder`, `large`, `many`
-// and `delete`.
+// What another program does in the folder, and with it: `place NAME TEXT`, `symlink TO NAME`, `link NAME OTHER`, `folder`, `large`,
+// `many`, `delete`, and `replace`.
 fn meddle(trial: &Trial, verb: &str, rest: &str) -> anyhow::Result<bool> {
     let (first, second) = first_word(rest);
     if verb == "place" {
@@ -52,19 +53,26 @@ fn meddle(trial: &Trial, verb: &str, rest: &str) -> anyhow::Result<bool> {
         trial.place_many()?;
     } else if verb == "delete" {
         trial.delete(rest)?;
+    } else if verb == "replace" {
+        trial.replace()?;
     } else {
         return Ok(false);
     }
     Ok(true)
 }
 
-// What is shown of the disk and of its files: `faults`, `failure`, `mode`, `links`, `text` and `same NAME OTHER`.
+// What is shown of the disk and of its files: `faults`, `failure`, `length` of the failure's path, `entries`, `mode`, `links`, `text`
+// and `same NAME OTHER`.
 fn show(trial: &Trial, verb: &str, rest: &str) -> anyhow::Result<bool> {
     let (first, second) = first_word(rest);
     if verb == "faults" {
         trial.show_faults()?;
     } else if verb == "failure" {
         trial.show_failure()?;
+    } else if verb == "length" {
+        trial.show_length()?;
+    } else if verb == "entries" {
+        trial.count_entries()?;
     } else if verb == "mode" {
         trial.show_mode(rest)?;
     } else if verb == "links" {
@@ -79,7 +87,8 @@ fn show(trial: &Trial, verb: &str, rest: &str) -> anyhow::Result<bool> {
     Ok(true)
 }
 
-// The steps besides: `see` a file, `changed` since then, `tick` of the machine's clock, and `anew`, with another disk over the folder.
+// The steps besides: `see` a file, `changed` since then, `tick` of the machine's clock, `anew`, with another disk over the folder, and
+// `over FOLDER`, with one over another.
 fn go_on(rt: &HostRuntime, story: &mut Story, verb: &str, rest: &str) -> anyhow::Result<()> {
     if verb == "see" {
         story.seen = story.trial.written(rest)?;
@@ -89,6 +98,8 @@ fn go_on(rt: &HostRuntime, story: &mut Story, verb: &str, rest: &str) -> anyhow:
         wait_a_tick(rt);
     } else if verb == "anew" {
         story.trial.begin_anew()?;
+    } else if verb == "over" {
+        story.trial.go_over(rest)?;
     } else if !ask(&mut story.trial, verb, rest)?
         && !meddle(&story.trial, verb, rest)?
         && !show(&story.trial, verb, rest)?
@@ -103,7 +114,8 @@ fn tell(rt: &HostRuntime, story: &mut Story, line: &str) -> anyhow::Result<()> {
     let (verb, rest) = first_word(line);
     if verb == "story" {
         let (folder, shows) = first_word(rest);
-        return story.trial.begin_fresh(shows, folder);
+        begin(rt, shows, folder)?;
+        return story.trial.go_over(folder);
     }
     go_on(rt, story, verb, rest)
 }
@@ -115,7 +127,8 @@ pub fn run(rt: &HostRuntime) -> anyhow::Result<()> {
     };
     let text = io::read_to_string(rt.alloc(), rt.stdin())?;
     for line in text.lines() {
-        tell(rt, &mut story, line)?;
+        let line = bytes_of(rt.alloc(), line)?;
+        tell(rt, &mut story, str::from_utf8(&line).unwrap_or("no text"))?;
     }
     Ok(())
 }

@@ -55,9 +55,8 @@ impl Trial {
         Ok(())
     }
 
-    /// Goes on with a disk over a folder of this name, which is made.
-    pub fn begin_fresh(&mut self, shows: &str, folder: &str) -> anyhow::Result<()> {
-        begin(&self.rt, shows, folder)?;
+    /// Goes on with a disk over another folder.
+    pub fn go_over(&mut self, folder: &str) -> anyhow::Result<()> {
         self.folder = String::from_str(self.rt.alloc(), folder)?;
         self.begin_anew()
     }
@@ -67,21 +66,21 @@ impl Trial {
         Ok(format!(in self.rt.alloc(); "{folder}/{name}")?)
     }
 
-    fn told(&self, asked: &str, name: &str, done: bool) -> anyhow::Result<()> {
+    fn told(&self, asked: &str, done: bool) -> anyhow::Result<()> {
         let rt = &self.rt;
         if done {
-            return Ok(println!(rt; "  {asked} {name}: done")?);
+            return Ok(println!(rt; "  {asked}: done")?);
         }
         match self.disk.failure() {
-            Some(failure) => Ok(println!(rt; "  {asked} {name}: {failure}")?),
-            None => Ok(println!(rt; "  {asked} {name}: failed without a word")?),
+            Some(failure) => Ok(println!(rt; "  {asked}: {failure}")?),
+            None => Ok(println!(rt; "  {asked}: failed without a word")?),
         }
     }
 
     pub fn write(&mut self, name: &str, text: &str) -> anyhow::Result<()> {
         let file = name_of(self.rt.alloc(), name)?;
         let done = self.disk.write(&file, text.as_bytes()).is_ok();
-        self.told("write", name, done)
+        self.told(format!(in self.rt.alloc(); "write {name}")?.as_str(), done)
     }
 
     /// A write whose failure has a long path, of which the end is shown.
@@ -101,19 +100,12 @@ impl Trial {
     pub fn remove(&mut self, name: &str) -> anyhow::Result<()> {
         let file = name_of(self.rt.alloc(), name)?;
         let done = self.disk.remove(&file).is_ok();
-        self.told("remove", name, done)
+        self.told(format!(in self.rt.alloc(); "remove {name}")?.as_str(), done)
     }
 
     pub fn sync(&mut self) -> anyhow::Result<()> {
         let done = self.disk.sync().is_ok();
-        let rt = &self.rt;
-        if done {
-            return Ok(println!(rt; "  sync: done")?);
-        }
-        match self.disk.failure() {
-            Some(failure) => Ok(println!(rt; "  sync: {failure}")?),
-            None => Ok(println!(rt; "  sync: failed without a word")?),
-        }
+        self.told("sync", done)
     }
 
     pub fn read(&mut self, name: &str) -> anyhow::Result<()> {
@@ -128,7 +120,9 @@ impl Trial {
                 let rt = &self.rt;
                 Ok(println!(rt; "  read {name}: absent")?)
             }
-            Err(PortFault::Failed) => self.told("read", name, false),
+            Err(PortFault::Failed) => {
+                self.told(format!(in self.rt.alloc(); "read {name}")?.as_str(), false)
+            }
             Err(PortFault::Memory(_)) => anyhow::bail!("out of memory"),
         }
     }
@@ -138,7 +132,7 @@ impl Trial {
         let rt = &self.rt;
         match answer {
             Ok(count) => Ok(println!(rt; "  names: {count}")?),
-            Err(_) => self.told("list", "names", false),
+            Err(_) => self.told("list names", false),
         }
     }
 
@@ -256,6 +250,21 @@ impl Trial {
     /// Makes a folder in the folder.
     pub fn place_folder(&self, name: &str) -> anyhow::Result<()> {
         Ok(fs::create_dir(&self.rt, self.path_of(name)?.as_str())?)
+    }
+
+    /// Moves the folder away, and makes an empty one in its place, as another program does.
+    pub fn replace(&self) -> anyhow::Result<()> {
+        let folder = self.folder.as_str();
+        let away = format!(in self.rt.alloc(); "{folder}.away")?;
+        fs::rename(&self.rt, folder, away.as_str())?;
+        Ok(fs::create_dir(&self.rt, folder)?)
+    }
+
+    /// How many files and folders another program finds in the folder.
+    pub fn count_entries(&self) -> anyhow::Result<()> {
+        let count = fs::read_dir(&self.rt, self.folder.as_str())?.count();
+        let rt = &self.rt;
+        Ok(println!(rt; "  entries: {count}")?)
     }
 
     /// The last digits of the mode.

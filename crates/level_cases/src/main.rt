@@ -13,40 +13,29 @@ mod levels;
 mod policy;
 mod sharing;
 
-use case_texts::{bytes_of, cut_word, printed_case};
+use case_texts::{Cases, answered, bytes_of};
 use desk_ports::Bytes;
 use policy::Policy;
-use std::alloc::{AllocError, Global};
+use std::alloc::Global;
 use std::io;
 
-// The case with its answers.
-fn answered(alloc: Global, policy: &mut Policy, line: &str) -> Result<String, AllocError> {
-    let (verb, text) = cut_word(line);
-    let rest = bytes_of(alloc, text)?;
-    let mut out = Bytes::new(alloc);
-    let known = match verb {
-        "fresh" => policy.begin(alloc, &mut out),
-        "lines" => policy.lines(alloc, &rest, &mut out),
-        "open" => policy.open_many(alloc, text, &mut out),
-        "pairs" => policy.ask_many(alloc, text, &mut out),
-        _ => None,
-    };
-    if known.is_none() {
-        out.append(b"no such case")?;
+impl Cases for Policy {
+    fn answer(&mut self, alloc: Global, verb: &str, text: &str, out: &mut Bytes) -> Option<()> {
+        match verb {
+            "fresh" => self.begin(alloc, out),
+            "lines" => self.lines(alloc, &bytes_of(alloc, text).ok()?, out),
+            "open" => self.open_many(alloc, text, out),
+            "pairs" => self.ask_many(alloc, text, out),
+            _ => None,
+        }
     }
-    printed_case(alloc, line, &out)
 }
 
 fn main(rt: HostRuntime) -> io::Result<()> {
     let mut policy = Policy::new(rt.alloc())?;
     for line in rt.lines(rt.alloc()) {
-        let line = line?;
-        if line.is_empty() || line.as_str().starts_with('#') {
-            println!(rt; "{line}")?;
-        } else {
-            let answered = answered(rt.alloc(), &mut policy, line.as_str())?;
-            println!(rt; "{answered}")?;
-        }
+        let answered = answered(rt.alloc(), &mut policy, line?.as_str())?;
+        println!(rt; "{answered}")?;
     }
     Ok(())
 }

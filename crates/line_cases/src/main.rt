@@ -12,35 +12,28 @@ mod answers;
 mod lines;
 mod steps;
 
-use case_texts::{bytes_of, cut_word, printed_case};
+use case_texts::{Cases, answered, bytes_of};
 use desk_ports::Bytes;
-use std::alloc::{AllocError, Global};
+use std::alloc::Global;
 use std::io;
 
-// The case with its answer.
-fn answered(alloc: Global, line: &str) -> Result<String, AllocError> {
-    let (verb, text) = cut_word(line);
-    let rest = bytes_of(alloc, text)?;
-    let mut out = Bytes::new(alloc);
-    let known = match verb {
-        "answer" => answers::show_answer(text, &mut out),
-        _ => lines::answer(alloc, verb, &rest, &mut out),
-    };
-    if known.is_none() {
-        out.append(b"no such case")?;
+/// Each line is read anew.
+#[derive(Clone, Copy)]
+struct Lines;
+
+impl Cases for Lines {
+    fn answer(&mut self, alloc: Global, verb: &str, text: &str, out: &mut Bytes) -> Option<()> {
+        match verb {
+            "answer" => answers::show_answer(text, out),
+            _ => lines::answer(alloc, verb, &bytes_of(alloc, text).ok()?, out),
+        }
     }
-    printed_case(alloc, line, &out)
 }
 
 fn main(rt: HostRuntime) -> io::Result<()> {
     for line in rt.lines(rt.alloc()) {
-        let line = line?;
-        if line.is_empty() || line.as_str().starts_with('#') {
-            println!(rt; "{line}")?;
-        } else {
-            let answered = answered(rt.alloc(), line.as_str())?;
-            println!(rt; "{answered}")?;
-        }
+        let answered = answered(rt.alloc(), &mut Lines, line?.as_str())?;
+        println!(rt; "{answered}")?;
     }
     Ok(())
 }

@@ -2,10 +2,9 @@
 ghost use Rattle.std.specs.Prelude.{◌≡◌, ◌++◌, ◌∷◌, [], IfSome};
 ghost use Rattle.std.specs.List.{AllZip};
 ghost use Rattle.check_monitor.specs.Monitor.{AreAll, IsSame};
-ghost use Rattle.monitor_cases.specs.Cases.{IsSameReader};
+ghost use Rattle.case_monitor.specs.Cases.{IsSameReader};
 
-use crate::checks::{place, question};
-use crate::recording::{count_left, fill_all, missed_in_all, record_denied, take};
+use case_monitor::{count_left, fill_all, missed_in_all, place, question, record_denied, take};
 use check_monitor::{MOST_ROOM, MOST_WORKERS, Reader, Recorded, Recorder, open};
 use cynara_keys::{Question, Short};
 use std::alloc::{AllocError, Global};
@@ -89,7 +88,7 @@ fn put_back(recorders: &mut Vec<Recorder>, first: Recorder, second: Recorder) ->
     Some(())
 }
 
-#[tactic(auto, using(crate::proofs::Same::chain))]
+#[tactic(auto, using(case_monitor::proofs::Same::chain))]
 fn turns<R: Wait>(
     rt: &R,
     alloc: Global,
@@ -173,7 +172,7 @@ fn record_two<R: Wait>(rt: &R, alloc: Global, recorders: &mut Vec<Recorder>) -> 
     Some(())
 }
 
-#[tactic(auto, using(crate::proofs::Same::reader_chain))]
+#[tactic(auto, using(case_monitor::proofs::Same::reader_chain))]
 fn told_of_two<R: Wait>(rt: &R, alloc: Global, reader: &mut Reader) -> Option<String>
     ensures { IsSameReader reader.old reader.new }
 {

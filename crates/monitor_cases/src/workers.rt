@@ -1,10 +1,9 @@
 //! Workers that record on threads of their own while a reader takes what they put.
 ghost use Rattle.std.specs.List.{AllZip};
 ghost use Rattle.check_monitor.specs.Monitor.{AreAll, IsSame};
-ghost use Rattle.monitor_cases.specs.Cases.{IsSameReader};
+ghost use Rattle.case_monitor.specs.Cases.{IsSameReader};
 
-use crate::checks::question;
-use crate::recording::{fill, take};
+use case_monitor::{fill, question, take};
 use check_monitor::{Entry, MOST_ROOM, Reader, Recorder, open};
 use cynara_keys::Question;
 use std::alloc::{AllocError, Global};
@@ -197,7 +196,7 @@ fn fill_on_threads<R: Wait + Threads + Sync>(
 }
 
 // Takes entries so often as one worker records.
-#[tactic(auto, using(crate::proofs::Same::reader_chain))]
+#[tactic(auto, using(case_monitor::proofs::Same::reader_chain))]
 fn take_some<R: Wait>(rt: &R, reader: &mut Reader, tally: &mut Tally, turns: u64)
     ensures { IsSameReader reader.old reader.new }
 {

@@ -3,6 +3,7 @@
 //! `copies-policy POLICY`, `copies-filter FILTER` and `copies-question QUESTION`, whether a copy is equal.
 
 use crate::readings::{filter, key, policy, question, result};
+use crate::texts::says;
 use bucket_eval::least;
 use case_texts::cut;
 use cynara_keys::{Key, Kind, Policy};
@@ -10,12 +11,8 @@ use desk_ports::Bytes;
 use std::alloc::Global;
 
 fn yes_or_no(holds: bool, out: &mut Bytes) -> Option<()> {
-    let word = if holds {
-        b"yes".as_slice()
-    } else {
-        b"no".as_slice()
-    };
-    out.append(word).ok()
+    let word = if holds { "yes" } else { "no" };
+    out.append(word.as_bytes()).ok()
 }
 
 fn matches(alloc: Global, rest: &[u8], out: &mut Bytes) -> Option<()> {
@@ -66,10 +63,7 @@ fn least_place(alloc: Global, rest: &[u8], out: &mut Bytes) -> Option<()> {
         return None;
     }
     match least(&policies, &question) {
-        Some(place) => {
-            let text = format!(in alloc; "{place}").ok()?;
-            out.append(text.as_bytes()).ok()
-        }
+        Some(place) => says(alloc, &place, out),
         None => out.append(b"none").ok(),
     }
 }
@@ -122,6 +116,7 @@ pub fn answer(alloc: Global, verb: &str, rest: &[u8], out: &mut Bytes) -> Option
         "key" => show_key(alloc, rest, out),
         "copies-policy" => copies_policy(alloc, rest, out),
         "copies-filter" => copies_filter(alloc, rest, out),
-        _ => copies_question(alloc, rest, out),
+        "copies-question" => copies_question(alloc, rest, out),
+        _ => None,
     }
 }

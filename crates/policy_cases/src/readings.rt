@@ -7,10 +7,6 @@ use cynara_keys::{
 };
 use std::alloc::Global;
 
-pub fn number(text: &[u8]) -> Option<u32> {
-    str::from_utf8(text).ok()?.parse::<u32>().ok()
-}
-
 // The three texts, and what stands behind them.
 fn texts(text: &[u8]) -> ([&[u8]; 3], &[u8]) {
     let (client, rest) = cut(text, b';');
@@ -53,7 +49,7 @@ pub fn question(alloc: Global, text: &[u8]) -> Option<Question> {
 /// The kind of `KIND;METADATA`, and what its result is. No result where the kind hands the metadata back.
 pub fn result(alloc: Global, text: &[u8]) -> Option<(Kind, Option<PolicyResult>)> {
     let (kind, metadata) = cut(text, b';');
-    let kind = Kind(u16::try_from(number(kind)?).ok()?);
+    let kind = Kind(str::from_utf8(kind).ok()?.parse::<u16>().ok()?);
     let metadata = Metadata::read(alloc, metadata).ok()?;
     Some((kind, PolicyResult::of(kind, metadata).ok()))
 }

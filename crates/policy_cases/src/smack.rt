@@ -131,11 +131,7 @@ impl Rules {
         let by_halves = self.halves.as_ref()?.decide(&subject, &object, asked);
         let by_pass = decide(&subject, &object, asked, given);
         let by_rules = decide(&subject, &object, asked, effective);
-        if by_table != by_fold
-            || by_table != by_halves
-            || by_table != by_pass
-            || by_table != by_rules
-        {
+        if [by_fold, by_halves, by_pass, by_rules] != [by_table; 4] {
             out.append(b"not each in the same way, ").ok()?;
         }
         show_decision(alloc, by_table, out)

@@ -100,7 +100,6 @@ pub fn answer(alloc: Global, verb: &str, text: &[u8], out: &mut Bytes) -> Option
         "metadata" => metadata(alloc, text, out),
         "label" => label(alloc, text, out),
         "ident" => ident(alloc, text, out),
-        "memory" => memory(alloc, out),
-        _ => None,
+        _ => memory(alloc, out),
     }
 }

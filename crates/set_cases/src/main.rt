@@ -14,50 +14,41 @@ mod changes;
 mod made;
 mod sets;
 
-use case_texts::{bytes_of, cut_word, printed_case};
+use case_texts::{Cases, answered, bytes_of};
 use desk_ports::{Bytes, SetFile};
-use std::alloc::{AllocError, Global};
+use std::alloc::Global;
 use std::io;
 
-// Puts the answer to a case. `None` where it is not known.
-fn answer(
-    alloc: Global,
-    files: &mut Vec<SetFile>,
-    (verb, rest): (&str, &str),
-    out: &mut Bytes,
-) -> Option<()> {
-    match verb {
-        "set" => {
-            files.clear();
-            out.append(b"no files").ok()
-        }
-        "file" => sets::put(alloc, files, rest, out),
-        "read" => sets::read_and_write(alloc, files, out),
-        "damage" => changes::answer(alloc, files, rest, out),
-        "made" => made::answer(alloc, files, &bytes_of(alloc, rest).ok()?, out),
-        _ => None,
-    }
+/// The files of the set that was begun last.
+#[derive(Drop)]
+struct Set {
+    files: Vec<SetFile>,
 }
 
-// The case with its answer.
-fn answered(alloc: Global, files: &mut Vec<SetFile>, line: &str) -> Result<String, AllocError> {
-    let mut out = Bytes::new(alloc);
-    if answer(alloc, files, cut_word(line), &mut out).is_none() {
-        out.append(b"no such case")?;
+impl Cases for Set {
+    fn answer(&mut self, alloc: Global, verb: &str, text: &str, out: &mut Bytes) -> Option<()> {
+        let files = &mut self.files;
+        match verb {
+            "set" => {
+                files.clear();
+                out.append(b"no files").ok()
+            }
+            "file" => sets::put(alloc, files, text, out),
+            "read" => sets::read_and_write(alloc, files, out),
+            "damage" => changes::answer(alloc, files, text, out),
+            "made" => made::answer(alloc, files, &bytes_of(alloc, text).ok()?, out),
+            _ => None,
+        }
     }
-    printed_case(alloc, line, &out)
 }
 
 fn main(rt: HostRuntime) -> io::Result<()> {
-    let mut files = Vec::new(rt.alloc());
+    let mut set = Set {
+        files: Vec::new(rt.alloc()),
+    };
     for line in rt.lines(rt.alloc()) {
-        let line = line?;
-        if line.is_empty() || line.as_str().starts_with('#') {
-            println!(rt; "{line}")?;
-        } else {
-            let answered = answered(rt.alloc(), &mut files, line.as_str())?;
-            println!(rt; "{answered}")?;
-        }
+        let answered = answered(rt.alloc(), &mut set, line?.as_str())?;
+        println!(rt; "{answered}")?;
     }
     Ok(())
 }

@@ -22,10 +22,7 @@ pub fn obey(rt: &HostRuntime, words: &Words<'_>) -> io::Result<bool> {
 // What stands at a path, and its mode.
 fn show_mode(rt: &HostRuntime, path: &str) -> io::Result<()> {
     match fs::symlink_metadata(rt, path) {
-        Ok(seen) => {
-            let mode = seen.permissions().mode();
-            println!(rt; "mode {mode:o}")
-        }
+        Ok(seen) => println!(rt; "mode {:o}", seen.permissions().mode()),
         Err(error) => println!(rt; "{error}"),
     }
 }

@@ -51,15 +51,7 @@ impl Places {
     }
 
     pub fn put_door(&mut self, word: &str, door: SocketDoor) {
-        if let Some(place) = self.doors.get_mut(number(word)) {
-            *place = Some(door);
-        }
-    }
-
-    fn put_link(&mut self, word: &str, link: SocketLink) {
-        if let Some(place) = self.links.get_mut(number(word)) {
-            *place = Some(link);
-        }
+        put(&mut self.doors, word, Some(door));
     }
 
     /// Makes the call of these words, where it is one of a net, a door, a link or an end. Whether it is.
@@ -96,24 +88,19 @@ impl Places {
     // net PLACE DIRECTORY
     fn make_net(&mut self, rt: &HostRuntime, words: &Words<'_>) -> io::Result<()> {
         let net = SocketNet::new(rt.clone()?, words.second)?;
-        if let Some(place) = self.nets.get_mut(number(words.first)) {
-            *place = Some(net);
-        }
+        put(&mut self.nets, words.first, Some(net));
         Ok(())
     }
 
     // drop NET
     fn drop_net(&mut self, words: &Words<'_>) {
-        if let Some(place) = self.nets.get_mut(number(words.first)) {
-            *place = None;
-        }
+        put(&mut self.nets, words.first, None);
     }
 
     // faults NET
     fn show_faults(&mut self, rt: &HostRuntime, words: &Words<'_>) -> io::Result<()> {
         if let Some(net) = self.net(words.first) {
-            let count = net.faults();
-            println!(rt; "{count} failed")?;
+            println!(rt; "{} failed", net.faults())?;
         }
         Ok(())
     }
@@ -167,7 +154,7 @@ impl Places {
         };
         match net.dial(kind(words.second)) {
             Ok(link) => {
-                self.put_link(words.third, link);
+                put(&mut self.links, words.third, Some(link));
                 println!(rt; "linked")
             }
             Err(fault) => refused(rt, &fault),
@@ -181,7 +168,7 @@ impl Places {
         };
         match door.accept() {
             Ok(link) => {
-                self.put_link(words.second, link);
+                put(&mut self.links, words.second, Some(link));
                 println!(rt; "accepted")?;
             }
             Err(fault) => refused(rt, &fault)?,
@@ -220,11 +207,8 @@ impl Places {
     // up LINK
     fn look(&mut self, rt: &HostRuntime, words: &Words<'_>) -> io::Result<()> {
         if let Some(link) = self.link(words.first) {
-            if link.is_up() {
-                println!(rt; "up")?;
-            } else {
-                println!(rt; "down")?;
-            }
+            let text = if link.is_up() { "up" } else { "down" };
+            println!(rt; "{text}")?;
         }
         Ok(())
     }
@@ -236,9 +220,7 @@ impl Places {
         };
         match link.hang_end() {
             Ok(end) => {
-                if let Some(place) = self.ends.get_mut(number(words.second)) {
-                    *place = Some(end);
-                }
+                put(&mut self.ends, words.second, Some(end));
                 println!(rt; "taken")
             }
             Err(fault) => refused(rt, &fault),
@@ -275,6 +257,13 @@ impl Places {
     }
 }
 
+// Leaves this in a place, where there is such a place.
+fn put<T: Drop>(places: &mut [Option<T>], word: &str, thing: Option<T>) {
+    if let Some(place) = places.get_mut(number(word)) {
+        *place = thing;
+    }
+}
+
 // Places with nothing in them.
 fn empty<T: Drop>(alloc: Global) -> Result<Vec<Option<T>>, AllocError> {
     let mut places = Vec::new(alloc);
@@ -290,10 +279,7 @@ fn refused(rt: &HostRuntime, fault: &PortFault) -> io::Result<()> {
 
 fn failed(rt: &HostRuntime, link: &SocketLink) -> io::Result<()> {
     match link.failure() {
-        Some(failure) => {
-            let error = &failure.error;
-            println!(rt; "failed: {error}")
-        }
+        Some(failure) => println!(rt; "failed: {}", failure.error),
         None => println!(rt; "failed"),
     }
 }

@@ -46,31 +46,18 @@ fn ask(rt: &HostRuntime, places: &mut Places, words: &Words<'_>) -> io::Result<(
 }
 
 fn is_answered(net: &mut SocketNet<HostRuntime>) -> bool {
-    match net.dial(DoorKind::Client) {
-        Ok(mut link) => {
-            let answered = link.send(FRAME).is_ok() && echoes(&mut link);
-            net.give_back(link);
-            answered
-        }
-        Err(_) => false,
-    }
+    let Ok(mut link) = net.dial(DoorKind::Client) else {
+        return false;
+    };
+    let answered = link.send(FRAME).is_ok() && echoes(&mut link);
+    net.give_back(link);
+    answered
 }
 
-// Whether the link gives the frame.
+// Whether the link gives the frame, which was sent at once.
 fn echoes(link: &mut SocketLink) -> bool {
     let mut room = [0; 8];
-    let mut count = 0;
-    for _ in 0..FRAME.len() {
-        match link.receive(&mut room[count.min(8)..]) {
-            Ok(0) => return false,
-            Ok(more) => count = count.saturating_add(more),
-            Err(_) => return false,
-        }
-        if count >= 8 {
-            return room == *b"question";
-        }
-    }
-    false
+    link.receive(&mut room).is_ok() && room == *b"question"
 }
 
 // serve DOOR COUNT: accepts so many links, and sends back what each gives until it ends.
@@ -140,8 +127,7 @@ fn wake<T: Threads>(
     let second = start(threads, places, words.third, &woken)?;
     for round in 0u64..2 {
         thread::sleep(rt, Duration::from_millis(100));
-        let count = woken.load(Ordering::SeqCst);
-        println!(rt; "woken {count}")?;
+        println!(rt; "woken {}", woken.load(Ordering::SeqCst))?;
         if let Some(net) = places.net(words.first) {
             net.knock(DoorKind::Client);
         }
@@ -195,13 +181,10 @@ fn end<T: Threads>(
     let (door, answer) = thread.join(threads);
     places.put_door(place, door);
     match answer {
-        Ok(mut link) => {
-            let mut room = [0; 8];
-            match link.receive(&mut room) {
-                Ok(count) => println!(rt; "woken with a link that gives {count}"),
-                Err(_) => println!(rt; "woken with a link that fails"),
-            }
-        }
+        Ok(mut link) => match link.receive(&mut [0; 8]) {
+            Ok(count) => println!(rt; "woken with a link that gives {count}"),
+            Err(_) => println!(rt; "woken with a link that fails"),
+        },
         Err(fault) => println!(rt; "refused: {fault}"),
     }
 }

@@ -29,11 +29,9 @@ pub fn number(word: &str) -> usize {
 
 /// A kind of door. What is no other is a client's.
 pub fn kind(word: &str) -> DoorKind {
-    if word == "admin" {
-        return DoorKind::Admin;
+    match word {
+        "admin" => DoorKind::Admin,
+        "agent" => DoorKind::Agent,
+        _ => DoorKind::Client,
     }
-    if word == "agent" {
-        return DoorKind::Agent;
-    }
-    DoorKind::Client
 }

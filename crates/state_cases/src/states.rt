@@ -12,6 +12,7 @@
 use crate::{databases, desks, registries};
 use app_registry::{Ident, Registry};
 use bucket_store::Database;
+use case_texts::{Cases, bytes_of};
 use desk_ports::Bytes;
 use desk_state::{Command, Desk};
 use line_script::{Place, Reader, Step};
@@ -130,26 +131,22 @@ impl States {
             _ => registries::label_of(&self.registry, &name, out),
         }
     }
+}
 
-    /// Puts the answers to a case. `None` where it is not known.
-    pub fn answer(
-        &mut self,
-        alloc: Global,
-        verb: &str,
-        rest: &[u8],
-        out: &mut Bytes,
-    ) -> Option<()> {
+impl Cases for States {
+    fn answer(&mut self, alloc: Global, verb: &str, text: &str, out: &mut Bytes) -> Option<()> {
+        let rest = bytes_of(alloc, text).ok()?;
         match verb {
             "fresh" => self.begin(alloc, out),
             "keep" => self.keep(out),
-            "kept" => self.ask_kept(alloc, rest, out),
+            "kept" => self.ask_kept(alloc, &rest, out),
             "share" => self.share(alloc, out),
             "unshare" => self.unshare(alloc, out),
             "installs" => registries::installs(alloc, &self.registry, out),
             "grants" => registries::grants(alloc, &self.registry, out),
             "buckets" => databases::buckets(alloc, &self.database, out),
-            "rules" | "expand" | "label-of" => { self.ask(alloc, verb, rest, out) }
-            _ => self.lines(alloc, verb, rest, out),
+            "rules" | "expand" | "label-of" => self.ask(alloc, verb, &rest, out),
+            _ => self.lines(alloc, verb, &rest, out),
         }
     }
 }

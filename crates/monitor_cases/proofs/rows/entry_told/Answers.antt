@@ -1,7 +1,7 @@
 use Rattle.std.proofs.Common.{rules}
 use Rattle.std.specs.List.{AllZip}
 use Rattle.check_monitor.specs.Monitor.{IsSame}
-use Rattle.monitor_cases.proofs.Same.{all_still}
+use Rattle.case_monitor.proofs.Same.{all_still}
 use Rattle.monitor_cases.proofs.rows.entry_told.Goals as goal
 
 pub settle-settled-requires-clause-queue : goal.settle-settled-requires-clause-queue

@@ -2,7 +2,7 @@ use Rattle.std.proofs.Common.{rules, ◌≡◌, List, [], ◌∷◌, ◌++◌, s
 use Rattle.std.specs.List.{AllZip}
 use Rattle.check_monitor.specs.Monitor.{RecorderState, IsSame}
 use Rattle.check_monitor.proofs.All.{same_itself}
-use Rattle.monitor_cases.proofs.Same.{chain, push_same}
+use Rattle.case_monitor.proofs.Same.{chain, push_same}
 use Rattle.monitor_cases.proofs.rows.record_two.Goals as goal
 
 pub returns : goal.returns

@@ -1,7 +1,7 @@
 use Rattle.std.proofs.Common.{rules}
 use Rattle.std.specs.List.{AllZip}
 use Rattle.check_monitor.specs.Monitor.{IsSame}
-use Rattle.monitor_cases.proofs.Same.{all_still}
+use Rattle.case_monitor.proofs.Same.{all_still}
 use Rattle.monitor_cases.proofs.rows.two_record.Goals as goal
 
 pub left_of_three-requires : goal.left_of_three-requires

@@ -1,7 +1,7 @@
 use Rattle.std.proofs.Common.{rules}
 use Rattle.std.specs.List.{AllZip}
 use Rattle.check_monitor.specs.Monitor.{IsSame}
-use Rattle.monitor_cases.proofs.Same.{all_still, written_over}
+use Rattle.case_monitor.proofs.Same.{all_still, written_over}
 use Rattle.monitor_cases.proofs.workers.by_four.Goals as goal
 
 pub settled-tally-requires : goal.settled-tally-requires

@@ -1,5 +1,5 @@
 use Rattle.std.proofs.Common.{rules}
-use Rattle.monitor_cases.proofs.Same.{zip_each, went}
+use Rattle.case_monitor.proofs.Same.{zip_each, went}
 use Rattle.monitor_cases.proofs.workers.fill_on_threads.Goals as goal
 
 pub returns : goal.returns

@@ -1,4 +1,4 @@
-use Rattle.monitor_cases.specs.Cases.{IsSameReader}
+use Rattle.case_monitor.specs.Cases.{IsSameReader}
 use Rattle.monitor_cases.proofs.workers.take_some.Given as goal
 
 abbrev pub invariant-loop : goal.invariant-loop

@@ -10,10 +10,7 @@ use Rattle.atomic_table.specs.Seated.{TableId}
 use Rattle.check_monitor.specs.Monitor.{RecorderState, ReaderState, AreAll, IsSame, HandsOut}
 use Rattle.monitor_rule.specs.declared.entries.Entry.{Entry}
 use Rattle.check_monitor.proofs.All.{all_same, same_itself}
-use Rattle.run_endings.specs.Outside.{SinkSeen}
-use Rattle.monitor_journal.specs.Journal.{HandsOn}
-use Rattle.monitor_journal.specs.declared.writing.Writing.{Writing}
-use Rattle.monitor_cases.specs.Cases.{IsSameReader}
+use Rattle.case_monitor.specs.Cases.{IsSameReader}
 
 pub chain : (a b c : RecorderState) → IsSame a b → IsSame b c → IsSame a c
 chain a b c one then = (then.0 ∙ one.0, then.1 ∙ one.1)
@@ -43,11 +40,6 @@ reader_chain a b c one then = (then.0 ∙ one.0, then.1 ∙ one.1)
 
 pub reader_handed : (a b : ReaderState) (entry : Entry) → HandsOut a entry b → IsSameReader a b
 reader_handed a b entry (is, numbered) = (ap (λ (r : ReaderState). r.queue) is, ap (λ (r : ReaderState). r.made) is)
-
-pub reader_written : (most : ℕ) (a b : ReaderState) (writing now : Writing) (before after : SinkSeen) → HandsOn most a b writing now before after
-    → IsSameReader a b
-reader_written most a b writing now before after hands =
-    (ap (λ (r : ReaderState). r.queue) hands.handed, ap (λ (r : ReaderState). r.made) hands.handed)
 
 -- place by place
 pub zip_each : (old new : List RecorderState) → length new ≡ length old

@@ -1,8 +1,9 @@
 use Rattle.std.proofs.Common.{rules}
 use Rattle.std.specs.List.{AllZip}
 use Rattle.check_monitor.specs.Monitor.{IsSame}
-use Rattle.monitor_cases.proofs.Same.{all_still, reader_written}
-use Rattle.monitor_cases.proofs.journals.round.Goals as goal
+use Rattle.case_monitor.proofs.Same.{all_still}
+use Rattle.journal_cases.proofs.Same.{reader_written}
+use Rattle.journal_cases.proofs.journals.round.Goals as goal
 
 pub returns : goal.returns
 returns g c =

@@ -2,7 +2,7 @@
 ghost use Rattle.std.specs.Prelude.{IfOk};
 ghost use Rattle.std.specs.List.{AllZip};
 ghost use Rattle.check_monitor.specs.Monitor.{AreAll, IsSame};
-ghost use Rattle.monitor_cases.specs.Cases.{IsSameReader};
+ghost use Rattle.case_monitor.specs.Cases.{IsSameReader};
 
 use crate::checks::denied;
 use check_monitor::{Entry, Reader, Recorded, Recorder};

@@ -2,7 +2,7 @@ use Rattle.std.proofs.Common.{rules}
 use Rattle.std.specs.List.{AllZip}
 use Rattle.check_monitor.specs.Monitor.{IsSame}
 use Rattle.check_monitor.proofs.All.{all_same}
-use Rattle.monitor_cases.proofs.journals.at_the_end.Goals as goal
+use Rattle.journal_cases.proofs.journals.at_the_end.Goals as goal
 
 pub write_end-writing-requires-clause-queue : goal.write_end-writing-requires-clause-queue
 write_end-writing-requires-clause-queue g c =

@@ -2,8 +2,8 @@ use Rattle.std.proofs.Common.{rules, ◌≡◌, List, [], ◌∷◌, ◌++◌, s
 use Rattle.std.specs.List.{AllZip}
 use Rattle.check_monitor.specs.Monitor.{RecorderState, IsSame}
 use Rattle.check_monitor.proofs.All.{same_itself}
-use Rattle.monitor_cases.proofs.Same.{push_same}
-use Rattle.monitor_cases.proofs.journals.record_last.Goals as goal
+use Rattle.case_monitor.proofs.Same.{push_same}
+use Rattle.journal_cases.proofs.journals.record_last.Goals as goal
 
 pub returns : goal.returns
 returns g c =

@@ -3,8 +3,7 @@ ghost use Rattle.std.specs.Prelude.{IfSome};
 ghost use Rattle.std.specs.List.{AllZip};
 ghost use Rattle.check_monitor.specs.Monitor.{AreAll, IsSame};
 
-use crate::checks::question;
-use crate::recording::deny;
+use case_monitor::{deny, question};
 use check_monitor::{MOST_ROOM, Reader, Recorder, open};
 use desk_ports::{Bytes, FailList, MemSink};
 use monitor_journal::{MOST_AT_ONCE, Writing, hand_on, write_end};
