@@ -24,11 +24,6 @@ same-side one other desk decided published tally calls faults i = record {
   faults = faults i;
 }
 
--- nothing newer than what was published
-pub shown-not : (side : AdminSide) → side.desk.commit ≤ last_commit 0 side.published → side ≡ with_last_shown side
-shown-not side within =
-    ap (λ newer. cond newer (with_shown side.desk side) side) (sym (le-ltb (last_commit 0 side.published) side.desk.commit within))
-
 -- what is newer is shown
 pub shown-newer : (side : AdminSide) → last_commit 0 side.published < side.desk.commit → with_shown side.desk side ≡ with_last_shown side
 shown-newer side newer =

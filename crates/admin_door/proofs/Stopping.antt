@@ -39,13 +39,6 @@ module _ {D : Type 0} (moment : D → ℕ) (left_since : D → ℕ → FileMap �
       LeavesOnly-from moment left_since disk disk (StandsAsAt before) (λ left was. (left, only_now left was, refl))
       (AddsOnly-none moment left_since disk (StandsAsAt before))
 
-  pub rests-kept : (disk : D) (before : DiskState) (desk : DeskState) (held : Option (List SetFile)) (P : FileMap → Type 0)
-      → ((left : FileMap) → left_since disk (moment disk) left → MayLeave before left) → IsKept desk held before
-      → ((left : FileMap) → kept left ≡ Ok desk → P left) → LeavesOnly moment left_since disk disk P
-  rests-kept disk before desk held P only_now is holds =
-      LeavesOnly-from moment left_since disk disk P (λ left was. holds left (is.alone left (only_now left was)))
-      (AddsOnly-none moment left_since disk P)
-
   module _ (old new : D) where
     pub stands-as-at : (before : DiskState) → LeavesOnly moment left_since old new (StandsAsAllowed before)
         → LeavesOnly moment left_since old new (StandsAsAt before)

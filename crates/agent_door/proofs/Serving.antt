@@ -209,15 +209,6 @@ ends registration start old new feeder asked s ended rounds open_round last made
 
 -- ---- the kinds of ends
 
-open_is_short : (asked : Option Asked) (given : List Given) → length (open_of asked given) ≤ 1
-open_is_short None given = omega arith
-open_is_short (Some asked) given = omega arith
-
-open_is_open : (asked : Option Asked) (given : List Given) → AreOther asked given
-    → AllByRecursion (λ (round : Round). AllByRecursion (IsOther round.asked) round.given) (open_of asked given)
-open_is_open None given others = tt
-open_is_open (Some asked) given others = (others, tt)
-
 -- the hall gave no question
 pub ends_for_next : (registration : Registration) (start old new : AgentSide) (feeder : Feeding) (ended : Ended) (call : HallCall)
     → feeder.heard ≡ AtAgent → EndsAsking registration.kind ended [] (call ∷ [])

@@ -80,7 +80,7 @@ EndsAsking kind Stopped open_round last =
     (open_round ≡ []) × (last ≡ Next (record { kind = kind; result = Err NoneIsGiven }) ∷ [])
 EndsAsking kind LinkFault open_round last = last ≡ []
 EndsAsking kind Memory open_round last =
-    (last ≡ []) ⊎ ((refusal : NextRefusal) × (last ≡ Next (record { kind = kind; result = Err refusal }) ∷ []))
+    (last ≡ []) ⊎ ((open_round ≡ []) × (refusal : NextRefusal) × (last ≡ Next (record { kind = kind; result = Err refusal }) ∷ []))
 EndsAsking kind (Hung entered now) open_round last = ⊥
 EndsAsking kind (Strayed number found) open_round last = ⊥
 

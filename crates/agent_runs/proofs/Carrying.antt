@@ -30,10 +30,6 @@ same_marks marks = λ i. record marks { has_ended = or_false marks.has_ended i }
 more_marks : (a b : Bool) (marks : LinkMarks) → with_end b (with_end a marks) ≡ with_end (a || b) marks
 more_marks a b marks = λ i. record marks { has_ended = or_assoc marks.has_ended a b i }
 
--- the input was found at its end
-pub marks-ended : (room : ℕ) (marks : LinkMarks) → 0 < room → marks_after_receive (Ok 0) room marks ≡ with_end true marks
-marks-ended room marks some = ap (λ b. with_end b marks) (above room some)
-
 -- some bytes came
 pub marks-some : (count room : ℕ) (marks : LinkMarks) → 0 < count → marks_after_receive (Ok count) room marks ≡ with_end false marks
 marks-some count room marks some = ap (λ b. with_end (b && ltb 0 room) marks) (not_none count some)
@@ -68,14 +64,6 @@ carries-then s s' r r' a b first second third one two = record {
   marks = two.marks ∙ (ap (with_end b) one.marks ∙ more_marks a b first.marks);
 }
 
--- bytes were sent
-pub carries-sent : (frame : List ℕ) (link after : LinkSeen) → ChangesTold link.traffic (with_sent frame) after.traffic
-    → after.marks ≡ link.marks → Carries frame [] false link after
-carries-sent frame link after sent same = record {
-  traffic = λ before told. sent before told ∙ ap Some (none_received (with_sent frame before));
-  marks = same ∙ sym (same_marks link.marks);
-}
-
 -- bytes were received
 pub carries-received : (bytes : List ℕ) (found : Bool) (link after : LinkSeen)
     → ChangesTold link.traffic (with_received bytes) after.traffic → after.marks ≡ with_end found link.marks
@@ -83,14 +71,6 @@ pub carries-received : (bytes : List ℕ) (found : Bool) (link after : LinkSeen)
 carries-received bytes found link after received marks = record {
   traffic = λ before told. received before told ∙ ap Some (none_sent bytes before);
   marks = marks;
-}
-
--- a call that keeps what is told
-pub carries-kept : (link after : LinkSeen) → KeepsTold link.traffic after.traffic → after.marks ≡ link.marks
-    → Carries [] [] false link after
-carries-kept link after kept same = record {
-  traffic = λ before told. kept before told ∙ ap Some (none_received before ∙ none_sent [] before);
-  marks = same ∙ sym (same_marks link.marks);
 }
 
 -- bytes were received behind what went over the link before

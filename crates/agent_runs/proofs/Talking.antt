@@ -89,9 +89,6 @@ heard-behind received bytes messages before =
 
 -- ---- what was written
 
-same_count : (a b c : ℕ) → b ≡ a → c ≡ b → c ≡ a
-same_count a b c one two = two ∙ one
-
 -- behind a text nothing was written
 whole-still : (text : List ℕ) (first second third : SinkSeen) → IsWhole text first second → IsUnwritten second third
     → IsWhole text first third

@@ -62,26 +62,3 @@ reads_due simple commit lent kind metadata agent is same carried =
     let kinds : record { 0 = (outcome_lent lent).result.kind } ≡ kind = λ i. record { 0 = sym same i } in
     ap (λ a. read_as a commit simple (outcome_lent lent)) agent ∙ (ap (λ s. read_as true commit s (outcome_lent lent)) is
     ∙ λ i. Due commit (kinds i) (sym carried i))
-
--- only an agent's kind is due
-due_is_agent : (agent simple : Bool) (commit other : ℕ) (outcome : Outcome) (kind : Kind) (metadata : List ℕ)
-    → is_agent outcome.result.kind ≡ agent → read_as agent commit simple outcome ≡ Due other kind metadata → is_agent kind.0 ≡ true
-due_is_agent false simple commit other outcome kind metadata agent is = absurd (apart is)
-  where
-    apart : Ready (Judged (record { commit = commit; answer = answer_of outcome })) ≡ Due other kind metadata → ⊥
-    apart wrong = cc
-due_is_agent true true commit other outcome kind metadata agent is = absurd (apart is)
-  where
-    apart : Ready (NotResolved commit (record { 0 = outcome.result.kind })) ≡ Due other kind metadata → ⊥
-    apart wrong = cc
-due_is_agent true false commit other outcome kind metadata agent is =
-    let same : record { 0 = outcome.result.kind } ≡ kind = due_kind commit other (record { 0 = outcome.result.kind }) kind outcome.result.metadata metadata is in
-    subst (λ (k : Kind). is_agent k.0 ≡ true) same agent
-  where
-    due_kind : (commit other : ℕ) (one kind : Kind) (metadata more : List ℕ) → Due commit one metadata ≡ Due other kind more → one ≡ kind
-    due_kind commit other one kind metadata more is = cc
-
-pub due_to_an_agent : (commit other : ℕ) (simple : Bool) (outcome : Outcome) (kind : Kind) (metadata : List ℕ)
-    → reading_of commit simple outcome ≡ Due other kind metadata → is_agent kind.0 ≡ true
-due_to_an_agent commit other simple outcome kind metadata is =
-    due_is_agent (is_agent outcome.result.kind) simple commit other outcome kind metadata refl is

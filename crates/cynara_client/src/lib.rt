@@ -1,5 +1,4 @@
-//! Clients of the policy service: a launcher's, which checks and keeps what it was answered, and an administrator's, which
-//! sends a command once and says exactly what came back.
+//! A launcher's client of the policy service: it checks, and keeps what it was answered.
 //!
 //! What a check means is Cynara's, as its wiki says. When an answer that was kept may be used is this project's profile:
 //! only while the link that it came over is up, and only where it is not older than a commit that the client was told

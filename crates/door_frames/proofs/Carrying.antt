@@ -30,12 +30,6 @@ pub carried_none : (bytes : List ℕ) (old new : Option Traffic) → bytes ≡ [
 carried_none bytes old new is changed =
     subst (λ list. Carried old new list []) is (carried_received bytes old new changed)
 
--- a call sent these bytes
-pub carried_sent : (bytes : List ℕ) (old new : Option Traffic) → ChangesTold old (with_sent bytes) new → Carried old new [] bytes
-carried_sent bytes old new changed before told =
-    let received = append-nil before.received in
-    changed before told ∙ ap Some (λ i. record { received = sym received i; sent = before.sent ++ bytes })
-
 -- what went over it then went over it behind what had
 pub carried_more : (first more one other : List ℕ) (start between end : Option Traffic)
     → Carried start between first one → Carried between end more other → Carried start end (first ++ more) (one ++ other)

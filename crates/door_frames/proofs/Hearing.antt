@@ -11,26 +11,6 @@ abbrev pub Law : Type 0
 Law = (heard : Heard) (bytes more : List ℕ) (ms ns : List Framed) (x y : List ℕ)
     → Hears heard bytes ms x → Hears heard (x ++ more) ns y → Hears heard (bytes ++ more) (ms ++ ns) y
 
--- a piece of right frames
-pub hears_fed : Law → (old new : Feeding) (piece : List ℕ) → old.failed ≡ None → Fed old new piece → HearsMore piece old new
-hears_fed law old new piece sound fed bytes taken before =
-    let at = before.sound sound in
-    let front : Hears old.heard bytes (taken ++ old.waiting) old.partial =
-    subst (λ rest. Hears old.heard bytes (taken ++ old.waiting) rest) at.0 before.heard in
-    let whole = law old.heard bytes piece (taken ++ old.waiting) fed.messages old.partial new.partial front fed.heard in
-    let frames : (taken ++ old.waiting) ++ fed.messages ≡ taken ++ new.waiting =
-    append_assoc taken old.waiting fed.messages ∙ ap (λ ms. taken ++ ms) (sym fed.waiting) in
-    record {
-      behind = new.partial;
-      heard = subst (λ (side : Heard). Hears side (bytes ++ piece) (taken ++ new.waiting) new.partial) (sym fed.side)
-          (subst (λ ms. Hears old.heard (bytes ++ piece) ms new.partial) frames whole);
-      sound = λ _. (refl, subst (λ (side : Heard). IsOpen side new.partial) (sym fed.side) fed.unfinished);
-      wrong = λ refusal is. absurd (none_is_some refusal (sym fed.failed ∙ is));
-    }
-  where
-    none_is_some : (refusal : WireRefusal) → None ≡ Some refusal → ⊥
-    none_is_some refusal is = cc
-
 -- a piece with a wrong frame
 pub hears_failed : Law → (old new : Feeding) (piece : List ℕ) (refusal : WireRefusal) → old.failed ≡ None
     → Failed old new piece refusal → HearsMore piece old new
@@ -56,16 +36,6 @@ hears_failed law old new piece refusal sound failed bytes taken before =
 
     same : (other : WireRefusal) → Some refusal ≡ Some other → refusal ≡ other
     same other is = cc
-
--- a feeder that has failed holds what it held, of which nothing is asked
-pub sound_failed : (old new : Feeding) (piece : List ℕ) (refusal : WireRefusal) → Failed old new piece refusal → IsSound new
-sound_failed old new piece refusal failed is = let some_is_none : Some refusal ≡ None = sym failed.failed ∙ is in absurd (apart some_is_none)
-  where
-    apart : Some refusal ≡ None → ⊥
-    apart is = cc
-
-pub sound_fed : (old new : Feeding) (piece : List ℕ) → Fed old new piece → IsSound new
-sound_fed old new piece fed is = subst (λ (side : Heard). IsOpen side new.partial) (sym fed.side) fed.unfinished
 
 -- no bytes
 nothing_more : (heard : Heard) (bytes behind : List ℕ) (messages : List Framed) → IsOpen heard bytes

@@ -47,39 +47,6 @@ answers-told taken answers answers_after desk told shares shares_now did asked s
     (text ∙ ap (λ desk. answers ++ reply desk shares asked) same) state
     (sharing ∙ ap (λ desk. shares_after desk shares asked) same))
 
--- a question leaves the policy state, and the shares
-pub question-after : (desk : DeskState) (asked : Step) → is_question asked ≡ true → desk ≡ after desk asked
-question-after desk step.Nothing is = refl
-question-after desk (step.Command command) is = cc
-question-after desk (step.List name filter) is = refl
-question-after desk (step.Check question) is = refl
-question-after desk (step.From name deep question) is = refl
-question-after desk (step.Access subject object asked) is = refl
-question-after desk (step.Level request) is = cc
-question-after desk (step.Levels uid) is = refl
-question-after desk (step.Audit user) is = refl
-question-after desk (step.Share owner target name) is = cc
-question-after desk (step.Unshare owner target name) is = cc
-question-after desk step.Shares is = refl
-question-after desk step.Status is = refl
-question-after desk step.Stop is = refl
-
-pub question-shares : (desk : DeskState) (shares : List Share) (asked : Step) → is_question asked ≡ true → shares ≡ shares_after desk shares asked
-question-shares desk shares step.Nothing is = refl
-question-shares desk shares (step.Command command) is = cc
-question-shares desk shares (step.List name filter) is = refl
-question-shares desk shares (step.Check question) is = refl
-question-shares desk shares (step.From name deep question) is = refl
-question-shares desk shares (step.Access subject object asked) is = refl
-question-shares desk shares (step.Level request) is = cc
-question-shares desk shares (step.Levels uid) is = refl
-question-shares desk shares (step.Audit user) is = refl
-question-shares desk shares (step.Share owner target name) is = cc
-question-shares desk shares (step.Unshare owner target name) is = cc
-question-shares desk shares step.Shares is = refl
-question-shares desk shares step.Status is = refl
-question-shares desk shares step.Stop is = refl
-
 -- ---- requests for levels
 
 -- a refusal that is answered names what stands against the request
@@ -153,21 +120,3 @@ module _ (desk : DeskState) (request : LevelRequest) (accepted : level_fault des
         level-answers (subst (λ command. AnswersStep taken taken_after answers answers_after desk desk_after shares shares_now (step.Command command)) same done)
     level-step command same (Err ending) refuses =
         level-refuses ending (subst (λ command. RefusesStep taken taken_after answers answers_after desk desk_after (step.Command command) ending) same refuses)
-
--- ---- shares
-
-pub share-broken : (fault : Option ShareRefusal) (broken : ShareRefusal) → names_share_rule broken ≡ true → Refuses broken fault
-    → fault ≡ Some broken
-share-broken fault (share.Memory error) names refuses = cc
-share-broken fault (share.UnknownApp app) names refuses = refuses
-share-broken fault (share.SameLabel label) names refuses = refuses
-share-broken fault share.NotShared names refuses = refuses
-share-broken fault (share.Most most) names refuses = refuses
-
-pub unshare-broken : (fault : Option ShareRefusal) (broken : ShareRefusal) → names_share_rule broken ≡ true → RefusesLast broken fault
-    → fault ≡ Some broken
-unshare-broken fault (share.Memory error) names refuses = cc
-unshare-broken fault (share.UnknownApp app) names refuses = refuses
-unshare-broken fault (share.SameLabel label) names refuses = refuses
-unshare-broken fault share.NotShared names refuses = refuses
-unshare-broken fault (share.Most most) names refuses = refuses

@@ -68,12 +68,6 @@ adds_up (judgement ∷ more) old new fits (recorded, between, one, rest) =
 
 -- ---- entries
 
--- a recorder stays its worker's
-same_worker : (old new : RecorderState) (entry : Entry) (recorded : Recorded) → Records old entry recorded new → new.worker ≡ old.worker
-same_worker old new entry (Put number) (below, is, same) = ap (λ (x : RecorderState). x.worker) same
-same_worker old new entry (Full number) (below, is, same, full) = ap (λ (x : RecorderState). x.worker) same
-same_worker old new entry (Spent number) (at, is, same) = ap (λ (x : RecorderState). x.worker) same
-
 left_out : (judgement : Judgement) (put more : List Judgement) → IsPart put more → IsPart put (judgement ∷ more)
 left_out judgement [] more part = part
 left_out judgement (one ∷ put) more part = inr part

@@ -15,9 +15,6 @@ use Rattle.serve_runs.specs.Serving.{ClosesDoors, ClosesOpened, HasRisen, EndsUn
 pub closes_none : {E : Type 0} (told : Option (List E)) → ClosesDoors told [] told
 closes_none told = λ after is. (after, is, sym (append-nil after))
 
-pub closes_one : {E : Type 0} (old new : Option (List E)) (door : E) → AppendsTold old door new → ClosesDoors old (door ∷ []) new
-closes_one old new door appends = appends
-
 pub closes_then : {E : Type 0} (old between new : Option (List E)) (first more : List E) → ClosesDoors old first between
     → ClosesDoors between more new → ClosesDoors old (first ++ more) new
 closes_then {E} old between new first more some others = λ after told.

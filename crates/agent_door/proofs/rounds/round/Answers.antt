@@ -27,7 +27,7 @@ returns-in-Err-Memory-clause-round g c start s =
     (agent_side (g.A.Hall.tally c.next.new.self) (g.A.Hall.calls c.next.new.self) (g.L.Link.traffic c.args.link.now) (g.L.Link.marks c.args.link.now)
     (g.L.Link.faults c.args.link.now))
     c.args.feeder.now Memory (Next (record { kind = c.args.registration.kind; result = Err c.in-Err-Memory.field-0 })) c.requires.side
-    (inr (c.in-Err-Memory.field-0, refl)) (λ bytes heeded heard. heard) (omega arith) tt refl c.in-Err-Memory.ensures.tally c.in-Err-Memory.ensures.calls
+    (inr (refl, c.in-Err-Memory.field-0, refl)) (λ bytes heeded heard. heard) (omega arith) tt refl c.in-Err-Memory.ensures.tally c.in-Err-Memory.ensures.calls
     (carried_same (g.L.Link.traffic c.args.link.now)) refl s
 
 pub returns-in-Err-clause-round : goal.returns-in-Err-clause-round
