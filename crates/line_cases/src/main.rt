@@ -19,9 +19,9 @@ use std::io;
 
 /// Each line is read anew.
 #[derive(Clone, Copy)]
-struct Lines;
+struct LineCases;
 
-impl Cases for Lines {
+impl Cases for LineCases {
     fn answer(&mut self, alloc: Global, verb: &str, text: &str, out: &mut Bytes) -> Option<()> {
         match verb {
             "answer" => answers::show_answer(text, out),
@@ -32,7 +32,7 @@ impl Cases for Lines {
 
 fn main(rt: HostRuntime) -> io::Result<()> {
     for line in rt.lines(rt.alloc()) {
-        let answered = answered(rt.alloc(), &mut Lines, line?.as_str())?;
+        let answered = answered(rt.alloc(), &mut LineCases, line?.as_str())?;
         println!(rt; "{answered}")?;
     }
     Ok(())
