@@ -60,10 +60,11 @@ pub fn before_a_commit<R: Wait + Drop>(
     let left = hall.leave(0, entered);
     let end = link.hang_end().ok()?;
     let again = hall.enter(end, seat).ok()?;
+    let leaves = hall.tally().leaves();
     let stops = hall.tally().stops();
     let losses = hall.tally().losses();
     format!(in alloc;
-        "enter {entered}; join {joined:?} and {twice:?}; ask {asked:?}; answer {answered:?}; leave {left:?}; enter {again}; stops {stops}, losses {losses}"
+        "enter {entered}; join {joined:?} and {twice:?}; ask {asked:?}; answer {answered:?}; leave {left:?}; enter {again}; leaves {leaves}, stops {stops}, losses {losses}"
     ).ok()
 }
 
@@ -81,12 +82,13 @@ pub fn behind_a_commit<R: Wait + Drop>(
     let mut link = quiet_link(alloc)?;
     let end = link.hang_end().ok()?;
     let entered = hall.enter(end, seat).ok()?;
+    let leaves = hall.tally().leaves();
     let stops = hall.tally().stops();
     let losses = hall.tally().losses();
     hall.stop();
     let up = link.is_up();
     format!(in alloc;
-        "cleared {cleared}; leave {left:?}; hangs {hangs}; enter {entered}; stops {stops}, losses {losses}; stop: up {up}"
+        "cleared {cleared}; leave {left:?}; hangs {hangs}; enter {entered}; leaves {leaves}, stops {stops}, losses {losses}; stop: up {up}"
     ).ok()
 }
 

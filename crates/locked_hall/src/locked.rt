@@ -9,7 +9,7 @@ use live_desk::{Publisher, Seat};
 use live_roll::{Left, Roll, Stopped};
 use server_hall::{
     AskRefusal, Awaited, Hall, HallTally, NextRefusal, await_answer, enter_roll, give_next,
-    leave_roll, put_question,
+    hang_roll, leave_roll, put_question,
 };
 use std::alloc::Global;
 use std::snapshot::Snapshot;
@@ -85,16 +85,18 @@ impl<'a, R: Wait + Drop, H: HangEnd> Hall for Locked<'a, R, H> {
 
     fn leave(&mut self, seat: u32, entered: u64) -> Left {
         let mut roll = self.roll.lock(&self.rt);
-        let left = leave_roll(&mut *roll, seat, entered);
+        let call = leave_roll(&mut *roll, seat, entered);
         drop(roll);
-        self.tally.count_leave(left);
+        let left = call.left();
+        self.tally.count_leave(call);
         left
     }
 
     fn hang(&mut self, publisher: &Publisher) {
-        let commit = publisher.commit();
-        self.roll.lock(&self.rt).hang_all(commit);
-        self.tally.note_hang(commit);
+        let mut roll = self.roll.lock(&self.rt);
+        let call = hang_roll(&mut *roll, publisher);
+        drop(roll);
+        self.tally.note_hang(call);
     }
 
     fn ask(

@@ -2,6 +2,7 @@
 use Rattle.std.specs.Prelude.{ℕ, Bool, List, Result}
 use Rattle.cynara_keys.specs.Key.{Question}
 use Rattle.cynara_keys.specs.declared.results.Kind.{Kind}
+use Rattle.live_roll.specs.declared.answers.Left.{Left}
 use Rattle.agent_table.specs.declared.refusals.RegisterRefusal.{RegisterRefusal}
 use Rattle.agent_table.specs.declared.refusals.AnswerRefusal.{AnswerRefusal}
 use Rattle.agent_table.specs.declared.table.Asked.{Asked}
@@ -19,6 +20,12 @@ pub record AskMade : Type 0 where
   pub question : Question
   pub metadata : List ℕ
   pub result : AskResult
+
+-- a connection left the place of a seat, which had entered at this commit
+pub record LeaveMade : Type 0 where
+  pub seat : ℕ
+  pub entered : ℕ
+  pub left : Left
 
 -- an agent came for a kind
 pub record JoinMade : Type 0 where

@@ -13,7 +13,7 @@ use Rattle.server_hall.specs.declared.refusals.AskRefusal.{AskRefusal}
 use Rattle.server_hall.specs.declared.refusals.AskRefusal.TheVariants.{Put, Gone, Stopped as AskStopped, Lost}
 use Rattle.server_hall.specs.declared.refusals.NextRefusal.{NextRefusal}
 use Rattle.server_hall.specs.declared.refusals.NextRefusal.TheVariants.{Stopped as NextStopped}
-use Rattle.server_hall.specs.Call.{AskResult, AskMade, JoinMade, NextMade, AnswerMade}
+use Rattle.server_hall.specs.Call.{AskResult, AskMade, LeaveMade, JoinMade, NextMade, AnswerMade}
 use Rattle.server_hall.specs.declared.calls.PartCall.{PartCall}
 use Rattle.server_hall.specs.declared.calls.HallCall.{HallCall}
 use Rattle.server_hall.specs.declared.calls.HallCall.TheVariants.{Ask, Join, Next, Answer}
@@ -26,13 +26,17 @@ pub record Tally : Type 0 where
   pub losses : ℕ
   -- how often each call was made
   pub enters : ℕ
+  pub leaves : ℕ
   pub asks : ℕ
   pub joins : ℕ
   pub nexts : ℕ
   pub answers : ℕ
   pub parts : ℕ
   pub stop_calls : ℕ
+  -- the commit at which a connection entered last
+  pub last_enter : Option ℕ
   -- the last call of each of these
+  pub last_leave : Option LeaveMade
   pub last_ask : Option AskMade
   pub last_join : Option JoinMade
   pub last_next : Option NextMade
@@ -48,12 +52,15 @@ no_calls = record {
   hangs = 0;
   losses = 0;
   enters = 0;
+  leaves = 0;
   asks = 0;
   joins = 0;
   nexts = 0;
   answers = 0;
   parts = 0;
   stop_calls = 0;
+  last_enter = None;
+  last_leave = None;
   last_ask = None;
   last_join = None;
   last_next = None;
@@ -65,18 +72,36 @@ no_calls = record {
 -- ---- connections of clients
 
 -- a connection that enters finds the hall stopped exactly where it is refused
-abbrev pub stops_after_enter : {T : Type 0} → Result T Stopped → ℕ → ℕ
+abbrev pub stops_after_enter : Result ℕ Stopped → ℕ → ℕ
 stops_after_enter (Ok note) stops = stops
 stops_after_enter (Err refusal) stops = next_count stops
 
-abbrev pub after_enter : {T : Type 0} → Result T Stopped → Tally → Tally
-after_enter result tally =
-    record tally { enters = next_count tally.enters; stops = stops_after_enter result tally.stops }
+abbrev pub note_after_enter : Result ℕ Stopped → Option ℕ → Option ℕ
+note_after_enter (Ok note) last = Some note
+note_after_enter (Err refusal) last = last
 
-abbrev pub after_leave : Left → Tally → Tally
-after_leave Still tally = tally
-after_leave (Hung now) tally = record tally { hangs = next_count tally.hangs }
-after_leave (LeftStopped now) tally = record tally { stops = next_count tally.stops }
+abbrev pub after_enter : Result ℕ Stopped → Tally → Tally
+after_enter result tally = record tally {
+  enters = next_count tally.enters;
+  stops = stops_after_enter result tally.stops;
+  last_enter = note_after_enter result tally.last_enter;
+}
+
+abbrev pub hangs_after_leave : Left → ℕ → ℕ
+hangs_after_leave (Hung now) hangs = next_count hangs
+hangs_after_leave left hangs = hangs
+
+abbrev pub stops_after_leave : Left → ℕ → ℕ
+stops_after_leave (LeftStopped now) stops = next_count stops
+stops_after_leave left stops = stops
+
+abbrev pub after_leave : LeaveMade → Tally → Tally
+after_leave call tally = record tally {
+  leaves = next_count tally.leaves;
+  hangs = hangs_after_leave call.left tally.hangs;
+  stops = stops_after_leave call.left tally.stops;
+  last_leave = Some call;
+}
 
 -- it was hung up only where the note has risen since it entered
 abbrev pub IsRaised : ℕ → Left → Type 0

@@ -41,7 +41,7 @@ pub trait Hall {
     /// up, and else `Stopped` where the service is stopped.
     fn leave(&mut self, seat: u32, entered: u64) -> Left
         requires { seat < 64 }
-        ensures tally { tally self.new ≡ after_leave result (tally self.old) }
+        ensures tally { tally self.new ≡ after_leave (record { seat = seat; entered = entered; left = result }) (tally self.old) }
         ensures calls { calls self.new ≡ calls self.old }
         ensures raised { IsRaised entered result };
 

@@ -15,11 +15,11 @@ mod roll_calls;
 mod table_calls;
 mod tallies;
 
-pub use calls::{AnswerCall, AskCall, HallCall, JoinCall, NextCall, PartCall};
+pub use calls::{AnswerCall, AskCall, HallCall, HangCall, JoinCall, LeaveCall, NextCall, PartCall};
 pub use halls::Hall;
 pub use list_answers::HallAnswer;
 pub use list_hall::ListHall;
 pub use refusals::{AskRefusal, NextRefusal};
-pub use roll_calls::{enter_roll, leave_roll};
+pub use roll_calls::{enter_roll, hang_roll, leave_roll};
 pub use table_calls::{Awaited, await_answer, give_next, put_question};
 pub use tallies::HallTally;

@@ -10,7 +10,7 @@ ghost use Rattle.server_hall.specs.declared.calls.HallCall as call;
 
 use crate::calls::{AnswerCall, AskCall, HallCall, JoinCall, NextCall};
 use crate::list_answers::HallAnswer;
-use crate::roll_calls::{enter_roll, leave_roll};
+use crate::roll_calls::{enter_roll, hang_roll, leave_roll};
 use crate::tallies::HallTally;
 use crate::{AskRefusal, Hall, NextRefusal};
 use agent_table::{AnswerRefusal, Asked, PutRefusal, RegisterRefusal, Taken};
@@ -235,15 +235,16 @@ impl<H: HangEnd> Hall for ListHall<H> {
 
     fn leave(&mut self, seat: u32, entered: u64) -> Left
         requires { seat < 64 }
-        ensures tally { self.new.tally ≡ after_leave result self.old.tally }
+        ensures tally { self.new.tally ≡ after_leave (record { seat = seat; entered = entered; left = result }) self.old.tally }
         ensures calls { self.new.calls ≡ self.old.calls }
         ensures raised { IsRaised entered result }
 
         // More than any hall promises: what it makes of the roll.
         ensures left { self.new.roll ≡ without_entry seat self.old.roll }
     {
-        let left = leave_roll(&mut self.roll, seat, entered);
-        self.tally.count_leave(left);
+        let call = leave_roll(&mut self.roll, seat, entered);
+        let left = call.left();
+        self.tally.count_leave(call);
         left
     }
 
@@ -254,9 +255,8 @@ impl<H: HangEnd> Hall for ListHall<H> {
         // More than any hall promises: what it makes of the roll.
         ensures hung { self.new.roll ≡ hung_to (last_commit 0 publisher.now) self.old.roll }
     {
-        let commit = publisher.commit();
-        self.roll.hang_all(commit);
-        self.tally.note_hang(commit);
+        let call = hang_roll(&mut self.roll, publisher);
+        self.tally.note_hang(call);
     }
 
     fn ask(

@@ -1,12 +1,14 @@
 // What the calls of a hall make of the roll that they are lent.
 ghost use Rattle.std.specs.Prelude.{◌≡◌, ◌<◌, false, IsTrue, IfOk, IfErr, OnOk, OnErr};
-ghost use Rattle.live_roll.specs.Roll.{left_of, with_entry, without_entry};
+ghost use Rattle.live_roll.specs.Roll.{left_of, with_entry, without_entry, hung_to};
+ghost use Rattle.live_desk.specs.History.{last_commit};
 ghost use Rattle.live_desk.specs.Seat.{with_note};
 ghost use Rattle.server_hall.specs.Tally.{IsRaised};
 
+use crate::{HangCall, LeaveCall};
 use link_ports::HangEnd;
-use live_desk::Seat;
-use live_roll::{Left, Roll, Stopped};
+use live_desk::{Publisher, Seat};
+use live_roll::{Roll, Stopped};
 
 /// A connection enters, as `Roll::enter` says. The end of one that is refused is dropped.
 pub fn enter_roll<H: HangEnd>(roll: &mut Roll<H>, end: H, seat: &mut Seat) -> Result<u64, Stopped>
@@ -28,12 +30,24 @@ pub fn enter_roll<H: HangEnd>(roll: &mut Roll<H>, end: H, seat: &mut Seat) -> Re
     }
 }
 
-/// A connection leaves, as `Roll::leave` says.
-pub fn leave_roll<H: HangEnd>(roll: &mut Roll<H>, seat: u32, entered: u64) -> Left
+/// A connection leaves, as `Roll::leave` says. The call is handed out, for a hall to count.
+pub fn leave_roll<H: HangEnd>(roll: &mut Roll<H>, seat: u32, entered: u64) -> LeaveCall
     requires { seat < 64 }
-    ensures answer { result ≡ left_of entered roll.old }
-    ensures raised { IsRaised entered result }
+    ensures answer { result ≡ record { seat = seat; entered = entered; left = left_of entered roll.old } }
+    ensures raised { IsRaised entered result.left }
     ensures left { roll.new ≡ without_entry seat roll.old }
 {
-    roll.leave(seat, entered)
+    let left = roll.leave(seat, entered);
+    LeaveCall::of(seat, entered, left)
+}
+
+/// All connections that entered before the last commit of the publisher are hung up, as `Roll::hang_all` says. The call is
+/// handed out, for a hall to note.
+pub fn hang_roll<H: HangEnd>(roll: &mut Roll<H>, publisher: &Publisher) -> HangCall
+    ensures commit { result ≡ last_commit 0 publisher.now }
+    ensures hung { roll.new ≡ hung_to (last_commit 0 publisher.now) roll.old }
+{
+    let commit = publisher.commit();
+    roll.hang_all(commit);
+    HangCall::of(commit)
 }

@@ -4,7 +4,7 @@ ghost use Rattle.server_hall.specs.Tally.{no_calls, after_enter, after_leave, af
 ghost use Rattle.server_hall.specs.Tally.{after_next, after_answer, after_part, after_stop};
 ghost use Rattle.server_hall.specs.Tally.{stops_after_ask, losses_after_ask, stops_after_join, stops_after_next};
 
-use crate::calls::{AnswerCall, AskCall, JoinCall, NextCall, PartCall};
+use crate::calls::{AnswerCall, AskCall, HangCall, JoinCall, LeaveCall, NextCall, PartCall};
 use crate::{AskRefusal, NextRefusal};
 use agent_table::{AnswerRefusal, Asked, RegisterRefusal, Taken};
 use cynara_keys::{Kind, Metadata, Question};
@@ -20,12 +20,15 @@ pub struct HallTally {
     hangs: u64,
     losses: u64,
     enters: u64,
+    leaves: u64,
     asks: u64,
     joins: u64,
     nexts: u64,
     answers: u64,
     parts: u64,
     stop_calls: u64,
+    last_enter: Option<u64>,
+    last_leave: Option<LeaveCall>,
     last_ask: Option<AskCall>,
     last_join: Option<JoinCall>,
     last_next: Option<NextCall>,
@@ -44,12 +47,15 @@ impl Model for HallTally {
       hangs = tally.hangs;
       losses = tally.losses;
       enters = tally.enters;
+      leaves = tally.leaves;
       asks = tally.asks;
       joins = tally.joins;
       nexts = tally.nexts;
       answers = tally.answers;
       parts = tally.parts;
       stop_calls = tally.stop_calls;
+      last_enter = tally.last_enter;
+      last_leave = tally.last_leave;
       last_ask = tally.last_ask;
       last_join = tally.last_join;
       last_next = tally.last_next;
@@ -69,12 +75,15 @@ impl HallTally {
             hangs: 0,
             losses: 0,
             enters: 0,
+            leaves: 0,
             asks: 0,
             joins: 0,
             nexts: 0,
             answers: 0,
             parts: 0,
             stop_calls: 0,
+            last_enter: None,
+            last_leave: None,
             last_ask: None,
             last_join: None,
             last_next: None,
@@ -103,6 +112,13 @@ impl HallTally {
         ensures { result ≡ self.now.losses }
     {
         self.losses
+    }
+
+    /// How many connections left their places.
+    pub fn leaves(&self) -> u64
+        ensures { result ≡ self.now.leaves }
+    {
+        self.leaves
     }
 
     /// How many questions were to be put.
@@ -161,32 +177,35 @@ impl HallTally {
         self.last_part
     }
 
-    /// Counts a connection that entered, or was refused.
-    pub fn count_enter<T>(&mut self, outcome: &Result<T, Stopped>)
+    /// Counts a connection that entered, and keeps at which commit, or that was refused.
+    pub fn count_enter(&mut self, outcome: &Result<u64, Stopped>)
         ensures { self.new ≡ after_enter outcome.now self.old }
     {
         self.enters = self.enters.saturating_add(1);
-        if let Err(_) = outcome {
-            self.stops = self.stops.saturating_add(1);
+        match outcome {
+            Ok(note) => self.last_enter = Some(*note),
+            Err(_) => self.stops = self.stops.saturating_add(1),
         }
     }
 
-    /// Counts what a connection was told that left.
-    pub fn count_leave(&mut self, left: Left)
-        ensures { self.new ≡ after_leave left self.old }
+    /// Counts a connection that left, and keeps the call.
+    pub fn count_leave(&mut self, call: LeaveCall)
+        ensures { self.new ≡ after_leave call self.old }
     {
-        match left {
+        self.leaves = self.leaves.saturating_add(1);
+        match call.left() {
             Left::Still => {}
             Left::Hung { .. } => self.hangs = self.hangs.saturating_add(1),
             Left::Stopped { .. } => self.stops = self.stops.saturating_add(1),
         }
+        self.last_leave = Some(call);
     }
 
     /// Keeps the commit for which all older connections were hung up.
-    pub fn note_hang(&mut self, commit: u64)
-        ensures { self.new ≡ after_hang commit self.old }
+    pub fn note_hang(&mut self, call: HangCall)
+        ensures { self.new ≡ after_hang call self.old }
     {
-        self.cleared = commit;
+        self.cleared = call.commit();
     }
 
     /// Counts a question that was to be put, and keeps the call.
