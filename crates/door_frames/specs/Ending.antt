@@ -33,7 +33,7 @@ EndsReading Closed feeder marks before after =
     (feeder.failed ≡ None) × (feeder.partial ≡ []) × (marks.has_ended ≡ true) × (after ≡ before)
 EndsReading (Cut count) feeder marks before after =
     (feeder.failed ≡ None) × (count ≡ length feeder.partial) × (0 < count) × (marks.has_ended ≡ true) × (after ≡ before)
-EndsReading LinkFault feeder marks before after = after ≡ next_count before
+EndsReading LinkFault feeder marks before after = (feeder.failed ≡ None) × (after ≡ next_count before)
 EndsReading (BadFrame refusal) feeder marks before after =
     (feeder.failed ≡ Some refusal) × IsOfBytes refusal × (after ≡ before)
 EndsReading Memory feeder marks before after = after ≡ before

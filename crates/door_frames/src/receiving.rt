@@ -27,6 +27,8 @@ pub fn receive_more<L: Link>(
     ensures heard { (bytes : List ℕ)
         × Carried (L.traffic link.old) (L.traffic link.new) bytes []
         × HearsMore bytes feeder.old feeder.new }
+    ensures came { OnOk result ((bytes : List ℕ) × (0 < length bytes)
+        × Carried (L.traffic link.old) (L.traffic link.new) bytes []) }
     ensures sound { IsSound feeder.new }
     ensures side { feeder.new.heard ≡ feeder.old.heard }
     ensures faults { OnOk result (L.faults link.new ≡ L.faults link.old) }

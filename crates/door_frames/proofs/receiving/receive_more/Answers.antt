@@ -1,4 +1,5 @@
-use Rattle.std.proofs.Common.{rules, ◌≡◌, ◌∙◌, ℕ, List, [], take, ap, sym, subst, refl}
+use Rattle.std.proofs.Common.{rules, ◌≡◌, ◌∙◌, ◌≤◌, ◌<◌, ℕ, List, [], length, take, ap, sym, subst, refl, arith}
+use Rattle.std.proofs.lemmas.List.{length-take-le}
 use Rattle.wire_messages.specs.Stream.{Feeding}
 use Rattle.door_frames.specs.Hearing.{HearsMore}
 use Rattle.door_frames.proofs.Carrying.{take_none, carried_nothing, carried_none, carried_received}
@@ -15,6 +16,17 @@ returns-in-Ok-eq0-clause-heard g c =
       carried_none (take c.in-Ok-eq0.field-0 c.receive.new.into) (g.L.Link.traffic c.args.link.now) (g.L.Link.traffic c.receive.new.self)
           (zero ∙ none) c.in-Ok-eq0.ensures.received,
       subst (λ (feeder : Feeding). HearsMore [] c.args.feeder.now feeder) (sym still) (hears_nothing c.args.feeder.now),
+    )
+
+pub returns-in-Ok-clause-came : goal.returns-in-Ok-clause-came
+returns-in-Ok-clause-came g c =
+    let bytes : List ℕ = take c.in-Ok.count c.receive.new.into in
+    let within : c.in-Ok.count ≤ length c.receive.new.into = search rules in
+    let some : 0 < c.in-Ok.count = search rules in
+    let size = length-take-le c.in-Ok.count c.receive.new.into within in (
+      bytes,
+      omega (arith, size, some),
+      carried_received bytes (g.L.Link.traffic c.args.link.now) (g.L.Link.traffic c.receive.new.self) c.in-Ok.ensures.received,
     )
 
 pub returns-in-Ok-clause-heard : goal.returns-in-Ok-clause-heard
