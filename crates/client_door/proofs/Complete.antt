@@ -14,7 +14,7 @@ use Rattle.wire_messages.specs.declared.refusals.WireRefusal.TheVariants.{TooSho
 use Rattle.wire_messages.proofs.Settling.{short_open}
 use Rattle.wire_messages.proofs.Hearings.{heard_once}
 use Rattle.wire_messages.proofs.Refusing.{refused_to_its_end}
-use Rattle.server_hall.specs.Call.{AskResult, AskMade}
+use Rattle.server_hall.specs.Call.{AskResult, AskMade, LeaveMade}
 use Rattle.server_hall.specs.Tally.{Tally, after_ask, after_leave, stops_after_ask, losses_after_ask}
 use Rattle.server_hall.specs.declared.refusals.AskRefusal.TheVariants.{Put, Gone, Stopped as AskStopped, Lost}
 use Rattle.door_frames.specs.Carried.{Carried}
@@ -182,20 +182,24 @@ ends_so : (result inner : Ended) (start now : ClientSide) (frames : List Framed)
 ends_so result inner start now frames answered is each (inl (closed, all)) = inl (is ∙ closed, each all)
 ends_so result inner start now frames answered is each (inr memory) = inr (is ∙ memory)
 
+-- the call by which it left
+abbrev leaves : {result : Ended} {start now : ClientSide} → Served result start now → Left → LeaveMade
+leaves s left = record { seat = s.last.seat.number; entered = s.entered; left = left }
+
 left_so : (result : Ended) (start now : ClientSide) (frames : List Framed) (s : Served result start now) (left : Left) → s.left ≡ left
     → IsQuiet start now → GivesItsQuestion now.tally.last_ask → Receives frames start now
     → ((result ≡ Closed) × AnswersEach frames start now) ⊎ (result ≡ Memory)
 left_so result start now frames s (LeftHung at) is quiet gives r =
-    let tally : now.tally ≡ after_leave (LeftHung at) s.last.tally = ap (λ (x : ClientSide). x.tally) s.leaving
-    ∙ ap (λ (left : Left). after_leave left s.last.tally) is in
+    let tally : now.tally ≡ after_leave (leaves s (LeftHung at)) s.last.tally = ap (λ (x : ClientSide). x.tally) s.leaving
+    ∙ ap (λ (left : Left). after_leave (leaves s left) s.last.tally) is in
     let rose : now.tally.hangs ≡ next_count s.last.tally.hangs = ap (λ (x : Tally). x.hangs) tally in
     let entered : s.first.tally.hangs ≡ start.tally.hangs = ap (λ (x : Tally). x.hangs) s.entry in
     let talked_on : s.last.tally.hangs ≡ s.first.tally.hangs = ap (λ (x : Tally). x.hangs) s.talks.tally
     ∙ asks_hangs (calls_for s.talks.answered ++ s.talks.last) s.first.tally in
     absurd (moves start.tally.hangs s.last.tally.hangs now.tally.hangs quiet.hangs (omega (arith, entered, talked_on)) (omega (arith, rose)))
 left_so result start now frames s (LeftStopped at) is quiet gives r =
-    let tally : now.tally ≡ after_leave (LeftStopped at) s.last.tally = ap (λ (x : ClientSide). x.tally) s.leaving
-    ∙ ap (λ (left : Left). after_leave left s.last.tally) is in
+    let tally : now.tally ≡ after_leave (leaves s (LeftStopped at)) s.last.tally = ap (λ (x : ClientSide). x.tally) s.leaving
+    ∙ ap (λ (left : Left). after_leave (leaves s left) s.last.tally) is in
     let rose : now.tally.stops ≡ next_count s.last.tally.stops = ap (λ (x : Tally). x.stops) tally in
     let entered : s.first.tally.stops ≡ start.tally.stops = ap (λ (x : Tally). x.stops) s.entry in
     let talked_on : s.last.tally.stops ≡ (after_asks (calls_for s.talks.answered ++ s.talks.last) s.first.tally).stops =
@@ -203,7 +207,8 @@ left_so result start now frames s (LeftStopped at) is quiet gives r =
     let kept = asks_stops (calls_for s.talks.answered ++ s.talks.last) s.first.tally (omega (arith, entered, quiet.stops.0)) in
     absurd (moves start.tally.stops s.last.tally.stops now.tally.stops quiet.stops (omega (arith, entered, talked_on, kept.0)) (omega (arith, rose)))
 left_so result start now frames s Still is quiet gives r =
-    let leaving : now ≡ s.last = s.leaving ∙ ap (λ (left : Left). record s.last { tally = after_leave left s.last.tally }) is in
+    let leaving : now ≡ record s.last { tally = after_leave (leaves s Still) s.last.tally } = s.leaving
+    ∙ ap (λ (left : Left). record s.last { tally = after_leave (leaves s left) s.last.tally }) is in
     let carried : Carried start.traffic now.traffic s.talks.received (replies_bytes s.talks.answered) =
     subst (λ (x : ClientSide). Carried start.traffic x.traffic s.talks.received (replies_bytes s.talks.answered)) (sym leaving)
     (carried_more [] s.talks.received [] (replies_bytes s.talks.answered) start.traffic s.first.traffic s.last.traffic s.opened s.talks.carried) in

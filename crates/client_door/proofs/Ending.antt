@@ -32,7 +32,7 @@ use Rattle.door_frames.proofs.Carrying.{carried_more, carried_same}
 use Rattle.client_door.specs.Check.{framed_of, message_of, reply_of}
 use Rattle.client_door.specs.Asking.{AsksOnce, AsksInVain, Asked, IsInVain, ask_made}
 use Rattle.client_door.specs.Reading.{reading}
-use Rattle.client_door.specs.Answered.{Answered, Answers, calls_for, after_asks, replies_bytes, frames_of, AreReadIn}
+use Rattle.client_door.specs.Answered.{Answered, Answers, calls_for, after_asks, replies_bytes, frames_of, AreReadIn, read_up_to}
 use Rattle.client_door.specs.Recording.{Recording, with_all_recorded, judged_by}
 use Rattle.client_door.specs.Serving.{ClientSide, recorded_side, with_link, EndsAsking, IsCallFor, Talks}
 use Rattle.client_door.specs.parts.Talk.{Stands, IsReadNow, Notes, with_sent}
@@ -41,7 +41,7 @@ use Rattle.client_door.specs.declared.agent_replies.AgentReply.{AgentReply}
 use Rattle.client_door.proofs.Calls.{after_asks_more, calls_same, calls_more, calls_for_more, front_right}
 use Rattle.client_door.proofs.Recorded.{notes_nothing, no_judgement, has_recorded}
 use Rattle.client_door.proofs.Published.{stands_last, commit_of_last, reads_between}
-use Rattle.client_door.proofs.Unsent.{back_right, back_read, all_calls, unsent_calls}
+use Rattle.client_door.proofs.Unsent.{back_right, back_read, read_below, all_calls, unsent_calls}
 use Rattle.client_door.proofs.Steps.{answered_with, answered_by_policies, reseated, flushed, heard_more}
 
 -- the first of some checks were read as all of them
@@ -104,8 +104,8 @@ ends_with start now after feeder waiting taken ended extra s seat recording tall
       asking = asking;
       for_checks = subst (λ (x : SeatState). AllByRecursion (IsCallFor x s.received s.sent) (calls_for s.unsent ++ extra)) (sym seat)
           (all_calls (IsCallFor now.seat s.received s.sent) (calls_for s.unsent) extra
-          (unsent_calls now.seat s.received s.sent [] s.unsent (map framed_of taken ++ feeder.waiting) s.heard.behind read.0 read.1
-          (back_right s.sent s.unsent s.right) read.2 (heard_behind start now feeder waiting taken side s))
+          (unsent_calls now.seat s.received s.sent [] s.unsent (map framed_of taken ++ feeder.waiting) s.heard.behind
+          (read_up_to now.seat.note s.sent) (omega arith) (back_right s.sent s.unsent s.right) read (heard_behind start now feeder waiting taken side s))
           for_extra);
       faults = faults ∙ ap (λ count. faults_after ended count) s.faults;
       at_end = at_end;
@@ -171,7 +171,7 @@ ends_reading start now traffic marks faults feeder waiting (Cut count) side none
       ap length at.0 ∙ sym is,
       some,
     )
-ends_reading start now traffic marks faults feeder waiting LinkFault side none carried same rose s sent =
+ends_reading start now traffic marks faults feeder waiting LinkFault side none carried same (sound, rose) s sent =
     ends_for_fault start now traffic marks faults now.recording feeder waiting [] LinkFault refl side carried same rose refl s
 ends_reading start now traffic marks faults feeder waiting (BadFrame refusal) side none carried same (failed, of_bytes, still) s sent =
     ends_with start now (with_link now traffic marks faults) feeder waiting [] (BadFrame refusal) [] s refl refl refl (calls_same now.calls)
@@ -220,8 +220,10 @@ made_for start now feeder check desk commit kind metadata result side now_read d
   read = due;
   question = refl;
   stands = stands_last desk now.seat.seen now_read.last;
-  fresh = reads_between now.seat.note (last_commit 0 now.seat.seen) desk.commit now_read.fresh
-      (let top = commit_of_last now.seat.seen desk now_read.last in omega (arith, top));
+  fresh = let top : last_commit 0 now.seat.seen ≡ desk.commit = commit_of_last now.seat.seen desk now_read.last in
+      let below : read_up_to now.seat.note s.sent ≤ last_commit 0 now.seat.seen =
+      read_below now.seat.seen now.seat.note s.sent s.unsent (omega (arith, top, now_read.fresh)) s.read in
+      reads_between (read_up_to now.seat.note s.sent) (last_commit 0 now.seat.seen) desk.commit (omega (arith, top, below)) (omega (arith, top));
   heard = (frames_of s.unsent, feeder.waiting, s.heard.behind, heard_behind start now feeder [] (check ∷ []) side s);
 }
 

@@ -74,3 +74,8 @@ abbrev pub AreReadIn : List DeskState → ℕ → List Answered → Type 0
 AreReadIn seen low [] = Unit {0}
 AreReadIn seen low (one ∷ more) =
     StandsIn one.desk seen × IsTrue (may_read low (last_commit 0 seen) one.desk.commit) × AreReadIn seen one.desk.commit more
+
+-- the commit at which the last of the checks was read, or this one where there is none
+abbrev pub read_up_to : ℕ → List Answered → ℕ
+read_up_to low [] = low
+read_up_to low (one ∷ more) = read_up_to one.desk.commit more

@@ -28,7 +28,7 @@ use Rattle.client_door.specs.Check.{framed_of}
 use Rattle.client_door.specs.Reading.{reading}
 use Rattle.client_door.specs.declared.checks.Check.{Check}
 use Rattle.client_door.specs.Asking.{FindsStop, Strays}
-use Rattle.client_door.specs.Answered.{Answered, IsRight, frames_of, replies_bytes, calls_for, after_asks, StandsIn, AreReadIn}
+use Rattle.client_door.specs.Answered.{Answered, IsRight, frames_of, replies_bytes, calls_for, after_asks, StandsIn, AreReadIn, read_up_to}
 use Rattle.client_door.specs.Recording.{Recording, judged_in, HasRecorded}
 
 -- what a connection of a client is served with: the seat, the hall's tally and calls, the link, and where its checks are
@@ -77,7 +77,7 @@ EndsAsking Memory last = length last ≤ 1
 EndsAsking (Hung entered now) last = ⊥
 
 -- A call that was made for a check whose reply was not sent: one that came behind those that were answered, read as due at a
--- state that the seat has seen, no older than its note.
+-- state that the seat has seen, no older than its note and than those at which the answered ones were read.
 pub record IsCallFor (seat : SeatState) (received : List ℕ) (answered : List Answered) (call : AskMade) : Type 0 where
   pub check : Check
   pub desk : DeskState
@@ -85,7 +85,7 @@ pub record IsCallFor (seat : SeatState) (received : List ℕ) (answered : List A
   pub read : reading desk check ≡ Due commit call.kind call.metadata
   pub question : call.question ≡ check.question
   pub stands : StandsIn desk seat.seen
-  pub fresh : IsTrue (may_read seat.note (last_commit 0 seat.seen) desk.commit)
+  pub fresh : IsTrue (may_read (read_up_to seat.note answered) (last_commit 0 seat.seen) desk.commit)
   pub heard : (between behind : List Framed) × (rest : List ℕ)
       × Hears AtClient received (frames_of answered ++ (between ++ framed_of check ∷ behind)) rest
 
@@ -152,7 +152,7 @@ pub record Served (result : Ended) (start now : ClientSide) : Type 0 where
   pub faults : first.faults ≡ start.faults
   pub recording : first.recording ≡ start.recording
   pub talks : Talks first last inner
-  pub leaving : now ≡ record last { tally = after_leave left last.tally }
+  pub leaving : now ≡ record last { tally = after_leave (record { seat = last.seat.number; entered = entered; left = left }) last.tally }
   pub raised : IsRaised entered left
   pub result_is : result ≡ ended_by_leaving entered left inner
 
@@ -161,6 +161,6 @@ pub record Served (result : Ended) (start now : ClientSide) : Type 0 where
 pub data Serves (result : Ended) (start now : ClientSide) : Type 0 where
   unbegun : IsUnbegun result start.faults now.faults → now.tally ≡ start.tally → now.marks ≡ start.marks
       → IsIdle start now → Serves result start now
-  refused : (refusal : IsStopped) → result ≡ Stopped → now.tally ≡ after_enter {T = ℕ} (Err refusal) start.tally
+  refused : (refusal : IsStopped) → result ≡ Stopped → now.tally ≡ after_enter (Err refusal) start.tally
       → now.marks ≡ with_end_taken start.marks → now.faults ≡ start.faults → IsIdle start now → Serves result start now
   served : Served result start now → Serves result start now
