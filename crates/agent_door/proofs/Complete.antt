@@ -42,7 +42,7 @@ use Rattle.agent_door.proofs.Calls.{after_calls_more}
 -- ---- counts
 
 -- a count that rises does not stay
-moves : (before between after : ℕ) → Stays before after → before ≤ between → next_count between ≤ after → ⊥
+pub moves : (before between after : ℕ) → Stays before after → before ≤ between → next_count between ≤ after → ⊥
 moves before between after (below, same) least rises = omega (arith, below, same, least, rises)
 
 -- a count that is not past the last value does not fall
@@ -82,7 +82,7 @@ calls_kept (call ∷ calls) tally fits =
 
 -- ---- bytes
 
-nothing_open : IsOpen AtAgent []
+pub nothing_open : IsOpen AtAgent []
 nothing_open = short_open AtAgent [] (omega arith)
 
 never : (bytes : List ℕ) (frames heeded : List Framed) (rest : List ℕ) (refusal : WireRefusal) → Hears AtAgent bytes frames []
@@ -92,7 +92,7 @@ never bytes frames heeded rest refusal all some wrong =
     (subst (λ list. Hears AtAgent list frames []) (sym (append-nil bytes)) all) nothing_open
 
 -- bytes that are whole frames do not begin with a wrong one behind some of them
-right_whole : (bytes : List ℕ) (frames heeded : List Framed) (rest : List ℕ) (refusal : WireRefusal) → Hears AtAgent bytes frames []
+pub right_whole : (bytes : List ℕ) (frames heeded : List Framed) (rest : List ℕ) (refusal : WireRefusal) → Hears AtAgent bytes frames []
     → Hears AtAgent bytes heeded rest → BeginsWrong AtAgent rest refusal → IsOfBytes refusal → ⊥
 right_whole bytes frames heeded rest (NoMemory error) all some wrong of_bytes = absurd of_bytes
 right_whole bytes frames heeded rest (TooShort count) all some wrong of_bytes = never bytes frames heeded rest (TooShort count) all some wrong
@@ -110,7 +110,7 @@ same_list a b x y same = (cc, cc)
 not_empty : (a : Framed) (x : List Framed) → a ∷ x ≡ [] → ⊥
 not_empty a x same = cc
 
-partial_not_whole : (a : Framed) (x : List ℕ) → Front.Partial ≡ Front.Whole a x → ⊥
+pub partial_not_whole : (a : Framed) (x : List ℕ) → Front.Partial ≡ Front.Whole a x → ⊥
 partial_not_whole a x same = cc
 
 -- a frame that is heard among answers is one
@@ -153,14 +153,14 @@ carried_so start now received sent before after carried told told_now =
     same_inside after (record { received = before.received ++ received; sent = before.sent ++ sent }) (sym told_now ∙ carried before told)
 
 -- the bytes that were received are those of the frames
-heard_so : (start now : AgentSide) (frames : List Framed) (received sent : List ℕ) (r : Receives frames start now)
+pub heard_so : (start now : AgentSide) (frames : List Framed) (received sent : List ℕ) (r : Receives frames start now)
     → Carried start.traffic now.traffic received sent → Hears AtAgent received frames []
 heard_so start now frames received sent r carried =
     let at = carried_so start.traffic now.traffic received sent r.before r.after carried r.told r.told_now in
     subst (λ list. Hears AtAgent list frames [])
     (sym (append_cancel_left r.before.received received r.bytes (sym (ap (λ (x : Traffic). x.received) at) ∙ r.received))) r.heard
 
-sends_so : (start now : AgentSide) (frames sent : List Framed) (received : List ℕ) (others : List Framed) (r : Receives others start now)
+pub sends_so : (start now : AgentSide) (frames sent : List Framed) (received : List ℕ) (others : List Framed) (r : Receives others start now)
     → Carried start.traffic now.traffic received (flat_map spelling sent) → sent ≡ frames → Sends frames start now
 sends_so start now frames sent received others r carried is =
     let at = carried_so start.traffic now.traffic received (flat_map spelling sent) r.before r.after carried r.told r.told_now in

@@ -4,3 +4,4 @@ pub mod Serving
 pub mod Misplaced
 pub mod Whole
 pub mod Complete
+pub mod Silent

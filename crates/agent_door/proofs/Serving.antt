@@ -26,7 +26,7 @@ use Rattle.door_frames.specs.declared.endings.Ended.TheVariants.{Closed, Cut, Hu
 use Rattle.door_frames.proofs.Carrying.{carried_more}
 use Rattle.agent_door.specs.Frame.{register_frame, registered_frame, answer_frame, question_frame, unknown_frame, IsOutOfPlace}
 use Rattle.agent_door.specs.Round.{Given, Round, IsWhole, IsOther, answer_call, rounds_calls, rounds_frames, rounds_told, told_of}
-use Rattle.agent_door.specs.Serving.{AgentSide, Asks, EndsAsking, EndsHeeding, MayMiss, joined_calls}
+use Rattle.agent_door.specs.Serving.{AgentSide, Asks, EndsAsking, EndsHeeding, HasHeededAll, MayMiss, joined_calls}
 use Rattle.agent_door.specs.parts.Talk.{Stands, EndsHearing, HandsIn, HasJoined, open_of, AreOther}
 use Rattle.agent_door.specs.declared.messages.Answer.{Answer}
 use Rattle.agent_door.specs.declared.messages.Registration.{Registration}
@@ -158,6 +158,36 @@ asks_next registration start old new feeder asked carried counted made still end
 
 -- ---- ends
 
+-- how a connection ended that did not end for its link
+pub not_closed : Closed ≡ LinkFault → ⊥
+not_closed same = cc
+
+pub not_cut : (count : ℕ) → Cut count ≡ LinkFault → ⊥
+not_cut count same = cc
+
+pub not_bad : (refusal : WireRefusal) → BadFrame refusal ≡ LinkFault → ⊥
+not_bad refusal same = cc
+
+pub not_memory : Memory ≡ LinkFault → ⊥
+not_memory same = cc
+
+pub not_stopped : Stopped ≡ LinkFault → ⊥
+not_stopped same = cc
+
+-- a frame was not sent
+not_sent : (framed : Framed) → framed ∷ [] ≡ [] → ⊥
+not_sent framed same = cc
+
+-- no frame waits, and what is behind them is less than one
+pub heeded_all : (received : List ℕ) (heeded : List Framed) (fed : Feeding) → fed.waiting ≡ [] → fed.heard ≡ AtAgent → fed.failed ≡ None
+    → (h : HasHeard received heeded fed) → HasHeededAll received heeded
+heeded_all received heeded fed none side sound h = (
+  h.behind,
+  subst (λ (heard : Heard). Hears heard received heeded h.behind) side
+      (subst (λ list. Hears fed.heard received list h.behind) (ap (λ list. heeded ++ list) none ∙ append-nil heeded) h.heard),
+  subst (λ (heard : Heard). IsOpen heard h.behind) side (h.sound sound).1,
+)
+
 -- some frames may not be heeded
 pub unheeded : (received : List ℕ) (frames : List Framed) (feeder : Feeding) → feeder.heard ≡ AtAgent → HasHeard received frames feeder
     → (more : List Framed) × (rest : List ℕ) × Hears AtAgent received (frames ++ more) rest
@@ -171,12 +201,14 @@ pub ends : (registration : Registration) (start old new : AgentSide) (feeder : F
     → length open_round ≤ 1 → EndsAsking registration.kind ended open_round last
     → EndsHeeding (s.received ++ bytes) (register_frame registration ∷ rounds_frames (rounds ++ open_round)) ended
     → rounds_told registration.kind (rounds ++ open_round) ≡ rounds_told registration.kind (s.rounds ++ open_of asked s.given) ++ missing
-    → MayMiss ended missing → Carried old.traffic new.traffic bytes []
+    → MayMiss ended missing
+    → (ended ≡ LinkFault → missing ≡ [] → HasHeededAll (s.received ++ bytes) (register_frame registration ∷ rounds_frames (rounds ++ open_round)))
+    → Carried old.traffic new.traffic bytes []
     → rounds_calls registration.kind (rounds ++ open_round) ++ last ≡ rounds_calls registration.kind (s.rounds ++ open_of asked s.given) ++ made
     → new.tally ≡ after_calls made old.tally → AppendsCalls old.calls made new.calls
     → new.faults ≡ faults_after ended old.faults → IsAtEnd ended new.marks → new.marks.ends ≡ old.marks.ends
     → Asks registration start new ended
-ends registration start old new feeder asked s ended rounds open_round last made bytes missing whole unanswered one asking heeding due missed carried calls counted told faults at_end same =
+ends registration start old new feeder asked s ended rounds open_round last made bytes missing whole unanswered one asking heeding due missed heeds_all carried calls counted told faults at_end same =
     let before : List Round = s.rounds ++ open_of asked s.given in
     let all : joined_calls registration.kind (rounds ++ open_round) last ≡ joined_calls registration.kind before [] ++ made =
     ap (λ (list : List HallCall). joined_calls registration.kind [] list)
@@ -194,6 +226,7 @@ ends registration start old new feeder asked s ended rounds open_round last made
       one = one;
       asking = asking;
       bytes = heeding;
+      all = heeds_all;
       due = ap (λ (frames : List Framed). registered_frame registration ∷ frames) due;
       missed = missed;
       carried = subst (λ list. Carried start.traffic new.traffic (s.received ++ bytes) list) (append-nil (bytes_of sent))
@@ -214,17 +247,18 @@ pub ends_for_next : (registration : Registration) (start old new : AgentSide) (f
     → feeder.heard ≡ AtAgent → EndsAsking registration.kind ended [] (call ∷ [])
     → ((bytes : List ℕ) (heeded : List Framed)
     → (more : List Framed) × (rest : List ℕ) × Hears AtAgent bytes (heeded ++ more) rest → EndsHeeding bytes heeded ended)
-    → MayMiss ended [] → IsAtEnd ended new.marks → new.faults ≡ faults_after ended old.faults
+    → MayMiss ended [] → (ended ≡ LinkFault → ⊥) → IsAtEnd ended new.marks → new.faults ≡ faults_after ended old.faults
     → new.tally ≡ after_call call old.tally → AppendsCalls old.calls (call ∷ []) new.calls
     → Carried old.traffic new.traffic [] [] → new.marks.ends ≡ old.marks.ends
     → Stands registration start old feeder None → Asks registration start new ended
-ends_for_next registration start old new feeder ended call side asking heeds missed at_end faults counted told carried same s =
+ends_for_next registration start old new feeder ended call side asking heeds missed no_fault at_end faults counted told carried same s =
     ends registration start old new feeder None s ended s.rounds [] (call ∷ []) (call ∷ []) [] [] s.whole tt (omega arith) asking
     (heeds (s.received ++ []) (register_frame registration ∷ rounds_frames (s.rounds ++ []))
     (subst (λ list. (more : List Framed) × (rest : List ℕ)
     × Hears AtAgent list ((register_frame registration ∷ rounds_frames (s.rounds ++ [])) ++ more) rest) (sym (append-nil s.received))
     (unheeded s.received (register_frame registration ∷ rounds_frames (s.rounds ++ [])) feeder side s.heard)))
-    (sym (append-nil (rounds_told registration.kind (s.rounds ++ [])))) missed carried refl counted told faults at_end same
+    (sym (append-nil (rounds_told registration.kind (s.rounds ++ [])))) missed (λ fault. absurd (no_fault fault)) carried refl counted told faults
+    at_end same
 
 unasked : (registration : Registration) (start old new : AgentSide) (feeder : Feeding) (ended : Ended) (asked : Asked)
     → feeder.heard ≡ AtAgent → EndsAsking registration.kind ended (round_of asked [] ∷ []) []
@@ -245,7 +279,7 @@ unasked registration start old new feeder ended asked side asking heeds missed a
     s.whole (tt, tt) (omega arith) asking
     (heeds (s.received ++ []) (register_frame registration ∷ rounds_frames (s.rounds ++ round_of asked [] ∷ []))
     (unheeded (s.received ++ []) (register_frame registration ∷ rounds_frames (s.rounds ++ round_of asked [] ∷ [])) feeder side heard))
-    (told_open registration.kind s.rounds asked) missed carried
+    (told_open registration.kind s.rounds asked) missed (λ fault none. absurd (not_sent (question_frame registration.kind asked) none)) carried
     (append-nil (rounds_calls registration.kind (s.rounds ++ round_of asked [] ∷ [])) ∙ calls_open registration.kind s.rounds asked)
     counted told faults at_end same
 
@@ -290,12 +324,13 @@ still_open : (registration : Registration) (start old new : AgentSide) (feeder :
     (s : Stands registration start old feeder (Some asked))
     → EndsAsking registration.kind ended (round_of asked s.given ∷ []) [] → MayMiss ended []
     → EndsHeeding (s.received ++ bytes) (register_frame registration ∷ rounds_frames (s.rounds ++ round_of asked s.given ∷ [])) ended
+    → (ended ≡ LinkFault → HasHeededAll (s.received ++ bytes) (register_frame registration ∷ rounds_frames (s.rounds ++ round_of asked s.given ∷ [])))
     → new.tally ≡ old.tally → new.calls ≡ old.calls → Carried old.traffic new.traffic bytes []
     → new.faults ≡ faults_after ended old.faults → IsAtEnd ended new.marks → new.marks.ends ≡ old.marks.ends → Asks registration start new ended
-still_open registration start old new feeder asked ended bytes s asking missed heeding tally calls carried faults at_end same =
+still_open registration start old new feeder asked ended bytes s asking missed heeding heeds_all tally calls carried faults at_end same =
     ends registration start old new feeder (Some asked) s ended s.rounds (round_of asked s.given ∷ []) [] [] bytes [] s.whole (s.others, tt)
     (omega arith) asking heeding (sym (append-nil (rounds_told registration.kind (s.rounds ++ round_of asked s.given ∷ [])))) missed
-    carried refl tally (subst (λ told. AppendsCalls old.calls [] told) (sym calls) (calls_same old.calls)) faults at_end same
+    (λ fault none. heeds_all fault) carried refl tally (subst (λ told. AppendsCalls old.calls [] told) (sym calls) (calls_same old.calls)) faults at_end same
 
 -- no frame comes
 pub ends_unheard : (registration : Registration) (start old new : AgentSide) (feeder fed : Feeding) (asked : Asked) (ended : Ended) (bytes : List ℕ)
@@ -309,7 +344,7 @@ ends_unheard registration start old new feeder fed asked Closed bytes hears none
     still_open registration start old new feeder asked Closed bytes s ((round_of asked s.given, refl), refl) refl
     (subst (λ rest. Hears AtAgent (s.received ++ bytes) (register_frame registration ∷ rounds_frames (s.rounds ++ round_of asked s.given ∷ [])) rest)
     ((h.sound sound).0 ∙ empty) (whole_heard (s.received ++ bytes) _ fed none side h))
-    tally calls carried still mark same
+    (λ fault. absurd (not_closed fault)) tally calls carried still mark same
 ends_unheard registration start old new feeder fed asked (Cut count) bytes hears none side (sound, is, some, mark, still) tally calls carried same s =
     let h = hears s.received (register_frame registration ∷ rounds_frames (s.rounds ++ round_of asked s.given ∷ [])) s.heard in
     let at = h.sound sound in
@@ -320,11 +355,14 @@ ends_unheard registration start old new feeder fed asked (Cut count) bytes hears
       ap length at.0 ∙ sym is,
       some,
     )
-    tally calls carried still mark same
-ends_unheard registration start old new feeder fed asked LinkFault bytes hears none side rose tally calls carried same s =
+    (λ fault. absurd (not_cut count fault)) tally calls carried still mark same
+ends_unheard registration start old new feeder fed asked LinkFault bytes hears none side (sound, rose) tally calls carried same s =
     let h = hears s.received (register_frame registration ∷ rounds_frames (s.rounds ++ round_of asked s.given ∷ [])) s.heard in
     still_open registration start old new feeder asked LinkFault bytes s refl (omega arith)
-    (unheeded (s.received ++ bytes) _ fed side h) tally calls carried rose tt same
+    (unheeded (s.received ++ bytes) _ fed side h)
+    (λ fault. heeded_all (s.received ++ bytes) (register_frame registration ∷ rounds_frames (s.rounds ++ round_of asked s.given ∷ [])) fed none side
+    sound h)
+    tally calls carried rose tt same
 ends_unheard registration start old new feeder fed asked (BadFrame refusal) bytes hears none side (failed, of_bytes, still) tally calls carried same s =
     let heeded : List Framed = register_frame registration ∷ rounds_frames (s.rounds ++ round_of asked s.given ∷ []) in
     let h = hears s.received heeded s.heard in
@@ -335,11 +373,11 @@ ends_unheard registration start old new feeder fed asked (BadFrame refusal) byte
       subst (λ (heard : Heard). BeginsWrong heard h.behind refusal) side (h.wrong refusal failed),
       of_bytes,
     ))
-    tally calls carried still tt same
+    (λ fault. absurd (not_bad refusal fault)) tally calls carried still tt same
 ends_unheard registration start old new feeder fed asked Memory bytes hears none side still tally calls carried same s =
     let h = hears s.received (register_frame registration ∷ rounds_frames (s.rounds ++ round_of asked s.given ∷ [])) s.heard in
     still_open registration start old new feeder asked Memory bytes s (inl refl) (omega arith)
-    (unheeded (s.received ++ bytes) _ fed side h) tally calls carried still tt same
+    (unheeded (s.received ++ bytes) _ fed side h) (λ fault. absurd (not_memory fault)) tally calls carried still tt same
 ends_unheard registration start old new feeder fed asked (Hung entered now) bytes hears none side wrong tally calls carried same s = absurd wrong
 ends_unheard registration start old new feeder fed asked Stopped bytes hears none side wrong tally calls carried same s = absurd wrong
 ends_unheard registration start old new feeder fed asked (Strayed number found) bytes hears none side wrong tally calls carried same s = absurd wrong
@@ -364,7 +402,7 @@ ends_misplaced registration start old new feeder fed asked ended bytes framed ha
       number,
       refl,
     ))
-    tally calls carried still tt same)
+    (λ fault. absurd (not_bad (BadOperation 0x20) fault)) tally calls carried still tt same)
 
 untold : (registration : Registration) (start old new : AgentSide) (feeder fed : Feeding) (asked : Asked) (answer : Answer)
     (outcome : Result (Unit {0}) AnswerRefusal) (ended : Ended) (bytes : List ℕ)
@@ -397,7 +435,7 @@ untold registration start old new feeder fed asked answer outcome ended bytes as
           (subst (λ (rounds : List Round). EndsHeeding (s.received ++ bytes) (register_frame registration ∷ rounds_frames rounds) ended) all
           (heeds (s.received ++ bytes) (register_frame registration ∷ rounds_frames (s.rounds ++ round ∷ []))
           (unheeded (s.received ++ bytes) (register_frame registration ∷ rounds_frames (s.rounds ++ round ∷ [])) fed side heard)))
-          (ap (rounds_told registration.kind) (sym all) ∙ due) missed carried
+          (ap (rounds_told registration.kind) (sym all) ∙ due) missed (λ fault none. absurd (not_sent (unknown_frame answer) none)) carried
           (append-nil (rounds_calls registration.kind ((s.rounds ++ round ∷ []) ++ [])) ∙ (ap (rounds_calls registration.kind) (sym all) ∙ calls))
           made.counted made.told faults at_end same
       | inr other ↦
@@ -405,7 +443,8 @@ untold registration start old new feeder fed asked answer outcome ended bytes as
           (unknown_frame answer ∷ []) s.whole (others_more asked s.given one s.others other, tt) (omega arith) (asking (round ∷ []))
           (heeds (s.received ++ bytes) (register_frame registration ∷ rounds_frames (s.rounds ++ round ∷ []))
           (unheeded (s.received ++ bytes) (register_frame registration ∷ rounds_frames (s.rounds ++ round ∷ [])) fed side heard))
-          due missed carried (append-nil (rounds_calls registration.kind (s.rounds ++ round ∷ [])) ∙ calls)
+          due missed (λ fault none. absurd (not_sent (unknown_frame answer) none)) carried
+          (append-nil (rounds_calls registration.kind (s.rounds ++ round ∷ [])) ∙ calls)
           made.counted made.told faults at_end same
     ]
 
@@ -473,6 +512,7 @@ unregistered registration start old new feeder ended asking heeds missed at_end 
   one = omega arith;
   asking = asking;
   bytes = heeds s.received (register_frame registration ∷ []) (unheeded s.received (register_frame registration ∷ []) feeder side s.heard);
+  all = λ fault none. absurd (not_sent (registered_frame registration) none);
   due = refl;
   missed = missed;
   carried = subst (λ list. Carried start.traffic new.traffic list []) (append-nil s.received)

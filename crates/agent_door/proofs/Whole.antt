@@ -22,20 +22,22 @@ use Rattle.door_frames.specs.declared.endings.Ended.{Ended}
 use Rattle.door_frames.specs.declared.endings.Ended.TheVariants.{Closed, Cut, Hung, LinkFault, BadFrame, Stopped, Memory, Strayed}
 use Rattle.door_frames.proofs.Hearing.{unfed_heard}
 use Rattle.agent_door.specs.Frame.{register_frame, taken_frame, IsOutOfPlace}
-use Rattle.agent_door.specs.Serving.{AgentSide, agent_side, EndsHeeding, EndsUnregistered, IsUnregistered, IsUnjoined, TellsRefusal}
+use Rattle.agent_door.specs.Serving.{AgentSide, agent_side, EndsHeeding, HasHeededAll, EndsUnregistered, IsUnregistered, IsUnjoined, TellsRefusal}
 use Rattle.agent_door.specs.parts.Talk.{TellsTaken}
 use Rattle.agent_door.specs.declared.messages.Registration.{Registration}
-use Rattle.agent_door.proofs.Serving.{wrong_frame, unheeded, whole_heard, received_and_sent}
+use Rattle.agent_door.proofs.Serving.{wrong_frame, unheeded, whole_heard, heeded_all, not_closed, not_cut, not_bad, not_memory, received_and_sent}
 
 -- ---- none registers
 
-none : (start new : AgentSide) (ended : Ended) (bytes : List ℕ) → EndsUnregistered ended → EndsHeeding bytes [] ended → IsAtEnd ended new.marks
+none : (start new : AgentSide) (ended : Ended) (bytes : List ℕ) → EndsUnregistered ended → EndsHeeding bytes [] ended
+    → (ended ≡ LinkFault → HasHeededAll bytes []) → IsAtEnd ended new.marks
     → new.faults ≡ faults_after ended start.faults → new.tally ≡ start.tally → new.calls ≡ start.calls
     → Carried start.traffic new.traffic bytes [] → new.marks.ends ≡ start.marks.ends → IsUnregistered ended start new
-none start new ended bytes so heeding at_end faults tally calls carried same = record {
+none start new ended bytes so heeding all at_end faults tally calls carried same = record {
   received = bytes;
   ended_so = so;
   bytes = heeding;
+  all = all;
   carried = carried;
   tally = tally;
   calls = calls;
@@ -50,7 +52,7 @@ none_comes : (start new : AgentSide) (fed : Feeding) (ended : Ended) (bytes : Li
 none_comes start new fed Closed bytes h empty side (sound, is, mark, still) tally calls carried same =
     none start new Closed bytes tt
     (subst (λ rest. Hears AtAgent bytes [] rest) ((h.sound sound).0 ∙ is) (whole_heard bytes [] fed empty side h))
-    mark still tally calls carried same
+    (λ fault. absurd (not_closed fault)) mark still tally calls carried same
 none_comes start new fed (Cut count) bytes h empty side (sound, is, some, mark, still) tally calls carried same =
     let at = h.sound sound in
     none start new (Cut count) bytes tt (
@@ -60,9 +62,10 @@ none_comes start new fed (Cut count) bytes h empty side (sound, is, some, mark, 
       ap length at.0 ∙ sym is,
       some,
     )
-    mark still tally calls carried same
-none_comes start new fed LinkFault bytes h empty side rose tally calls carried same =
-    none start new LinkFault bytes tt (unheeded bytes [] fed side h) tt rose tally calls carried same
+    (λ fault. absurd (not_cut count fault)) mark still tally calls carried same
+none_comes start new fed LinkFault bytes h empty side (sound, rose) tally calls carried same =
+    none start new LinkFault bytes tt (unheeded bytes [] fed side h) (λ fault. heeded_all bytes [] fed empty side sound h) tt rose tally calls
+    carried same
 none_comes start new fed (BadFrame refusal) bytes h empty side (failed, of_bytes, still) tally calls carried same =
     none start new (BadFrame refusal) bytes tt
     (wrong_frame bytes [] refusal (
@@ -71,9 +74,9 @@ none_comes start new fed (BadFrame refusal) bytes h empty side (failed, of_bytes
       subst (λ (heard : Heard). BeginsWrong heard h.behind refusal) side (h.wrong refusal failed),
       of_bytes,
     ))
-    tt still tally calls carried same
+    (λ fault. absurd (not_bad refusal fault)) tt still tally calls carried same
 none_comes start new fed Memory bytes h empty side still tally calls carried same =
-    none start new Memory bytes tt (unheeded bytes [] fed side h) tt still tally calls carried same
+    none start new Memory bytes tt (unheeded bytes [] fed side h) (λ fault. absurd (not_memory fault)) tt still tally calls carried same
 none_comes start new fed (Hung entered now) bytes h empty side wrong tally calls carried same = absurd wrong
 none_comes start new fed Stopped bytes h empty side wrong tally calls carried same = absurd wrong
 none_comes start new fed (Strayed number found) bytes h empty side wrong tally calls carried same = absurd wrong
@@ -97,7 +100,8 @@ none_in_place start new feeder fed ended bytes framed first handed side (number,
     let h : HasHeard bytes (framed ∷ []) fed = subst (λ (x : Feeding). HandsOut bytes framed x fed) first handed [] [] (unfed_heard AtAgent) in
     let found = unheeded bytes (framed ∷ []) fed (side ∙ ap (λ (x : Feeding). x.heard) first) h in
     subst (λ (e : Ended). IsUnregistered e start new) (sym is)
-    (none start new (BadFrame (BadOperation 0x21)) bytes tt (inr (framed, found.0, found.1, found.2, number, refl)) tt still tally calls carried same)
+    (none start new (BadFrame (BadOperation 0x21)) bytes tt (inr (framed, found.0, found.1, found.2, number, refl))
+    (λ fault. absurd (not_bad (BadOperation 0x21) fault)) tt still tally calls carried same)
 
 -- ---- one registers
 

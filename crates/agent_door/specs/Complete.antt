@@ -51,3 +51,9 @@ pub data HeedsEach (registration : Registration) (answers : List Answer) (start 
       → Sends (registered_frame registration ∷ rounds_told registration.kind (rounds ++ open_round)) start now
       → HeedsEach registration answers start now
   taken : Sends (taken_frame registration ∷ []) start now → HeedsEach registration answers start now
+
+-- nothing was sent, and no call was made on the hall
+pub record IsUntold (start now : AgentSide) : Type 0 where
+  pub sends : Sends [] start now
+  pub tally : now.tally ≡ start.tally
+  pub calls : now.calls ≡ start.calls

@@ -9,7 +9,7 @@ use Rattle.agent_table.specs.declared.refusals.RegisterRefusal.TheVariants.{Stop
 use Rattle.wire_messages.specs.Frame.{spelling}
 use Rattle.wire_messages.specs.Operation.{number_of}
 use Rattle.wire_messages.specs.Message.{operation}
-use Rattle.wire_messages.specs.Stream.{Hears}
+use Rattle.wire_messages.specs.Stream.{Hears, IsOpen as IsBegun}
 use Rattle.wire_messages.specs.declared.messages.Framed.{Framed}
 use Rattle.wire_messages.specs.declared.operations.Heard.TheVariants.{AtAgent}
 use Rattle.wire_messages.specs.declared.refusals.WireRefusal.TheVariants.{BadOperation}
@@ -53,6 +53,10 @@ EndsHeeding bytes heeded (BadFrame (BadOperation number)) =
     × Hears AtAgent bytes (heeded ++ framed ∷ more) rest
     × (number_of (operation framed.message) ≡ number) × (number ≡ misplaced_behind heeded))
 EndsHeeding bytes heeded ended = EndsBytes AtAgent bytes heeded ended
+
+-- A call of the link failed while no whole frame was left of those that were received.
+abbrev pub HasHeededAll : List ℕ → List Framed → Type 0
+HasHeededAll bytes heeded = (rest : List ℕ) × Hears AtAgent bytes heeded rest × IsBegun AtAgent rest
 
 -- These frames were due and so many of them sent: all, but for the last one where the connection ended for its link or for
 -- want of memory.
@@ -99,6 +103,7 @@ pub record Asks (registration : Registration) (start now : AgentSide) (ended : E
   pub one : length open_round ≤ 1
   pub asking : EndsAsking registration.kind ended open_round last
   pub bytes : EndsHeeding received (register_frame registration ∷ rounds_frames (rounds ++ open_round)) ended
+  pub all : ended ≡ LinkFault → missing ≡ [] → HasHeededAll received (register_frame registration ∷ rounds_frames (rounds ++ open_round))
   pub due : registered_frame registration ∷ rounds_told registration.kind (rounds ++ open_round) ≡ sent ++ missing
   pub missed : MayMiss ended missing
   pub carried : Carried start.traffic now.traffic received (flat_map spelling sent)
@@ -122,6 +127,7 @@ pub record IsUnregistered (result : Ended) (start now : AgentSide) : Type 0 wher
   pub received : List ℕ
   pub ended_so : EndsUnregistered result
   pub bytes : EndsHeeding received [] result
+  pub all : result ≡ LinkFault → HasHeededAll received []
   pub carried : Carried start.traffic now.traffic received []
   pub tally : now.tally ≡ start.tally
   pub calls : now.calls ≡ start.calls

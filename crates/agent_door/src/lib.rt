@@ -9,4 +9,4 @@ mod rounds;
 mod sending;
 
 pub use agent_loops::agent_loop;
-pub use laws::each_frame_of_an_agent_is_heeded;
+pub use laws::{a_silent_agent_is_told_nothing, each_frame_of_an_agent_is_heeded};

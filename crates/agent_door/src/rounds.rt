@@ -11,8 +11,8 @@ ghost use Rattle.door_frames.specs.Hearing.{IsSound, HandsOut};
 ghost use Rattle.door_frames.specs.Ending.{EndsSending};
 ghost use Rattle.agent_door.specs.Frame.{answer_frame, question_frame, unknown_frame};
 ghost use Rattle.agent_door.specs.Round.{told_of};
-ghost use Rattle.agent_door.specs.Serving.{agent_side};
-ghost use Rattle.agent_door.specs.parts.Talk.{Goes, Ends, EndsHearing, HandsIn};
+ghost use Rattle.agent_door.specs.Serving.{AgentSide, agent_side};
+ghost use Rattle.agent_door.specs.parts.Talk.{Stands, Goes, Ends, EndsHearing, HandsIn};
 
 use crate::messages::{Answer, Registration, read_answer};
 use crate::sending::send;
@@ -22,10 +22,11 @@ use desk_ports::Bytes;
 use door_frames::{Ended, next_frame};
 use link_ports::Link;
 use server_hall::{Hall, NextRefusal};
+use std::snapshot::Snapshot;
 use std::sync::Wait;
 use wire_messages::{Feeder, Message};
 
-/// Gives the agent its next question, and waits for the answer to it. It may wait.
+/// Gives the agent its next question, and waits for the answer to it: each question before has its answer. It may wait.
 pub(crate) fn round<R: Wait, A: Hall, L: Link>(
     rt: &R,
     hall: &mut A,
@@ -39,6 +40,9 @@ pub(crate) fn round<R: Wait, A: Hall, L: Link>(
     requires some { 0 < length room.old }
     requires side { feeder.old.heard ≡ AtAgent }
     requires sound { IsSound feeder.old }
+    requires answered { (start : AgentSide) × Stands registration start
+        (agent_side (A.tally hall.old) (A.calls hall.old) (L.traffic link.old) (L.marks link.old) (L.faults link.old))
+        feeder.old None }
     ensures side { OnOk result (feeder.new.heard ≡ AtAgent) }
     ensures sound { OnOk result (IsSound feeder.new) }
     ensures round { MatchResult result
@@ -132,11 +136,12 @@ fn take_answers<R: Wait, A: Hall, L: Link>(
         (agent_side (A.tally hall.new) (A.calls hall.new) (L.traffic link.new) (L.marks link.new) (L.faults link.new))) }
 {
     for _ in rt.forever() {
+        let before = Snapshot::of(feeder);
         let given = match take_answer(rt, link, feeder, room) {
             Ok(given) => given,
             Err(ended) => return Err(ended),
         };
-        if let Err(ended) = hand_in(hall, link, frame, registration.kind, given) {
+        if let Err(ended) = hand_in(hall, link, frame, registration.kind, given, feeder, before) {
             return Err(ended);
         }
         if given.number == number {
@@ -176,15 +181,18 @@ fn take_answer<R: Wait, L: Link>(
     }
 }
 
-// Hands an answer to the hall. One that it refuses is told so.
+// Hands to the hall the answer that was taken off the feeder last. One that the hall refuses is told so.
 fn hand_in<A: Hall, L: Link>(
     hall: &mut A,
     link: &mut L,
     frame: &mut Bytes,
     kind: Kind,
     given: Answer,
+    feeder: &Feeder,
+    before: Snapshot<Feeder>,
 ) -> Result<(), Ended>
-    requires { IsTrue (is_agent kind.0) }
+    requires agent { IsTrue (is_agent kind.0) }
+    requires heard { (bytes : List ℕ) × HandsOut bytes (answer_frame given) before.value feeder.now }
     ensures handed { (outcome : Result (Unit {0}) refusal_type.AnswerRefusal)
         × HandsIn kind given outcome (A.tally hall.old) (A.calls hall.old) (A.tally hall.new) (A.calls hall.new)
         × MatchResult result

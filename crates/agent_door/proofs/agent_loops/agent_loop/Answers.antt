@@ -87,6 +87,23 @@ returns-in-Err-Memory g c =
     framed.1 (carried_same (g.L.Link.traffic c.next_frame.new.link)) c.in-Err-Memory.ensures.tally c.in-Err-Memory.ensures.calls
     c.in-Ok.ensures.faults c.next_frame.ensures.ends)
 
+pub serve-ended-requires-clause-joined : goal.serve-ended-requires-clause-joined
+serve-ended-requires-clause-joined g c =
+    let framed = c.in-Ok.ensures.framed in (
+      agent_side (g.A.Hall.tally c.args.hall.now) (g.A.Hall.calls c.args.hall.now) (g.L.Link.traffic c.args.link.now)
+          (g.L.Link.marks c.args.link.now) (g.L.Link.faults c.args.link.now),
+      record {
+        received = framed.0;
+        heard = registers framed.0 c.in-Ok.framed c.in-Ok-read_registration.registered c.new-feeder.result c.next_frame.new.feeder
+            c.new-feeder.ensures c.in-Ok-read_registration.ensures.0 framed.2;
+        carried = framed.1;
+        tally = c.in-Ok-join.ensures.tally;
+        calls = c.in-Ok-join.ensures.calls;
+        faults = c.in-Ok.ensures.faults;
+        ends = c.next_frame.ensures.ends;
+      },
+    )
+
 pub returns : goal.returns
 returns g c =
     let framed = c.in-Ok.ensures.framed in

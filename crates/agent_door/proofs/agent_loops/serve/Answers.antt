@@ -34,3 +34,8 @@ loop-init g c =
         ),
       ),
     )
+
+pub round-requires-clause-answered : goal.round-requires-clause-answered
+round-requires-clause-answered g c =
+    let (start, joined) = c.requires.joined in
+    (start, c.loop.invariant.1.1.1.1 start joined)

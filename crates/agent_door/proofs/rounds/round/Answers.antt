@@ -5,7 +5,7 @@ use Rattle.server_hall.specs.declared.calls.HallCall.TheVariants.{Next}
 use Rattle.server_hall.specs.declared.refusals.NextRefusal.{NextRefusal}
 use Rattle.door_frames.specs.declared.endings.Ended.TheVariants.{Stopped, Memory}
 use Rattle.agent_door.specs.Serving.{agent_side}
-use Rattle.agent_door.proofs.Serving.{ends_for_next, ends_unasked, asks_next}
+use Rattle.agent_door.proofs.Serving.{ends_for_next, ends_unasked, asks_next, not_stopped, not_memory}
 use Rattle.agent_door.proofs.rounds.round.Goals as goal
 
 pub returns-in-Err-Stopped-clause-round : goal.returns-in-Err-Stopped-clause-round
@@ -16,7 +16,7 @@ returns-in-Err-Stopped-clause-round g c start s =
     (agent_side (g.A.Hall.tally c.next.new.self) (g.A.Hall.calls c.next.new.self) (g.L.Link.traffic c.args.link.now) (g.L.Link.marks c.args.link.now)
     (g.L.Link.faults c.args.link.now))
     c.args.feeder.now Stopped (Next (record { kind = c.args.registration.kind; result = Err c.in-Err-Stopped.field-0 })) c.requires.side
-    (refl, ap (λ (why : NextRefusal). Next (record { kind = c.args.registration.kind; result = Err why }) ∷ []) c.in-Err-Stopped.field-0-is) (λ bytes heeded heard. heard) refl tt refl c.in-Err-Stopped.ensures.tally c.in-Err-Stopped.ensures.calls
+    (refl, ap (λ (why : NextRefusal). Next (record { kind = c.args.registration.kind; result = Err why }) ∷ []) c.in-Err-Stopped.field-0-is) (λ bytes heeded heard. heard) refl not_stopped tt refl c.in-Err-Stopped.ensures.tally c.in-Err-Stopped.ensures.calls
     (carried_same (g.L.Link.traffic c.args.link.now)) refl s
 
 pub returns-in-Err-Memory-clause-round : goal.returns-in-Err-Memory-clause-round
@@ -27,7 +27,7 @@ returns-in-Err-Memory-clause-round g c start s =
     (agent_side (g.A.Hall.tally c.next.new.self) (g.A.Hall.calls c.next.new.self) (g.L.Link.traffic c.args.link.now) (g.L.Link.marks c.args.link.now)
     (g.L.Link.faults c.args.link.now))
     c.args.feeder.now Memory (Next (record { kind = c.args.registration.kind; result = Err c.in-Err-Memory.field-0 })) c.requires.side
-    (inr (refl, c.in-Err-Memory.field-0, refl)) (λ bytes heeded heard. heard) (omega arith) tt refl c.in-Err-Memory.ensures.tally c.in-Err-Memory.ensures.calls
+    (inr (refl, c.in-Err-Memory.field-0, refl)) (λ bytes heeded heard. heard) (omega arith) not_memory tt refl c.in-Err-Memory.ensures.tally c.in-Err-Memory.ensures.calls
     (carried_same (g.L.Link.traffic c.args.link.now)) refl s
 
 pub returns-in-Err-clause-round : goal.returns-in-Err-clause-round

@@ -1,9 +1,17 @@
 use Rattle.std.proofs.Common.{◌∙◌, ap, sym, subst, refl}
 use Rattle.link_ports.specs.LinkMarks.{LinkMarks}
+use Rattle.wire_messages.specs.Stream.{Feeding}
 use Rattle.door_frames.specs.Ending.{EndsSending}
+use Rattle.door_frames.specs.Hearing.{HandsOut}
+use Rattle.agent_door.specs.Frame.{answer_frame}
 use Rattle.agent_door.specs.Serving.{agent_side}
 use Rattle.agent_door.proofs.Serving.{takes_none, takes_untold, takes_it, takes_other}
 use Rattle.agent_door.proofs.rounds.take_answers.Goals as goal
+
+pub hand_in-requires-clause-heard : goal.hand_in-requires-clause-heard
+hand_in-requires-clause-heard g c =
+    let (bytes, carried, handed) = c.in-Ok.ensures.taken in
+    (bytes, subst (λ (fed : Feeding). HandsOut bytes (answer_frame c.in-Ok.given) fed c.take_answer.new.feeder) (sym c.of-before.ensures) handed)
 
 pub returns-in-Err-clause-answered : goal.returns-in-Err-clause-answered
 returns-in-Err-clause-answered g c asked same start s =
