@@ -11,7 +11,7 @@ use Rattle.wire_messages.specs.declared.messages.Message.{Message}
 use Rattle.wire_messages.specs.declared.messages.Message.TheVariants.{Done, Listing, AdminCheck, Stop}
 use Rattle.door_frames.specs.declared.endings.Ended.{Ended}
 use Rattle.admin_door.specs.Side.{AdminSide, with_kept, with_shown, with_fault, with_stop}
-use Rattle.admin_door.specs.Settling.{IsFound, Settles, Unsettles}
+use Rattle.admin_door.specs.Settling.{IsFound, Settles, IsHungFor, Unsettles}
 use Rattle.admin_door.specs.Answering.{Commits, LacksMemory, Obeys, IsUnanswered, AnswersQuestion, AnswersBy, RefusesBy}
 use Rattle.admin_door.specs.Adding.{Adds, AddsAtMost, AddsSome, IsAcknowledged}
 use Rattle.admin_door.specs.Serving.{AdminTalk, Exchange, AreAnswered, EndsAnswering, Serves}
@@ -101,6 +101,21 @@ settles-one told old now settles =
     at-most-then 0 1 old settles.found now (found-none told old settles.found settles.is_found)
     (subst (λ (side : AdminSide). AddsAtMost 1 settles.found side) (sym settles.shown)
     (shown-one (nat_lt (last_commit 0 settles.found.published) settles.found.desk.commit) settles.found))
+
+-- and for what it publishes all older connections are hung up
+hung-where : (old now : AdminSide) (more : List DeskState) → now.published ≡ old.published ++ more
+    → ((more ≡ []) × (now.tally.cleared ≡ old.tally.cleared)) ⊎ (now.tally.cleared ≡ last_commit 0 now.published)
+    → IsHungFor (last_commit 0 old.published) now.published now.tally
+hung-where old now more published (inl (none, same)) =
+    inl (ap (λ (list : List DeskState). last_commit 0 list)
+    (published ∙ (ap (λ (list : List DeskState). old.published ++ list) none ∙ append-nil old.published)))
+hung-where old now more published (inr hung) = inr hung
+
+pub settles-hung : (told : Option DiskState) (old now : AdminSide) → Settles told old now
+    → IsHungFor (last_commit 0 old.published) now.published now.tally
+settles-hung told old now settles =
+    let (more, most, adds) = settles-one told old now settles in
+    hung-where old now more adds.published adds.cleared
 
 fails-none : (old now : AdminSide) → now ≡ with_fault old → AddsAtMost 0 old now
 fails-none old now is =

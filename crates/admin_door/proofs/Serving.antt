@@ -293,7 +293,7 @@ module _ (start old : AdminTalk) (feeder fed : Feeding) (bytes : List ℕ) (traf
         subst (λ (side : Heard). BeginsWrong side behind refusal) at_admin wrong,
         of_bytes,
       ) still tt
-  ends-reading LinkFault rose = read-to LinkFault s.no_stops hears-some rose tt
+  ends-reading LinkFault (sound, rose) = read-to LinkFault s.no_stops hears-some rose tt
   ends-reading Memory still = read-to Memory s.no_stops hears-some still tt
   ends-reading Stopped ends = absurd ends
   ends-reading (Hung entered later) ends = absurd ends

@@ -3,6 +3,7 @@ pub mod Reply
 pub mod Settling
 pub mod Answering
 pub mod Adding
+pub mod Due
 pub mod Stops
 pub mod Serving
 pub mod Running

@@ -5,6 +5,7 @@ use Rattle.desk_state.specs.DeskState.{DeskState}
 use Rattle.desk_keeper.specs.Kept.{kept}
 use Rattle.desk_keeper.specs.Keeping.{IsOlder}
 use Rattle.live_desk.specs.History.{last_commit}
+use Rattle.server_hall.specs.Tally.{Tally}
 use Rattle.wire_messages.specs.declared.messages.Message.{Message}
 use Rattle.wire_messages.specs.declared.messages.Message.TheVariants.{StoreDamaged as StoreDamagedReply}
 use Rattle.admin_door.specs.Side.{AdminSide, with_shown, with_fault}
@@ -30,6 +31,10 @@ pub record Settles (told : Option DiskState) (old now : AdminSide) : Type 0 wher
   pub found : AdminSide
   pub is_found : IsFound told old found
   pub shown : now ≡ with_last_shown found
+
+-- Nothing was published behind this commit, or all connections are hung up that entered before what was published last.
+abbrev pub IsHungFor : ℕ → List DeskState → Tally → Type 0
+IsHungFor before published tally = (last_commit 0 published ≡ before) ⊎ (tally.cleared ≡ last_commit 0 published)
 
 -- Why it is not settled: a call of the disk failed; the folder stands for no policy state, or for an older one; or for want of
 -- memory, before or after it was found what the folder keeps.

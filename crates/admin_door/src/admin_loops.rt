@@ -17,6 +17,7 @@ ghost use Rattle.admin_door.specs.Side.{side_of, decided_of};
 ghost use Rattle.admin_door.specs.Stops.{KeepsKnown, StandsBy};
 ghost use Rattle.admin_door.specs.Running.{RunsOver};
 ghost use Rattle.admin_door.specs.Adding.{AddsSome};
+ghost use Rattle.admin_door.specs.Due.{AreDue};
 ghost use Rattle.admin_door.specs.Serving.{talk_of, Serves, replies_bytes, IsNoStop};
 ghost use Rattle.admin_door.specs.parts.Talk.{Goes, Ends, IsWhole, EndsAt, IsCutOff};
 
@@ -180,7 +181,7 @@ fn answer_frame<R: Wait, D: Disk, A: Hall, L: Link>(
         Ok(replies) => replies,
         Err(ended) => return Err(ended),
     };
-    if let Err(ended) = send_all(link, frame, framed.sequence, &replies) {
+    if let Err(ended) = send_due(keeper, publisher, hall, link, frame, framed, &replies) {
         return Err(ended);
     }
     go_on(&framed.message)
@@ -196,21 +197,28 @@ fn go_on(message: &Message) -> Result<(), Ended>
     }
 }
 
-// Sends the replies to a frame, each with its sequence number.
-fn send_all<L: Link>(
+// Sends the replies that are due to a frame, each with its sequence number: what they tell as done stands in the keeper, the
+// publisher and the hall before the first byte is sent.
+fn send_due<D: Disk, A: Hall, L: Link>(
+    keeper: &Keeper<'_, D>,
+    publisher: &Publisher,
+    hall: &A,
     link: &mut L,
     frame: &mut Bytes,
-    sequence: u16,
+    framed: &Framed,
     replies: &[Message],
 ) -> Result<(), Ended>
+    requires due { AreDue framed.now.message
+        (side_of D.faults keeper.now publisher.now (A.tally hall.now) (A.calls hall.now)) replies.now }
     ensures sent { MatchResult result
-        (λ _. Carried (L.traffic link.old) (L.traffic link.new) [] (replies_bytes sequence replies.now)
+        (λ _. Carried (L.traffic link.old) (L.traffic link.new) [] (replies_bytes framed.now.sequence replies.now)
         × (L.faults link.new ≡ L.faults link.old))
-        (λ ended. IsCutOff ended sequence replies.now (L.traffic link.old) (L.traffic link.new) (L.faults link.old) (L.faults link.new)) }
+        (λ ended. IsCutOff ended framed.now.sequence replies.now
+        (L.traffic link.old) (L.traffic link.new) (L.faults link.old) (L.faults link.new)) }
     ensures marks { L.marks link.new ≡ L.marks link.old }
 {
     for reply in replies {
-        if let Err(ended) = send_message(link, frame, sequence, reply) {
+        if let Err(ended) = send_message(link, frame, framed.sequence, reply) {
             return Err(ended);
         }
     }

@@ -18,11 +18,12 @@ ghost use Rattle.server_hall.specs.Tally.{after_stop};
 ghost use Rattle.wire_messages.specs.declared.operations.Heard.TheVariants.{AtAdmin};
 ghost use Rattle.door_frames.specs.declared.endings.Ended.TheVariants.{Memory};
 ghost use Rattle.admin_door.specs.Side.{side_of, decided_of};
-ghost use Rattle.admin_door.specs.Settling.{TellsDamage};
+ghost use Rattle.admin_door.specs.Settling.{IsHungFor, TellsDamage};
 ghost use Rattle.admin_door.specs.Answering.{Answers, Refuses, AnswersQuestion, Obeys, IsUnanswered, Commits, LacksMemory, AnswersUnsettled};
 ghost use Rattle.admin_door.specs.parts.Asking.{IsNoCommand};
 ghost use Rattle.admin_door.specs.parts.Showing.{Shows, IsUnshown};
 
+use crate::publishing::show;
 use crate::questions::{check_replies, list_replies, one};
 use crate::settling::{Unsettled, settle};
 use desk_keeper::{Keeper, PreparedCommit};
@@ -189,8 +190,9 @@ fn obey<R: Wait, D: Disk, A: Hall>(
     ensures behind { last_commit 0 publisher.new ≤ keeper.new.desk.commit }
     ensures same_disk { IsSameDisk keeper.old keeper.new }
 {
+    let shown = publisher.commit();
     match settle(rt, keeper, publisher, hall) {
-        Ok(()) => commit(rt, alloc, keeper, publisher, hall, command),
+        Ok(()) => commit(rt, alloc, keeper, publisher, hall, command, shown),
         Err(reason) => tell_unsettled(alloc, reason),
     }
 }
@@ -206,7 +208,8 @@ fn tell_unsettled(alloc: Global, reason: Unsettled) -> Result<Vec<Message>, Ende
     }
 }
 
-// Does what the command says, from a state that is kept and shown to all.
+// Does what the command says, from a state that is kept and shown to all: where one was published behind the commit that is
+// given, all older connections are hung up.
 fn commit<R: Wait, D: Disk, A: Hall>(
     rt: &R,
     alloc: Global,
@@ -214,9 +217,11 @@ fn commit<R: Wait, D: Disk, A: Hall>(
     publisher: &mut Publisher,
     hall: &mut A,
     command: &Command,
+    shown: u64,
 ) -> Result<Vec<Message>, Ended>
     requires decided { decided_of keeper.old ≡ true }
     requires even { last_commit 0 publisher.old ≡ keeper.old.desk.commit }
+    requires hung { IsHungFor shown publisher.old (A.tally hall.old) }
     ensures committed { MatchResult result
         (λ replies. Commits command.now
         (side_of D.faults keeper.old publisher.old (A.tally hall.old) (A.calls hall.old))
@@ -249,8 +254,7 @@ fn tell_refusal(alloc: Global, refusal: Refusal) -> Result<Vec<Message>, Ended>
     }
 }
 
-// Commits what was prepared, publishes it, and then hangs up all older connections. All memory but that of the publication is
-// taken before the commit.
+// Commits what was prepared, and then shows it to all. All memory but that of the publication is taken before the commit.
 fn commit_prepared<R: Wait, D: Disk, A: Hall>(
     rt: &R,
     alloc: Global,
@@ -292,9 +296,8 @@ fn commit_prepared<R: Wait, D: Disk, A: Hall>(
     let Ok(_) = keeper.commit(prepared) else {
         return Ok(fault);
     };
-    let Ok(_) = publisher.publish(rt, ready) else {
-        return Err(Ended::Memory);
-    };
-    hall.hang(publisher);
-    Ok(done)
+    match show(rt, keeper, publisher, hall, ready) {
+        Ok(()) => Ok(done),
+        Err(_) => Err(Ended::Memory),
+    }
 }

@@ -8,6 +8,7 @@
 mod admin_loops;
 mod commands;
 mod laws;
+mod publishing;
 mod questions;
 mod settling;
 

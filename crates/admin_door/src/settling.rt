@@ -14,6 +14,7 @@ ghost use Rattle.admin_door.specs.Side.{side_of, decided_of};
 ghost use Rattle.admin_door.specs.Settling.{IsFound, Settles, Unsettles, IsStillDamaged, with_last_shown};
 ghost use Rattle.admin_door.specs.declared.settling.Unsettled.TheVariants.{Memory};
 
+use crate::publishing::show;
 use desk_keeper::{Keeper, KeeperRefusal};
 use desk_ports::{Disk, FileName};
 use live_desk::Publisher;
@@ -95,15 +96,15 @@ fn remount<D: Disk>(keeper: &mut Keeper<'_, D>) -> Result<(), Unsettled>
     }
 }
 
-// Publishes the state that the folder keeps, where it is newer than what was published, and then hangs up all older
-// connections.
+// Shows the state that the folder keeps to all, where it is newer than what was published.
 fn publish_kept<R: Wait, D: Disk, A: Hall>(
     rt: &R,
     keeper: &Keeper<'_, D>,
     publisher: &mut Publisher,
     hall: &mut A,
 ) -> Result<(), Unsettled>
-    requires { last_commit 0 publisher.old ≤ keeper.now.desk.commit }
+    requires decided { decided_of keeper.now ≡ true }
+    requires behind { last_commit 0 publisher.old ≤ keeper.now.desk.commit }
     ensures shown { MatchResult result
         (λ _. side_of D.faults keeper.now publisher.new (A.tally hall.new) (A.calls hall.new)
         ≡ with_last_shown (side_of D.faults keeper.now publisher.old (A.tally hall.old) (A.calls hall.old)))
@@ -118,9 +119,8 @@ fn publish_kept<R: Wait, D: Disk, A: Hall>(
     let Ok(ready) = publisher.prepare(keeper.desk()) else {
         return Err(Unsettled::Memory);
     };
-    let Ok(_) = publisher.publish(rt, ready) else {
-        return Err(Unsettled::Memory);
-    };
-    hall.hang(publisher);
-    Ok(())
+    match show(rt, keeper, publisher, hall, ready) {
+        Ok(()) => Ok(()),
+        Err(_) => Err(Unsettled::Memory),
+    }
 }

@@ -1,10 +1,19 @@
-use Rattle.std.proofs.Common.{inl, inr}
+use Rattle.std.proofs.Common.{inl, inr, sym, subst}
 use Rattle.desk_keeper.specs.Keeper.{disk_of}
 use Rattle.admin_door.specs.Side.{side_of}
+use Rattle.admin_door.specs.Settling.{IsHungFor}
+use Rattle.admin_door.proofs.Adding.{settles-hung}
 use Rattle.admin_door.proofs.Answering.{either-way}
 use Rattle.admin_door.proofs.Stopping.{stands-behind}
 use Rattle.admin_door.proofs.Damage.{ok-way, commits-undamaged, unsettled-damaged}
 use Rattle.admin_door.proofs.commands.obey.Goals as goal
+
+pub commit-requires-clause-hung : goal.commit-requires-clause-hung
+commit-requires-clause-hung g c =
+    let old = side_of g.D.Disk.faults c.args.keeper.now c.args.publisher.now (g.A.Hall.tally c.args.hall.now) (g.A.Hall.calls c.args.hall.now) in
+    let between = side_of g.D.Disk.faults c.settle.new.keeper c.settle.new.publisher (g.A.Hall.tally c.settle.new.hall) (g.A.Hall.calls c.settle.new.hall) in
+    subst (λ shown. IsHungFor shown between.published between.tally) (sym c.commit-shown.ensures.commit)
+    (settles-hung (g.D.Disk.state (disk_of c.args.keeper.now)) old between c.in-Ok.ensures.settled)
 
 pub returns-in-Ok-clause-obeyed : goal.returns-in-Ok-clause-obeyed
 returns-in-Ok-clause-obeyed g c =
