@@ -5,6 +5,7 @@ ghost use Rattle.server_hall.specs.Tally as counted;
 ghost use Rattle.server_hall.specs.declared.calls.HallCall as call;
 ghost use Rattle.client_door.specs.Serving.{client_side, Serves as ServesClient};
 ghost use Rattle.agent_door.specs.Serving.{agent_side, Serves as ServesAgent};
+ghost use Rattle.admin_door.specs.Adding.{AddsSome};
 ghost use Rattle.admin_door.specs.Side.{side_of};
 ghost use Rattle.admin_door.specs.Serving.{talk_of, Serves as ServesAdmin};
 ghost use Rattle.admin_door.specs.Running.{RunsOver};
@@ -72,7 +73,9 @@ pub fn serve_admin<R: Wait, D: Disk, H: HangEnd, L: Link>(
         (L.traffic link.old) (L.marks link.old) (L.faults link.old))
         (talk_of (side_of D.faults keeper.new publisher.new tally None)
         (L.traffic link.new) (L.marks link.new) (L.faults link.new)) result
-        (RunsOver D.state D.moment D.left_since keeper.old keeper.new) }
+        (RunsOver D.state D.moment D.left_since keeper.old keeper.new)
+        × AddsSome (side_of D.faults keeper.old publisher.old counted.no_calls None)
+        (side_of D.faults keeper.new publisher.new tally None) }
     ensures behind { last_commit 0 publisher.new ≤ keeper.new.desk.commit }
     ensures same_disk { IsSameDisk keeper.old keeper.new }
 {

@@ -23,7 +23,7 @@ pub returns-then-is_stop-clause-worked : goal.returns-then-is_stop-clause-worked
 returns-then-is_stop-clause-worked g c first start given count (frames, so_far, runs) =
     let visit : Visit g.row.L.Denot =
     record { accepted = c.in-Ok.link; returned = c.serve_admin-ended.new.link; ended = c.serve_admin-ended.result } in
-    let (tally, served) = c.serve_admin-ended.ensures.served in
+    let (tally, served, adds) = c.serve_admin-ended.ensures.served in
     let office = office_of g.D.Disk.faults c.args.keeper.now c.args.publisher.now [] in
     let office_now =
     office_of g.D.Disk.faults c.serve_admin-ended.new.keeper c.serve_admin-ended.new.publisher [] in
@@ -52,7 +52,7 @@ pub returns-clause-worked : goal.returns-clause-worked
 returns-clause-worked g c first start given count (frames, so_far, runs) =
     let visit : Visit g.row.L.Denot =
     record { accepted = c.in-Ok.link; returned = c.serve_admin-ended.new.link; ended = c.serve_admin-ended.result } in
-    let (tally, served) = c.serve_admin-ended.ensures.served in
+    let (tally, served, adds) = c.serve_admin-ended.ensures.served in
     let office = office_of g.D.Disk.faults c.args.keeper.now c.args.publisher.now [] in
     let office_now =
     office_of g.D.Disk.faults c.serve_admin-ended.new.keeper c.serve_admin-ended.new.publisher [] in
