@@ -2,40 +2,57 @@
 //! and hold the link; `G`, which gives the last link held back to the net; `C`, `M` and `T`, which open a door; `x`,
 //! which closes the last one opened; `k`, which knocks; and those of a door, made of the last one opened.
 
-use crate::dialled::{Held, call_door, show_given_back};
-use crate::shown::{fails_of, links_of, show};
-use link_ports::{Dial, DoorKind, MemDoor, MemNet, Net};
+use crate::dialled::{Held, call_door, give_back, hold_ok, show_given_back};
+use crate::shown::{CaseLink, done_or_not, fails_of, links_of, put, show};
+use link_ports::{Dial, Door, DoorKind, MemDoor, MemNet, Net};
 use std::alloc::{AllocError, Global};
 
 /// What the calls answer, and what then stands: the count of failures, how many dials were made, the links given back
 /// to the net, and the doors that were closed, with the links given back to each.
-pub fn answer(
+pub fn answer(alloc: Global, words: &[&str], out: &mut String) -> Result<bool, AllocError> {
+    let [client, admin, agent, fails, calls] = words else {
+        return Ok(false);
+    };
+    let mut net = new_net(alloc, client, admin, agent, fails)?;
+    make_calls(alloc, &mut net, calls, out)?;
+    tell(alloc, &net, out)
+}
+
+fn new_net(
     alloc: Global,
-    kinds: [&str; 3],
+    client: &str,
+    admin: &str,
+    agent: &str,
     fails: &str,
+) -> Result<MemNet, AllocError> {
+    let fails = fails_of(alloc, fails)?;
+    let client = links_of(alloc, client)?;
+    let admin = links_of(alloc, admin)?;
+    MemNet::new(alloc, client, admin, links_of(alloc, agent)?, fails)
+}
+
+fn make_calls(
+    alloc: Global,
+    net: &mut MemNet,
     calls: &str,
-) -> Result<Option<String>, AllocError> {
-    let [client, admin, agent] = kinds;
-    let mut net = MemNet::new(
-        alloc,
-        links_of(alloc, client)?,
-        links_of(alloc, admin)?,
-        links_of(alloc, agent)?,
-        fails_of(alloc, fails)?,
-    )?;
+    out: &mut String,
+) -> Result<(), AllocError> {
     let mut held = Held::new(alloc);
     let mut doors = Vec::new(alloc);
-    let mut out = String::new(alloc);
     for call in calls.chars() {
-        make_call(alloc, &mut out, (&mut net, &mut doors), &mut held, call)?;
+        make_call(alloc, out, net, &mut doors, &mut held, call)?;
     }
-    let counts = format!(in alloc; "| faults {} dials {}", net.faults(), net.dials())?;
-    out.push_str(counts.as_str())?;
-    show_given_back(alloc, &mut out, net.given_back())?;
+    Ok(())
+}
+
+fn tell(alloc: Global, net: &MemNet, out: &mut String) -> Result<bool, AllocError> {
+    let (faults, dials) = (net.faults(), net.dials());
+    put(out, format!(in alloc; "| faults {faults} dials {dials}"))?;
+    show_given_back(alloc, out, net.given_back())?;
     for door in net.closed() {
-        show_door(alloc, &mut out, door)?;
+        show_door(alloc, out, door)?;
     }
-    Ok(Some(out))
+    Ok(true)
 }
 
 fn show_door(alloc: Global, out: &mut String, door: &MemDoor) -> Result<(), AllocError> {
@@ -48,17 +65,21 @@ fn show_door(alloc: Global, out: &mut String, door: &MemDoor) -> Result<(), Allo
     show_given_back(alloc, out, door.given_back())
 }
 
-fn make_call(
+fn make_call<L: CaseLink, N: Net<Link = L>>(
     alloc: Global,
     out: &mut String,
-    (net, doors): (&mut MemNet, &mut Vec<MemDoor>),
-    held: &mut Held,
+    net: &mut N,
+    doors: &mut Vec<N::Door>,
+    held: &mut Held<L>,
     call: char,
-) -> Result<(), AllocError> {
+) -> Result<(), AllocError>
+where
+    N::Door: Door<Link = L>,
+{
     match call {
-        'c' => dial(out, net, DoorKind::Client, held, call),
-        'm' => dial(out, net, DoorKind::Admin, held, call),
-        't' => dial(out, net, DoorKind::Agent, held, call),
+        'c' => held.hold(out, call, net.dial(DoorKind::Client)),
+        'm' => held.hold(out, call, net.dial(DoorKind::Admin)),
+        't' => held.hold(out, call, net.dial(DoorKind::Agent)),
         'C' => open(out, net, DoorKind::Client, doors, call),
         'M' => open(out, net, DoorKind::Admin, doors, call),
         'T' => open(out, net, DoorKind::Agent, doors, call),
@@ -68,61 +89,30 @@ fn make_call(
             net.knock(DoorKind::Client);
             show(out, call, "")
         }
-        _ => at_last_door(alloc, out, doors, held, call),
+        _ => match doors.last_mut() {
+            Some(door) => call_door(alloc, out, door, held, call),
+            None => held.call(out, call),
+        },
     }
 }
 
-fn dial(
+fn open<N: Net>(
     out: &mut String,
-    net: &mut MemNet,
+    net: &mut N,
     kind: DoorKind,
-    held: &mut Held,
+    doors: &mut Vec<N::Door>,
     call: char,
 ) -> Result<(), AllocError> {
-    match net.dial(kind) {
-        Ok(link) => {
-            held.links.push(link)?;
-            show(out, call, "+")
-        }
-        Err(_) => show(out, call, "!"),
-    }
+    let opened = net.door(kind);
+    let is_opened = opened.is_ok();
+    hold_ok(doors, opened)?;
+    show(out, call, done_or_not(is_opened))
 }
 
-fn open(
+fn close<N: Net>(
     out: &mut String,
-    net: &mut MemNet,
-    kind: DoorKind,
-    doors: &mut Vec<MemDoor>,
-    call: char,
-) -> Result<(), AllocError> {
-    match net.door(kind) {
-        Ok(door) => {
-            doors.push(door)?;
-            show(out, call, "+")
-        }
-        Err(_) => show(out, call, "!"),
-    }
-}
-
-fn give_back(
-    out: &mut String,
-    net: &mut MemNet,
-    held: &mut Held,
-    call: char,
-) -> Result<(), AllocError> {
-    match held.links.pop() {
-        Some(link) => {
-            net.give_back(link);
-            show(out, call, "")
-        }
-        None => show(out, call, "?"),
-    }
-}
-
-fn close(
-    out: &mut String,
-    net: &mut MemNet,
-    doors: &mut Vec<MemDoor>,
+    net: &mut N,
+    doors: &mut Vec<N::Door>,
     call: char,
 ) -> Result<(), AllocError> {
     match doors.pop() {
@@ -131,22 +121,5 @@ fn close(
             show(out, call, "")
         }
         None => show(out, call, "?"),
-    }
-}
-
-fn at_last_door(
-    alloc: Global,
-    out: &mut String,
-    doors: &mut Vec<MemDoor>,
-    held: &mut Held,
-    call: char,
-) -> Result<(), AllocError> {
-    match doors.pop() {
-        Some(mut door) => {
-            call_door(alloc, out, &mut door, held, call)?;
-            doors.push(door)?;
-            Ok(())
-        }
-        None => held.call(out, call),
     }
 }

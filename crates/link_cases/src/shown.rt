@@ -1,8 +1,42 @@
 //! The words of a case, and how an answer is shown.
 
 use desk_ports::{Bytes, FailList};
-use link_ports::{Link, MemEnd, MemLink};
+use link_ports::{Link, LinkTally, MemLink};
 use std::alloc::{AllocError, Global};
+
+/// What a case asks of a link beside what every link does.
+pub trait CaseLink: Link {
+    /// A link over which `ab` is to come.
+    fn plain(alloc: Global) -> Result<Self, AllocError>;
+
+    /// The bytes received so far.
+    fn received(&self) -> &[u8];
+
+    /// The bytes sent so far.
+    fn sent(&self) -> &[u8];
+
+    /// What it counts of itself.
+    fn tally(&self) -> &LinkTally;
+}
+
+impl CaseLink for MemLink {
+    fn plain(alloc: Global) -> Result<MemLink, AllocError> {
+        let none = FailList::of(Vec::new(alloc));
+        MemLink::new(alloc, bytes_of(alloc, "ab")?, 9, none)
+    }
+
+    fn received(&self) -> &[u8] {
+        self.received()
+    }
+
+    fn sent(&self) -> &[u8] {
+        self.sent()
+    }
+
+    fn tally(&self) -> &LinkTally {
+        self.tally()
+    }
+}
 
 /// The bytes that a word stands for.
 pub fn bytes_of(alloc: Global, word: &str) -> Result<Bytes, AllocError> {
@@ -24,22 +58,17 @@ pub fn fails_of(alloc: Global, word: &str) -> Result<FailList, AllocError> {
 }
 
 /// As many links as the word says, over each of which `ab` is to come.
-pub fn links_of(alloc: Global, word: &str) -> Result<Vec<MemLink>, AllocError> {
+pub fn links_of<L: CaseLink>(alloc: Global, word: &str) -> Result<Vec<L>, AllocError> {
     let mut links = Vec::new(alloc);
     for _ in 0..word.parse::<u8>().unwrap_or(0) {
-        links.push(plain_link(alloc)?)?;
+        links.push(L::plain(alloc)?)?;
     }
     Ok(links)
 }
 
-/// A link over which `ab` is to come.
-pub fn plain_link(alloc: Global) -> Result<MemLink, AllocError> {
-    MemLink::new(
-        alloc,
-        bytes_of(alloc, "ab")?,
-        9,
-        FailList::of(Vec::new(alloc)),
-    )
+/// Adds a text that was made.
+pub fn put(out: &mut String, made: Result<String, AllocError>) -> Result<(), AllocError> {
+    out.push_str(made?.as_str())
 }
 
 /// Shows a call by its letter, and what it answered.
@@ -55,56 +84,48 @@ pub fn done_or_not(is_done: bool) -> &'static str {
 }
 
 /// Makes the call of a link that the letter stands for, and shows what it answered. A hang end is put in the place.
-pub fn call_link(
+pub fn call_link<L: Link>(
     out: &mut String,
-    link: &mut MemLink,
-    end: &mut Option<MemEnd>,
+    link: &mut L,
+    end: &mut Option<L::End>,
     call: char,
 ) -> Result<(), AllocError> {
     match call {
         's' => show(out, call, done_or_not(link.send(b"x").is_ok())),
-        'r' => show_received(out, link, call),
-        'z' => show_received_nothing(out, link, call),
+        'r' => show(out, call, received_shown(link)),
+        'z' => show(out, call, nothing_shown(link)),
         'l' => show(out, call, if link.is_up() { "+" } else { "-" }),
-        _ => show_end(out, link, end, call),
+        _ => show(out, call, done_or_not(takes_end(link, end))),
     }
 }
 
-// Receives into room for two bytes.
-fn show_received(out: &mut String, link: &mut MemLink, call: char) -> Result<(), AllocError> {
+// What is shown of receiving into room for two bytes.
+fn received_shown<L: Link>(link: &mut L) -> &'static str {
     let mut room = *b"--";
     match link.receive(&mut room) {
-        Ok(0) => show(out, call, "0"),
-        Ok(1) => show(out, call, "1"),
-        Ok(_) => show(out, call, "2"),
-        Err(_) => show(out, call, "!"),
+        Ok(0) => "0",
+        Ok(1) => "1",
+        Ok(_) => "2",
+        Err(_) => "!",
     }
 }
 
-// Receives into no room.
-fn show_received_nothing(
-    out: &mut String,
-    link: &mut MemLink,
-    call: char,
-) -> Result<(), AllocError> {
+// What is shown of receiving into no room.
+fn nothing_shown<L: Link>(link: &mut L) -> &'static str {
     match link.receive(&mut []) {
-        Ok(0) => show(out, call, "0"),
-        Ok(_) => show(out, call, "more"),
-        Err(_) => show(out, call, "!"),
+        Ok(0) => "0",
+        Ok(_) => "more",
+        Err(_) => "!",
     }
 }
 
-fn show_end(
-    out: &mut String,
-    link: &mut MemLink,
-    end: &mut Option<MemEnd>,
-    call: char,
-) -> Result<(), AllocError> {
+// Whether a hang end is taken.
+fn takes_end<L: Link>(link: &mut L, end: &mut Option<L::End>) -> bool {
     match link.hang_end() {
         Ok(taken) => {
             *end = Some(taken);
-            show(out, call, "+")
+            true
         }
-        Err(_) => show(out, call, "!"),
+        Err(_) => false,
     }
 }

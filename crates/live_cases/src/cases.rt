@@ -1,114 +1,162 @@
 //! The cases on one thread.
 
-use crate::states::{make_next, publish_next, question, quiet_link};
-use cynara_keys::Kind;
+use crate::states::{both, make_next, publish_next, question, quiet_link};
+use cynara_keys::{Kind, Question};
 use desk_state::Desk;
-use link_ports::{Link, MemEnd, MemLink};
+use link_ports::{HangEnd, Link, MemEnd};
 use live_desk::{Publisher, Roll, Seat, start};
 use std::alloc::{AllocError, Global};
 use std::sync::Wait;
 
-// A service in small: a state, what publishes it, two seats and the roll.
-struct Service {
+/// A case of a service of two seats.
+#[derive(Clone, Copy)]
+pub enum Case {
+    HungUpByACommit,
+    LeftAndHungUp,
+    EnteredAfterAPublication,
+    HungUpByALaterEnd,
+    Stopped,
+    DroppedWhenReady,
+}
+
+/// These cases, as they are told one after another.
+pub const CASES: [Case; 6] = [
+    Case::HungUpByACommit,
+    Case::LeftAndHungUp,
+    Case::EnteredAfterAPublication,
+    Case::HungUpByALaterEnd,
+    Case::Stopped,
+    Case::DroppedWhenReady,
+];
+
+// A service in small: a state, what publishes it, its seats and the roll.
+struct Service<E: HangEnd> {
     desk: Desk,
     publisher: Publisher,
-    first: Seat,
-    second: Seat,
-    roll: Roll<MemEnd>,
+    seats: Vec<Seat>,
+    roll: Roll<E>,
 }
 
-fn make_service<R: Wait>(rt: &R, alloc: Global) -> Result<Service, AllocError> {
+/// Has a service of its own for the case. What came of it.
+pub fn told<R: Wait>(rt: &R, alloc: Global, case: Case) -> Result<String, AllocError> {
     let desk = Desk::fresh(alloc)?;
-    let (publisher, mut seats, roll) = start(rt, alloc, &desk, 2)?;
-    let second = seats.pop();
-    let first = seats.pop();
-    match (first, second) {
-        (Some(first), Some(second)) => Ok(Service {
-            desk,
-            publisher,
-            first,
-            second,
-            roll,
-        }),
-        _ => {
-            publisher.end(rt);
-            Err(AllocError)
-        }
-    }
-}
-
-fn end<R: Wait>(rt: &R, service: Service) {
-    let Service {
-        desk: _desk,
+    let (publisher, seats, roll) = start(rt, alloc, &desk, 2)?;
+    let mut service = Service {
+        desk,
         publisher,
-        first: _first,
-        second: _second,
-        roll: _roll,
-    } = service;
-    publisher.end(rt);
-}
-
-fn publish<R: Wait>(rt: &R, alloc: Global, service: &mut Service) -> Option<u64> {
-    publish_next(rt, alloc, &mut service.desk, &mut service.publisher)
-}
-
-fn enter_first(service: &mut Service, link: &mut MemLink) -> Option<u64> {
-    let end = link.hang_end().ok()?;
-    service.roll.enter(end, &mut service.first).ok()
-}
-
-fn enter_second(service: &mut Service, link: &mut MemLink) -> Option<u64> {
-    let end = link.hang_end().ok()?;
-    service.roll.enter(end, &mut service.second).ok()
-}
-
-// What the first seat is answered: the commit, and the kind.
-fn check_first<R: Wait>(rt: &R, alloc: Global, service: &mut Service) -> Option<(u64, u16)> {
-    let question = question(alloc)?;
-    let verdict = service.first.check(rt, &question);
-    let Kind(kind) = verdict.answer.kind;
-    Some((verdict.commit, kind))
-}
-
-/// Two seats enter, one before a publication and one after it, and the commit hangs both up.
-pub fn hung_up_by_a_commit<R: Wait>(rt: &R, alloc: Global) -> Result<String, AllocError> {
-    let mut service = make_service(rt, alloc)?;
-    let told = commit_hangs_up(rt, alloc, &mut service);
+        seats,
+        roll,
+    };
+    let told = over_links(rt, alloc, &mut service, case);
     end(rt, service);
     told.ok_or(AllocError)
 }
 
-fn commit_hangs_up<R: Wait>(rt: &R, alloc: Global, service: &mut Service) -> Option<String> {
-    let mut a = quiet_link(alloc).ok()?;
-    let mut b = quiet_link(alloc).ok()?;
-    let one = enter_first(service, &mut a)?;
+fn end<R: Wait, E: HangEnd>(rt: &R, service: Service<E>) {
+    let Service {
+        desk,
+        publisher,
+        seats,
+        roll,
+    } = service;
+    publisher.end(rt);
+    drop(roll);
+    drop(seats);
+    drop(desk);
+}
+
+fn over_links<R: Wait>(
+    rt: &R,
+    alloc: Global,
+    service: &mut Service<MemEnd>,
+    case: Case,
+) -> Option<String> {
+    let (mut a, mut b) = both(quiet_link(alloc), quiet_link(alloc))?;
+    let told = tell(rt, alloc, service, case, &mut a, &mut b);
+    drop(a);
+    drop(b);
+    told
+}
+
+// What the case calls is told of a service, and of two links that are `a` and `b`. The links are known by a type
+// parameter alone: what they are made of is too much for the proof of each case.
+fn tell<R: Wait, L: Link>(
+    rt: &R,
+    alloc: Global,
+    service: &mut Service<L::End>,
+    case: Case,
+    a: &mut L,
+    b: &mut L,
+) -> Option<String> {
+    match case {
+        Case::HungUpByACommit => commit_hangs_up(rt, alloc, service, a, b),
+        Case::LeftAndHungUp => leaving_hangs_up(alloc, service, a, b),
+        Case::EnteredAfterAPublication => enters_later(rt, alloc, service, a),
+        Case::HungUpByALaterEnd => later_end_hangs_up(alloc, service, a, b),
+        Case::Stopped => stopping_hangs_up(alloc, service, a, b),
+        Case::DroppedWhenReady => ready_is_dropped(rt, alloc, service),
+    }
+}
+
+fn publish<R: Wait, E: HangEnd>(rt: &R, alloc: Global, service: &mut Service<E>) -> Option<u64> {
+    publish_next(rt, alloc, &mut service.desk, &mut service.publisher)
+}
+
+// The link enters in the place of the first seat or of the second. The commit at which it does.
+fn enter<L: Link>(service: &mut Service<L::End>, seat: usize, link: &mut L) -> Option<u64> {
+    let seat = service.seats.get_mut(seat)?;
+    enter_roll(&mut service.roll, seat, link)
+}
+
+fn enter_roll<L: Link>(roll: &mut Roll<L::End>, seat: &mut Seat, link: &mut L) -> Option<u64> {
+    let end = link.hang_end().ok()?;
+    roll.enter(end, seat).ok()
+}
+
+// What the first seat is answered: the commit, and the kind.
+fn check_first<R: Wait, E: HangEnd>(
+    rt: &R,
+    alloc: Global,
+    service: &mut Service<E>,
+) -> Option<(u64, u16)> {
+    let question = question(alloc)?;
+    let verdict = service.seats.first_mut()?.check(rt, &question);
+    let Kind(kind) = verdict.answer.kind;
+    Some((verdict.commit, kind))
+}
+
+// Two seats enter, one before a publication and one after it, and the commit hangs both up.
+fn commit_hangs_up<R: Wait, L: Link>(
+    rt: &R,
+    alloc: Global,
+    service: &mut Service<L::End>,
+    a: &mut L,
+    b: &mut L,
+) -> Option<String> {
+    let one = enter(service, 0, a)?;
     let commit = publish(rt, alloc, service)?;
-    let two = enter_second(service, &mut b)?;
+    let two = enter(service, 1, b)?;
     service.roll.hang_all(commit);
     let up_a = a.is_up();
     let up_b = b.is_up();
     let left_a = service.roll.leave(0, one);
     let left_b = service.roll.leave(1, two);
-    let again = enter_first(service, &mut a)?;
+    let again = enter(service, 0, a)?;
     let (at, kind) = check_first(rt, alloc, service)?;
     format!(in alloc;
         "a commit: entered at {one} and {two}, hung up at {commit}; up {up_a} and {up_b}; {left_a:?} and {left_b:?}; entered at {again}, answered {kind} at {at}"
     ).ok()
 }
 
-/// A seat leaves, and its link is hung up.
-pub fn left_and_hung_up<R: Wait>(rt: &R, alloc: Global) -> Result<String, AllocError> {
-    let mut service = make_service(rt, alloc)?;
-    let told = leaving_hangs_up(alloc, &mut service);
-    end(rt, service);
-    told.ok_or(AllocError)
-}
-
-fn leaving_hangs_up(alloc: Global, service: &mut Service) -> Option<String> {
-    let mut a = quiet_link(alloc).ok()?;
-    let mut b = quiet_link(alloc).ok()?;
-    let one = enter_first(service, &mut a)?;
-    let two = enter_second(service, &mut b)?;
+// A seat leaves, and its link is hung up.
+fn leaving_hangs_up<L: Link>(
+    alloc: Global,
+    service: &mut Service<L::End>,
+    a: &mut L,
+    b: &mut L,
+) -> Option<String> {
+    let one = enter(service, 0, a)?;
+    let two = enter(service, 1, b)?;
     let before = a.is_up();
     let left = service.roll.leave(0, one);
     let up_a = a.is_up();
@@ -119,20 +167,17 @@ fn leaving_hangs_up(alloc: Global, service: &mut Service) -> Option<String> {
     ).ok()
 }
 
-/// A seat enters after a publication that hung up nobody.
-pub fn entered_after_a_publication<R: Wait>(rt: &R, alloc: Global) -> Result<String, AllocError> {
-    let mut service = make_service(rt, alloc)?;
-    let told = enters_later(rt, alloc, &mut service);
-    end(rt, service);
-    told.ok_or(AllocError)
-}
-
-fn enters_later<R: Wait>(rt: &R, alloc: Global, service: &mut Service) -> Option<String> {
-    let mut a = quiet_link(alloc).ok()?;
+// A seat enters after a publication that hung up nobody.
+fn enters_later<R: Wait, L: Link>(
+    rt: &R,
+    alloc: Global,
+    service: &mut Service<L::End>,
+    a: &mut L,
+) -> Option<String> {
     let (first_at, first_kind) = check_first(rt, alloc, service)?;
     let commit = publish(rt, alloc, service)?;
     service.roll.hang_all(commit);
-    let entered = enter_first(service, &mut a)?;
+    let entered = enter(service, 0, a)?;
     let (at, kind) = check_first(rt, alloc, service)?;
     service.roll.hang_all(0);
     let up = a.is_up();
@@ -142,19 +187,15 @@ fn enters_later<R: Wait>(rt: &R, alloc: Global, service: &mut Service) -> Option
     ).ok()
 }
 
-/// A seat enters twice, and the end of its first link is hung up.
-pub fn hung_up_by_a_later_end<R: Wait>(rt: &R, alloc: Global) -> Result<String, AllocError> {
-    let mut service = make_service(rt, alloc)?;
-    let told = later_end_hangs_up(alloc, &mut service);
-    end(rt, service);
-    told.ok_or(AllocError)
-}
-
-fn later_end_hangs_up(alloc: Global, service: &mut Service) -> Option<String> {
-    let mut a = quiet_link(alloc).ok()?;
-    let mut b = quiet_link(alloc).ok()?;
-    enter_first(service, &mut a)?;
-    let entered = enter_first(service, &mut b)?;
+// A seat enters twice, and the end of its first link is hung up.
+fn later_end_hangs_up<L: Link>(
+    alloc: Global,
+    service: &mut Service<L::End>,
+    a: &mut L,
+    b: &mut L,
+) -> Option<String> {
+    enter(service, 0, a)?;
+    let entered = enter(service, 0, b)?;
     let up_a = a.is_up();
     let up_b = b.is_up();
     let left = service.roll.leave(0, entered);
@@ -162,21 +203,17 @@ fn later_end_hangs_up(alloc: Global, service: &mut Service) -> Option<String> {
     format!(in alloc; "a later end: up {up_a} and {up_b}; {left:?}, up {then_b}").ok()
 }
 
-/// The roll is stopped, and its note rises later.
-pub fn stopped<R: Wait>(rt: &R, alloc: Global) -> Result<String, AllocError> {
-    let mut service = make_service(rt, alloc)?;
-    let told = stopping_hangs_up(alloc, &mut service);
-    end(rt, service);
-    told.ok_or(AllocError)
-}
-
-fn stopping_hangs_up(alloc: Global, service: &mut Service) -> Option<String> {
-    let mut a = quiet_link(alloc).ok()?;
-    let mut b = quiet_link(alloc).ok()?;
-    let entered = enter_first(service, &mut a)?;
+// The roll is stopped, and its note rises later.
+fn stopping_hangs_up<L: Link>(
+    alloc: Global,
+    service: &mut Service<L::End>,
+    a: &mut L,
+    b: &mut L,
+) -> Option<String> {
+    let entered = enter(service, 0, a)?;
     service.roll.stop();
     let up_a = a.is_up();
-    let refused = enter_second(service, &mut b).is_none();
+    let refused = enter(service, 1, b).is_none();
     let left = service.roll.leave(0, entered);
     service.roll.hang_all(3);
     let later = service.roll.leave(1, entered);
@@ -186,19 +223,13 @@ fn stopping_hangs_up(alloc: Global, service: &mut Service) -> Option<String> {
     ).ok()
 }
 
-/// A state that is made ready and dropped changes nothing, and the one after it is published.
-pub fn dropped_when_ready<R: Wait>(rt: &R, alloc: Global) -> Result<String, AllocError> {
-    let mut service = make_service(rt, alloc)?;
-    let told = ready_is_dropped(rt, alloc, &mut service);
-    end(rt, service);
-    told.ok_or(AllocError)
-}
-
-fn ready_is_dropped<R: Wait>(rt: &R, alloc: Global, service: &mut Service) -> Option<String> {
-    make_next(alloc, &mut service.desk)?;
-    let ready = service.publisher.prepare(&service.desk).ok()?;
-    let commit = ready.commit();
-    drop(ready);
+// A state that is made ready and dropped changes nothing, and the one after it is published.
+fn ready_is_dropped<R: Wait, E: HangEnd>(
+    rt: &R,
+    alloc: Global,
+    service: &mut Service<E>,
+) -> Option<String> {
+    let commit = make_ready(alloc, service)?;
     let (at, kind) = check_first(rt, alloc, service)?;
     let published = service.publisher.commit();
     let next = publish(rt, alloc, service)?;
@@ -208,29 +239,51 @@ fn ready_is_dropped<R: Wait>(rt: &R, alloc: Global, service: &mut Service) -> Op
     ).ok()
 }
 
+// Makes the next state ready, and drops it. Its commit.
+fn make_ready<E: HangEnd>(alloc: Global, service: &mut Service<E>) -> Option<u64> {
+    make_next(alloc, &mut service.desk)?;
+    let ready = service.publisher.prepare(&service.desk).ok()?;
+    Some(ready.commit())
+}
+
 /// As many seats as there may be.
 pub fn most_seats<R: Wait>(rt: &R, alloc: Global) -> Result<String, AllocError> {
     let desk = Desk::fresh(alloc)?;
-    let (publisher, mut seats, roll) = start(rt, alloc, &desk, 64)?;
-    let told = last_of(rt, alloc, &mut seats, roll);
+    let started = start(rt, alloc, &desk, 64);
+    drop(desk);
+    let (publisher, mut seats, mut roll) = started?;
+    let told = over_a_link(rt, alloc, &mut seats, &mut roll);
     publisher.end(rt);
+    drop(seats);
+    drop(roll);
     told.ok_or(AllocError)
 }
 
-fn last_of<R: Wait>(
+fn over_a_link<R: Wait>(
     rt: &R,
     alloc: Global,
-    seats: &mut Vec<Seat>,
-    mut roll: Roll<MemEnd>,
+    seats: &mut [Seat],
+    roll: &mut Roll<MemEnd>,
 ) -> Option<String> {
-    let question = question(alloc)?;
-    let mut link = quiet_link(alloc).ok()?;
+    let (mut link, question) = both(quiet_link(alloc), question(alloc))?;
+    let told = last_of(rt, alloc, seats, roll, &mut link, &question);
+    drop(link);
+    told
+}
+
+fn last_of<R: Wait, L: Link>(
+    rt: &R,
+    alloc: Global,
+    seats: &mut [Seat],
+    roll: &mut Roll<L::End>,
+    link: &mut L,
+    question: &Question,
+) -> Option<String> {
     let count = seats.len();
-    let mut last = seats.pop()?;
+    let last = seats.last_mut()?;
     let number = last.number();
-    let end = link.hang_end().ok()?;
-    let entered = roll.enter(end, &mut last).ok()?;
-    let commit = last.check(rt, &question).commit;
+    let entered = enter_roll(roll, last, link)?;
+    let commit = last.check(rt, question).commit;
     roll.hang_all(1);
     let up = link.is_up();
     let left = roll.leave(number, entered);

@@ -48,12 +48,19 @@ impl Watch {
 /// commit, while a publisher publishes 200 states and hangs the connections up.
 pub fn four_seats<R: Wait + Threads + Sync>(rt: &R, alloc: Global) -> Result<String, AllocError> {
     let mut desk = Desk::fresh(alloc)?;
-    make_next(alloc, &mut desk).ok_or(AllocError)?;
-    let (mut publisher, seats, roll) = start(rt, alloc, &desk, 4)?;
-    let roll = Mutex::new(roll);
-    let told = by_four(rt, alloc, &mut desk, &mut publisher, seats, &roll);
-    publisher.end(rt);
+    let told = over_desk(rt, alloc, &mut desk);
+    drop(desk);
     told.ok_or(AllocError)
+}
+
+fn over_desk<R: Wait + Threads + Sync>(rt: &R, alloc: Global, desk: &mut Desk) -> Option<String> {
+    make_next(alloc, desk)?;
+    let (mut publisher, seats, roll) = start(rt, alloc, desk, 4).ok()?;
+    let roll = Mutex::new(roll);
+    let told = by_four(rt, alloc, desk, &mut publisher, seats, &roll);
+    publisher.end(rt);
+    drop(roll);
+    told
 }
 
 // What a thread is given to watch by.
@@ -64,7 +71,9 @@ trait Watcher {
 
 impl Watcher for Seat {
     fn watch<R: Wait>(self, rt: &R, alloc: Global, roll: &Mutex<Roll<MemEnd>>) -> Option<u64> {
-        check_until_last(rt, alloc, self, roll)
+        let mut seat = self;
+        let question = question(alloc)?;
+        check_until_last(rt, alloc, &mut seat, roll, &question)
     }
 }
 
@@ -149,14 +158,16 @@ fn publish_all<R: Wait>(
 fn check_until_last<R: Wait>(
     rt: &R,
     alloc: Global,
-    seat: Seat,
+    seat: &mut Seat,
     roll: &Mutex<Roll<MemEnd>>,
+    question: &Question,
 ) -> Option<u64> {
-    let question = question(alloc)?;
-    let mut seat = seat;
     let mut watch = Watch { last: 0, wrong: 0 };
     for _ in rt.forever() {
-        visit(rt, alloc, &mut seat, roll, &question, &mut watch)?;
+        let mut link = quiet_link(alloc)?;
+        let told = visit(rt, seat, roll, question, &mut watch, &mut link);
+        drop(link);
+        told?;
         if watch.last >= LAST {
             return Some(watch.wrong);
         }
@@ -165,15 +176,14 @@ fn check_until_last<R: Wait>(
 }
 
 // One connection: it enters, asks once and leaves.
-fn visit<R: Wait>(
+fn visit<R: Wait, L: Link>(
     rt: &R,
-    alloc: Global,
     seat: &mut Seat,
-    roll: &Mutex<Roll<MemEnd>>,
+    roll: &Mutex<Roll<L::End>>,
     question: &Question,
     watch: &mut Watch,
+    link: &mut L,
 ) -> Option<()> {
-    let mut link = quiet_link(alloc).ok()?;
     let end = link.hang_end().ok()?;
     let entered = roll.lock(rt).enter(end, seat).ok()?;
     let answer = seat.check_with(

@@ -4,12 +4,28 @@ use cynara_keys::{BucketName, Kind, Name, PolicyResult, Question};
 use desk_ports::{Bytes, FailList};
 use desk_state::{Command, Desk};
 use link_ports::MemLink;
-use live_desk::{BorrowedVerdict, Publisher};
-use std::alloc::{AllocError, Global};
+use live_desk::{BorrowedVerdict, Publisher, Ready};
+use std::alloc::Global;
 use std::sync::Wait;
 
 /// The kind that a state with commit 0 answers. That with commit 1 answers the next one, and so on.
 const FIRST_KIND: u16 = 1000;
+
+/// Both values, if there are two.
+pub fn both<A: Drop, B: Drop>(one: Option<A>, other: Option<B>) -> Option<(A, B)> {
+    match (one, other) {
+        (Some(one), Some(other)) => Some((one, other)),
+        _ => None,
+    }
+}
+
+// Whether a call was done.
+fn done<T: Drop, E: Drop>(answer: Result<T, E>) -> Option<()> {
+    match answer {
+        Ok(_) => Some(()),
+        Err(_) => None,
+    }
+}
 
 /// Makes the state the next one: the fallback of its root bucket says its commit.
 pub fn make_next(alloc: Global, desk: &mut Desk) -> Option<()> {
@@ -18,8 +34,9 @@ pub fn make_next(alloc: Global, desk: &mut Desk) -> Option<()> {
         bucket: BucketName::root(alloc),
         fallback: PolicyResult::without_metadata(alloc, Kind(FIRST_KIND + next)),
     };
-    desk.change(&command).ok()?;
-    Some(())
+    let told = done(desk.change(&command));
+    drop(command);
+    told
 }
 
 /// Makes the state the next one, and publishes it. Its commit.
@@ -31,6 +48,10 @@ pub fn publish_next<R: Wait>(
 ) -> Option<u64> {
     make_next(alloc, desk)?;
     let ready = publisher.prepare(desk).ok()?;
+    publish_ready(rt, publisher, ready)
+}
+
+fn publish_ready<R: Wait>(rt: &R, publisher: &mut Publisher, ready: Ready) -> Option<u64> {
     if ready.commit() <= publisher.commit() {
         return None;
     }
@@ -49,9 +70,10 @@ pub fn named_commit(verdict: BorrowedVerdict<'_>) -> Option<u64> {
 
 /// What all seats ask.
 pub fn question(alloc: Global) -> Option<Question> {
-    let client = Name::read(alloc, b"app").ok()?;
-    let user = Name::read(alloc, b"user").ok()?;
-    let privilege = Name::read(alloc, b"camera").ok()?;
+    let client = Name::read(alloc, b"app").ok();
+    let user = Name::read(alloc, b"user").ok();
+    let names = both(both(client, user), Name::read(alloc, b"camera").ok());
+    let ((client, user), privilege) = names?;
     Question::of(
         alloc,
         client.as_slice(),
@@ -62,7 +84,7 @@ pub fn question(alloc: Global) -> Option<Question> {
 }
 
 /// A link over which nothing comes.
-pub fn quiet_link(alloc: Global) -> Result<MemLink, AllocError> {
+pub fn quiet_link(alloc: Global) -> Option<MemLink> {
     let fails = FailList::of(Vec::new(alloc));
-    MemLink::new(alloc, Bytes::new(alloc), u64::MAX, fails)
+    MemLink::new(alloc, Bytes::new(alloc), u64::MAX, fails).ok()
 }
