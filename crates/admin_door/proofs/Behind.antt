@@ -1,12 +1,14 @@
 -- What one frame leaves: the policy state that is known then, and whether its command is among those that were applied.
-use Rattle.std.proofs.Common.{◌≡◌, ◌⊎◌, ◌∙◌, inl, inr, Bool, true, false, List, [], ◌∷◌, Option, Some, None, Ok, cond, nat_lt, refl, sym, ap, subst}
+use Rattle.std.proofs.Common.{◌≡◌, ◌⊎◌, ◌∙◌, inl, inr, Bool, true, false, List, [], ◌∷◌, Option, Some, None, Ok, cond, nat_lt, refl, sym}
+use Rattle.std.proofs.Common.{ap, subst}
 use Rattle.desk_ports.specs.FileMap.{FileMap}
 use Rattle.desk_ports.specs.Disk.{DiskState, MayLeave, IsTouchedOnly}
 use Rattle.desk_state.specs.DeskState.{DeskState}
 use Rattle.desk_state.specs.Next.{next, erased_by}
 use Rattle.desk_state.specs.Rules.{fault}
 use Rattle.desk_state.specs.declared.commands.Command.{Command}
-use Rattle.desk_keeper.specs.Kept.{kept}
+use Rattle.desk_keeper.specs.Kept.{Standing, kept, standing}
+use Rattle.desk_keeper.proofs.Keeping.{standing-kept}
 use Rattle.live_desk.specs.History.{last_commit}
 use Rattle.wire_messages.specs.Commands.{command_of}
 use Rattle.wire_messages.specs.declared.messages.Message.{Message}
@@ -16,7 +18,7 @@ use Rattle.admin_door.specs.Settling.{IsFound, Settles, Unsettles}
 use Rattle.admin_door.specs.Answering.{Commits, LacksMemory, IsUnanswered, Obeys, AnswersUnsettled, AnswersQuestion, AnswersBy, RefusesBy}
 use Rattle.admin_door.specs.Serving.{Exchange}
 use Rattle.admin_door.specs.Stops.{Allows}
-use Rattle.admin_door.specs.Running.{Standing, Makes, IsNotDone, TellsCommit, LeadsTo, ComesFrom}
+use Rattle.admin_door.specs.Running.{Makes, IsNotDone, TellsCommit, LeadsTo, ComesFrom}
 use Rattle.admin_door.specs.declared.settling.Unsettled.{Unsettled}
 use Rattle.admin_door.specs.declared.settling.Unsettled.TheVariants as why
 use Rattle.admin_door.proofs.Adding.{done-of}
@@ -27,7 +29,7 @@ use Rattle.admin_door.proofs.Stopping.{allows-current}
 pub record Did (before : DiskState) (exchange : Exchange) (old now : AdminSide) : Type 0 where
   pub desk : ComesFrom before old.desk (exchange ∷ []) now.desk
   pub done : IsNotDone exchange
-      ⊎ ((now.decided ≡ true) × (other : FileMap) × MayLeave before other × LeadsTo (kept other) (exchange ∷ []) (Ok now.desk))
+      ⊎ ((now.decided ≡ true) × (other : FileMap) × MayLeave before other × LeadsTo (standing other) (exchange ∷ []) (Ok now.desk))
 
 -- ---- replies
 
@@ -62,7 +64,11 @@ module _ (before : DiskState) (touched : IsTouchedOnly before) (exchange : Excha
       by_desk : (between.desk ≡ old.desk) ⊎ (kept before.current ≡ Ok between.desk) → ComesFrom before old.desk (exchange ∷ []) now
       by_desk (inl same) = inl (subst (λ (desk : DeskState). LeadsTo (Ok desk) (exchange ∷ []) (Ok now)) same leads)
       by_desk (inr is) =
-          inr (before.current, touched, subst (λ (at : Standing). LeadsTo at (exchange ∷ []) (Ok now)) (sym is) leads)
+          inr (
+            before.current,
+            touched,
+            subst (λ (at : Standing). LeadsTo at (exchange ∷ []) (Ok now)) (sym (standing-kept before.current between.desk is)) leads,
+          )
 
   -- nothing was applied
   did-rest : (between now : AdminSide) → IsBase between → now.desk ≡ between.desk → IsNotDone exchange → Did before exchange old now

@@ -1,5 +1,6 @@
 -- A connection around which nothing fails is answered whole, and a command during which no call of the disk fails is decided.
-use Rattle.std.proofs.Common.{◌≡◌, ◌∙◌, ◌⊎◌, inl, inr, ℕ, List, [], ◌∷◌, ◌++◌, length, Option, Some, refl, sym, ap, subst, append-nil, append_assoc, arith, nat_lt, Bool, true, false, cond}
+use Rattle.std.proofs.Common.{◌≡◌, ◌∙◌, ◌⊎◌, inl, inr, ℕ, List, [], ◌∷◌, ◌++◌, length, Option, Some, refl, sym, ap, subst, append-nil}
+use Rattle.std.proofs.Common.{append_assoc, arith, nat_lt, Bool, true, false, cond}
 use Rattle.std.proofs.lemmas.List.{append_cancel_left}
 use Rattle.desk_ports.specs.Disk.{DiskState}
 use Rattle.desk_ports.specs.Faults.{next_count}
@@ -11,7 +12,8 @@ use Rattle.wire_messages.specs.declared.messages.Framed.{Framed}
 use Rattle.wire_messages.specs.declared.messages.Message.{Message}
 use Rattle.wire_messages.specs.declared.operations.Heard.TheVariants.{AtAdmin}
 use Rattle.wire_messages.specs.declared.refusals.WireRefusal.{WireRefusal}
-use Rattle.wire_messages.specs.declared.refusals.WireRefusal.TheVariants.{TooShort, TooLong, BadOperation, BadField, Trailing, Memory as NoMemory}
+use Rattle.wire_messages.specs.declared.refusals.WireRefusal.TheVariants.{TooShort, TooLong, BadOperation, BadField, Trailing}
+use Rattle.wire_messages.specs.declared.refusals.WireRefusal.TheVariants.{Memory as NoMemory}
 use Rattle.wire_messages.proofs.Settling.{short_open}
 use Rattle.wire_messages.proofs.Hearings.{heard_once}
 use Rattle.wire_messages.proofs.Refusing.{refused_to_its_end}
@@ -47,11 +49,16 @@ never bytes frames answered rest refusal all some wrong =
 right_whole : (bytes : List ℕ) (frames answered : List Framed) (rest : List ℕ) (refusal : WireRefusal) → Hears AtAdmin bytes frames []
     → Hears AtAdmin bytes answered rest → BeginsWrong AtAdmin rest refusal → IsOfBytes refusal → ⊥
 right_whole bytes frames answered rest (NoMemory error) all some wrong of_bytes = absurd of_bytes
-right_whole bytes frames answered rest (TooShort count) all some wrong of_bytes = never bytes frames answered rest (TooShort count) all some wrong
-right_whole bytes frames answered rest (TooLong count) all some wrong of_bytes = never bytes frames answered rest (TooLong count) all some wrong
-right_whole bytes frames answered rest (BadOperation number) all some wrong of_bytes = never bytes frames answered rest (BadOperation number) all some wrong
-right_whole bytes frames answered rest (BadField place) all some wrong of_bytes = never bytes frames answered rest (BadField place) all some wrong
-right_whole bytes frames answered rest (Trailing place) all some wrong of_bytes = never bytes frames answered rest (Trailing place) all some wrong
+right_whole bytes frames answered rest (TooShort count) all some wrong of_bytes =
+    never bytes frames answered rest (TooShort count) all some wrong
+right_whole bytes frames answered rest (TooLong count) all some wrong of_bytes =
+    never bytes frames answered rest (TooLong count) all some wrong
+right_whole bytes frames answered rest (BadOperation number) all some wrong of_bytes =
+    never bytes frames answered rest (BadOperation number) all some wrong
+right_whole bytes frames answered rest (BadField place) all some wrong of_bytes =
+    never bytes frames answered rest (BadField place) all some wrong
+right_whole bytes frames answered rest (Trailing place) all some wrong of_bytes =
+    never bytes frames answered rest (Trailing place) all some wrong
 
 same_whole : (a b : Framed) (x y : List ℕ) → Front.Whole a x ≡ Front.Whole b y → (a ≡ b) × (x ≡ y)
 same_whole a b x y same = (cc, cc)
@@ -138,12 +145,14 @@ module _ (start now : AdminTalk) (Keeps : List Exchange → Type 0) (frames : Li
   by_end Closed s quiet =
       let alone = alone_closed s.between now.side s.last s.last_bytes s.ending in
       let heard = heard_so s.received (exchanges_bytes s.answered ++ s.last_bytes) s.carried in
-      let all = heard_once AtAdmin s.received (frames_of s.answered ++ frames_of s.last) frames [] [] s.bytes nothing_open heard nothing_open in
+      let all = heard_once AtAdmin s.received (frames_of s.answered ++ frames_of s.last) frames [] [] s.bytes nothing_open heard
+      nothing_open in
       inl (refl, each_so Closed frames s alone (sym (frames_alone s.answered s.last alone.frames) ∙ all.0))
   by_end (Cut count) s quiet =
       let (rest, some, unfinished, length_is, many) = s.bytes in
       let heard = heard_so s.received (exchanges_bytes s.answered ++ s.last_bytes) s.carried in
-      let same = heard_once AtAdmin s.received (frames_of s.answered ++ frames_of s.last) frames rest [] some unfinished heard nothing_open in
+      let same = heard_once AtAdmin s.received (frames_of s.answered ++ frames_of s.last) frames rest [] some unfinished heard
+      nothing_open in
       absurd (omega (arith, sym (ap length same.1) ∙ length_is, many))
   by_end (BadFrame refusal) s quiet =
       let (rest, some, wrong, of_bytes) = s.bytes in
@@ -188,7 +197,8 @@ settles_count told old between settles =
     ∙ (shown_count (nat_lt (last_commit 0 settles.found.published) settles.found.desk.commit) settles.found
     ∙ ap (λ (side : AdminSide). side.faults) settles.is_found.rest)
 
-module _ (told : Option DiskState) (command : Command) (old now : AdminSide) (replies : List Message) (quiet : Stays old.faults now.faults) where
+module _ (told : Option DiskState) (command : Command) (old now : AdminSide) (replies : List Message)
+    (quiet : Stays old.faults now.faults) where
   unsettled_so : (reason : Unsettled) → Unsettles told old now reason → AnswersUnsettled reason replies
       → IsDecided told command old now replies ⊎ FindsDamage told old now replies
   unsettled_so why.StoreFault (undecided, is) answers =

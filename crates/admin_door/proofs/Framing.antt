@@ -1,5 +1,6 @@
 -- One frame, and what stops leave while it is answered.
-use Rattle.std.proofs.Common.{◌≡◌, ◌≤◌, ◌⊎◌, ◌∙◌, inl, inr, ℕ, true, List, [], ◌∷◌, ◌++◌, Option, Some, None, Ok, refl, sym, ap, subst, arith}
+use Rattle.std.proofs.Common.{◌≡◌, ◌≤◌, ◌⊎◌, ◌∙◌, inl, inr, ℕ, true, List, [], ◌∷◌, ◌++◌, Option, Some, None, Ok, refl, sym, ap, subst}
+use Rattle.std.proofs.Common.{arith}
 use Rattle.desk_ports.specs.FileMap.{FileMap}
 use Rattle.desk_ports.specs.Disk.{DiskState, MayLeave, WhereTold, IsTouchedOnly}
 use Rattle.desk_ports.specs.Moments.{LeavesOnly}
@@ -9,7 +10,8 @@ use Rattle.desk_state.specs.Next.{next}
 use Rattle.desk_state.specs.Rules.{fault}
 use Rattle.desk_state.specs.declared.commands.Command.{Command}
 use Rattle.guard_files.specs.Telling.{StillTells}
-use Rattle.desk_keeper.specs.Kept.{kept}
+use Rattle.desk_keeper.specs.Kept.{Standing, standing}
+use Rattle.desk_keeper.proofs.Keeping.{standing-kept}
 use Rattle.desk_keeper.specs.Keeping.{IsKept, EndsKept}
 use Rattle.desk_keeper.specs.Keeper.{disk_of, held_of}
 use Rattle.desk_keeper.specs.declared.keeper.Keeper.{Keeper}
@@ -18,7 +20,8 @@ use Rattle.admin_door.specs.Side.{AdminSide, decided_of}
 use Rattle.admin_door.specs.Answering.{RefusesBy}
 use Rattle.admin_door.specs.Serving.{Exchange, IsAnswered}
 use Rattle.admin_door.specs.Stops.{KeepsKnown, StandsBy, Allows}
-use Rattle.admin_door.specs.Running.{Standing, Makes, IsNotDone, LeadsTo, StandsSince, StandsBehind, ComesFrom, IsToldBehind, TellsEach, KeepsThrough, RunsOver}
+use Rattle.admin_door.specs.Running.{Makes, IsNotDone, LeadsTo, StandsSince, StandsBehind, ComesFrom, IsToldBehind, TellsEach, KeepsThrough}
+use Rattle.admin_door.specs.Running.{RunsOver}
 use Rattle.admin_door.proofs.Behind.{Did, did-answers, did-refuses}
 use Rattle.admin_door.proofs.Stopping.{allows-kept, same-state}
 use Rattle.admin_door.proofs.Running.{runs-then}
@@ -34,22 +37,22 @@ cut-one x (y ∷ z ∷ front) back is = cc
 module _ (before : DiskState) (exchange : Exchange) where
   -- what the message's command makes of a state that a stop may leave
   makes-one : (desk : DeskState) (command : Command) (other : FileMap) → command_of exchange.framed.message ≡ Some command
-      → kept other ≡ Ok desk → fault desk command ≡ None → Makes (kept other) exchange.framed.message (next desk command)
+      → standing other ≡ Ok desk → fault desk command ≡ None → Makes (standing other) exchange.framed.message (next desk command)
   makes-one desk command other asks stands accepted =
       record { desk = desk; command = command; stood = stands; asks = asks; accepted = accepted; makes = refl }
 
   -- at any moment
   within-one : (found : Option Command) (left : FileMap) → command_of exchange.framed.message ≡ found → StandsBy found before left
       → StandsSince before [] (exchange ∷ []) left
-  within-one found left asks (inl (other, may, same)) = (other, kept other, may, refl, inl (inl same))
+  within-one found left asks (inl (other, may, same)) = (other, standing other, may, refl, inl (inl same))
   within-one (Some command) left asks (inr (desk, (other, may, stands), (accepted, is))) =
-      (other, kept other, may, refl, inl (inr (next desk command, makes-one desk command other asks stands accepted, is)))
+      (other, standing other, may, refl, inl (inr (next desk command, makes-one desk command other asks stands accepted, is)))
   within-one None left asks (inr none) = absurd none
 
   -- behind it, where no command was answered as done
   behind-one : (found : Option Command) (left : FileMap) → command_of exchange.framed.message ≡ found → IsNotDone exchange
       → StandsBy found before left → StandsBehind before (exchange ∷ []) left
-  behind-one found left asks not_done (inl (other, may, same)) = (other, may, (kept other, inl (not_done, refl), same))
+  behind-one found left asks not_done (inl (other, may, same)) = (other, may, (standing other, inl (not_done, refl), same))
   behind-one (Some command) left asks not_done (inr (desk, (other, may, stands), (accepted, is))) = (
     other,
     may,
@@ -96,17 +99,17 @@ module _ {D : Type 0} (state : D → Option DiskState) (moment : D → ℕ) (lef
         where
           by_done : IsNotDone exchange
               ⊎ ((now_side.decided ≡ true) × (other : FileMap) × MayLeave before other
-              × LeadsTo (kept other) (exchange ∷ []) (Ok now_side.desk)) → StandsBehind before (exchange ∷ []) left
+              × LeadsTo (standing other) (exchange ∷ []) (Ok now_side.desk)) → StandsBehind before (exchange ∷ []) left
           by_done (inl not_done) =
               let leaves = stops before told known in
               behind-one before exchange (command_of exchange.framed.message) left refl not_done
               (leaves.each left
               (counts_now (moment (disk_of old)) left leaves.adds.later after (tells before told).1 may))
           by_done (inr (decided, other, allowed, leads)) =
-              let alone = (known-now (sym decided_is ∙ decided)).alone left may in (
+              let alone = standing-kept left now.desk ((known-now (sym decided_is ∙ decided)).alone left may) in (
                 other,
                 allowed,
-                subst (λ (at : Standing). LeadsTo (kept other) (exchange ∷ []) at) (ap Ok now_is ∙ sym alone) leads,
+                subst (λ (at : Standing). LeadsTo (standing other) (exchange ∷ []) at) (ap Ok now_is ∙ sym alone) leads,
               )
 
       leaves-one : LeavesOnly moment left_since (disk_of old) (disk_of now) (StandsSince before [] (exchange ∷ []))
@@ -138,7 +141,7 @@ module _ {D : Type 0} (state : D → Option DiskState) (moment : D → ℕ) (lef
                 let behind = frame-behind left (only_now left after (tells before told).1 was) in
                 subst (λ (list : List Exchange). StandsSince before list back left) (sym all_front)
                 (subst (λ (list : List Exchange). StandsSince before (exchange ∷ []) list left) (sym no_back)
-                (behind.0, kept left, behind.1, behind.2, refl)),
+                (behind.0, standing left, behind.1, behind.2, refl)),
           )
 
       tells-one : TellsEach before (exchange ∷ [])

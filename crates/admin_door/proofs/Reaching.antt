@@ -1,12 +1,14 @@
 -- The policy states that frames in turn publish: each is what the first few of the frames lead to.
-use Rattle.std.proofs.Common.{◌≡◌, ◌∙◌, inl, inr, ℕ, Bool, true, false, cond, nat_lt, List, [], ◌∷◌, ◌++◌, Option, Some, None, Ok, refl, sym, ap, subst, append_assoc, append-nil}
+use Rattle.std.proofs.Common.{◌≡◌, ◌∙◌, inl, inr, ℕ, Bool, true, false, cond, nat_lt, List, [], ◌∷◌, ◌++◌, Option, Some, None, Ok, refl}
+use Rattle.std.proofs.Common.{sym, ap, subst, append_assoc, append-nil}
 use Rattle.std.specs.List.{AllByRecursion}
 use Rattle.desk_ports.specs.Disk.{DiskState}
 use Rattle.desk_state.specs.DeskState.{DeskState}
 use Rattle.desk_state.specs.Next.{next, erased_by}
 use Rattle.desk_state.specs.Rules.{fault}
 use Rattle.desk_state.specs.declared.commands.Command.{Command}
-use Rattle.desk_keeper.specs.Kept.{kept}
+use Rattle.desk_keeper.specs.Kept.{Standing, standing}
+use Rattle.desk_keeper.proofs.Keeping.{standing-kept}
 use Rattle.live_desk.specs.History.{last_commit}
 use Rattle.wire_messages.specs.Commands.{command_of}
 use Rattle.wire_messages.specs.declared.messages.Message.{Message}
@@ -16,7 +18,7 @@ use Rattle.admin_door.specs.Side.{AdminSide, with_shown}
 use Rattle.admin_door.specs.Settling.{IsFound, Settles, Unsettles}
 use Rattle.admin_door.specs.Answering.{Commits, LacksMemory, Obeys, IsUnanswered, AnswersUnsettled, AnswersQuestion, AnswersBy, RefusesBy}
 use Rattle.admin_door.specs.Serving.{AdminTalk, Exchange, AreAnswered, EndsAnswering, Serves}
-use Rattle.admin_door.specs.Running.{Standing, IsNotDone, TellsCommit, LeadsTo, ComesFrom, IsToldBehind, TellsEach, IsReached}
+use Rattle.admin_door.specs.Running.{IsNotDone, TellsCommit, LeadsTo, ComesFrom, IsToldBehind, TellsEach, IsReached}
 use Rattle.admin_door.specs.declared.settling.Unsettled.{Unsettled}
 use Rattle.admin_door.specs.declared.settling.Unsettled.TheVariants as why
 use Rattle.admin_door.proofs.Adding.{done-of}
@@ -46,7 +48,7 @@ module _ (before : DiskState) (last : DeskState) (first : List DeskState) (all :
   comes-more done exchange desk now (inl leads) then =
       inl (leads-then (Ok last) done (exchange ∷ []) (Ok desk) (Ok now) leads then)
   comes-more done exchange desk now (inr (other, may, leads)) then =
-      inr (other, may, leads-then (kept other) done (exchange ∷ []) (Ok desk) (Ok now) leads then)
+      inr (other, may, leads-then (standing other) done (exchange ∷ []) (Ok desk) (Ok now) leads then)
 
   -- what is known is published
   publishes : (done back : List Exchange) (desk : DeskState) (published : List DeskState) → all ≡ done ++ back
@@ -78,7 +80,8 @@ module _ (before : DiskState) (last : DeskState) (first : List DeskState) (all :
       each = r.each;
     }
 
-    rests : (old now : AdminSide) → IsNotDone exchange → Holds before last first all done old → now ≡ old → Holds before last first all behind now
+    rests : (old now : AdminSide) → IsNotDone exchange → Holds before last first all done old → now ≡ old
+        → Holds before last first all behind now
     rests old now not_done h is =
         subst (λ (side : AdminSide). Holds before last first all behind side) (sym is) (still old.desk old.published not_done h)
 
@@ -114,7 +117,8 @@ module _ (before : DiskState) (last : DeskState) (first : List DeskState) (all :
                 comes = inr (
                   other,
                   may,
-                  subst (λ (at : Standing). LeadsTo (kept other) done at) (is.found unknown told.found told.told_is) leads,
+                  subst (λ (at : Standing). LeadsTo (standing other) done at)
+                      (standing-kept told.found.current side.desk (is.found unknown told.found told.told_is)) leads,
                 );
                 more = h.more;
                 published_is = published_is;
@@ -140,7 +144,8 @@ module _ (before : DiskState) (last : DeskState) (first : List DeskState) (all :
             subst (λ (side : AdminSide). Holds before last first all behind side) (sym done_so.leaves)
             (publishes behind back desk between.published cut-behind
             (made between.desk between.published command asks done_so.accepted
-            (λ commit erased is. sym (done-of desk.commit (erased_by between.desk command) commit erased exchange.replies done_so.answered is))
+            (λ commit erased is. sym
+            (done-of desk.commit (erased_by between.desk command) commit erased exchange.replies done_so.answered is))
             holds))
         commits-holds between now holds (inr (inl refused)) =
             rests between now (λ _ commit erased asks is. let same = sym refused.answered ∙ is in cc) holds refused.leaves
@@ -172,7 +177,8 @@ module _ (before : DiskState) (last : DeskState) (first : List DeskState) (all :
               subst (λ (side : AdminSide). Holds before last first all behind side) (sym is)
               (made between.desk between.published command asks accepted (λ commit erased is. let same = sym none ∙ is in cc) holds)
 
-          left-holds : (now : AdminSide) (reason : Unsettled) → Unsettles exchange.told old now reason → Holds before last first all behind now
+          left-holds : (now : AdminSide) (reason : Unsettled) → Unsettles exchange.told old now reason
+              → Holds before last first all behind now
           left-holds now why.StoreFault (undecided, is) =
               subst (λ (side : AdminSide). Holds before last first all behind side) (sym is) (still old.desk old.published silent h)
           left-holds now (why.StoreDamaged file line) (undecided, is, damaged) = rests old now silent h is
@@ -250,7 +256,8 @@ module _ (before : DiskState) (last : DeskState) (first : List DeskState) (all :
         (turn-holds done start.side s.answered (s.last ++ rest) s.between s.in_turn cut_turn h))
 
 -- a connection alone
-pub serves-reach : (before : DiskState) (start now : AdminTalk) (ended : Ended) (Keeps : List Exchange → Type 0) (s : Serves start now ended Keeps)
+pub serves-reach : (before : DiskState) (start now : AdminTalk) (ended : Ended) (Keeps : List Exchange → Type 0)
+    (s : Serves start now ended Keeps)
     → TellsEach before (s.answered ++ s.last)
     → (more : List DeskState) × (now.side.published ≡ start.side.published ++ more)
     × AllByRecursion (IsReached before start.side.desk (s.answered ++ s.last)) more

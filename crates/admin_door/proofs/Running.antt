@@ -1,15 +1,17 @@
 -- Frames in turn, and what stops leave meanwhile, put together.
-use Rattle.std.proofs.Common.{◌≡◌, ◌⊎◌, ◌≤◌, inl, inr, ⊎_elim, ℕ, List, [], ◌∷◌, ◌++◌, ◌∙◌, Option, Some, Ok, refl, sym, ap, subst, append-nil, arith}
+use Rattle.std.proofs.Common.{◌≡◌, ◌⊎◌, ◌≤◌, inl, inr, ⊎_elim, ℕ, List, [], ◌∷◌, ◌++◌, ◌∙◌, Option, Some, Ok, refl, sym, ap, subst}
+use Rattle.std.proofs.Common.{append-nil, arith}
 use Rattle.desk_ports.specs.FileMap.{FileMap}
 use Rattle.desk_ports.specs.Disk.{DiskState, MayLeave}
 use Rattle.desk_ports.specs.Moments.{LeavesOnly}
 use Rattle.desk_ports.proofs.Moments.{AddsOnly-none, LeavesOnly-from, LeavesOnly-then, LeavesOnly-more}
 use Rattle.desk_state.specs.DeskState.{DeskState}
-use Rattle.desk_keeper.specs.Kept.{kept}
+use Rattle.desk_keeper.specs.Kept.{Standing, standing}
 use Rattle.desk_keeper.specs.Keeper.{disk_of}
 use Rattle.desk_keeper.specs.declared.keeper.Keeper.{Keeper}
 use Rattle.admin_door.specs.Serving.{Exchange}
-use Rattle.admin_door.specs.Running.{Standing, LeadsTo, LeadsWithin, StandsSince, StandsBehind, ComesFrom, IsToldBehind, TellsEach, KeepsThrough, RunsOver}
+use Rattle.admin_door.specs.Running.{LeadsTo, LeadsWithin, StandsSince, StandsBehind, ComesFrom, IsToldBehind, TellsEach, KeepsThrough}
+use Rattle.admin_door.specs.Running.{RunsOver}
 
 -- ---- lists
 
@@ -23,7 +25,8 @@ split {X} (x ∷ es) fs (y ∷ front) back is =
     let rest_is : es ++ fs ≡ front ++ back = cc in
     with_head same (split es fs front back rest_is)
   where
-    with_head : x ≡ y → ((rest : List X) × (front ≡ es ++ rest) × (fs ≡ rest ++ back)) ⊎ ((rest : List X) × (es ≡ front ++ rest) × (back ≡ rest ++ fs))
+    with_head : x ≡ y
+        → ((rest : List X) × (front ≡ es ++ rest) × (fs ≡ rest ++ back)) ⊎ ((rest : List X) × (es ≡ front ++ rest) × (back ≡ rest ++ fs))
         → ((rest : List X) × (y ∷ front ≡ (x ∷ es) ++ rest) × (fs ≡ rest ++ back))
         ⊎ ((rest : List X) × (x ∷ es ≡ (y ∷ front) ++ rest) × (back ≡ rest ++ fs))
     with_head same (inl (rest, one, two)) = inl (rest, (λ i. sym same i ∷ one i), two)
@@ -63,7 +66,7 @@ within-behind a (e ∷ es) fs b left (between, one, rest) within = inr (between,
 since-front : (before : DiskState) (front es fs : List Exchange) (left : FileMap) → StandsSince before front es left
     → StandsSince before front (es ++ fs) left
 since-front before front es fs left (other, between, may, leads, within) =
-    (other, between, may, leads, within-front between es fs (kept left) within)
+    (other, between, may, leads, within-front between es fs (standing left) within)
 
 -- no frame came
 tells-none : (before : DiskState) → TellsEach before []
@@ -75,35 +78,36 @@ module _ (before mid : DiskState) (es : List Exchange) (first : (left : FileMap)
   behind-then : (fs : List Exchange) (left : FileMap) → StandsBehind mid fs left → StandsBehind before (es ++ fs) left
   behind-then fs left (other, may, leads) =
       let base = first other may in
-      (base.0, base.1, leads-then (kept base.0) es fs (kept other) (kept left) base.2 leads)
+      (base.0, base.1, leads-then (standing base.0) es fs (standing other) (standing left) base.2 leads)
 
-  since-behind : (front back : List Exchange) (left : FileMap) → StandsSince mid front back left → StandsSince before (es ++ front) back left
+  since-behind : (front back : List Exchange) (left : FileMap) → StandsSince mid front back left
+      → StandsSince before (es ++ front) back left
   since-behind front back left (other, between, may, leads, within) =
       let base = first other may in
-      (base.0, between, base.1, leads-then (kept base.0) es front (kept other) between base.2 leads, within)
+      (base.0, between, base.1, leads-then (standing base.0) es front (standing other) between base.2 leads, within)
 
   since-within : (front rest fs : List Exchange) → es ≡ front ++ rest → (left : FileMap) → StandsSince mid [] fs left
       → StandsSince before front (rest ++ fs) left
   since-within front rest fs is left (other, between, may, same, within) =
       let base = first other may in
-      let parts = leads-split (kept base.0) front rest (kept other)
-      (subst (λ (list : List Exchange). LeadsTo (kept base.0) list (kept other)) is base.2) in (
+      let parts = leads-split (standing base.0) front rest (standing other)
+      (subst (λ (list : List Exchange). LeadsTo (standing base.0) list (standing other)) is base.2) in (
         base.0,
         parts.0,
         base.1,
         parts.1,
-        within-behind parts.0 rest fs (kept other) (kept left) parts.2
-            (subst (λ (at : Standing). LeadsWithin at fs (kept left)) same within),
+        within-behind parts.0 rest fs (standing other) (standing left) parts.2
+            (subst (λ (at : Standing). LeadsWithin at fs (standing left)) same within),
       )
 
   pub comes-then : (fs : List Exchange) (last desk now : DeskState) → ComesFrom before last es desk → ComesFrom mid desk fs now
       → ComesFrom before last (es ++ fs) now
   comes-then fs last desk now (inl leads) (inl then) = inl (leads-then (Ok last) es fs (Ok desk) (Ok now) leads then)
   comes-then fs last desk now (inr (other, may, leads)) (inl then) =
-      inr (other, may, leads-then (kept other) es fs (Ok desk) (Ok now) leads then)
+      inr (other, may, leads-then (standing other) es fs (Ok desk) (Ok now) leads then)
   comes-then fs last desk now comes (inr (other, may, then)) =
       let base = first other may in
-      inr (base.0, base.1, leads-then (kept base.0) es fs (kept other) (Ok now) base.2 then)
+      inr (base.0, base.1, leads-then (standing base.0) es fs (standing other) (Ok now) base.2 then)
 
   told-then : (fs : List Exchange) (told : Option DiskState) → IsToldBehind mid fs told → IsToldBehind before (es ++ fs) told
   told-then fs told is = record {
@@ -203,7 +207,7 @@ module _ {D : Type 0} (state : D → Option DiskState) (moment : D → ℕ) (lef
   runs-none keeper only_now before told known =
       let disk = disk_of keeper in
       let here : (left : FileMap) → left_since disk (moment disk) left → StandsSince before [] [] left =
-      λ left was. (left, kept left, only_now left before told was, refl, refl) in
+      λ left was. (left, standing left, only_now left before told was, refl, refl) in
       record {
         after = before;
         told = told;

@@ -1,5 +1,6 @@
 -- Replies that are sent one after the other.
-use Rattle.std.proofs.Common.{◌≡◌, ◌∙◌, ◌<◌, ◌+◌, ℕ, suc, List, [], ◌∷◌, ◌++◌, length, take, drop, get_or, Option, sym, ap, subst, append-nil, drop-cons}
+use Rattle.std.proofs.Common.{◌≡◌, ◌∙◌, ◌<◌, ◌+◌, ℕ, suc, List, [], ◌∷◌, ◌++◌, length, take, drop, get_or, Option, sym, ap, subst}
+use Rattle.std.proofs.Common.{append-nil, drop-cons}
 use Rattle.std.proofs.lemmas.Grind.{flat_map-append}
 use Rattle.std.proofs.lemmas.List.{take_more, take-append-drop}
 use Rattle.link_ports.specs.Traffic.{Traffic}
@@ -43,7 +44,8 @@ cut-off ended sequence replies i reply start between end before now after within
   next = reply;
   unsent = drop (suc i) replies;
   parts = sym (take-append-drop i replies)
-      ∙ ap (λ rest. take i replies ++ rest) (drop-cons replies i reply within ∙ ap (λ (one : Message). one ∷ drop (suc i) replies) (sym is));
+      ∙ ap (λ rest. take i replies ++ rest)
+      (drop-cons replies i reply within ∙ ap (λ (one : Message). one ∷ drop (suc i) replies) (sym is));
   carried = subst (λ bytes. Carried start end [] bytes) (append-nil (replies_bytes sequence (take i replies)))
       (carried_more [] [] (replies_bytes sequence (take i replies)) [] start between end sent unsent);
   faults = subst (λ count. EndsSending ended count after) same ends;

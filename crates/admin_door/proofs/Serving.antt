@@ -20,7 +20,8 @@ use Rattle.door_frames.proofs.Carrying.{carried_more, carried_same}
 use Rattle.door_frames.proofs.Hearing.{unfed_heard}
 use Rattle.admin_door.specs.Side.{AdminSide}
 use Rattle.admin_door.specs.Answering.{Answers, Refuses}
-use Rattle.admin_door.specs.Serving.{AdminTalk, talk_of, Exchange, exchange_of, exchange_bytes, exchanges_bytes, frames_of, replies_bytes, IsAnswered, AreAnswered, IsNoStop, AreNoStops, StopsAt, IsUnsent, Serves}
+use Rattle.admin_door.specs.Serving.{AdminTalk, talk_of, Exchange, exchange_of, exchange_bytes, exchanges_bytes, frames_of, replies_bytes}
+use Rattle.admin_door.specs.Serving.{IsAnswered, AreAnswered, IsNoStop, AreNoStops, StopsAt, IsUnsent, Serves}
 use Rattle.admin_door.specs.parts.Talk.{Stands, IsWhole, IsUnheeded, IsHalfSent, EndsAt}
 
 -- ---- lists of frames
@@ -210,11 +211,12 @@ module _ (start old : AdminTalk) (feeder fed : Feeding) (bytes : List ℕ) (fram
           in_turn = answered-more start.side s.answered old.side exchange now.side s.in_turn whole.answers;
           ending = inl (refl, refl, refl);
           stopping = subst (λ (e : Ended). StopsAt e (s.answered ++ exchange ∷ [])) (sym is) (s.answered, exchange, refl, s.no_stops, stop);
-          bytes = subst (λ (e : Ended). EndsBytes AtAdmin (s.received ++ bytes) (frames_of (s.answered ++ exchange ∷ []) ++ []) e) (sym is) (
-            fed.waiting,
-            heard.0,
-            subst (λ list. Hears AtAdmin (s.received ++ bytes) list heard.0) frames heard.1,
-          );
+          bytes = subst
+              (λ (e : Ended). EndsBytes AtAdmin (s.received ++ bytes) (frames_of (s.answered ++ exchange ∷ []) ++ []) e) (sym is) (
+                fed.waiting,
+                heard.0,
+                subst (λ list. Hears AtAdmin (s.received ++ bytes) list heard.0) frames heard.1,
+              );
           carried = subst (λ sent. Carried start.traffic now.traffic (s.received ++ bytes) sent)
               (bytes-more s.answered exchange ∙ sym (append-nil (exchanges_bytes (s.answered ++ exchange ∷ []))))
               (carried-turn s.received bytes (exchanges_bytes s.answered) (exchange_bytes exchange) start.traffic old.traffic traffic
@@ -233,7 +235,8 @@ module _ (start old : AdminTalk) (feeder fed : Feeding) (bytes : List ℕ) (fram
 -- ---- no frame more
 
 module _ (start old : AdminTalk) (feeder fed : Feeding) (bytes : List ℕ) (traffic : Option Traffic) (marks : LinkMarks) (faults : ℕ)
-    (Keeps : List Exchange → Type 0) (s : Stands start old feeder Keeps) (hears : Carried old.traffic traffic bytes []) (more : HearsMore bytes feeder fed)
+    (Keeps : List Exchange → Type 0) (s : Stands start old feeder Keeps) (hears : Carried old.traffic traffic bytes [])
+    (more : HearsMore bytes feeder fed)
     (at_admin : fed.heard ≡ AtAdmin) (none : fed.waiting ≡ []) (same_ends : marks.ends ≡ old.marks.ends) where
   abbrev behind : List ℕ
   behind = (more s.received (frames_of s.answered) s.heard).behind
@@ -274,7 +277,8 @@ module _ (start old : AdminTalk) (feeder fed : Feeding) (bytes : List ℕ) (traf
       → Serves start (talk_of old.side traffic marks faults) ended Keeps
   ends-reading Closed (sound, empty, mark, still) =
       let at = (more s.received (frames_of s.answered) s.heard).sound sound in
-      read-to Closed s.no_stops (subst (λ rest. Hears AtAdmin (s.received ++ bytes) (frames_of s.answered ++ []) rest) (at.0 ∙ empty) hears-all)
+      read-to Closed s.no_stops
+      (subst (λ rest. Hears AtAdmin (s.received ++ bytes) (frames_of s.answered ++ []) rest) (at.0 ∙ empty) hears-all)
       still mark
   ends-reading (Cut count) (sound, is, some, mark, still) =
       let at = (more s.received (frames_of s.answered) s.heard).sound sound in

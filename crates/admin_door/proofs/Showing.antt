@@ -1,6 +1,6 @@
 -- States that are published one behind the other, and what a side is then.
-use Rattle.std.proofs.Common.{◌≡◌, ◌≤◌, ◌<◌, ◌∙◌, ◌++◌, ◌∷◌, [], ℕ, cond, List, refl, ap, sym}
-use Rattle.std.proofs.lemmas.Bool.{lt-ltb, le-ltb}
+use Rattle.std.proofs.Common.{◌≡◌, ◌<◌, ◌∙◌, ◌++◌, ◌∷◌, [], ℕ, cond, List, refl, ap, sym}
+use Rattle.std.proofs.lemmas.Bool.{lt-ltb}
 use Rattle.desk_state.specs.DeskState.{DeskState}
 use Rattle.live_desk.specs.History.{last_commit}
 use Rattle.server_hall.specs.Tally.{Tally, after_hang}

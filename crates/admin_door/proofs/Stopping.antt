@@ -9,21 +9,25 @@ use Rattle.desk_state.specs.DeskState.{DeskState}
 use Rattle.desk_state.specs.Next.{next}
 use Rattle.desk_state.specs.Rules.{fault}
 use Rattle.desk_state.specs.declared.commands.Command.{Command}
-use Rattle.desk_keeper.specs.Kept.{kept}
-use Rattle.desk_keeper.specs.Keeping.{IsKept, StandsAsAllowed, IsBeforeOrAfter}
+use Rattle.desk_keeper.specs.Kept.{kept, standing}
+use Rattle.desk_keeper.specs.Keeping.{IsKept, IsBeforeOrAfter}
+use Rattle.desk_keeper.proofs.Keeping.{standing-kept, standing-alike}
+use Rattle.guard_files.specs.Mounted.{RecoversAsAllowed}
 use Rattle.admin_door.specs.Stops.{StandsAsAt, Allows, IsBeforeOrApplied, StandsBy}
 
 -- what is durable at a state that keeps a policy state stands for it
 pub allows-kept : (before : DiskState) (desk : DeskState) (held : Option (List SetFile)) → IsKept desk held before → Allows before desk
-allows-kept before desk held is = let durable : MayLeave before before.durable = λ name outside. refl in (before.durable, durable, is.alone before.durable durable)
+allows-kept before desk held is =
+    let durable : MayLeave before before.durable = λ name outside. refl in
+    (before.durable, durable, standing-kept before.durable desk (is.alone before.durable durable))
 
 -- what is read now is what a stop may leave
 pub allows-current : (before : DiskState) (desk : DeskState) → IsTouchedOnly before → kept before.current ≡ Ok desk → Allows before desk
-allows-current before desk touched is = (before.current, touched, is)
+allows-current before desk touched is = (before.current, touched, standing-kept before.current desk is)
 
 -- a map that stands for what a stop may leave stands so by whatever is applied
 stands-allowed : (found : Option Command) (before : DiskState) (desk : DeskState) → Allows before desk → (left : FileMap)
-    → kept left ≡ Ok desk → StandsBy found before left
+    → standing left ≡ Ok desk → StandsBy found before left
 stands-allowed found before desk (other, may, stands) left is = inl (other, may, is ∙ sym stands)
 
 applied-allowed : (before : DiskState) (desk : DeskState) (command : Command) → Allows before desk → (left : FileMap)
@@ -40,11 +44,11 @@ module _ {D : Type 0} (moment : D → ℕ) (left_since : D → ℕ → FileMap �
       (AddsOnly-none moment left_since disk (StandsAsAt before))
 
   module _ (old new : D) where
-    pub stands-as-at : (before : DiskState) → LeavesOnly moment left_since old new (StandsAsAllowed before)
+    pub stands-as-at : (before : DiskState) → LeavesOnly moment left_since old new (RecoversAsAllowed before)
         → LeavesOnly moment left_since old new (StandsAsAt before)
     stands-as-at before leaves =
-        LeavesOnly-more moment left_since old new (StandsAsAllowed before) (StandsAsAt before)
-        (λ left (other, may, is, others). (other, may, is)) leaves
+        LeavesOnly-more moment left_since old new (RecoversAsAllowed before) (StandsAsAt before)
+        (λ left (other, may, same, others). (other, may, standing-alike left other same)) leaves
 
     pub stands-by : (found : Option Command) (before : DiskState) → LeavesOnly moment left_since old new (StandsAsAt before)
         → LeavesOnly moment left_since old new (StandsBy found before)
@@ -57,7 +61,8 @@ module _ {D : Type 0} (moment : D → ℕ) (left_since : D → ℕ → FileMap �
         → LeavesOnly moment left_since old new (IsBeforeOrApplied desk command)
     applies desk after command accepted is leaves =
         LeavesOnly-more moment left_since old new (IsBeforeOrAfter desk after) (IsBeforeOrApplied desk command)
-        (λ left one. ⊎_elim (λ was. inl was) (λ was. inr (accepted, was ∙ ap Ok is)) one) leaves
+        (λ left one. ⊎_elim (λ was. inl (standing-kept left desk was))
+        (λ was. inr (accepted, standing-kept left after was ∙ ap Ok is)) one) leaves
 
   -- a command behind the settling
   pub stands-behind : (old mid new : D) (before : DiskState) (desk : DeskState) (command : Command) → Allows before desk

@@ -1,5 +1,5 @@
 -- What a stop at any moment of a connection may leave in the folder, and what the folder keeps behind it.
-use Rattle.std.specs.Prelude.{◌≡◌, ◌≤◌, ◌⊎◌, ℕ, List, [], ◌∷◌, ◌++◌, Option, Some, None, Result, Ok}
+use Rattle.std.specs.Prelude.{◌≡◌, ◌≤◌, ◌⊎◌, ℕ, List, [], ◌∷◌, ◌++◌, Option, Some, None, Ok}
 use Rattle.desk_ports.specs.FileMap.{FileMap}
 use Rattle.desk_ports.specs.Disk.{DiskState, MayLeave, WhereTold}
 use Rattle.desk_ports.specs.Moments.{LeavesOnly}
@@ -7,8 +7,7 @@ use Rattle.desk_state.specs.DeskState.{DeskState}
 use Rattle.desk_state.specs.Next.{next}
 use Rattle.desk_state.specs.Rules.{fault}
 use Rattle.desk_state.specs.declared.commands.Command.{Command}
-use Rattle.set_text.specs.Fault.{Fault}
-use Rattle.desk_keeper.specs.Kept.{kept}
+use Rattle.desk_keeper.specs.Kept.{Standing, standing}
 use Rattle.desk_keeper.specs.Keeper.{disk_of, held_of}
 use Rattle.desk_keeper.specs.declared.keeper.Keeper.{Keeper}
 use Rattle.wire_messages.specs.Commands.{command_of}
@@ -17,10 +16,6 @@ use Rattle.wire_messages.specs.declared.messages.Message.TheVariants.{Done}
 use Rattle.admin_door.specs.Side.{decided_of}
 use Rattle.admin_door.specs.Stops.{KeepsKnown}
 use Rattle.admin_door.specs.Serving.{Exchange}
-
--- what a map stands for: a policy state, or the fault by which it stands for none
-abbrev pub Standing : Type 0
-Standing = Result DeskState Fault
 
 -- ---- one frame
 
@@ -75,16 +70,16 @@ HasCommit commit left = (desk : DeskState) × (left ≡ Ok desk) × (commit ≤ 
 -- frames behind them, or the one that was answered then.
 abbrev pub StandsSince : DiskState → List Exchange → List Exchange → FileMap → Type 0
 StandsSince before front back left = (other : FileMap) × (between : Standing) × MayLeave before other
-    × LeadsTo (kept other) front between × LeadsWithin between back (kept left)
+    × LeadsTo (standing other) front between × LeadsWithin between back (standing left)
 
 -- the map stands for what all of the frames made of what a stop at this state may leave
 abbrev pub StandsBehind : DiskState → List Exchange → FileMap → Type 0
-StandsBehind before exchanges left = (other : FileMap) × MayLeave before other × LeadsTo (kept other) exchanges (kept left)
+StandsBehind before exchanges left = (other : FileMap) × MayLeave before other × LeadsTo (standing other) exchanges (standing left)
 
 -- the frames lead to this policy state from the one that was known last, or from what a stop at this state may leave
 abbrev pub ComesFrom : DiskState → DeskState → List Exchange → DeskState → Type 0
 ComesFrom before last exchanges now = LeadsTo (Ok last) exchanges (Ok now)
-    ⊎ ((other : FileMap) × MayLeave before other × LeadsTo (kept other) exchanges (Ok now))
+    ⊎ ((other : FileMap) × MayLeave before other × LeadsTo (standing other) exchanges (Ok now))
 
 -- What the disk told before a frame: what is read then is what a stop may leave, and each map that a stop may leave then
 -- stands for what the frames in front of it made of what a stop at the first state may leave.

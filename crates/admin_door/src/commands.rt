@@ -19,7 +19,8 @@ ghost use Rattle.wire_messages.specs.declared.operations.Heard.TheVariants.{AtAd
 ghost use Rattle.door_frames.specs.declared.endings.Ended.TheVariants.{Memory};
 ghost use Rattle.admin_door.specs.Side.{side_of, decided_of};
 ghost use Rattle.admin_door.specs.Settling.{IsHungFor, TellsDamage};
-ghost use Rattle.admin_door.specs.Answering.{Answers, Refuses, AnswersQuestion, Obeys, IsUnanswered, Commits, LacksMemory, AnswersUnsettled};
+ghost use Rattle.admin_door.specs.Answering.{Answers, Refuses, AnswersQuestion, Obeys, IsUnanswered, Commits};
+ghost use Rattle.admin_door.specs.Answering.{LacksMemory, AnswersUnsettled};
 ghost use Rattle.admin_door.specs.parts.Asking.{IsNoCommand};
 ghost use Rattle.admin_door.specs.parts.Showing.{Shows, IsUnshown};
 

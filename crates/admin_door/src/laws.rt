@@ -8,7 +8,7 @@ ghost use Rattle.desk_state.specs.DeskState.{DeskState};
 ghost use Rattle.desk_state.specs.declared.commands.Command as command;
 ghost use Rattle.desk_keeper.specs.declared.keeper.Keeper as keeper;
 ghost use Rattle.desk_keeper.specs.Keeper.{disk_of, held_of};
-ghost use Rattle.desk_keeper.specs.Kept.{kept};
+ghost use Rattle.desk_keeper.specs.Kept.{Standing, standing};
 ghost use Rattle.desk_keeper.specs.Keeping.{IsKept};
 ghost use Rattle.wire_messages.specs.Commands.{command_of};
 ghost use Rattle.wire_messages.specs.declared.messages.Framed as framed;
@@ -20,7 +20,7 @@ ghost use Rattle.admin_door.specs.Side.{AdminSide, decided_of};
 ghost use Rattle.admin_door.specs.Stops.{KeepsKnown};
 ghost use Rattle.admin_door.specs.Answering.{Answers};
 ghost use Rattle.admin_door.specs.Serving.{AdminTalk, Exchange, Serves};
-ghost use Rattle.admin_door.specs.Running.{Standing, LeadsTo, LeadsWithin, IsReached, RunsOver, StandsSince, HasCommit};
+ghost use Rattle.admin_door.specs.Running.{LeadsTo, LeadsWithin, IsReached, RunsOver, StandsSince, HasCommit};
 ghost use Rattle.admin_door.specs.Complete.{Stays, Receives, AnswersEach, AnswersFront, IsDecided, FindsDamage};
 
 use desk_ports::Disk;
@@ -48,7 +48,7 @@ pub fn an_acknowledged_command_lasts()
     ensures { (before : DiskState) (front back : List Exchange) (exchange : Exchange) (command : command.Command)
         (commit erased : ℕ) (left : FileMap) → command_of exchange.framed.message ≡ Some command
         → exchange.replies ≡ Done commit erased ∷ [] → StandsSince before (front ++ exchange ∷ []) back left
-        → HasCommit commit (kept left) }
+        → HasCommit commit (standing left) }
 {}
 
 /// Where it is known at the start that the folder keeps this policy state, a stop leaves what the first few of the frames made
@@ -56,7 +56,7 @@ pub fn an_acknowledged_command_lasts()
 pub fn a_folder_that_is_known_leads_on()
     ensures { (desk : DeskState) (held : Option (List file.SetFile)) (before : DiskState) (front back : List Exchange)
         (left : FileMap) → IsKept desk held before → StandsSince before front back left
-        → (between : Standing) × LeadsTo (Ok desk) front between × LeadsWithin between back (kept left) }
+        → (between : Standing) × LeadsTo (Ok desk) front between × LeadsWithin between back (standing left) }
 {}
 
 /// Each state that a connection publishes is one that the first few of its frames lead to: from the policy state that was known

@@ -4,7 +4,8 @@ use Rattle.server_hall.specs.Tally.{Tally, after_call, after_calls}
 use Rattle.server_hall.specs.Told.{AppendsCalls}
 use Rattle.server_hall.specs.declared.calls.HallCall.{HallCall}
 
-pub after_calls_more : (calls more : List HallCall) (tally : Tally) → after_calls (calls ++ more) tally ≡ after_calls more (after_calls calls tally)
+pub after_calls_more : (calls more : List HallCall) (tally : Tally)
+    → after_calls (calls ++ more) tally ≡ after_calls more (after_calls calls tally)
 after_calls_more [] more tally = refl
 after_calls_more (call ∷ calls) more tally = after_calls_more calls more (after_call call tally)
 

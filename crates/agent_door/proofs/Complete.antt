@@ -1,5 +1,6 @@
 -- A connection around which nothing fails is heeded whole.
-use Rattle.std.proofs.Common.{◌≡◌, ◌∙◌, ◌≤◌, ◌⊎◌, inl, inr, ℕ, List, [], ◌∷◌, ◌++◌, map, length, Option, Some, Result, Ok, Err, refl, sym, ap, subst, append-nil, arith}
+use Rattle.std.proofs.Common.{◌≡◌, ◌∙◌, ◌≤◌, ◌⊎◌, inl, inr, ℕ, List, [], ◌∷◌, ◌++◌, map, length, Option, Some, Result, Ok, Err, refl, sym}
+use Rattle.std.proofs.Common.{ap, subst, append-nil, arith}
 use Rattle.std.proofs.lemmas.List.{append_cancel_left}
 use Rattle.std.specs.List.{flat_map}
 use Rattle.desk_ports.specs.Faults.{next_count, last_count}
@@ -16,11 +17,13 @@ use Rattle.wire_messages.specs.declared.messages.Framed.{Framed}
 use Rattle.wire_messages.specs.declared.messages.Message.TheVariants.{Register}
 use Rattle.wire_messages.specs.declared.operations.Heard.TheVariants.{AtAgent}
 use Rattle.wire_messages.specs.declared.refusals.WireRefusal.{WireRefusal}
-use Rattle.wire_messages.specs.declared.refusals.WireRefusal.TheVariants.{TooShort, TooLong, BadOperation, BadField, Trailing, Memory as NoMemory}
+use Rattle.wire_messages.specs.declared.refusals.WireRefusal.TheVariants.{TooShort, TooLong, BadOperation, BadField, Trailing}
+use Rattle.wire_messages.specs.declared.refusals.WireRefusal.TheVariants.{Memory as NoMemory}
 use Rattle.wire_messages.proofs.Settling.{short_open}
 use Rattle.wire_messages.proofs.Hearings.{heard_once}
 use Rattle.wire_messages.proofs.Refusing.{refused_to_its_end}
-use Rattle.server_hall.specs.Tally.{Tally, after_call, after_calls, after_join, after_part, stops_after_ask, stops_after_join, stops_after_next}
+use Rattle.server_hall.specs.Tally.{Tally, after_call, after_calls, after_join, after_part, stops_after_ask, stops_after_join}
+use Rattle.server_hall.specs.Tally.{stops_after_next}
 use Rattle.server_hall.specs.declared.calls.HallCall.{HallCall}
 use Rattle.server_hall.specs.declared.calls.HallCall.TheVariants.{Ask, Join, Next, Answer as AnswerCalled}
 use Rattle.server_hall.specs.declared.refusals.NextRefusal.{NextRefusal}
@@ -77,7 +80,8 @@ calls_kept : (calls : List HallCall) (tally : Tally) → tally.stops ≤ last_co
 calls_kept [] tally fits = (omega arith, fits)
 calls_kept (call ∷ calls) tally fits =
     let first : Kept tally.stops (after_call call tally).stops = call_kept call tally fits in
-    let then : Kept (after_call call tally).stops (after_calls calls (after_call call tally)).stops = calls_kept calls (after_call call tally) first.1 in
+    let then : Kept (after_call call tally).stops (after_calls calls (after_call call tally)).stops =
+    calls_kept calls (after_call call tally) first.1 in
     (omega (arith, first.0, then.0), then.1)
 
 -- ---- bytes
@@ -95,11 +99,15 @@ never bytes frames heeded rest refusal all some wrong =
 pub right_whole : (bytes : List ℕ) (frames heeded : List Framed) (rest : List ℕ) (refusal : WireRefusal) → Hears AtAgent bytes frames []
     → Hears AtAgent bytes heeded rest → BeginsWrong AtAgent rest refusal → IsOfBytes refusal → ⊥
 right_whole bytes frames heeded rest (NoMemory error) all some wrong of_bytes = absurd of_bytes
-right_whole bytes frames heeded rest (TooShort count) all some wrong of_bytes = never bytes frames heeded rest (TooShort count) all some wrong
+right_whole bytes frames heeded rest (TooShort count) all some wrong of_bytes =
+    never bytes frames heeded rest (TooShort count) all some wrong
 right_whole bytes frames heeded rest (TooLong count) all some wrong of_bytes = never bytes frames heeded rest (TooLong count) all some wrong
-right_whole bytes frames heeded rest (BadOperation number) all some wrong of_bytes = never bytes frames heeded rest (BadOperation number) all some wrong
-right_whole bytes frames heeded rest (BadField place) all some wrong of_bytes = never bytes frames heeded rest (BadField place) all some wrong
-right_whole bytes frames heeded rest (Trailing place) all some wrong of_bytes = never bytes frames heeded rest (Trailing place) all some wrong
+right_whole bytes frames heeded rest (BadOperation number) all some wrong of_bytes =
+    never bytes frames heeded rest (BadOperation number) all some wrong
+right_whole bytes frames heeded rest (BadField place) all some wrong of_bytes =
+    never bytes frames heeded rest (BadField place) all some wrong
+right_whole bytes frames heeded rest (Trailing place) all some wrong of_bytes =
+    never bytes frames heeded rest (Trailing place) all some wrong
 
 same_whole : (a b : Framed) (x y : List ℕ) → Front.Whole a x ≡ Front.Whole b y → (a ≡ b) × (x ≡ y)
 same_whole a b x y same = (cc, cc)
@@ -160,7 +168,8 @@ heard_so start now frames received sent r carried =
     subst (λ list. Hears AtAgent list frames [])
     (sym (append_cancel_left r.before.received received r.bytes (sym (ap (λ (x : Traffic). x.received) at) ∙ r.received))) r.heard
 
-pub sends_so : (start now : AgentSide) (frames sent : List Framed) (received : List ℕ) (others : List Framed) (r : Receives others start now)
+pub sends_so : (start now : AgentSide) (frames sent : List Framed) (received : List ℕ) (others : List Framed)
+    (r : Receives others start now)
     → Carried start.traffic now.traffic received (flat_map spelling sent) → sent ≡ frames → Sends frames start now
 sends_so start now frames sent received others r carried is =
     let at = carried_so start.traffic now.traffic received (flat_map spelling sent) r.before r.after carried r.told r.told_now in
@@ -189,8 +198,10 @@ misplaced_later : (received : List ℕ) (told registration : Registration) (heed
     → Hears AtAgent received (frames_of told answers) []
     → EndsHeeding received (register_frame registration ∷ heeded) (BadFrame (BadOperation number)) → ⊥
 misplaced_later received told registration heeded answers number heard (inl (rest, some, wrong, of_bytes)) =
-    right_whole received (frames_of told answers) (register_frame registration ∷ heeded) rest (BadOperation number) heard some wrong of_bytes
-misplaced_later received told registration heeded answers number (left, first, all) (inr (framed, more, rest, (behind, some, others), is, place)) =
+    right_whole received (frames_of told answers) (register_frame registration ∷ heeded) rest (BadOperation number) heard some
+    wrong of_bytes
+misplaced_later received told registration heeded answers number (left, first, all)
+    (inr (framed, more, rest, (behind, some, others), is, place)) =
     let same = (same_whole (register_frame registration) (register_frame told) behind left (sym some ∙ first)).1 in
     let known : number_of (operation framed.message) ≡ 0x21 =
     is_answer behind heeded framed more rest answers others
@@ -271,13 +282,15 @@ stopped_rises kind rounds last start tally counted is still =
     let kept : Kept start.stops before.stops = calls_kept calls start (omega (arith, still.0)) in
     moves start.stops before.stops tally.stops still kept.0 (omega (arith, rose))
 
-asked_so : (result : Ended) (start last : AgentSide) (told registration : Registration) (answers : List Answer) (a : Asks registration start last result)
+asked_so : (result : Ended) (start last : AgentSide) (told registration : Registration) (answers : List Answer)
+    (a : Asks registration start last result)
     → IsQuiet start last → (r : Receives (frames_of told answers) start last)
     → ((result ≡ Closed) × HeedsEach told answers start last) ⊎ (result ≡ Memory)
 asked_so Closed start last told registration answers a quiet r =
     let heard : Hears AtAgent a.received (frames_of told answers) [] =
     heard_so start last (frames_of told answers) a.received (flat_map spelling a.sent) r a.carried in
-    let same = same_list (register_frame registration) (register_frame told) (rounds_frames (a.rounds ++ a.open_round)) (map answer_frame answers)
+    let same = same_list (register_frame registration) (register_frame told) (rounds_frames (a.rounds ++ a.open_round))
+    (map answer_frame answers)
     (heard_once AtAgent a.received (register_frame registration ∷ rounds_frames (a.rounds ++ a.open_round)) (frames_of told answers) [] []
     a.bytes nothing_open heard nothing_open).0 in
     let sent : a.sent ≡ registered_frame registration ∷ rounds_told registration.kind (a.rounds ++ a.open_round) =
@@ -293,7 +306,8 @@ asked_so (Cut count) start last told registration answers a quiet r =
     let (rest, some, unfinished, length_is, many) = a.bytes in
     let heard : Hears AtAgent a.received (frames_of told answers) [] =
     heard_so start last (frames_of told answers) a.received (flat_map spelling a.sent) r a.carried in
-    let same = (heard_once AtAgent a.received (register_frame registration ∷ rounds_frames (a.rounds ++ a.open_round)) (frames_of told answers) rest []
+    let same = (heard_once AtAgent a.received (register_frame registration ∷ rounds_frames (a.rounds ++ a.open_round))
+    (frames_of told answers) rest []
     some unfinished heard nothing_open).1 in
     absurd (omega (arith, sym (ap length same) ∙ length_is, many))
 asked_so LinkFault start last told registration answers a quiet r =
@@ -304,19 +318,23 @@ asked_so (BadFrame (BadOperation number)) start last told registration answers a
     (heard_so start last (frames_of told answers) a.received (flat_map spelling a.sent) r a.carried) a.bytes)
 asked_so (BadFrame (TooShort count)) start last told registration answers a quiet r =
     let (rest, some, wrong, of_bytes) = a.bytes in
-    absurd (right_whole a.received (frames_of told answers) (register_frame registration ∷ rounds_frames (a.rounds ++ a.open_round)) rest (TooShort count)
+    absurd (right_whole a.received (frames_of told answers) (register_frame registration ∷ rounds_frames (a.rounds ++ a.open_round)) rest
+    (TooShort count)
     (heard_so start last (frames_of told answers) a.received (flat_map spelling a.sent) r a.carried) some wrong of_bytes)
 asked_so (BadFrame (TooLong count)) start last told registration answers a quiet r =
     let (rest, some, wrong, of_bytes) = a.bytes in
-    absurd (right_whole a.received (frames_of told answers) (register_frame registration ∷ rounds_frames (a.rounds ++ a.open_round)) rest (TooLong count)
+    absurd (right_whole a.received (frames_of told answers) (register_frame registration ∷ rounds_frames (a.rounds ++ a.open_round)) rest
+    (TooLong count)
     (heard_so start last (frames_of told answers) a.received (flat_map spelling a.sent) r a.carried) some wrong of_bytes)
 asked_so (BadFrame (BadField place)) start last told registration answers a quiet r =
     let (rest, some, wrong, of_bytes) = a.bytes in
-    absurd (right_whole a.received (frames_of told answers) (register_frame registration ∷ rounds_frames (a.rounds ++ a.open_round)) rest (BadField place)
+    absurd (right_whole a.received (frames_of told answers) (register_frame registration ∷ rounds_frames (a.rounds ++ a.open_round)) rest
+    (BadField place)
     (heard_so start last (frames_of told answers) a.received (flat_map spelling a.sent) r a.carried) some wrong of_bytes)
 asked_so (BadFrame (Trailing place)) start last told registration answers a quiet r =
     let (rest, some, wrong, of_bytes) = a.bytes in
-    absurd (right_whole a.received (frames_of told answers) (register_frame registration ∷ rounds_frames (a.rounds ++ a.open_round)) rest (Trailing place)
+    absurd (right_whole a.received (frames_of told answers) (register_frame registration ∷ rounds_frames (a.rounds ++ a.open_round)) rest
+    (Trailing place)
     (heard_so start last (frames_of told answers) a.received (flat_map spelling a.sent) r a.carried) some wrong of_bytes)
 asked_so (BadFrame (NoMemory error)) start last told registration answers a quiet r =
     let (rest, some, wrong, of_bytes) = a.bytes in
@@ -331,7 +349,8 @@ asked_so (Strayed number found) start last told registration answers a quiet r =
 -- the agent parts, which neither counts a stop nor sends anything
 parted : (result : Ended) (start now last : AgentSide) (told : Registration) (answers : List Answer) (tally : Tally)
     → now ≡ record last { tally = tally } → tally.stops ≡ last.tally.stops
-    → (IsQuiet start last → Receives (frames_of told answers) start last → ((result ≡ Closed) × HeedsEach told answers start last) ⊎ (result ≡ Memory))
+    → (IsQuiet start last → Receives (frames_of told answers) start last
+    → ((result ≡ Closed) × HeedsEach told answers start last) ⊎ (result ≡ Memory))
     → IsQuiet start now → Receives (frames_of told answers) start now
     → ((result ≡ Closed) × HeedsEach told answers start now) ⊎ (result ≡ Memory)
 parted result start now last told answers tally is stops so quiet r =

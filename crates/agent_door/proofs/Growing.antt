@@ -9,7 +9,8 @@ use Rattle.wire_messages.specs.declared.messages.Framed.{Framed}
 use Rattle.server_hall.specs.declared.calls.HallCall.{HallCall}
 use Rattle.server_hall.specs.declared.calls.HallCall.TheVariants.{Next}
 use Rattle.agent_door.specs.Frame.{answer_frame, question_frame}
-use Rattle.agent_door.specs.Round.{Given, Round, IsOther, answer_call, round_calls, rounds_calls, round_frames, rounds_frames, told_of, round_told, rounds_told}
+use Rattle.agent_door.specs.Round.{Given, Round, IsOther, answer_call, round_calls, rounds_calls, round_frames, rounds_frames, told_of}
+use Rattle.agent_door.specs.Round.{round_told, rounds_told}
 
 -- the last of some lists goes on
 last_grows : {A : Type 0} (f : Round → List A) (rounds : List Round) (old new : Round) (more : List A) → f new ≡ f old ++ more
@@ -36,29 +37,35 @@ round_of asked given = record { asked = asked; given = given }
 -- ---- a further answer
 
 pub calls_grow : (kind : Kind) (rounds : List Round) (asked : Asked) (given : List Given) (one : Given)
-    → rounds_calls kind (rounds ++ with_given asked given one ∷ []) ≡ rounds_calls kind (rounds ++ round_of asked given ∷ []) ++ answer_call kind one ∷ []
+    → rounds_calls kind (rounds ++ with_given asked given one ∷ [])
+    ≡ rounds_calls kind (rounds ++ round_of asked given ∷ []) ++ answer_call kind one ∷ []
 calls_grow kind rounds asked given one =
     last_grows (round_calls kind) rounds (round_of asked given) (with_given asked given one) (answer_call kind one ∷ [])
-    (ap (λ (list : List HallCall). Next (record { kind = kind; result = Ok asked }) ∷ list) (map-append (answer_call kind) given (one ∷ [])))
+    (ap (λ (list : List HallCall). Next (record { kind = kind; result = Ok asked }) ∷ list)
+    (map-append (answer_call kind) given (one ∷ [])))
 
 pub frames_grow : (rounds : List Round) (asked : Asked) (given : List Given) (one : Given)
-    → rounds_frames (rounds ++ with_given asked given one ∷ []) ≡ rounds_frames (rounds ++ round_of asked given ∷ []) ++ answer_frame one.answer ∷ []
+    → rounds_frames (rounds ++ with_given asked given one ∷ [])
+    ≡ rounds_frames (rounds ++ round_of asked given ∷ []) ++ answer_frame one.answer ∷ []
 frames_grow rounds asked given one =
     last_grows round_frames rounds (round_of asked given) (with_given asked given one) (answer_frame one.answer ∷ [])
     (map-append (λ (g : Given). answer_frame g.answer) given (one ∷ []))
 
 pub told_grows : (kind : Kind) (rounds : List Round) (asked : Asked) (given : List Given) (one : Given)
-    → rounds_told kind (rounds ++ with_given asked given one ∷ []) ≡ rounds_told kind (rounds ++ round_of asked given ∷ []) ++ told_of one.result one.answer
+    → rounds_told kind (rounds ++ with_given asked given one ∷ [])
+    ≡ rounds_told kind (rounds ++ round_of asked given ∷ []) ++ told_of one.result one.answer
 told_grows kind rounds asked given one =
     last_grows (round_told kind) rounds (round_of asked given) (with_given asked given one) (told_of one.result one.answer)
     (ap (λ (list : List Framed). question_frame kind asked ∷ list)
     (flat_map-append (λ (g : Given). told_of g.result g.answer) given (one ∷ [])
-    ∙ ap (λ (list : List Framed). flat_map (λ (g : Given). told_of g.result g.answer) given ++ list) (append-nil (told_of one.result one.answer))))
+    ∙ ap (λ (list : List Framed). flat_map (λ (g : Given). told_of g.result g.answer) given ++ list)
+    (append-nil (told_of one.result one.answer))))
 
 -- ---- a further round
 
 pub calls_open : (kind : Kind) (rounds : List Round) (asked : Asked)
-    → rounds_calls kind (rounds ++ round_of asked [] ∷ []) ≡ rounds_calls kind (rounds ++ []) ++ Next (record { kind = kind; result = Ok asked }) ∷ []
+    → rounds_calls kind (rounds ++ round_of asked [] ∷ [])
+    ≡ rounds_calls kind (rounds ++ []) ++ Next (record { kind = kind; result = Ok asked }) ∷ []
 calls_open kind rounds asked = one_more (round_calls kind) rounds (round_of asked [])
 
 pub frames_open : (rounds : List Round) (asked : Asked) → rounds_frames (rounds ++ round_of asked [] ∷ []) ≡ rounds_frames (rounds ++ [])
@@ -75,6 +82,7 @@ pub others_more : (asked : Asked) (given : List Given) (one : Given) → AllByRe
 others_more asked [] one others other = (other, tt)
 others_more asked (first ∷ given) one (is, others) other = (is, others_more asked given one others other)
 
-pub whole_more : (P : Round → Type 0) (rounds : List Round) (round : Round) → AllByRecursion P rounds → P round → AllByRecursion P (rounds ++ round ∷ [])
+pub whole_more : (P : Round → Type 0) (rounds : List Round) (round : Round) → AllByRecursion P rounds → P round
+    → AllByRecursion P (rounds ++ round ∷ [])
 whole_more P [] round all is = (is, tt)
 whole_more P (first ∷ rounds) round (it, all) is = (it, whole_more P rounds round all is)

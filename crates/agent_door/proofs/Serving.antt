@@ -1,5 +1,6 @@
 -- Each kind of step keeps how the serving of an agent stands, or ends it.
-use Rattle.std.proofs.Common.{◌≡◌, ◌∙◌, ◌≤◌, ℕ, List, [], ◌∷◌, ◌++◌, length, Option, Some, None, Result, Ok, inl, inr, refl, sym, ap, subst, append_assoc, append-nil, arith}
+use Rattle.std.proofs.Common.{◌≡◌, ◌∙◌, ◌≤◌, ℕ, List, [], ◌∷◌, ◌++◌, length, Option, Some, None, Result, Ok, inl, inr, refl, sym, ap, subst}
+use Rattle.std.proofs.Common.{append_assoc, append-nil, arith}
 use Rattle.std.proofs.lemmas.Grind.{flat_map-append}
 use Rattle.std.proofs.lemmas.Bool.{cases_eq}
 use Rattle.std.specs.List.{AllByRecursion, flat_map}
@@ -13,7 +14,8 @@ use Rattle.wire_messages.specs.declared.messages.Framed.{Framed}
 use Rattle.wire_messages.specs.declared.operations.Heard.{Heard}
 use Rattle.wire_messages.specs.declared.operations.Heard.TheVariants.{AtAgent}
 use Rattle.wire_messages.specs.declared.refusals.WireRefusal.{WireRefusal}
-use Rattle.wire_messages.specs.declared.refusals.WireRefusal.TheVariants.{TooShort, TooLong, BadOperation, BadField, Trailing, Memory as NoMemory}
+use Rattle.wire_messages.specs.declared.refusals.WireRefusal.TheVariants.{TooShort, TooLong, BadOperation, BadField, Trailing}
+use Rattle.wire_messages.specs.declared.refusals.WireRefusal.TheVariants.{Memory as NoMemory}
 use Rattle.server_hall.specs.Tally.{after_call, after_calls}
 use Rattle.server_hall.specs.Told.{AppendsCalls}
 use Rattle.server_hall.specs.declared.calls.HallCall.{HallCall}
@@ -31,7 +33,8 @@ use Rattle.agent_door.specs.parts.Talk.{Stands, EndsHearing, HandsIn, HasJoined,
 use Rattle.agent_door.specs.declared.messages.Answer.{Answer}
 use Rattle.agent_door.specs.declared.messages.Registration.{Registration}
 use Rattle.agent_door.proofs.Calls.{after_calls_more, calls_same, calls_more}
-use Rattle.agent_door.proofs.Growing.{with_given, round_of, calls_grow, frames_grow, told_grows, calls_open, frames_open, told_open, others_more, whole_more}
+use Rattle.agent_door.proofs.Growing.{with_given, round_of, calls_grow, frames_grow, told_grows, calls_open, frames_open, told_open}
+use Rattle.agent_door.proofs.Growing.{others_more, whole_more}
 
 -- the bytes of some frames and of others behind them
 abbrev bytes_of : List Framed → List ℕ
@@ -59,7 +62,8 @@ stands_more : (registration : Registration) (start old new : AgentSide) (feeder 
     ≡ rounds_calls registration.kind (s.rounds ++ open_of asked s.given) ++ call ∷ []
     → new.faults ≡ old.faults → new.marks.ends ≡ old.marks.ends
     → Stands registration start new fed next
-stands_more registration start old new feeder fed asked next s rounds given bytes sent whole others heard carried told call counted made calls still ends =
+stands_more registration start old new feeder fed asked next s rounds given bytes sent whole others heard carried told call counted made
+    calls still ends =
     let all : joined_calls registration.kind (rounds ++ open_of next given) []
     ≡ joined_calls registration.kind (s.rounds ++ open_of asked s.given) [] ++ call ∷ [] =
     joined_more registration.kind (s.rounds ++ open_of asked s.given) (rounds ++ open_of next given) [] [] call calls in
@@ -78,7 +82,8 @@ stands_more registration start old new feeder fed asked next s rounds given byte
           ∙ (sym (after_calls_more (joined_calls registration.kind (s.rounds ++ open_of asked s.given) []) (call ∷ []) start.tally)
           ∙ ap (λ list. after_calls list start.tally) (sym all)));
       calls = subst (λ (list : List HallCall). AppendsCalls start.calls list new.calls) (sym all)
-          (calls_more (joined_calls registration.kind (s.rounds ++ open_of asked s.given) []) (call ∷ []) start.calls old.calls new.calls s.calls made);
+          (calls_more (joined_calls registration.kind (s.rounds ++ open_of asked s.given) []) (call ∷ []) start.calls old.calls new.calls
+          s.calls made);
       faults = still ∙ s.faults;
       ends = ends ∙ s.ends;
     }
@@ -144,15 +149,19 @@ asks_next registration start old new feeder asked carried counted made still end
     let opened : rounds_frames (s.rounds ++ round_of asked [] ∷ []) ≡ rounds_frames (s.rounds ++ []) = frames_open s.rounds asked in
     let heard : HasHeard (s.received ++ []) (register_frame registration ∷ rounds_frames (s.rounds ++ round_of asked [] ∷ [])) feeder =
     subst (λ (frames : List Framed). HasHeard (s.received ++ []) (register_frame registration ∷ frames) feeder) (sym opened)
-    (subst (λ list. HasHeard list (register_frame registration ∷ rounds_frames (s.rounds ++ [])) feeder) (sym (append-nil s.received)) s.heard) in
-    let told : bytes_of (registered_frame registration ∷ rounds_told registration.kind (s.rounds ++ [])) ++ spelling (question_frame registration.kind asked)
+    (subst (λ list. HasHeard list (register_frame registration ∷ rounds_frames (s.rounds ++ [])) feeder) (sym (append-nil s.received))
+    s.heard) in
+    let told : bytes_of (registered_frame registration ∷ rounds_told registration.kind (s.rounds ++ []))
+    ++ spelling (question_frame registration.kind asked)
     ≡ bytes_of (registered_frame registration ∷ rounds_told registration.kind (s.rounds ++ round_of asked [] ∷ [])) =
     ap (λ list. bytes_of (registered_frame registration ∷ rounds_told registration.kind (s.rounds ++ [])) ++ list)
     (sym (append-nil (spelling (question_frame registration.kind asked))))
     ∙ (sym (flat_map-append spelling (registered_frame registration ∷ rounds_told registration.kind (s.rounds ++ []))
     (question_frame registration.kind asked ∷ []))
-    ∙ ap (λ (frames : List Framed). bytes_of (registered_frame registration ∷ frames)) (sym (told_open registration.kind s.rounds asked))) in
-    stands_more registration start old new feeder feeder None (Some asked) s s.rounds [] [] (spelling (question_frame registration.kind asked))
+    ∙ ap (λ (frames : List Framed). bytes_of (registered_frame registration ∷ frames))
+    (sym (told_open registration.kind s.rounds asked))) in
+    stands_more registration start old new feeder feeder None (Some asked) s s.rounds [] []
+    (spelling (question_frame registration.kind asked))
     s.whole tt heard carried told (Next (record { kind = registration.kind; result = Ok asked })) counted made
     (calls_open registration.kind s.rounds asked) still ends
 
@@ -202,13 +211,16 @@ pub ends : (registration : Registration) (start old new : AgentSide) (feeder : F
     → EndsHeeding (s.received ++ bytes) (register_frame registration ∷ rounds_frames (rounds ++ open_round)) ended
     → rounds_told registration.kind (rounds ++ open_round) ≡ rounds_told registration.kind (s.rounds ++ open_of asked s.given) ++ missing
     → MayMiss ended missing
-    → (ended ≡ LinkFault → missing ≡ [] → HasHeededAll (s.received ++ bytes) (register_frame registration ∷ rounds_frames (rounds ++ open_round)))
+    → (ended ≡ LinkFault → missing ≡ []
+    → HasHeededAll (s.received ++ bytes) (register_frame registration ∷ rounds_frames (rounds ++ open_round)))
     → Carried old.traffic new.traffic bytes []
-    → rounds_calls registration.kind (rounds ++ open_round) ++ last ≡ rounds_calls registration.kind (s.rounds ++ open_of asked s.given) ++ made
+    → rounds_calls registration.kind (rounds ++ open_round) ++ last
+    ≡ rounds_calls registration.kind (s.rounds ++ open_of asked s.given) ++ made
     → new.tally ≡ after_calls made old.tally → AppendsCalls old.calls made new.calls
     → new.faults ≡ faults_after ended old.faults → IsAtEnd ended new.marks → new.marks.ends ≡ old.marks.ends
     → Asks registration start new ended
-ends registration start old new feeder asked s ended rounds open_round last made bytes missing whole unanswered one asking heeding due missed heeds_all carried calls counted told faults at_end same =
+ends registration start old new feeder asked s ended rounds open_round last made bytes missing whole unanswered one asking heeding due
+    missed heeds_all carried calls counted told faults at_end same =
     let before : List Round = s.rounds ++ open_of asked s.given in
     let all : joined_calls registration.kind (rounds ++ open_round) last ≡ joined_calls registration.kind before [] ++ made =
     ap (λ (list : List HallCall). joined_calls registration.kind [] list)
@@ -232,7 +244,8 @@ ends registration start old new feeder asked s ended rounds open_round last made
       carried = subst (λ list. Carried start.traffic new.traffic (s.received ++ bytes) list) (append-nil (bytes_of sent))
           (carried_more s.received bytes (bytes_of sent) [] start.traffic old.traffic new.traffic s.carried carried);
       tally = counted ∙ (ap (after_calls made) s.tally
-          ∙ (sym (after_calls_more (joined_calls registration.kind before []) made start.tally) ∙ ap (λ list. after_calls list start.tally) (sym all)));
+          ∙ (sym (after_calls_more (joined_calls registration.kind before []) made start.tally)
+          ∙ ap (λ list. after_calls list start.tally) (sym all)));
       calls = subst (λ (list : List HallCall). AppendsCalls start.calls list new.calls) (sym all)
           (calls_more (joined_calls registration.kind before []) made start.calls old.calls new.calls s.calls told);
       faults = faults ∙ ap (λ count. faults_after ended count) s.faults;
@@ -257,7 +270,8 @@ ends_for_next registration start old new feeder ended call side asking heeds mis
     (subst (λ list. (more : List Framed) × (rest : List ℕ)
     × Hears AtAgent list ((register_frame registration ∷ rounds_frames (s.rounds ++ [])) ++ more) rest) (sym (append-nil s.received))
     (unheeded s.received (register_frame registration ∷ rounds_frames (s.rounds ++ [])) feeder side s.heard)))
-    (sym (append-nil (rounds_told registration.kind (s.rounds ++ [])))) missed (λ fault. absurd (no_fault fault)) carried refl counted told faults
+    (sym (append-nil (rounds_told registration.kind (s.rounds ++ [])))) missed (λ fault. absurd (no_fault fault)) carried refl counted
+    told faults
     at_end same
 
 unasked : (registration : Registration) (start old new : AgentSide) (feeder : Feeding) (ended : Ended) (asked : Asked)
@@ -273,13 +287,15 @@ unasked registration start old new feeder ended asked side asking heeds missed a
     let frames : rounds_frames (s.rounds ++ round_of asked [] ∷ []) ≡ rounds_frames (s.rounds ++ []) = frames_open s.rounds asked in
     let heard : HasHeard (s.received ++ []) (register_frame registration ∷ rounds_frames (s.rounds ++ round_of asked [] ∷ [])) feeder =
     subst (λ (list : List Framed). HasHeard (s.received ++ []) (register_frame registration ∷ list) feeder) (sym frames)
-    (subst (λ list. HasHeard list (register_frame registration ∷ rounds_frames (s.rounds ++ [])) feeder) (sym (append-nil s.received)) s.heard) in
+    (subst (λ list. HasHeard list (register_frame registration ∷ rounds_frames (s.rounds ++ [])) feeder) (sym (append-nil s.received))
+    s.heard) in
     ends registration start old new feeder None s ended s.rounds (round_of asked [] ∷ []) []
     (Next (record { kind = registration.kind; result = Ok asked }) ∷ []) [] (question_frame registration.kind asked ∷ [])
     s.whole (tt, tt) (omega arith) asking
     (heeds (s.received ++ []) (register_frame registration ∷ rounds_frames (s.rounds ++ round_of asked [] ∷ []))
     (unheeded (s.received ++ []) (register_frame registration ∷ rounds_frames (s.rounds ++ round_of asked [] ∷ [])) feeder side heard))
-    (told_open registration.kind s.rounds asked) missed (λ fault none. absurd (not_sent (question_frame registration.kind asked) none)) carried
+    (told_open registration.kind s.rounds asked) missed
+    (λ fault none. absurd (not_sent (question_frame registration.kind asked) none)) carried
     (append-nil (rounds_calls registration.kind (s.rounds ++ round_of asked [] ∷ [])) ∙ calls_open registration.kind s.rounds asked)
     counted told faults at_end same
 
@@ -291,9 +307,11 @@ pub ends_unasked : (registration : Registration) (start old new : AgentSide) (fe
     → Carried old.traffic new.traffic [] [] → new.marks.ends ≡ old.marks.ends
     → Stands registration start old feeder None → Asks registration start new ended
 ends_unasked registration start old new feeder LinkFault asked side rose counted told carried same s =
-    unasked registration start old new feeder LinkFault asked side refl (λ bytes heeded heard. heard) (omega arith) tt rose counted told carried same s
+    unasked registration start old new feeder LinkFault asked side refl (λ bytes heeded heard. heard) (omega arith) tt rose counted told
+    carried same s
 ends_unasked registration start old new feeder Memory asked side still counted told carried same s =
-    unasked registration start old new feeder Memory asked side (inl refl) (λ bytes heeded heard. heard) (omega arith) tt still counted told carried same s
+    unasked registration start old new feeder Memory asked side (inl refl) (λ bytes heeded heard. heard) (omega arith) tt still counted told
+    carried same s
 ends_unasked registration start old new feeder Closed asked side wrong counted told carried same s = absurd wrong
 ends_unasked registration start old new feeder (Cut count) asked side wrong counted told carried same s = absurd wrong
 ends_unasked registration start old new feeder (Hung entered now) asked side wrong counted told carried same s = absurd wrong
@@ -324,28 +342,35 @@ still_open : (registration : Registration) (start old new : AgentSide) (feeder :
     (s : Stands registration start old feeder (Some asked))
     → EndsAsking registration.kind ended (round_of asked s.given ∷ []) [] → MayMiss ended []
     → EndsHeeding (s.received ++ bytes) (register_frame registration ∷ rounds_frames (s.rounds ++ round_of asked s.given ∷ [])) ended
-    → (ended ≡ LinkFault → HasHeededAll (s.received ++ bytes) (register_frame registration ∷ rounds_frames (s.rounds ++ round_of asked s.given ∷ [])))
+    → (ended ≡ LinkFault
+    → HasHeededAll (s.received ++ bytes) (register_frame registration ∷ rounds_frames (s.rounds ++ round_of asked s.given ∷ [])))
     → new.tally ≡ old.tally → new.calls ≡ old.calls → Carried old.traffic new.traffic bytes []
-    → new.faults ≡ faults_after ended old.faults → IsAtEnd ended new.marks → new.marks.ends ≡ old.marks.ends → Asks registration start new ended
+    → new.faults ≡ faults_after ended old.faults → IsAtEnd ended new.marks → new.marks.ends ≡ old.marks.ends
+    → Asks registration start new ended
 still_open registration start old new feeder asked ended bytes s asking missed heeding heeds_all tally calls carried faults at_end same =
     ends registration start old new feeder (Some asked) s ended s.rounds (round_of asked s.given ∷ []) [] [] bytes [] s.whole (s.others, tt)
     (omega arith) asking heeding (sym (append-nil (rounds_told registration.kind (s.rounds ++ round_of asked s.given ∷ [])))) missed
-    (λ fault none. heeds_all fault) carried refl tally (subst (λ told. AppendsCalls old.calls [] told) (sym calls) (calls_same old.calls)) faults at_end same
+    (λ fault none. heeds_all fault) carried refl tally (subst (λ told. AppendsCalls old.calls [] told) (sym calls) (calls_same old.calls))
+    faults at_end same
 
 -- no frame comes
-pub ends_unheard : (registration : Registration) (start old new : AgentSide) (feeder fed : Feeding) (asked : Asked) (ended : Ended) (bytes : List ℕ)
+pub ends_unheard : (registration : Registration) (start old new : AgentSide) (feeder fed : Feeding) (asked : Asked) (ended : Ended)
+    (bytes : List ℕ)
     → HearsMore bytes feeder fed → fed.waiting ≡ [] → fed.heard ≡ AtAgent
     → EndsReading ended fed new.marks old.faults new.faults
     → new.tally ≡ old.tally → new.calls ≡ old.calls
     → Carried old.traffic new.traffic bytes [] → new.marks.ends ≡ old.marks.ends
     → Stands registration start old feeder (Some asked) → Asks registration start new ended
-ends_unheard registration start old new feeder fed asked Closed bytes hears none side (sound, empty, mark, still) tally calls carried same s =
+ends_unheard registration start old new feeder fed asked Closed bytes hears none side (sound, empty, mark, still) tally calls
+    carried same s =
     let h = hears s.received (register_frame registration ∷ rounds_frames (s.rounds ++ round_of asked s.given ∷ [])) s.heard in
     still_open registration start old new feeder asked Closed bytes s ((round_of asked s.given, refl), refl) refl
-    (subst (λ rest. Hears AtAgent (s.received ++ bytes) (register_frame registration ∷ rounds_frames (s.rounds ++ round_of asked s.given ∷ [])) rest)
+    (subst (λ rest. Hears AtAgent (s.received ++ bytes)
+    (register_frame registration ∷ rounds_frames (s.rounds ++ round_of asked s.given ∷ [])) rest)
     ((h.sound sound).0 ∙ empty) (whole_heard (s.received ++ bytes) _ fed none side h))
     (λ fault. absurd (not_closed fault)) tally calls carried still mark same
-ends_unheard registration start old new feeder fed asked (Cut count) bytes hears none side (sound, is, some, mark, still) tally calls carried same s =
+ends_unheard registration start old new feeder fed asked (Cut count) bytes hears none side (sound, is, some, mark, still) tally calls
+    carried same s =
     let h = hears s.received (register_frame registration ∷ rounds_frames (s.rounds ++ round_of asked s.given ∷ [])) s.heard in
     let at = h.sound sound in
     still_open registration start old new feeder asked (Cut count) bytes s ((round_of asked s.given, refl), refl) refl (
@@ -360,10 +385,12 @@ ends_unheard registration start old new feeder fed asked LinkFault bytes hears n
     let h = hears s.received (register_frame registration ∷ rounds_frames (s.rounds ++ round_of asked s.given ∷ [])) s.heard in
     still_open registration start old new feeder asked LinkFault bytes s refl (omega arith)
     (unheeded (s.received ++ bytes) _ fed side h)
-    (λ fault. heeded_all (s.received ++ bytes) (register_frame registration ∷ rounds_frames (s.rounds ++ round_of asked s.given ∷ [])) fed none side
+    (λ fault. heeded_all (s.received ++ bytes) (register_frame registration ∷ rounds_frames (s.rounds ++ round_of asked s.given ∷ []))
+    fed none side
     sound h)
     tally calls carried rose tt same
-ends_unheard registration start old new feeder fed asked (BadFrame refusal) bytes hears none side (failed, of_bytes, still) tally calls carried same s =
+ends_unheard registration start old new feeder fed asked (BadFrame refusal) bytes hears none side (failed, of_bytes, still) tally calls
+    carried same s =
     let heeded : List Framed = register_frame registration ∷ rounds_frames (s.rounds ++ round_of asked s.given ∷ []) in
     let h = hears s.received heeded s.heard in
     still_open registration start old new feeder asked (BadFrame refusal) bytes s ((round_of asked s.given, refl), refl) refl
@@ -378,12 +405,15 @@ ends_unheard registration start old new feeder fed asked Memory bytes hears none
     let h = hears s.received (register_frame registration ∷ rounds_frames (s.rounds ++ round_of asked s.given ∷ [])) s.heard in
     still_open registration start old new feeder asked Memory bytes s (inl refl) (omega arith)
     (unheeded (s.received ++ bytes) _ fed side h) (λ fault. absurd (not_memory fault)) tally calls carried still tt same
-ends_unheard registration start old new feeder fed asked (Hung entered now) bytes hears none side wrong tally calls carried same s = absurd wrong
+ends_unheard registration start old new feeder fed asked (Hung entered now) bytes hears none side wrong tally calls carried same s =
+    absurd wrong
 ends_unheard registration start old new feeder fed asked Stopped bytes hears none side wrong tally calls carried same s = absurd wrong
-ends_unheard registration start old new feeder fed asked (Strayed number found) bytes hears none side wrong tally calls carried same s = absurd wrong
+ends_unheard registration start old new feeder fed asked (Strayed number found) bytes hears none side wrong tally calls carried same s =
+    absurd wrong
 
 -- a frame comes that is not known where it stands
-pub ends_misplaced : (registration : Registration) (start old new : AgentSide) (feeder fed : Feeding) (asked : Asked) (ended : Ended) (bytes : List ℕ)
+pub ends_misplaced : (registration : Registration) (start old new : AgentSide) (feeder fed : Feeding) (asked : Asked) (ended : Ended)
+    (bytes : List ℕ)
     (framed : Framed) → HandsOut bytes framed feeder fed → fed.heard ≡ AtAgent → IsOutOfPlace 0x20 framed ended
     → new.tally ≡ old.tally → new.calls ≡ old.calls → new.faults ≡ old.faults
     → Carried old.traffic new.traffic bytes [] → new.marks.ends ≡ old.marks.ends
@@ -415,7 +445,8 @@ untold : (registration : Registration) (start old new : AgentSide) (feeder fed :
     → HandsIn registration.kind answer outcome old.tally old.calls new.tally new.calls
     → Carried old.traffic new.traffic bytes [] → new.marks.ends ≡ old.marks.ends
     → Stands registration start old feeder (Some asked) → Asks registration start new ended
-untold registration start old new feeder fed asked answer outcome ended bytes asking heeds missed at_end handed side told faults made carried same s =
+untold registration start old new feeder fed asked answer outcome ended bytes asking heeds missed at_end handed side told faults made
+    carried same s =
     let one : Given = record { answer = answer; result = outcome } in
     let round : Round = with_given asked s.given one in
     let frames = frames_grow s.rounds asked s.given one in
@@ -430,16 +461,20 @@ untold registration start old new feeder fed asked answer outcome ended bytes as
     elim (cases_eq answer.number asked.number) [
       | inl it ↦
           let all : s.rounds ++ round ∷ [] ≡ (s.rounds ++ round ∷ []) ++ [] = sym (append-nil (s.rounds ++ round ∷ [])) in
-          ends registration start old new feeder (Some asked) s ended (s.rounds ++ round ∷ []) [] [] (answer_call registration.kind one ∷ []) bytes
-          (unknown_frame answer ∷ []) (whole_more IsWhole s.rounds round s.whole (s.given, one, refl, s.others, it)) tt (omega arith) (asking [])
+          ends registration start old new feeder (Some asked) s ended (s.rounds ++ round ∷ []) [] []
+          (answer_call registration.kind one ∷ []) bytes
+          (unknown_frame answer ∷ []) (whole_more IsWhole s.rounds round s.whole (s.given, one, refl, s.others, it)) tt (omega arith)
+          (asking [])
           (subst (λ (rounds : List Round). EndsHeeding (s.received ++ bytes) (register_frame registration ∷ rounds_frames rounds) ended) all
           (heeds (s.received ++ bytes) (register_frame registration ∷ rounds_frames (s.rounds ++ round ∷ []))
           (unheeded (s.received ++ bytes) (register_frame registration ∷ rounds_frames (s.rounds ++ round ∷ [])) fed side heard)))
           (ap (rounds_told registration.kind) (sym all) ∙ due) missed (λ fault none. absurd (not_sent (unknown_frame answer) none)) carried
-          (append-nil (rounds_calls registration.kind ((s.rounds ++ round ∷ []) ++ [])) ∙ (ap (rounds_calls registration.kind) (sym all) ∙ calls))
+          (append-nil (rounds_calls registration.kind ((s.rounds ++ round ∷ []) ++ []))
+          ∙ (ap (rounds_calls registration.kind) (sym all) ∙ calls))
           made.counted made.told faults at_end same
       | inr other ↦
-          ends registration start old new feeder (Some asked) s ended s.rounds (round ∷ []) [] (answer_call registration.kind one ∷ []) bytes
+          ends registration start old new feeder (Some asked) s ended s.rounds (round ∷ []) []
+          (answer_call registration.kind one ∷ []) bytes
           (unknown_frame answer ∷ []) s.whole (others_more asked s.given one s.others other, tt) (omega arith) (asking (round ∷ []))
           (heeds (s.received ++ bytes) (register_frame registration ∷ rounds_frames (s.rounds ++ round ∷ []))
           (unheeded (s.received ++ bytes) (register_frame registration ∷ rounds_frames (s.rounds ++ round ∷ [])) fed side heard))
@@ -456,17 +491,25 @@ pub ends_untold : (registration : Registration) (start old new : AgentSide) (fee
     → Carried old.traffic new.traffic bytes [] → new.marks.ends ≡ old.marks.ends
     → Stands registration start old feeder (Some asked) → Asks registration start new ended
 ends_untold registration start old new feeder fed asked answer outcome LinkFault bytes handed side told rose made carried same s =
-    untold registration start old new feeder fed asked answer outcome LinkFault bytes (λ open_round. refl) (λ b heeded heard. heard) (omega arith) tt
+    untold registration start old new feeder fed asked answer outcome LinkFault bytes (λ open_round. refl) (λ b heeded heard. heard)
+    (omega arith) tt
     handed side told rose made carried same s
 ends_untold registration start old new feeder fed asked answer outcome Memory bytes handed side told still made carried same s =
-    untold registration start old new feeder fed asked answer outcome Memory bytes (λ open_round. inl refl) (λ b heeded heard. heard) (omega arith) tt
+    untold registration start old new feeder fed asked answer outcome Memory bytes (λ open_round. inl refl) (λ b heeded heard. heard)
+    (omega arith) tt
     handed side told still made carried same s
-ends_untold registration start old new feeder fed asked answer outcome Closed bytes handed side told wrong made carried same s = absurd wrong
-ends_untold registration start old new feeder fed asked answer outcome (Cut count) bytes handed side told wrong made carried same s = absurd wrong
-ends_untold registration start old new feeder fed asked answer outcome (Hung entered now) bytes handed side told wrong made carried same s = absurd wrong
-ends_untold registration start old new feeder fed asked answer outcome (BadFrame refusal) bytes handed side told wrong made carried same s = absurd wrong
-ends_untold registration start old new feeder fed asked answer outcome Stopped bytes handed side told wrong made carried same s = absurd wrong
-ends_untold registration start old new feeder fed asked answer outcome (Strayed number found) bytes handed side told wrong made carried same s = absurd wrong
+ends_untold registration start old new feeder fed asked answer outcome Closed bytes handed side told wrong made carried same s =
+    absurd wrong
+ends_untold registration start old new feeder fed asked answer outcome (Cut count) bytes handed side told wrong made carried same s =
+    absurd wrong
+ends_untold registration start old new feeder fed asked answer outcome (Hung entered now) bytes handed side told wrong made carried same s =
+    absurd wrong
+ends_untold registration start old new feeder fed asked answer outcome (BadFrame refusal) bytes handed side told wrong made carried same s =
+    absurd wrong
+ends_untold registration start old new feeder fed asked answer outcome Stopped bytes handed side told wrong made carried same s =
+    absurd wrong
+ends_untold registration start old new feeder fed asked answer outcome (Strayed number found) bytes handed side told wrong made carried same
+    s = absurd wrong
 
 -- ---- the beginning
 
@@ -529,9 +572,11 @@ pub ends_unregistered : (registration : Registration) (start old new : AgentSide
     → Carried old.traffic new.traffic [] [] → new.tally ≡ old.tally → new.calls ≡ old.calls → new.marks.ends ≡ old.marks.ends
     → HasJoined registration start old feeder → Asks registration start new ended
 ends_unregistered registration start old new feeder LinkFault rose side carried tally calls same s =
-    unregistered registration start old new feeder LinkFault refl (λ b heeded heard. heard) (omega arith) tt side carried tally calls rose same s
+    unregistered registration start old new feeder LinkFault refl (λ b heeded heard. heard) (omega arith) tt side carried tally calls
+    rose same s
 ends_unregistered registration start old new feeder Memory still side carried tally calls same s =
-    unregistered registration start old new feeder Memory (inl refl) (λ b heeded heard. heard) (omega arith) tt side carried tally calls still same s
+    unregistered registration start old new feeder Memory (inl refl) (λ b heeded heard. heard) (omega arith) tt side carried tally calls
+    still same s
 ends_unregistered registration start old new feeder Closed wrong side carried tally calls same s = absurd wrong
 ends_unregistered registration start old new feeder (Cut count) wrong side carried tally calls same s = absurd wrong
 ends_unregistered registration start old new feeder (Hung entered now) wrong side carried tally calls same s = absurd wrong
@@ -541,12 +586,14 @@ ends_unregistered registration start old new feeder (Strayed number found) wrong
 
 -- ---- a frame that comes and, behind it, one that goes
 
-pub received_and_sent : (before between after : Option Traffic) (bytes sent : List ℕ) → Carried before between bytes [] → Carried between after [] sent
+pub received_and_sent : (before between after : Option Traffic) (bytes sent : List ℕ) → Carried before between bytes []
+    → Carried between after [] sent
     → Carried before after bytes sent
 received_and_sent before between after bytes sent one other =
     subst (λ list. Carried before after list sent) (append-nil bytes) (carried_more bytes [] [] sent before between after one other)
 
-pub takes_other : (registration : Registration) (old new : AgentSide) (between : Option Traffic) (feeder fed : Feeding) (asked : Asked) (answer : Answer)
+pub takes_other : (registration : Registration) (old new : AgentSide) (between : Option Traffic) (feeder fed : Feeding) (asked : Asked)
+    (answer : Answer)
     (outcome : Result (Unit {0}) AnswerRefusal) (bytes : List ℕ) → (answer.number ≡ asked.number → ⊥)
     → HandsOut bytes (answer_frame answer) feeder fed
     → Carried old.traffic between bytes [] → Carried between new.traffic [] (bytes_of (told_of outcome answer))
@@ -557,7 +604,8 @@ takes_other registration old new between feeder fed asked answer outcome bytes o
     answered_other registration start old new feeder fed asked answer outcome bytes other handed
     (received_and_sent old.traffic between new.traffic bytes (bytes_of (told_of outcome answer)) one then) made still ends s
 
-pub takes_it : (registration : Registration) (old new : AgentSide) (between : Option Traffic) (feeder fed : Feeding) (asked : Asked) (answer : Answer)
+pub takes_it : (registration : Registration) (old new : AgentSide) (between : Option Traffic) (feeder fed : Feeding) (asked : Asked)
+    (answer : Answer)
     (outcome : Result (Unit {0}) AnswerRefusal) (bytes : List ℕ) → answer.number ≡ asked.number
     → HandsOut bytes (answer_frame answer) feeder fed
     → Carried old.traffic between bytes [] → Carried between new.traffic [] (bytes_of (told_of outcome answer))
@@ -568,7 +616,8 @@ takes_it registration old new between feeder fed asked answer outcome bytes it h
     answered_it registration start old new feeder fed asked answer outcome bytes it handed
     (received_and_sent old.traffic between new.traffic bytes (bytes_of (told_of outcome answer)) one then) made still ends s
 
-pub takes_untold : (registration : Registration) (old new : AgentSide) (between : Option Traffic) (feeder fed : Feeding) (asked : Asked) (answer : Answer)
+pub takes_untold : (registration : Registration) (old new : AgentSide) (between : Option Traffic) (feeder fed : Feeding) (asked : Asked)
+    (answer : Answer)
     (outcome : Result (Unit {0}) AnswerRefusal) (ended : Ended) (bytes : List ℕ) → HandsOut bytes (answer_frame answer) feeder fed
     → fed.heard ≡ AtAgent → told_of outcome answer ≡ unknown_frame answer ∷ [] → EndsSending ended old.faults new.faults
     → HandsIn registration.kind answer outcome old.tally old.calls new.tally new.calls
@@ -588,5 +637,6 @@ takes_none registration old new feeder fed asked ended why side tally calls same
       | EndsHearing.unheard bytes carried hears none heard reading ↦
           ends_unheard registration start old new feeder fed asked ended bytes hears none (heard ∙ side) reading tally calls carried same s
       | EndsHearing.misplaced bytes framed carried handed heard misplaced still ↦
-          ends_misplaced registration start old new feeder fed asked ended bytes framed handed (heard ∙ side) misplaced tally calls still carried same s
+          ends_misplaced registration start old new feeder fed asked ended bytes framed handed (heard ∙ side) misplaced tally calls still
+          carried same s
     ]

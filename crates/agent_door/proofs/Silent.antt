@@ -5,7 +5,8 @@ use Rattle.wire_messages.specs.Frame.{spelling}
 use Rattle.wire_messages.specs.Stream.{Hears, first_of}
 use Rattle.wire_messages.specs.declared.messages.Framed.{Framed}
 use Rattle.wire_messages.specs.declared.operations.Heard.TheVariants.{AtAgent}
-use Rattle.wire_messages.specs.declared.refusals.WireRefusal.TheVariants.{TooShort, TooLong, BadOperation, BadField, Trailing, Memory as NoMemory}
+use Rattle.wire_messages.specs.declared.refusals.WireRefusal.TheVariants.{TooShort, TooLong, BadOperation, BadField, Trailing}
+use Rattle.wire_messages.specs.declared.refusals.WireRefusal.TheVariants.{Memory as NoMemory}
 use Rattle.wire_messages.proofs.Hearings.{heard_once}
 use Rattle.door_frames.specs.Carried.{Carried}
 use Rattle.door_frames.specs.Ending.{faults_after}
@@ -37,11 +38,16 @@ never_heeded (BadFrame (BadOperation number)) bytes framed heeded (inl (rest, so
     never_heard bytes framed heeded rest some none
 never_heeded (BadFrame (BadOperation number)) bytes framed heeded (inr (later, more, rest, some, is, place)) none =
     never_heard bytes framed (heeded ++ later ∷ more) rest some none
-never_heeded (BadFrame (TooShort count)) bytes framed heeded (rest, some, wrong, of_bytes) none = never_heard bytes framed heeded rest some none
-never_heeded (BadFrame (TooLong count)) bytes framed heeded (rest, some, wrong, of_bytes) none = never_heard bytes framed heeded rest some none
-never_heeded (BadFrame (BadField place)) bytes framed heeded (rest, some, wrong, of_bytes) none = never_heard bytes framed heeded rest some none
-never_heeded (BadFrame (Trailing place)) bytes framed heeded (rest, some, wrong, of_bytes) none = never_heard bytes framed heeded rest some none
-never_heeded (BadFrame (NoMemory error)) bytes framed heeded (rest, some, wrong, of_bytes) none = never_heard bytes framed heeded rest some none
+never_heeded (BadFrame (TooShort count)) bytes framed heeded (rest, some, wrong, of_bytes) none =
+    never_heard bytes framed heeded rest some none
+never_heeded (BadFrame (TooLong count)) bytes framed heeded (rest, some, wrong, of_bytes) none =
+    never_heard bytes framed heeded rest some none
+never_heeded (BadFrame (BadField place)) bytes framed heeded (rest, some, wrong, of_bytes) none =
+    never_heard bytes framed heeded rest some none
+never_heeded (BadFrame (Trailing place)) bytes framed heeded (rest, some, wrong, of_bytes) none =
+    never_heard bytes framed heeded rest some none
+never_heeded (BadFrame (NoMemory error)) bytes framed heeded (rest, some, wrong, of_bytes) none =
+    never_heard bytes framed heeded rest some none
 
 -- no agent registered
 untold_so : (result : Ended) (start now : AgentSide) (u : IsUnregistered result start now) → IsQuiet start now → (r : Receives [] start now)
@@ -88,7 +94,8 @@ silent result start now serves quiet r =
           absurd (never_heard u.received (register_frame u.registration) more rest some
           (heard_so start now [] u.received (flat_map spelling u.sent) r u.carried))
       | Serves.joined registration last asks is ↦
-          absurd (never_heeded result asks.received (register_frame registration) (rounds_frames (asks.rounds ++ asks.open_round)) asks.bytes
+          absurd (never_heeded result asks.received (register_frame registration)
+          (rounds_frames (asks.rounds ++ asks.open_round)) asks.bytes
           (heard_so start now [] asks.received (flat_map spelling asks.sent) r
           (subst (λ (x : AgentSide). Carried start.traffic x.traffic asks.received (flat_map spelling asks.sent)) (sym is) asks.carried)))
     ]

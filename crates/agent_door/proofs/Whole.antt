@@ -22,10 +22,12 @@ use Rattle.door_frames.specs.declared.endings.Ended.{Ended}
 use Rattle.door_frames.specs.declared.endings.Ended.TheVariants.{Closed, Cut, Hung, LinkFault, BadFrame, Stopped, Memory, Strayed}
 use Rattle.door_frames.proofs.Hearing.{unfed_heard}
 use Rattle.agent_door.specs.Frame.{register_frame, taken_frame, IsOutOfPlace}
-use Rattle.agent_door.specs.Serving.{AgentSide, agent_side, EndsHeeding, HasHeededAll, EndsUnregistered, IsUnregistered, IsUnjoined, TellsRefusal}
+use Rattle.agent_door.specs.Serving.{AgentSide, agent_side, EndsHeeding, HasHeededAll, EndsUnregistered, IsUnregistered, IsUnjoined}
+use Rattle.agent_door.specs.Serving.{TellsRefusal}
 use Rattle.agent_door.specs.parts.Talk.{TellsTaken}
 use Rattle.agent_door.specs.declared.messages.Registration.{Registration}
-use Rattle.agent_door.proofs.Serving.{wrong_frame, unheeded, whole_heard, heeded_all, not_closed, not_cut, not_bad, not_memory, received_and_sent}
+use Rattle.agent_door.proofs.Serving.{wrong_frame, unheeded, whole_heard, heeded_all, not_closed, not_cut, not_bad, not_memory}
+use Rattle.agent_door.proofs.Serving.{received_and_sent}
 
 -- ---- none registers
 
@@ -64,7 +66,8 @@ none_comes start new fed (Cut count) bytes h empty side (sound, is, some, mark, 
     )
     (λ fault. absurd (not_cut count fault)) mark still tally calls carried same
 none_comes start new fed LinkFault bytes h empty side (sound, rose) tally calls carried same =
-    none start new LinkFault bytes tt (unheeded bytes [] fed side h) (λ fault. heeded_all bytes [] fed empty side sound h) tt rose tally calls
+    none start new LinkFault bytes tt (unheeded bytes [] fed side h) (λ fault. heeded_all bytes [] fed empty side sound h) tt rose
+    tally calls
     carried same
 none_comes start new fed (BadFrame refusal) bytes h empty side (failed, of_bytes, still) tally calls carried same =
     none start new (BadFrame refusal) bytes tt
@@ -92,12 +95,14 @@ none_heard start new feeder fed ended bytes first hears empty side reading tally
     (side ∙ ap (λ (x : Feeding). x.heard) first) reading tally calls carried same
 
 -- a frame comes that is no registration
-pub none_in_place : (start new : AgentSide) (feeder fed : Feeding) (ended : Ended) (bytes : List ℕ) (framed : Framed) → feeder ≡ unfed AtAgent
+pub none_in_place : (start new : AgentSide) (feeder fed : Feeding) (ended : Ended) (bytes : List ℕ) (framed : Framed)
+    → feeder ≡ unfed AtAgent
     → HandsOut bytes framed feeder fed → fed.heard ≡ feeder.heard → IsOutOfPlace 0x21 framed ended
     → new.faults ≡ start.faults → new.tally ≡ start.tally → new.calls ≡ start.calls
     → Carried start.traffic new.traffic bytes [] → new.marks.ends ≡ start.marks.ends → IsUnregistered ended start new
 none_in_place start new feeder fed ended bytes framed first handed side (number, is) still tally calls carried same =
-    let h : HasHeard bytes (framed ∷ []) fed = subst (λ (x : Feeding). HandsOut bytes framed x fed) first handed [] [] (unfed_heard AtAgent) in
+    let h : HasHeard bytes (framed ∷ []) fed =
+    subst (λ (x : Feeding). HandsOut bytes framed x fed) first handed [] [] (unfed_heard AtAgent) in
     let found = unheeded bytes (framed ∷ []) fed (side ∙ ap (λ (x : Feeding). x.heard) first) h in
     subst (λ (e : Ended). IsUnregistered e start new) (sym is)
     (none start new (BadFrame (BadOperation 0x21)) bytes tt (inr (framed, found.0, found.1, found.2, number, refl))
@@ -113,7 +118,8 @@ registers bytes framed registration feeder fed first is handed =
 
 -- and is not taken in
 pub not_joined : (start new : AgentSide) (fed : Feeding) (registration : Registration) (refusal : RegisterRefusal) (ended : Ended)
-    (bytes : List ℕ) (sent : List Framed) (between : Option Traffic) → HasHeard bytes (register_frame registration ∷ []) fed → fed.heard ≡ AtAgent
+    (bytes : List ℕ) (sent : List Framed) (between : Option Traffic) → HasHeard bytes (register_frame registration ∷ []) fed
+    → fed.heard ≡ AtAgent
     → TellsRefusal registration refusal ended sent
     → Carried start.traffic between bytes [] → Carried between new.traffic [] (flat_map spelling sent)
     → new.tally ≡ after_join (record { kind = registration.kind; result = Err refusal }) start.tally
@@ -153,12 +159,16 @@ told_taken start new fed registration kind Memory bytes between faults h side (u
     not_joined start new fed registration (KindTaken kind) Memory bytes [] between h side refl one unsent
     tally calls (now ∙ still) same
 told_taken start new fed registration kind (Cut count) bytes between faults h side (unsent, wrong) still one tally calls same = absurd wrong
-told_taken start new fed registration kind (Hung entered at) bytes between faults h side (unsent, wrong) still one tally calls same = absurd wrong
-told_taken start new fed registration kind (BadFrame wire) bytes between faults h side (unsent, wrong) still one tally calls same = absurd wrong
+told_taken start new fed registration kind (Hung entered at) bytes between faults h side (unsent, wrong) still one tally calls same =
+    absurd wrong
+told_taken start new fed registration kind (BadFrame wire) bytes between faults h side (unsent, wrong) still one tally calls same =
+    absurd wrong
 told_taken start new fed registration kind Stopped bytes between faults h side (unsent, wrong) still one tally calls same = absurd wrong
-told_taken start new fed registration kind (Strayed number found) bytes between faults h side (unsent, wrong) still one tally calls same = absurd wrong
+told_taken start new fed registration kind (Strayed number found) bytes between faults h side (unsent, wrong) still one tally calls same =
+    absurd wrong
 
-pub kind_is_taken : (start new : AgentSide) (fed : Feeding) (registration : Registration) (kind : Kind) (refusal : RegisterRefusal) (ended : Ended)
+pub kind_is_taken : (start new : AgentSide) (fed : Feeding) (registration : Registration) (kind : Kind) (refusal : RegisterRefusal)
+    (ended : Ended)
     (bytes : List ℕ) (between : Option Traffic) (faults : ℕ) → refusal ≡ KindTaken kind
     → HasHeard bytes (register_frame registration ∷ []) fed → fed.heard ≡ AtAgent
     → TellsTaken registration ended between new.traffic faults new.faults → faults ≡ start.faults
@@ -169,7 +179,8 @@ pub kind_is_taken : (start new : AgentSide) (fed : Feeding) (registration : Regi
 kind_is_taken start new fed registration kind refusal ended bytes between faults is h side told still one tally calls same =
     told_taken start new fed registration kind ended bytes between faults h side told still one
     (subst (λ (r : RegisterRefusal). new.tally ≡ after_join (record { kind = registration.kind; result = Err r }) start.tally) is tally)
-    (subst (λ (r : RegisterRefusal). AppendsCalls start.calls (Join (record { kind = registration.kind; result = Err r }) ∷ []) new.calls) is calls) same
+    (subst (λ (r : RegisterRefusal). AppendsCalls start.calls (Join (record { kind = registration.kind; result = Err r }) ∷ []) new.calls)
+    is calls) same
 
 -- ---- it leaves
 

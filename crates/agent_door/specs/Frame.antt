@@ -7,7 +7,8 @@ use Rattle.wire_messages.specs.Operation.{number_of}
 use Rattle.wire_messages.specs.Message.{operation}
 use Rattle.wire_messages.specs.declared.messages.Framed.{Framed}
 use Rattle.wire_messages.specs.declared.messages.Message.{Message}
-use Rattle.wire_messages.specs.declared.messages.Message.TheVariants.{Register, AgentAnswer, Registered, KindTaken, AgentQuestion, UnknownNumber}
+use Rattle.wire_messages.specs.declared.messages.Message.TheVariants.{Register, AgentAnswer, Registered, KindTaken, AgentQuestion}
+use Rattle.wire_messages.specs.declared.messages.Message.TheVariants.{UnknownNumber}
 use Rattle.wire_messages.specs.declared.refusals.WireRefusal.TheVariants.{BadOperation}
 use Rattle.door_frames.specs.declared.endings.Ended.{Ended}
 use Rattle.door_frames.specs.declared.endings.Ended.TheVariants.{BadFrame}

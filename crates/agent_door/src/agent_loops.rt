@@ -88,9 +88,6 @@ fn serve<R: Wait, A: Hall, L: Link>(
     requires some { 0 < length room.old }
     requires side { feeder.old.heard ≡ AtAgent }
     requires sound { IsSound feeder.old }
-    requires joined { (start : AgentSide) × HasJoined registered start
-        (agent_side (A.tally hall.old) (A.calls hall.old) (L.traffic link.old) (L.marks link.old) (L.faults link.old))
-        feeder.old }
     ensures { (start : AgentSide) → HasJoined registered start
         (agent_side (A.tally hall.old) (A.calls hall.old) (L.traffic link.old) (L.marks link.old) (L.faults link.old))
         feeder.old → Asks registered start

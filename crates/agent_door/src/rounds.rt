@@ -11,8 +11,8 @@ ghost use Rattle.door_frames.specs.Hearing.{IsSound, HandsOut};
 ghost use Rattle.door_frames.specs.Ending.{EndsSending};
 ghost use Rattle.agent_door.specs.Frame.{answer_frame, question_frame, unknown_frame};
 ghost use Rattle.agent_door.specs.Round.{told_of};
-ghost use Rattle.agent_door.specs.Serving.{AgentSide, agent_side};
-ghost use Rattle.agent_door.specs.parts.Talk.{Stands, Goes, Ends, EndsHearing, HandsIn};
+ghost use Rattle.agent_door.specs.Serving.{agent_side};
+ghost use Rattle.agent_door.specs.parts.Talk.{Goes, Ends, EndsHearing, HandsIn};
 
 use crate::messages::{Answer, Registration, read_answer};
 use crate::sending::send;
@@ -26,7 +26,7 @@ use std::snapshot::Snapshot;
 use std::sync::Wait;
 use wire_messages::{Feeder, Message};
 
-/// Gives the agent its next question, and waits for the answer to it: each question before has its answer. It may wait.
+/// Gives the agent its next question, and waits for the answer to it. It may wait.
 pub(crate) fn round<R: Wait, A: Hall, L: Link>(
     rt: &R,
     hall: &mut A,
@@ -40,9 +40,6 @@ pub(crate) fn round<R: Wait, A: Hall, L: Link>(
     requires some { 0 < length room.old }
     requires side { feeder.old.heard ≡ AtAgent }
     requires sound { IsSound feeder.old }
-    requires answered { (start : AgentSide) × Stands registration start
-        (agent_side (A.tally hall.old) (A.calls hall.old) (L.traffic link.old) (L.marks link.old) (L.faults link.old))
-        feeder.old None }
     ensures side { OnOk result (feeder.new.heard ≡ AtAgent) }
     ensures sound { OnOk result (IsSound feeder.new) }
     ensures round { MatchResult result

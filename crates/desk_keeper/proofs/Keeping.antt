@@ -5,7 +5,7 @@ use Rattle.desk_ports.specs.FileMap.{FileMap}
 use Rattle.desk_ports.specs.Disk.{DiskState, WhereTold, IsTouchedOnly, with_all_durable}
 use Rattle.desk_ports.specs.Moments.{LeavesOnly}
 use Rattle.desk_ports.proofs.Moments.{LeavesOnly-more}
-use Rattle.guard_files.specs.Mounted.{RecoversAsAllowed, EndsAtRest, IfDamaged as IfStoreDamaged}
+use Rattle.guard_files.specs.Mounted.{EndsAtRest, IfDamaged as IfStoreDamaged}
 use Rattle.guard_files.specs.declared.refusals.VaultRefusal.{VaultRefusal}
 use Rattle.guard_files.specs.declared.refusals.VaultRefusal.TheVariants as vault
 use Rattle.guard_files.specs.Recovery.{Recovered, recover}
@@ -14,8 +14,8 @@ use Rattle.guard_files.proofs.SaveMoments.{settled_leaves}
 use Rattle.desk_state.specs.DeskState.{DeskState}
 use Rattle.set_text.specs.FileNames.{stamp}
 use Rattle.set_text.specs.Reading.{read_of}
-use Rattle.desk_keeper.specs.Kept.{desk_of_set, desk_of, kept}
-use Rattle.desk_keeper.specs.Keeping.{IsKept, EndsKept, StandsAsAllowed, IfDamaged, LeavesDamaged, IsOlder, IsBeforeOrAfter}
+use Rattle.desk_keeper.specs.Kept.{desk_of_set, desk_of, kept, standing_of_set, standing_of, standing}
+use Rattle.desk_keeper.specs.Keeping.{IsKept, EndsKept, IfDamaged, LeavesDamaged, IsOlder, IsBeforeOrAfter}
 use Rattle.desk_keeper.specs.parts.Reading.{RefusesSet, NamesStamp, refused}
 use Rattle.desk_keeper.specs.declared.refusals.KeeperRefusal.{KeeperRefusal}
 use Rattle.desk_keeper.specs.declared.refusals.KeeperRefusal.TheVariants.{StoreFault, Damaged, Memory}
@@ -24,9 +24,18 @@ pub kept-of : (files : FileMap) (found : Recovered) → recover files ≡ found 
 unfolding kept
 kept-of files found same = ap desk_of same
 
-pub kept-alike : (files others : FileMap) → recover files ≡ recover others → kept files ≡ kept others
-unfolding kept
-kept-alike files others same = ap desk_of same
+-- what keeps a policy state stands for it
+pub standing-kept : (files : FileMap) (desk : DeskState) → kept files ≡ Ok desk → standing files ≡ Ok desk
+unfolding kept standing
+standing-kept files desk is = by_found (recover files) is
+  where
+    by_found : (found : Recovered) → desk_of found ≡ Ok desk → standing_of found ≡ Ok desk
+    by_found (Err file) is = cc
+    by_found (Ok held) is = ap standing_of_set is
+
+pub standing-alike : (files others : FileMap) → recover files ≡ recover others → standing files ≡ standing others
+unfolding standing
+standing-alike files others same = ap standing_of same
 
 -- a store at rest keeps what its set stands for
 pub kept-at-rest : (desk : DeskState) (held : Option (List SetFile)) (state : DiskState) → desk_of_set held ≡ Ok desk
@@ -40,9 +49,6 @@ kept-at-rest desk held state stands left_current = record {
   durable = left_current.durable;
 }
 
-pub stands-as : (before : DiskState) (left : FileMap) → RecoversAsAllowed before left → StandsAsAllowed before left
-stands-as before left (other, may, same, others) = (other, may, kept-alike left other same, others)
-
 -- what recovers to one of two sets stands for one of two states
 pub one-of : (before next : DeskState) (held : Option (List SetFile)) (set : List SetFile)
     → desk_of_set held ≡ Ok before
@@ -54,12 +60,6 @@ one-of before next held set stands reads left (inl same) = inl (kept-of left (Ok
 one-of before next held set stands reads left (inr same) = inr (kept-of left (Ok (Some set)) same ∙ reads)
 
 module _ {D : Type 0} (moment : D → ℕ) (left_since : D → ℕ → FileMap → Type 0) (old new : D) where
-  pub moments-stand : (before : DiskState) → LeavesOnly moment left_since old new (RecoversAsAllowed before)
-      → LeavesOnly moment left_since old new (StandsAsAllowed before)
-  moments-stand before leaves =
-      LeavesOnly-more moment left_since old new (RecoversAsAllowed before) (StandsAsAllowed before)
-      (stands-as before) leaves
-
   pub moments-one-of : (at : DiskState) (before next : DeskState) (held : Option (List SetFile)) (set : List SetFile)
       → desk_of_set held ≡ Ok before
       → read_of set ≡ Ok next

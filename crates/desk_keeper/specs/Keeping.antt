@@ -6,7 +6,7 @@ use Rattle.desk_ports.specs.FileMap.{FileMap}
 use Rattle.desk_ports.specs.Disk.{DiskState, MayLeave, with_all_durable}
 use Rattle.guard_files.specs.ListFile.{IsCurrent}
 use Rattle.guard_files.specs.Recovery.{recover}
-use Rattle.guard_files.specs.Settled.{IsSettled, KeepsOthers}
+use Rattle.guard_files.specs.Settled.{IsSettled}
 use Rattle.desk_state.specs.DeskState.{DeskState}
 use Rattle.set_text.specs.Fault.{Fault, whole}
 use Rattle.set_text.specs.FileNames as name
@@ -31,11 +31,6 @@ abbrev pub EndsKept : DeskState → Option (List SetFile) → Option DiskState �
 EndsKept desk held told = (after : DiskState) × (told ≡ Some after) × IsKept desk held after
 
 -- ---- during a mount
-
--- the map stands for what a map that a stop at this state may leave stands for, and the files of others are as they were
-abbrev pub StandsAsAllowed : DiskState → FileMap → Type 0
-StandsAsAllowed before left =
-    (other : FileMap) × MayLeave before other × (kept left ≡ kept other) × KeepsOthers before left
 
 -- a fact of the file and line that a refusal names as damage
 abbrev pub IfDamaged : KeeperRefusal → (Fault → Type 0) → Type 0

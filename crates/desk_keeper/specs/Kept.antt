@@ -1,6 +1,6 @@
 -- What a folder's files stand for, whatever a stop made of them: a policy state, or the file and line by which they are
--- none. Every promise of the keeper on stops cites `kept`.
-use Rattle.std.specs.Prelude.{List, Option, Some, None, Result, Ok, Err}
+-- none. Every promise of the keeper on commits and on a folder at rest cites `kept`.
+use Rattle.std.specs.Prelude.{ℕ, List, Option, Some, None, Result, Ok, Err}
 use Rattle.desk_ports.specs.declared.file_sets.SetFile.{SetFile}
 use Rattle.desk_ports.specs.FileMap.{FileMap}
 use Rattle.guard_files.specs.Recovery.{Recovered, recover}
@@ -20,6 +20,27 @@ desk_of (Ok held) = desk_of_set held
 
 unfoldable pub kept : FileMap → Result DeskState Fault
 kept files = desk_of (recover files)
+
+-- Why a map stands for no policy state: its store is damaged, or its set is that of no policy state.
+pub data Damage : Type 0 where
+  of_store : (file : List ℕ) → Damage
+  of_set : (fault : Fault) → Damage
+
+-- what a map stands for: a policy state, or the damage by which it stands for none
+abbrev pub Standing : Type 0
+Standing = Result DeskState Damage
+
+abbrev pub standing_of_set : Result DeskState Fault → Standing
+standing_of_set (Ok desk) = Ok desk
+standing_of_set (Err fault) = Err (of_set fault)
+
+abbrev pub standing_of : Recovered → Standing
+standing_of (Err file) = Err (of_store file)
+standing_of (Ok held) = standing_of_set (desk_of_set held)
+
+-- The same as `kept`, but for the fault: a damaged store and a set that is refused as a whole are told apart.
+unfoldable pub standing : FileMap → Standing
+standing files = standing_of (recover files)
 
 -- what a folder at rest keeps: the set that it holds, or none, and the state that this stands for
 pub record Kept : Type 0 where

@@ -4,7 +4,8 @@ ghost use Rattle.std.specs.Option.{option_copied};
 ghost use Rattle.desk_ports.specs.Disk.{WhereTold};
 ghost use Rattle.desk_ports.specs.Moments.{LeavesOnly};
 ghost use Rattle.desk_keeper.specs.Kept.{desk_of_set, kept};
-ghost use Rattle.desk_keeper.specs.Keeping.{EndsKept, StandsAsAllowed, IfDamaged, LeavesDamaged, count_after_mount};
+ghost use Rattle.guard_files.specs.Mounted.{RecoversAsAllowed};
+ghost use Rattle.desk_keeper.specs.Keeping.{EndsKept, IfDamaged, LeavesDamaged, count_after_mount};
 ghost use Rattle.desk_keeper.specs.parts.Reading.{RefusesSet, refused};
 
 use crate::refusals::KeeperRefusal;
@@ -43,7 +44,7 @@ impl KeptDesk {
         ensures settled { IfOk result (λ found. WhereTold (D.state disk.old)
             (λ before. EndsKept found.desk found.held (D.state disk.new))) }
         ensures moments { WhereTold (D.state disk.old)
-            (λ before. LeavesOnly D.moment D.left_since disk.old disk.new (StandsAsAllowed before)) }
+            (λ before. LeavesOnly D.moment D.left_since disk.old disk.new (RecoversAsAllowed before)) }
         ensures damaged { IfErr result (λ refusal. IfDamaged refusal (λ fault. WhereTold (D.state disk.old)
             (λ before. kept before.current ≡ Err fault))) }
         ensures unchanged { IfErr result (λ refusal. WhereTold (D.state disk.old)

@@ -2,6 +2,7 @@ ghost use Rattle.std.specs.Prelude.{◌≡◌, ◌≤◌, ◌&&◌, ◌⊎◌, t
 ghost use Rattle.desk_ports.specs.Disk.{WhereTold};
 ghost use Rattle.desk_ports.specs.Faults.{next_count};
 ghost use Rattle.desk_ports.specs.Moments.{LeavesOnly};
+ghost use Rattle.guard_files.specs.Mounted.{RecoversAsAllowed};
 ghost use Rattle.guard_files.specs.Settled.{gone_names};
 ghost use Rattle.guard_files.specs.Telling.{StillTells};
 ghost use Rattle.desk_state.specs.Next.{next, erased_by};
@@ -9,7 +10,7 @@ ghost use Rattle.desk_state.specs.Rules.{Refuses, fault};
 ghost use Rattle.set_text.specs.Files.{files};
 ghost use Rattle.desk_keeper.specs.Kept.{kept};
 ghost use Rattle.desk_keeper.specs.parts.Reading.{NamesStamp};
-ghost use Rattle.desk_keeper.specs.Keeping.{IsKept, EndsKept, StandsAsAllowed, IfDamaged, LeavesDamaged, count_after_refusal, count_after_mount};
+ghost use Rattle.desk_keeper.specs.Keeping.{IsKept, EndsKept, IfDamaged, LeavesDamaged, count_after_refusal, count_after_mount};
 ghost use Rattle.desk_keeper.specs.Keeping.{IsOlder, IsBeforeOrAfter};
 
 use crate::folders::{KeptDesk, desk_of, refusal_of};
@@ -47,13 +48,13 @@ impl<'d, D: Disk> Keeper<'d, D> {
         ensures settled { IfOk result (λ keeper. WhereTold (D.state disk.old)
             (λ before. EndsKept keeper.desk keeper.vault.held (D.state keeper.vault.disk.now))) }
         ensures moments { IfOk result (λ keeper. WhereTold (D.state disk.old)
-            (λ before. LeavesOnly D.moment D.left_since disk.old keeper.vault.disk.now (StandsAsAllowed before))) }
+            (λ before. LeavesOnly D.moment D.left_since disk.old keeper.vault.disk.now (RecoversAsAllowed before))) }
         ensures count { IfOk result (λ keeper. D.faults keeper.vault.disk.now ≡ D.faults disk.old) }
         ensures same_disk { IfOk result (λ keeper. keeper.vault.disk.ghost_name ≡ disk.entry.ghost_name) }
 
         // The same of the disk that a refusal hands back.
         ensures stopped { IfErr result (λ left. WhereTold (D.state disk.old)
-            (λ before. LeavesOnly D.moment D.left_since disk.old left.disk.now (StandsAsAllowed before))) }
+            (λ before. LeavesOnly D.moment D.left_since disk.old left.disk.now (RecoversAsAllowed before))) }
         ensures damaged { IfErr result (λ left. IfDamaged left.refusal (λ fault. WhereTold (D.state disk.old)
             (λ before. kept before.current ≡ Err fault))) }
         ensures unchanged { IfErr result (λ left. WhereTold (D.state disk.old)
@@ -100,7 +101,7 @@ impl<'d, D: Disk> Keeper<'d, D> {
             (λ before. EndsKept self.new.desk self.new.vault.held (D.state self.new.vault.disk.now))) }
         ensures moments { WhereTold (D.state self.old.vault.disk.now)
             (λ before. LeavesOnly D.moment D.left_since self.old.vault.disk.now self.new.vault.disk.now
-            (StandsAsAllowed before)) }
+            (RecoversAsAllowed before)) }
         ensures damaged { IfErr result (λ refusal. IfDamaged refusal (λ fault.
             WhereTold (D.state self.old.vault.disk.now) (λ before. (kept before.current ≡ Err fault)
             ⊎ IsOlder self.old.desk before.current fault))) }

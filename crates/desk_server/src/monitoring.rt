@@ -10,8 +10,8 @@ use door_frames::Ended;
 use link_ports::{Gate, Link};
 use live_desk::Seat;
 use live_roll::Roll;
-use locked_hall::{Locked, QuestionDesk};
 use monitor_door::monitor_loop;
+use server_hall::{Locked, QuestionDesk};
 use std::alloc::Global;
 use std::sync::{Mutex, Wait};
 

@@ -19,7 +19,7 @@ use door_frames::Ended;
 use link_ports::{Gate, HangEnd, Link};
 use live_desk::{Publisher, Seat};
 use live_roll::Roll;
-use locked_hall::{Locked, QuestionDesk};
+use server_hall::{Locked, QuestionDesk};
 use std::alloc::Global;
 use std::sync::{Mutex, Wait};
 

@@ -1,6 +1,5 @@
-//! Cases of the store of a set of files, and of the policy state in a folder, over a disk in memory. Each line of standard
-//! input is a case, and each line of the output that case with its answer behind ` => `. A line that begins with `#` says
-//! what the lines below it are about.
+//! Cases of the store of a set of files, and of the policy state in a folder, over a disk in memory. Each line of input is a
+//! case, and is printed with its answer behind ` => `. A line that begins with `#` says what the lines below it are about.
 //!
 //!     disk FAILS FILE ..                                        the disk that later cases are about
 //!     folder, calls                                             what it holds, and which calls were made
@@ -9,81 +8,61 @@
 #![tactic(auto)]
 
 mod keepers;
+mod stops;
 mod vaults;
 
-use case_words::{Failure, calls_text, fails, files, first_word, folder_text};
+use case_words::{Failure, Found, calls_text, fails, files, first_number, first_word, folder_text};
 use desk_ports::{FailList, MemDisk, set_in_order};
 use std::alloc::{AllocError, Global};
 use std::io;
+use stops::{Seen, Stops};
 
-fn keeper_case(
-    alloc: Global,
-    disk: &mut MemDisk,
-    word: &str,
-    rest: &str,
-) -> Result<String, Failure> {
-    if word == "found" {
-        return keepers::found(alloc, disk);
+fn answer(alloc: Global, disk: &mut MemDisk, word: &str, rest: &str) -> Result<String, Failure> {
+    match word {
+        "disk" => new_disk(alloc, disk, rest),
+        "folder" => folder_text(alloc, disk),
+        "calls" => calls_text(alloc, disk),
+        "mount" => vaults::mount(alloc, disk),
+        "replace" => vaults::replacement(alloc, disk, rest),
+        "stops" => found_later(alloc, disk, Seen::Store, rest),
+        "failing" => vaults::failing(alloc, rest),
+        "found" => keepers::found(alloc, disk),
+        "commit" => keepers::commits(alloc, disk, rest),
+        "prepare" => keepers::prepared(alloc, disk, rest),
+        "commit-stops" => found_later(alloc, disk, Seen::Keeper, rest),
+        "commit-failing" => keepers::failing(alloc, rest),
+        _ => Err(Failure::Words),
     }
-    if word == "commit" {
-        return keepers::commits(alloc, disk, rest);
-    }
-    if word == "prepare" {
-        return keepers::prepared(alloc, disk, rest);
-    }
-    if word == "commit-stops" {
-        return keepers::stops(alloc, disk, rest);
-    }
-    if word == "commit-failing" {
-        return keepers::failing(alloc, rest);
-    }
-    Err(Failure::Words)
 }
 
-fn store_case(
-    alloc: Global,
-    disk: &mut MemDisk,
-    word: &str,
-    rest: &str,
-) -> Result<String, Failure> {
-    if word == "folder" {
-        return folder_text(alloc, disk);
-    }
-    if word == "calls" {
-        return calls_text(alloc, disk);
-    }
-    if word == "mount" {
-        return vaults::mount(alloc, disk);
-    }
-    if word == "replace" {
-        return vaults::replacement(alloc, disk, rest);
-    }
-    if word == "stops" {
-        return vaults::stops(alloc, disk, rest);
-    }
-    if word == "failing" {
-        return vaults::failing(alloc, rest);
-    }
-    keeper_case(alloc, disk, word, rest)
+// `stops FROM` and `commit-stops FROM MOST`: what a mount finds after a stop behind each number of calls from this one on.
+fn found_later(alloc: Global, disk: &MemDisk, seen: Seen, words: &str) -> Result<String, Failure> {
+    let (from, words) = first_number(words)?;
+    let most = match seen {
+        Seen::Store => 256,
+        Seen::Keeper => first_number(words)?.0,
+    };
+    let mut stops = Stops {
+        seen,
+        alloc,
+        disk,
+        most,
+        found: Found::new(alloc),
+    };
+    stops.told(from)
 }
 
-fn new_disk(alloc: Global, rest: &str) -> Result<MemDisk, Failure> {
+fn new_disk(alloc: Global, disk: &mut MemDisk, rest: &str) -> Result<String, Failure> {
     let (failing, words) = first_word(rest);
-    Ok(MemDisk::new(alloc, files(alloc, words)?, fails(alloc, failing)?)?)
-}
-
-fn answer(alloc: Global, disk: &mut MemDisk, line: &str) -> Result<String, Failure> {
-    let (word, rest) = first_word(line);
-    if word == "disk" {
-        *disk = new_disk(alloc, rest)?;
-        return Ok(String::from_str(alloc, "a new disk")?);
-    }
-    store_case(alloc, disk, word, rest)
+    let fails = fails(alloc, failing)?;
+    *disk = MemDisk::new(alloc, files(alloc, words)?, fails)?;
+    Ok(String::from_str(alloc, "a new disk")?)
 }
 
 // The answer, or why there is none.
 fn told(alloc: Global, disk: &mut MemDisk, line: &str) -> Result<String, AllocError> {
-    match answer(alloc, disk, line) {
+    let (word, rest) = first_word(line);
+    match answer(alloc, disk, word, rest) {
         Ok(text) => Ok(text),
         Err(Failure::Words) => String::from_str(alloc, "no such case"),
         Err(Failure::Refused) => String::from_str(alloc, "refused"),
@@ -91,17 +70,21 @@ fn told(alloc: Global, disk: &mut MemDisk, line: &str) -> Result<String, AllocEr
     }
 }
 
-fn main(rt: HostRuntime) -> io::Result<()> {
-    let alloc = rt.alloc();
-    let fails = FailList::of(Vec::new(alloc));
-    let mut disk = MemDisk::new(alloc, set_in_order(alloc, &[])?, fails)?;
-    let text = io::read_to_string(alloc, rt.stdin())?;
+fn answer_lines(rt: &HostRuntime, disk: &mut MemDisk) -> io::Result<()> {
+    let text = io::read_to_string(rt.alloc(), rt.stdin())?;
     for line in text.lines() {
         if line.is_empty() || line.starts_with("#") {
             continue;
         }
-        let answer = told(alloc, &mut disk, line)?;
+        let answer = told(rt.alloc(), disk, line)?;
         println!(rt; "{line} => {answer}")?;
     }
     Ok(())
+}
+
+fn main(rt: HostRuntime) -> io::Result<()> {
+    let fails = FailList::of(Vec::new(rt.alloc()));
+    let none = set_in_order(rt.alloc(), &[])?;
+    let mut disk = MemDisk::new(rt.alloc(), none, fails)?;
+    answer_lines(&rt, &mut disk)
 }

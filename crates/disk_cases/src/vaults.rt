@@ -3,10 +3,13 @@ ghost use Rattle.std.specs.Prelude.{◌≡◌};
 ghost use Rattle.std.specs.List.{list_all};
 ghost use Rattle.guard_files.specs.OwnName.{is_listable as may_stand};
 
+use crate::stops::{Seen, seen_later};
 use case_words::{Failure, Found, Runs, files, first_number, folder_text, put_bytes, put_file};
 use desk_ports::{FailList, FileSet, MemDisk, SetFile};
 use guard_files::{Vault, VaultRefusal, is_listable};
-use std::alloc::Global;
+use std::alloc::{AllocError, Global};
+
+type Store<'a> = Vault<'a, MemDisk>;
 
 fn put_set(text: &mut String, held: Option<&FileSet>) -> Result<(), Failure> {
     let Some(set) = held else {
@@ -19,21 +22,21 @@ fn put_set(text: &mut String, held: Option<&FileSet>) -> Result<(), Failure> {
     Ok(())
 }
 
-fn put_refusal(text: &mut String, refusal: VaultRefusal) -> Result<(), Failure> {
+fn put_refusal(text: &mut String, refusal: &VaultRefusal) -> Result<(), Failure> {
     match refusal {
         VaultRefusal::Damaged { file } => {
             text.push_str("damaged ")?;
             Ok(put_bytes(text, file.as_slice())?)
         }
         VaultRefusal::StoreFault => Ok(text.push_str("failed")?),
-        VaultRefusal::Memory(error) => Err(Failure::Memory(error)),
+        VaultRefusal::Memory(_) => Err(Failure::Memory(AllocError)),
     }
 }
 
 fn put_mount(alloc: Global, text: &mut String, disk: &mut MemDisk) -> Result<(), Failure> {
     match Vault::mount(alloc, disk) {
         Ok(vault) => put_set(text, vault.held()),
-        Err(left) => put_refusal(text, left.refusal),
+        Err(left) => put_refusal(text, &left.refusal),
     }
 }
 
@@ -59,7 +62,7 @@ fn are_listable(files: &[SetFile]) -> bool
 }
 
 // Replaces what the vault holds by this set. Whether that was done.
-fn replace(vault: &mut Vault<MemDisk>, set: FileSet) -> Result<bool, Failure> {
+fn replace(vault: &mut Store, set: FileSet) -> Result<bool, Failure> {
     if !vault.is_decided() || !are_listable(set.as_slice()) {
         return Err(Failure::Words);
     }
@@ -68,7 +71,7 @@ fn replace(vault: &mut Vault<MemDisk>, set: FileSet) -> Result<bool, Failure> {
 }
 
 // Remounts until the vault is decided, at most three times.
-fn settle(vault: &mut Vault<MemDisk>) -> Result<(), Failure> {
+fn settle(vault: &mut Store) -> Result<(), Failure> {
     for _ in 0..3 {
         if vault.is_decided() {
             return Ok(());
@@ -83,8 +86,8 @@ fn settle(vault: &mut Vault<MemDisk>) -> Result<(), Failure> {
 
 // Replaces the held set, and settles the vault. Whether the replacement was done, which is exactly where the vault was
 // decided after it.
-fn replace_and_settle(vault: &mut Vault<MemDisk>, set: FileSet) -> Result<bool, Failure> {
-    let is_done = replace(vault, set)?;
+fn replace_and_settle(alloc: Global, vault: &mut Store, words: &str) -> Result<bool, Failure> {
+    let is_done = replace(vault, files(alloc, words)?)?;
     if is_done != vault.is_decided() {
         return Err(Failure::Refused);
     }
@@ -92,13 +95,30 @@ fn replace_and_settle(vault: &mut Vault<MemDisk>, set: FileSet) -> Result<bool, 
     Ok(is_done)
 }
 
+// Mounts and replaces the held set, or says by `None` that a call of the mount failed.
+fn try_replace(alloc: Global, disk: &mut MemDisk, words: &str) -> Result<Option<bool>, Failure> {
+    match Vault::mount(alloc, disk) {
+        Ok(mut vault) => {
+            let told = replace_and_settle(alloc, &mut vault, words);
+            drop(vault);
+            Ok(Some(told?))
+        }
+        Err(left) => {
+            let has_failed = matches!(&left.refusal, VaultRefusal::StoreFault);
+            drop(left);
+            if has_failed {
+                return Ok(None);
+            }
+            Err(Failure::Refused)
+        }
+    }
+}
+
 // Mounts, and again where a call failed, and then replaces the held set.
 fn replaced(alloc: Global, disk: &mut MemDisk, words: &str) -> Result<bool, Failure> {
     for _ in 0..3 {
-        match Vault::mount(alloc, disk) {
-            Ok(mut vault) => return replace_and_settle(&mut vault, files(alloc, words)?),
-            Err(left) if matches!(left.refusal, VaultRefusal::StoreFault) => {}
-            Err(_) => return Err(Failure::Refused),
+        if let Some(is_done) = try_replace(alloc, disk, words)? {
+            return Ok(is_done);
         }
     }
     Err(Failure::Refused)
@@ -114,80 +134,63 @@ pub fn replacement(alloc: Global, disk: &mut MemDisk, words: &str) -> Result<Str
     Ok(String::from_str(alloc, answer)?)
 }
 
-// Adds what a stop after so many calls leaves, for each number from 0 to 255 and the greatest one.
-fn add_stops(
+/// A disk of these files whose calls of these numbers fail.
+pub fn failing_disk(alloc: Global, words: &str, fails: &[u64]) -> Result<MemDisk, Failure> {
+    let set = files(alloc, words)?;
+    Ok(MemDisk::new(alloc, set, FailList::of(fails.to_vec(alloc)?))?)
+}
+
+// Replacements whose calls fail: the two sets, and what was found, what one failing call leaves and what two do.
+#[derive(Drop)]
+struct Tried<'a> {
     alloc: Global,
-    found: &mut Found,
-    disk: &MemDisk,
-    after: usize,
-) -> Result<String, Failure> {
-    let mut letters = String::new(alloc);
-    for number in 0..257 {
-        let pick = if number < 256 { number } else { u32::MAX };
-        let mut left = disk.stopped(after, pick)?;
-        let letter = found.letter(mounted(alloc, &mut left)?)?;
-        if !letters.as_str().contains(letter) {
-            letters.push_str(letter)?;
+    before: &'a str,
+    after: &'a str,
+    found: Found,
+    runs: Runs,
+    answers: String,
+}
+
+impl Tried<'_> {
+    // What is left on the disk: a letter of what a mount finds, behind `+` where the replacement was done.
+    fn left_on(&mut self, disk: &mut MemDisk) -> Result<String, Failure> {
+        let is_done = replaced(self.alloc, disk, self.after)?;
+        let front = if is_done { "+" } else { "" };
+        let text = seen_later(Seen::Store, self.alloc, disk, disk.calls().len(), 0)?;
+        let letter = self.found.letter(text)?;
+        Ok(format!(in self.alloc; "{front}{letter}")?)
+    }
+
+    // The same where the calls of these numbers fail.
+    fn left_where(&mut self, fails: &[u64]) -> Result<String, Failure> {
+        let mut disk = failing_disk(self.alloc, self.before, fails)?;
+        self.left_on(&mut disk)
+    }
+
+    fn add_pairs(&mut self, most: u64, first: u64) -> Result<(), Failure> {
+        for second in first..=most {
+            let answer = self.left_where(&[first, second])?;
+            let mut answers = self.answers.as_str().split(' ');
+            if !answers.any(|other| other == answer.as_str()) {
+                self.answers.push(' ')?;
+                self.answers.push_str(answer.as_str())?;
+            }
         }
+        Ok(())
     }
-    Ok(letters)
-}
 
-/// `stops FROM`: what a mount finds after a stop after each number of calls from this one on, and what it leaves.
-pub fn stops(alloc: Global, disk: &MemDisk, words: &str) -> Result<String, Failure> {
-    let (from, _) = first_number(words)?;
-    let mut found = Found::new(alloc);
-    let mut runs = Runs::new(alloc);
-    for after in from as usize..=disk.calls().len() {
-        let letters = add_stops(alloc, &mut found, disk, after)?;
-        runs.add(alloc, letters)?;
+    fn told(&mut self, most: u64) -> Result<String, Failure> {
+        for first in 1..=most {
+            let answer = self.left_where(&[first])?;
+            self.runs.add(self.alloc, answer)?;
+            self.add_pairs(most, first)?;
+        }
+        let mut text = self.runs.told(self.alloc)?;
+        text.push_str("; two of them:")?;
+        text.push_str(self.answers.as_str())?;
+        self.found.put_texts(&mut text)?;
+        Ok(text)
     }
-    let mut text = runs.told(alloc)?;
-    found.put_texts(&mut text)?;
-    Ok(text)
-}
-
-// What is left where the calls of these numbers fail: a letter of what a mount finds, behind `+` where the replacement was
-// done.
-fn left_where(
-    alloc: Global,
-    found: &mut Found,
-    [before, after]: [&str; 2],
-    fails: &[u64],
-) -> Result<String, Failure> {
-    let fails = FailList::of(fails.to_vec(alloc)?);
-    let mut disk = MemDisk::new(alloc, files(alloc, before)?, fails)?;
-    let front = if replaced(alloc, &mut disk, after)? {
-        "+"
-    } else {
-        ""
-    };
-    let mut left = disk.stopped(disk.calls().len(), 0)?;
-    let letter = found.letter(mounted(alloc, &mut left)?)?;
-    Ok(format!(in alloc; "{front}{letter}")?)
-}
-
-fn add_answer(answers: &mut String, answer: &str) -> Result<(), Failure> {
-    if !answers.as_str().split(' ').any(|other| other == answer) {
-        answers.push(' ')?;
-        answers.push_str(answer)?;
-    }
-    Ok(())
-}
-
-fn add_pairs(
-    alloc: Global,
-    found: &mut Found,
-    sets: [&str; 2],
-    answers: &mut String,
-    most: u64,
-    first: u64,
-) -> Result<(), Failure> {
-    for second in first..=most {
-        let answer = left_where(alloc, found, sets, &[first, second])?;
-        add_answer(answers, answer.as_str())?;
-    }
-    Ok(())
 }
 
 /// `failing MOST FILE .. / FILE ..`: what is left of a replacement of which each call up to this number fails, and each
@@ -197,26 +200,13 @@ pub fn failing(alloc: Global, words: &str) -> Result<String, Failure> {
     let Some((before, after)) = words.split_once(" / ") else {
         return Err(Failure::Words);
     };
-    let mut found = Found::new(alloc);
-    let mut runs = Runs::new(alloc);
-    let mut answers = String::new(alloc);
-    for first in 1..=u64::from(most) {
-        runs.add(
-            alloc,
-            left_where(alloc, &mut found, [before, after], &[first])?,
-        )?;
-        add_pairs(
-            alloc,
-            &mut found,
-            [before, after],
-            &mut answers,
-            u64::from(most),
-            first,
-        )?;
-    }
-    let mut text = runs.told(alloc)?;
-    text.push_str("; two of them:")?;
-    text.push_str(answers.as_str())?;
-    found.put_texts(&mut text)?;
-    Ok(text)
+    let mut tried = Tried {
+        alloc,
+        before,
+        after,
+        found: Found::new(alloc),
+        runs: Runs::new(alloc),
+        answers: String::new(alloc),
+    };
+    tried.told(u64::from(most))
 }

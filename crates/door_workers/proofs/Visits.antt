@@ -7,7 +7,7 @@ use Rattle.link_ports.specs.LinkMarks.{LinkMarks}
 use Rattle.link_ports.specs.Told.{AppendsTold}
 use Rattle.door_frames.specs.declared.endings.Ended.{Ended}
 use Rattle.door_frames.specs.declared.endings.Ended.TheVariants.{Stopped as EndedByStop}
-use Rattle.locked_hall.specs.StopNews.{StopsTold, told_on, told_so}
+use Rattle.server_hall.specs.StopNews.{StopsTold, told_on, told_so}
 use Rattle.admin_door.specs.Serving.{AdminTalk, Exchange, Serves}
 use Rattle.door_workers.specs.Visit.{Visit, IsFresh, InTurn, GivesBack, GoesOn, AllGoOn, Works, IsOver, IsNotOver, told_each, GoesOnTold, EndsWorking, door_faults_after}
 use Rattle.door_workers.specs.Administrators.{EndsOffice}

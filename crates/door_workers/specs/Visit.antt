@@ -4,7 +4,7 @@ use Rattle.std.specs.List.{AllByRecursion}
 use Rattle.desk_ports.specs.Faults.{next_count}
 use Rattle.link_ports.specs.LinkMarks.{LinkMarks, fresh_marks}
 use Rattle.link_ports.specs.Told.{IfTold}
-use Rattle.locked_hall.specs.StopNews.{StopsTold, told_on, told_stop}
+use Rattle.server_hall.specs.StopNews.{StopsTold, told_on, told_stop}
 use Rattle.door_frames.specs.declared.endings.Ended.{Ended}
 use Rattle.door_frames.specs.declared.endings.Ended.TheVariants.{Stopped as EndedByStop}
 use Rattle.door_workers.specs.declared.workers.WorkerEnd.{WorkerEnd}

@@ -17,8 +17,7 @@ use desk_server::serve_admin;
 use link_ports::{Door, HangEnd, Link};
 use live_desk::Publisher;
 use live_roll::Roll;
-use locked_hall::QuestionDesk;
-use server_hall::Hall;
+use server_hall::{Hall, QuestionDesk};
 use std::alloc::Global;
 use std::sync::{Mutex, Wait};
 

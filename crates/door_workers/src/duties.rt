@@ -9,7 +9,7 @@ use check_monitor::Recorder;
 use link_ports::{Door, Gate, HangEnd, Link};
 use live_desk::Seat;
 use live_roll::Roll;
-use locked_hall::{QuestionDesk, StopNews};
+use server_hall::{QuestionDesk, StopNews};
 use std::alloc::Global;
 use std::sync::{Mutex, Wait};
 

@@ -1,7 +1,7 @@
 // Workers of clients whose checks are recorded.
 ghost use Rattle.std.specs.Prelude.{◌≡◌, ℕ, List, Option, MatchResult};
 ghost use Rattle.check_monitor.specs.Monitor.{IsSame};
-ghost use Rattle.locked_hall.specs.StopNews.{StopsTold};
+ghost use Rattle.server_hall.specs.StopNews.{StopsTold};
 ghost use Rattle.door_workers.specs.Visit.{Works, EndsWorking, GoesOnTold};
 ghost use Rattle.door_workers.specs.Monitored.{Post, post_of, VisitsWatched};
 ghost use Rattle.door_workers.specs.parts.Turn.{SoFar};
@@ -12,7 +12,7 @@ use desk_server::serve_monitored;
 use link_ports::{Door, Gate, HangEnd, Link};
 use live_desk::Seat;
 use live_roll::Roll;
-use locked_hall::{QuestionDesk, StopNews};
+use server_hall::{QuestionDesk, StopNews};
 use std::alloc::Global;
 use std::sync::{Mutex, Wait};
 

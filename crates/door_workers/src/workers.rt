@@ -5,7 +5,7 @@ ghost use Rattle.link_ports.specs.LinkMarks.{fresh_marks};
 ghost use Rattle.link_ports.specs.Traffic.{IsSilent};
 ghost use Rattle.live_desk.specs.Seat.{SeatState};
 ghost use Rattle.door_frames.specs.declared.endings.Ended.TheVariants.{Stopped as EndedByStop};
-ghost use Rattle.locked_hall.specs.StopNews.{StopsTold};
+ghost use Rattle.server_hall.specs.StopNews.{StopsTold};
 ghost use Rattle.door_workers.specs.Visit.{Works, EndsWorking, GoesOn, GoesOnTold, IsOver, IsNotOver};
 ghost use Rattle.door_workers.specs.Clients.{VisitsClients};
 ghost use Rattle.door_workers.specs.Agents.{VisitsAgents};
@@ -17,7 +17,7 @@ use door_frames::Ended;
 use link_ports::{Door, Gate, HangEnd, Link};
 use live_desk::Seat;
 use live_roll::Roll;
-use locked_hall::{QuestionDesk, StopNews};
+use server_hall::{QuestionDesk, StopNews};
 use std::alloc::Global;
 use std::sync::{Mutex, Wait};
 

@@ -16,6 +16,15 @@ pub fn word<'a>(words: &[&'a [u8]], at: usize) -> Option<&'a [u8]> {
     words.get(at).copied()
 }
 
+/// Both values, if there are two. A function that takes values one after another by `?` lets those that it has go at each
+/// end.
+pub fn both<A: Drop, B: Drop>(one: Option<A>, other: Option<B>) -> Option<(A, B)> {
+    match (one, other) {
+        (Some(one), Some(other)) => Some((one, other)),
+        _ => None,
+    }
+}
+
 /// The number in decimal.
 pub fn number_of(word: &[u8]) -> usize {
     let mut number: usize = 0;
@@ -63,10 +72,13 @@ fn field_of(alloc: Global, word: &[u8]) -> Option<Field> {
 
 /// The key of three words.
 pub fn key_of(alloc: Global, client: &[u8], user: &[u8], privilege: &[u8]) -> Option<Key> {
-    let client = field_of(alloc, client)?;
-    let user = field_of(alloc, user)?;
-    let privilege = field_of(alloc, privilege)?;
+    let names = both(field_of(alloc, client), field_of(alloc, user));
+    let ((client, user), privilege) = both(names, field_of(alloc, privilege))?;
     Key::of_fields(alloc, &client, &user, &privilege).ok()
+}
+
+fn name_of(alloc: Global, word: &[u8]) -> Option<Name> {
+    Name::read(alloc, word).ok()
 }
 
 /// The question of three names.
@@ -76,9 +88,8 @@ pub fn question_of(
     user: &[u8],
     privilege: &[u8],
 ) -> Option<Question> {
-    let client = Name::read(alloc, client).ok()?;
-    let user = Name::read(alloc, user).ok()?;
-    let privilege = Name::read(alloc, privilege).ok()?;
+    let names = both(name_of(alloc, client), name_of(alloc, user));
+    let ((client, user), privilege) = both(names, name_of(alloc, privilege))?;
     Question::of(
         alloc,
         client.as_slice(),

@@ -6,7 +6,8 @@ use Rattle.run_endings.specs.Ending.{IsUnfailed}
 use Rattle.run_endings.specs.Outside.{DiskSeen}
 use Rattle.run_endings.specs.Saying.{Said}
 use Rattle.run_endings.specs.declared.endings.Ending.{Ending}
-use Rattle.run_endings.specs.declared.endings.Ending.TheVariants.{Done, Memory, Words, Line, Source, Sink, Disk, Net, Damaged, Reply, TooLong}
+use Rattle.run_endings.specs.declared.endings.Ending.TheVariants.{Done, Memory, Words, Line, Source, Sink, Disk, Net, Damaged, Reply}
+use Rattle.run_endings.specs.declared.endings.Ending.TheVariants.{TooLong}
 use Rattle.folder_runs.specs.Folder.{RefusesMount, StandsFor}
 use Rattle.folder_runs.specs.LoadRun.{loads_text, LoadAnswers, RunsLoad}
 

@@ -10,7 +10,8 @@ use Rattle.desk_state.specs.DeskState.{DeskState}
 use Rattle.desk_keeper.specs.Kept.{kept}
 use Rattle.desk_keeper.specs.declared.refusals.KeeperRefusal.{KeeperRefusal}
 use Rattle.desk_keeper.specs.declared.refusals.KeeperRefusal.TheVariants.{StoreFault, Damaged as FolderDamaged, Memory as NoMemory}
-use Rattle.desk_keeper.specs.Keeping.{EndsKept, StandsAsAllowed, IfDamaged, count_after_refusal}
+use Rattle.desk_keeper.specs.Keeping.{EndsKept, IfDamaged, count_after_refusal}
+use Rattle.guard_files.specs.Mounted.{RecoversAsAllowed}
 use Rattle.line_script.specs.declared.steps.Step.{Step}
 use Rattle.run_endings.specs.Ending.{disk_faults_after}
 use Rattle.run_endings.specs.Outside.{SinkSeen, disk_seen}
@@ -29,7 +30,7 @@ module _ {D : Type 0} (state : D → Option DiskState) (moment : D → ℕ) (lef
   pub keeps-folder : (mid : D) (start : DeskState) (held : Option (List SetFile)) (end : Ending) (answered steps : List Step)
       → WhereTold (state old) (λ before. kept before.current ≡ Ok start)
       → WhereTold (state old) (λ before. EndsKept start held (state mid))
-      → WhereTold (state old) (λ before. LeavesOnly moment left_since old mid (StandsAsAllowed before))
+      → WhereTold (state old) (λ before. LeavesOnly moment left_since old mid (RecoversAsAllowed before))
       → KeepsSteps state moment left_since mid new start held end answered steps
       → WhereTold (state old)
       (λ entry. KeepsFolder entry (disk_seen state moment left_since faults old) (disk_seen state moment left_since faults new)
@@ -64,7 +65,7 @@ module _ {D : Type 0} (state : D → Option DiskState) (moment : D → ℕ) (lef
   -- a mount that was refused, with a state as it was found
   pub refuses-folder : (refusal : KeeperRefusal)
       → IfDamaged refusal (λ fault. WhereTold (state old) (λ before. kept before.current ≡ Err fault))
-      → WhereTold (state old) (λ before. LeavesOnly moment left_since old new (StandsAsAllowed before))
+      → WhereTold (state old) (λ before. LeavesOnly moment left_since old new (RecoversAsAllowed before))
       → RefusesFolder silence (mounting_ending refusal) (disk_seen state moment left_since faults old)
       (disk_seen state moment left_since faults new)
   refuses-folder StoreFault damaged moments =
@@ -78,7 +79,7 @@ module _ {D : Type 0} (state : D → Option DiskState) (moment : D → ℕ) (lef
   module _ (said : Said) (start : DeskState) (held : Option (List SetFile))
       (mounted : WhereTold (state old) (λ before. kept before.current ≡ Ok start))
       (settled : WhereTold (state old) (λ before. EndsKept start held (state new)))
-      (moments : WhereTold (state old) (λ before. LeavesOnly moment left_since old new (StandsAsAllowed before)))
+      (moments : WhereTold (state old) (λ before. LeavesOnly moment left_since old new (RecoversAsAllowed before)))
       (only_now : (left : FileMap) → WhereTold (state new) (λ now. left_since new (moment new) left → MayLeave now left)) where
     abbrev Loads : Ending → Type 0
     Loads end =

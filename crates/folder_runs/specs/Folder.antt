@@ -5,7 +5,8 @@ use Rattle.desk_ports.specs.Disk.{DiskState, MayLeave, WhereTold}
 use Rattle.desk_ports.specs.declared.file_sets.SetFile.{SetFile}
 use Rattle.desk_state.specs.DeskState.{DeskState}
 use Rattle.desk_keeper.specs.Kept.{kept}
-use Rattle.desk_keeper.specs.Keeping.{EndsKept, StandsAsAllowed, IsBeforeOrAfter}
+use Rattle.desk_keeper.specs.Keeping.{EndsKept, IsBeforeOrAfter}
+use Rattle.guard_files.specs.Mounted.{RecoversAsAllowed}
 use Rattle.line_script.specs.declared.steps.Step.{Step}
 use Rattle.run_endings.specs.Outside.{DiskSeen}
 use Rattle.run_endings.specs.Saying.{Said, silence}
@@ -27,13 +28,13 @@ RefusesMount told (Damaged file line) =
     WhereTold told (λ before. kept before.current ≡ Err (record { file = file; line = line }))
 RefusesMount told ending = ⊥
 
--- The folder was not mounted, and no answer was due. A stop meanwhile left what stands for something that a stop at entry
+-- The folder was not mounted, and no answer was due. A stop meanwhile left what recovers as something that a stop at entry
 -- may leave.
 pub record RefusesFolder (said : Said) (ending : Ending) (before after : DiskSeen) : Type 0 where
   pub refused : RefusesMount before.state ending
   pub silent : said ≡ silence
   pub moments : WhereTold before.state
-      (λ entry. (map : FileMap) → after.left_since before.moment map → StandsAsAllowed entry map)
+      (λ entry. (map : FileMap) → after.left_since before.moment map → RecoversAsAllowed entry map)
 
 -- ---- from the mount on
 
@@ -59,6 +60,6 @@ pub record KeepsFolder (entry : DiskState) (before after : DiskSeen) (ending : E
   pub mounted_at : ℕ
   pub later : before.moment ≤ mounted_at
   pub within : mounted_at ≤ after.moment
-  pub mounting : (map : FileMap) → after.left_since before.moment map → StandsAsAllowed entry map ⊎ StandsWithin start steps map
+  pub mounting : (map : FileMap) → after.left_since before.moment map → RecoversAsAllowed entry map ⊎ StandsWithin start steps map
   pub running : (map : FileMap) → after.left_since mounted_at map → StandsWithin start steps map
   pub ends : EndsOver ending start answered steps after.state

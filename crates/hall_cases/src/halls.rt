@@ -3,11 +3,12 @@ use crate::calls::{
     before_a_commit, behind_a_commit, behind_a_stop, between_publication_and_hang_up,
 };
 use cynara_keys::{BucketName, Kind, PolicyResult};
+use desk_ports::{Bytes, FailList};
 use desk_state::{Command, Desk};
-use link_ports::MemEnd;
+use link_ports::{MemEnd, MemLink};
 use live_desk::{Publisher, Seat, start};
 use live_roll::Roll;
-use locked_hall::{Locked, QuestionDesk};
+use server_hall::{Locked, QuestionDesk};
 use std::alloc::{AllocError, Global};
 use std::sync::{Mutex, Wait};
 
@@ -34,8 +35,18 @@ fn comes_late<R: Wait>(
     let roll = Mutex::new(roll);
     let questions = QuestionDesk::new(alloc);
     let mut hall = Locked::new(rt, &roll, &questions);
+    let mut link = quiet_link(alloc)?;
+    let mut further = quiet_link(alloc)?;
     let published = publish_next(rt, alloc, desk, publisher)?;
-    let told = between_publication_and_hang_up(rt, alloc, &mut hall, seat, publisher)?;
+    let told = between_publication_and_hang_up(
+        rt,
+        alloc,
+        &mut hall,
+        seat,
+        publisher,
+        &mut link,
+        &mut further,
+    )?;
     format!(in alloc; "published {published}; {told}").ok()
 }
 
@@ -62,12 +73,52 @@ fn with_seat<R: Wait>(
     let roll = Mutex::new(roll);
     let questions = QuestionDesk::new(alloc);
     let mut hall = Locked::new(rt, &roll, &questions);
-    let first = before_a_commit(alloc, &mut hall, seat)?;
+    let first = first_line(alloc, &mut hall, seat)?;
     publish_next(rt, alloc, desk, publisher)?;
-    let second = behind_a_commit(alloc, &mut hall, seat, publisher)?;
-    let third = behind_a_stop(alloc, &mut hall, seat)?;
+    let second = second_line(alloc, &mut hall, seat, publisher)?;
+    let third = third_line(alloc, &mut hall, seat)?;
     let stopped = questions.is_stopped(rt);
     format!(in alloc; "{first}\n{second}\n{third}; table stopped {stopped}").ok()
+}
+
+fn first_line<R: Wait + Drop>(
+    alloc: Global,
+    hall: &mut Locked<'_, R, MemEnd>,
+    seat: &mut Seat,
+) -> Option<String> {
+    let mut link = quiet_link(alloc)?;
+    let mut further = quiet_link(alloc)?;
+    before_a_commit(alloc, hall, seat, &mut link, &mut further)
+}
+
+fn second_line<R: Wait + Drop>(
+    alloc: Global,
+    hall: &mut Locked<'_, R, MemEnd>,
+    seat: &mut Seat,
+    publisher: &Publisher,
+) -> Option<String> {
+    let mut link = quiet_link(alloc)?;
+    behind_a_commit(alloc, hall, seat, publisher, &mut link)
+}
+
+fn third_line<R: Wait + Drop>(
+    alloc: Global,
+    hall: &mut Locked<'_, R, MemEnd>,
+    seat: &mut Seat,
+) -> Option<String> {
+    let mut link = quiet_link(alloc)?;
+    behind_a_stop(alloc, hall, seat, &mut link)
+}
+
+// A link over which nothing comes.
+fn quiet_link(alloc: Global) -> Option<MemLink> {
+    MemLink::new(
+        alloc,
+        Bytes::new(alloc),
+        u64::MAX,
+        FailList::of(Vec::new(alloc)),
+    )
+    .ok()
 }
 
 // Publishes a state behind the one before.

@@ -3,7 +3,7 @@ use Rattle.std.proofs.Common.{◌≡◌, ◌∙◌, ◌<◌, ◌+◌, ℕ, List,
 use Rattle.std.proofs.lemmas.List.{take_more}
 use Rattle.std.proofs.lemmas.Grind.{flat_map-append}
 use Rattle.monitor_rule.specs.declared.entries.Entry.{Entry}
-use Rattle.monitor_lines.specs.Lines.{entry_text, missed_text}
+use Rattle.monitor_journal.specs.Lines.{entry_text, missed_text}
 use Rattle.check_monitor.specs.Monitor.{RecorderState}
 use Rattle.monitor_journal.specs.Journal.{entries_text, missed_lines}
 use Rattle.monitor_journal.specs.parts.Spelling.{Spells, SpellsLeft}

@@ -6,7 +6,7 @@ use Rattle.desk_ports.specs.Content.{Appended}
 use Rattle.monitor_rule.specs.Steps.{AreKnown}
 use Rattle.run_endings.specs.Outside.{SinkSeen}
 use Rattle.monitor_rule.specs.declared.entries.Entry.{Entry}
-use Rattle.monitor_lines.specs.Lines.{entry_text}
+use Rattle.monitor_journal.specs.Lines.{entry_text}
 use Rattle.check_monitor.specs.Monitor.{ReaderState, HandsOut}
 use Rattle.monitor_journal.specs.Journal.{entries_text, Writes}
 use Rattle.monitor_journal.specs.parts.Spelling.{Spells, SpellsEntries}

@@ -6,7 +6,7 @@ use Rattle.desk_ports.specs.Faults.{next_count}
 use Rattle.run_endings.specs.Outside.{SinkSeen}
 use Rattle.monitor_rule.specs.declared.entries.Entry.{Entry}
 use Rattle.check_monitor.specs.Monitor.{ReaderState}
-use Rattle.monitor_lines.specs.Lines.{entry_text}
+use Rattle.monitor_journal.specs.Lines.{entry_text}
 use Rattle.std.proofs.lemmas.Grind.{flat_map-append}
 use Rattle.monitor_rule.specs.Steps.{AreKnown}
 use Rattle.monitor_journal.proofs.Lines.{known-more}

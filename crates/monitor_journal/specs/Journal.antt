@@ -6,7 +6,7 @@ use Rattle.desk_ports.specs.Faults.{next_count}
 use Rattle.run_endings.specs.Outside.{SinkSeen}
 use Rattle.monitor_rule.specs.declared.entries.Entry.{Entry}
 use Rattle.monitor_rule.specs.Steps.{AreKnown}
-use Rattle.monitor_lines.specs.Lines.{entry_text, missed_text}
+use Rattle.monitor_journal.specs.Lines.{entry_text, missed_text}
 use Rattle.check_monitor.specs.Monitor.{RecorderState, ReaderState, AreWhole}
 use Rattle.monitor_journal.specs.declared.writing.Writing.{Writing}
 use Rattle.monitor_journal.specs.declared.writing.Writing.TheVariants.{GoesOn, SinkFailed, OutOfMemory}

@@ -1,13 +1,13 @@
 // The lines of the checks that were recorded.
-ghost use Rattle.monitor_lines.specs.Lines.{entry_text, missed_text};
+ghost use Rattle.monitor_journal.specs.Lines.{entry_text, missed_text};
 ghost use Rattle.run_endings.specs.Outside.{sink_seen};
 ghost use Rattle.monitor_journal.specs.Journal.{HandsOn, Writes};
 ghost use Rattle.monitor_journal.specs.parts.Spelling.{Spells, SpellsEntries};
 
 use crate::Writing;
+use crate::entry_lines::{append_entry, append_missed};
 use check_monitor::Reader;
 use desk_ports::{Bytes, Sink, write_all};
-use monitor_lines::{append_entry, append_missed};
 use monitor_rule::Entry;
 use std::sync::Wait;
 

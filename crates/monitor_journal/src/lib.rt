@@ -2,6 +2,7 @@
 //! count of its checks that were missed. After a call of the sink has failed nothing further is written.
 #![tactic(auto)]
 
+mod entry_lines;
 mod journals;
 mod last_lines;
 mod writing;

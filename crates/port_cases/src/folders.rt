@@ -2,59 +2,87 @@
 use case_words::{
     Failure, bytes_of, file_name, first_number, first_word, folder_text, put_bytes, put_word,
 };
-use desk_ports::{Disk, Failed, FileName, MemDisk, PortFault};
+use desk_ports::{Bytes, Disk, Failed, FileName, MemDisk, PortFault};
 use std::alloc::{AllocError, Global};
+use std::fmt::Write;
 
-fn answered(alloc: Global, answer: Result<(), Failed>) -> Result<String, Failure> {
-    match answer {
-        Ok(()) => Ok(String::from_str(alloc, "done")?),
-        Err(Failed) => Ok(String::from_str(alloc, "failed")?),
+fn put_done(text: &mut String, answer: Result<(), Failed>) -> Result<(), AllocError> {
+    text.push_str(match answer {
+        Ok(()) => "done",
+        Err(Failed) => "failed",
+    })
+}
+
+fn put_fault(text: &mut String, fault: PortFault) -> Result<(), Failure> {
+    match fault {
+        PortFault::Failed => Ok(text.push_str("failed")?),
+        PortFault::Memory(error) => Err(Failure::Memory(error)),
     }
 }
 
 /// `write NAME BYTES`.
-pub fn write(alloc: Global, disk: &mut MemDisk, words: &str) -> Result<String, Failure> {
+pub fn write(
+    alloc: Global,
+    text: &mut String,
+    disk: &mut MemDisk,
+    words: &str,
+) -> Result<(), Failure> {
     let (name, bytes) = first_word(words);
-    let answer = disk.write(&file_name(alloc, name)?, &bytes_of(alloc, bytes)?);
-    answered(alloc, answer)
+    let bytes = bytes_of(alloc, bytes)?;
+    let answer = disk.write(&file_name(alloc, name)?, &bytes);
+    drop(bytes);
+    Ok(put_done(text, answer)?)
 }
 
 /// `remove NAME`.
-pub fn remove(alloc: Global, disk: &mut MemDisk, word: &str) -> Result<String, Failure> {
+pub fn remove(
+    alloc: Global,
+    text: &mut String,
+    disk: &mut MemDisk,
+    word: &str,
+) -> Result<(), Failure> {
     let answer = disk.remove(&file_name(alloc, word)?);
-    answered(alloc, answer)
+    Ok(put_done(text, answer)?)
 }
 
 /// `sync`.
-pub fn sync(alloc: Global, disk: &mut MemDisk) -> Result<String, Failure> {
+pub fn sync(text: &mut String, disk: &mut MemDisk) -> Result<(), Failure> {
     let answer = disk.sync();
-    answered(alloc, answer)
+    Ok(put_done(text, answer)?)
+}
+
+fn put_file(text: &mut String, bytes: &[u8]) -> Result<(), AllocError> {
+    text.push_str("bytes ")?;
+    put_bytes(text, bytes)
+}
+
+fn put_found(text: &mut String, found: Option<Bytes>) -> Result<(), AllocError> {
+    match found {
+        Some(bytes) => put_file(text, bytes.as_slice()),
+        None => text.push_str("absent"),
+    }
 }
 
 /// `read NAME`.
-pub fn read(alloc: Global, disk: &mut MemDisk, word: &str) -> Result<String, Failure> {
-    let mut text = String::new(alloc);
-    match disk.read(&file_name(alloc, word)?) {
-        Ok(Some(bytes)) => {
-            text.push_str("bytes ")?;
-            put_bytes(&mut text, bytes.as_slice())?;
-        }
-        Ok(None) => text.push_str("absent")?,
-        Err(PortFault::Failed) => text.push_str("failed")?,
-        Err(PortFault::Memory(error)) => return Err(Failure::Memory(error)),
+pub fn read(
+    alloc: Global,
+    text: &mut String,
+    disk: &mut MemDisk,
+    word: &str,
+) -> Result<(), Failure> {
+    let answer = disk.read(&file_name(alloc, word)?);
+    match answer {
+        Ok(found) => Ok(put_found(text, found)?),
+        Err(fault) => put_fault(text, fault),
     }
-    Ok(text)
 }
 
 /// `names`.
-pub fn names(alloc: Global, disk: &mut MemDisk) -> Result<String, Failure> {
-    let mut text = String::new(alloc);
+pub fn names(text: &mut String, disk: &mut MemDisk) -> Result<(), Failure> {
     match disk.names() {
-        Ok(names) => put_names(&mut text, &names)?,
-        Err(PortFault::Failed) => text.push_str("failed")?,
-        Err(PortFault::Memory(error)) => return Err(Failure::Memory(error)),
+        Ok(names) => Ok(put_names(text, &names)?),
+        Err(fault) => put_fault(text, fault),
     }
-    Ok(text)
 }
 
 fn put_names(text: &mut String, names: &[FileName]) -> Result<(), AllocError> {
@@ -66,17 +94,31 @@ fn put_names(text: &mut String, names: &[FileName]) -> Result<(), AllocError> {
 }
 
 /// `stopped AFTER PICK`: what a stop leaves, and how many calls and faults the disk then starts with.
-pub fn stopped(alloc: Global, disk: &MemDisk, words: &str) -> Result<String, Failure> {
+pub fn stopped(
+    alloc: Global,
+    text: &mut String,
+    disk: &MemDisk,
+    words: &str,
+) -> Result<(), Failure> {
     let (after, words) = first_number(words)?;
     let (pick, _) = first_number(words)?;
     let mut left = disk.stopped(after as usize, pick)?;
+    put_left(alloc, text, &mut left)
+}
+
+fn put_left(alloc: Global, text: &mut String, left: &mut MemDisk) -> Result<(), Failure> {
     let calls = left.calls().len();
-    let mut text = folder_text(alloc, &mut left)?;
-    text.push_str(format!(in alloc; " calls {calls} faults {}", left.faults())?.as_str())?;
-    Ok(text)
+    put_folder(alloc, text, left)?;
+    Ok(write!(text, " calls {calls} faults {}", left.faults())?)
+}
+
+/// `folder`.
+pub fn put_folder(alloc: Global, text: &mut String, disk: &mut MemDisk) -> Result<(), Failure> {
+    let folder = folder_text(alloc, disk)?;
+    Ok(text.push_str(folder.as_str())?)
 }
 
 /// `faults`: how many calls of the disk failed.
-pub fn faults(alloc: Global, disk: &MemDisk) -> Result<String, Failure> {
-    Ok(format!(in alloc; "{}", disk.faults())?)
+pub fn faults(text: &mut String, disk: &MemDisk) -> Result<(), Failure> {
+    Ok(write!(text, "{}", disk.faults())?)
 }

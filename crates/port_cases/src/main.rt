@@ -9,105 +9,98 @@
 mod folders;
 mod streams;
 
-use case_words::{Failure, calls_text, fails, files, first_word, folder_text};
+use case_words::{Failure, calls_text, fails, files, first_word};
 use desk_ports::{FailList, MemDisk, set_in_order};
 use std::alloc::{AllocError, Global};
 use std::io;
 
-fn stream_case(alloc: Global, word: &str, rest: &str) -> Result<String, Failure> {
-    if word == "source" {
-        return streams::source(alloc, rest);
+fn stream_case(alloc: Global, text: &mut String, word: &str, rest: &str) -> Result<(), Failure> {
+    match word {
+        "source" => streams::source(alloc, text, rest),
+        "sink" => streams::sink(alloc, text, rest),
+        "write-all" => streams::all_written(alloc, text, rest),
+        "bytes" => streams::bytes(alloc, text, rest),
+        "append-often" => streams::appended_often(alloc, text, rest),
+        "name" => streams::name(alloc, text, rest),
+        "order" => streams::order(alloc, text, rest),
+        "shown" => streams::shown(alloc, text, rest),
+        _ => Err(Failure::Words),
     }
-    if word == "sink" {
-        return streams::sink(alloc, rest);
-    }
-    if word == "write-all" {
-        return streams::all_written(alloc, rest);
-    }
-    if word == "bytes" {
-        return streams::bytes(alloc, rest);
-    }
-    if word == "append-often" {
-        return streams::appended_often(alloc, rest);
-    }
-    if word == "name" {
-        return streams::name(alloc, rest);
-    }
-    if word == "order" {
-        return streams::order(alloc, rest);
-    }
-    if word == "shown" {
-        return streams::shown(alloc, rest);
-    }
-    Err(Failure::Words)
 }
 
-fn disk_case(alloc: Global, disk: &mut MemDisk, word: &str, rest: &str) -> Result<String, Failure> {
-    if word == "write" {
-        return folders::write(alloc, disk, rest);
-    }
-    if word == "remove" {
-        return folders::remove(alloc, disk, rest);
-    }
-    if word == "sync" {
-        return folders::sync(alloc, disk);
-    }
-    if word == "read" {
-        return folders::read(alloc, disk, rest);
-    }
-    if word == "names" {
-        return folders::names(alloc, disk);
-    }
-    if word == "folder" {
-        return folder_text(alloc, disk);
-    }
-    if word == "faults" {
-        return folders::faults(alloc, disk);
-    }
-    if word == "calls" {
-        return calls_text(alloc, disk);
-    }
-    if word == "stopped" {
-        return folders::stopped(alloc, disk, rest);
-    }
-    stream_case(alloc, word, rest)
+fn put_calls(alloc: Global, text: &mut String, disk: &MemDisk) -> Result<(), Failure> {
+    let calls = calls_text(alloc, disk)?;
+    Ok(text.push_str(calls.as_str())?)
 }
 
-fn new_disk(alloc: Global, rest: &str) -> Result<MemDisk, Failure> {
+fn put_new_disk(
+    alloc: Global,
+    text: &mut String,
+    disk: &mut MemDisk,
+    rest: &str,
+) -> Result<(), Failure> {
     let (failing, words) = first_word(rest);
-    Ok(MemDisk::new(alloc, files(alloc, words)?, fails(alloc, failing)?)?)
+    let fails = fails(alloc, failing)?;
+    *disk = MemDisk::new(alloc, files(alloc, words)?, fails)?;
+    Ok(text.push_str("a new disk")?)
 }
 
-fn answer(alloc: Global, disk: &mut MemDisk, line: &str) -> Result<String, Failure> {
+fn put_answer(
+    alloc: Global,
+    text: &mut String,
+    disk: &mut MemDisk,
+    line: &str,
+) -> Result<(), Failure> {
     let (word, rest) = first_word(line);
-    if word == "disk" {
-        *disk = new_disk(alloc, rest)?;
-        return Ok(String::from_str(alloc, "a new disk")?);
-    }
-    disk_case(alloc, disk, word, rest)
-}
-
-// The answer, or why there is none.
-fn told(alloc: Global, disk: &mut MemDisk, line: &str) -> Result<String, AllocError> {
-    match answer(alloc, disk, line) {
-        Ok(text) => Ok(text),
-        Err(Failure::Words) => String::from_str(alloc, "no such case"),
-        Err(Failure::Refused) => String::from_str(alloc, "refused"),
-        Err(Failure::Memory(_)) => String::from_str(alloc, "out of memory"),
+    match word {
+        "disk" => put_new_disk(alloc, text, disk, rest),
+        "write" => folders::write(alloc, text, disk, rest),
+        "remove" => folders::remove(alloc, text, disk, rest),
+        "sync" => folders::sync(text, disk),
+        "read" => folders::read(alloc, text, disk, rest),
+        "names" => folders::names(text, disk),
+        "folder" => folders::put_folder(alloc, text, disk),
+        "faults" => folders::faults(text, disk),
+        "calls" => put_calls(alloc, text, disk),
+        "stopped" => folders::stopped(alloc, text, disk, rest),
+        _ => stream_case(alloc, text, word, rest),
     }
 }
 
-fn main(rt: HostRuntime) -> io::Result<()> {
-    let alloc = rt.alloc();
-    let fails = FailList::of(Vec::new(alloc));
-    let mut disk = MemDisk::new(alloc, set_in_order(alloc, &[])?, fails)?;
-    let text = io::read_to_string(alloc, rt.stdin())?;
+// Puts the answer, or why there is none.
+fn tell(
+    alloc: Global,
+    text: &mut String,
+    disk: &mut MemDisk,
+    line: &str,
+) -> Result<(), AllocError> {
+    let Err(failure) = put_answer(alloc, text, disk, line) else {
+        return Ok(());
+    };
+    text.clear();
+    text.push_str(match failure {
+        Failure::Words => "no such case",
+        Failure::Refused => "refused",
+        Failure::Memory(_) => "out of memory",
+    })
+}
+
+fn answer_lines(rt: &HostRuntime, disk: &mut MemDisk) -> io::Result<()> {
+    let text = io::read_to_string(rt.alloc(), rt.stdin())?;
     for line in text.lines() {
         if line.is_empty() || line.starts_with("#") {
             continue;
         }
-        let answer = told(alloc, &mut disk, line)?;
+        let mut answer = String::new(rt.alloc());
+        tell(rt.alloc(), &mut answer, disk, line)?;
         println!(rt; "{line} => {answer}")?;
     }
     Ok(())
+}
+
+fn main(rt: HostRuntime) -> io::Result<()> {
+    let fails = FailList::of(Vec::new(rt.alloc()));
+    let none = set_in_order(rt.alloc(), &[])?;
+    let mut disk = MemDisk::new(rt.alloc(), none, fails)?;
+    answer_lines(&rt, &mut disk)
 }

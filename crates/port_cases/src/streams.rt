@@ -7,6 +7,7 @@ use desk_ports::{
     shown_bytes, write_all,
 };
 use std::alloc::{AllocError, Global};
+use std::fmt::Write;
 
 /// A sink that takes one byte a call.
 #[derive(Drop)]
@@ -24,53 +25,68 @@ impl Sink for SlowSink {
     }
 }
 
-// What a read into so much room answers, with all that the room then holds, which held `-` before, and the bytes left.
-fn read_text(alloc: Global, source: &mut MemSource, room: usize) -> Result<String, Failure> {
-    let mut room = vec![in alloc; b'-'; room]?;
-    let mut text = match source.read(&mut room) {
-        Ok(count) => format!(in alloc; "{count} ")?,
-        Err(Failed) => String::from_str(alloc, "failed ")?,
-    };
-    put_bytes(&mut text, &room)?;
+// Puts what a read answered, with all that its room then holds, and the bytes left.
+fn put_read(
+    text: &mut String,
+    answer: Result<usize, Failed>,
+    room: &[u8],
+    left: &[u8],
+) -> Result<(), AllocError> {
+    put_word(text, "")?;
+    match answer {
+        Ok(count) => write!(text, "{count} ")?,
+        Err(Failed) => text.push_str("failed ")?,
+    }
+    put_bytes(text, room)?;
     text.push_str(" left ")?;
-    put_bytes(&mut text, source.left())?;
-    text.push(';')?;
-    Ok(text)
+    put_bytes(text, left)?;
+    text.push(';')
+}
+
+// A read into so much room, which held `-` before.
+fn read(
+    alloc: Global,
+    text: &mut String,
+    source: &mut MemSource,
+    room: usize,
+) -> Result<(), AllocError> {
+    let mut room = vec![in alloc; b'-'; room]?;
+    let answer = source.read(&mut room);
+    put_read(text, answer, &room, source.left())
+}
+
+fn put_reads(
+    alloc: Global,
+    text: &mut String,
+    source: &mut MemSource,
+    words: &str,
+) -> Result<(), Failure> {
+    for word in words.split(' ') {
+        let (room, _) = first_number(word)?;
+        read(alloc, text, source, room as usize)?;
+    }
+    put_word(text, "")?;
+    Ok(write!(text, "faults {}", source.faults())?)
+}
+
+fn new_source(alloc: Global, bytes: &str, failing: &str) -> Result<MemSource, Failure> {
+    let bytes = Bytes::of(bytes_of(alloc, bytes)?);
+    Ok(MemSource::new(bytes, fails(alloc, failing)?)?)
 }
 
 /// `source BYTES FAILS ROOM ..`: what the reads of a source answer.
-pub fn source(alloc: Global, words: &str) -> Result<String, Failure> {
+pub fn source(alloc: Global, text: &mut String, words: &str) -> Result<(), Failure> {
     let (bytes, words) = first_word(words);
     let (failing, words) = first_word(words);
-    let bytes = Bytes::of(bytes_of(alloc, bytes)?);
-    let mut source = MemSource::new(bytes, fails(alloc, failing)?)?;
-    let mut text = String::new(alloc);
-    for word in words.split(' ') {
-        let (room, _) = first_number(word)?;
-        put_word(
-            &mut text,
-            read_text(alloc, &mut source, room as usize)?.as_str(),
-        )?;
-    }
-    put_word(
-        &mut text,
-        format!(in alloc; "faults {}", source.faults())?.as_str(),
-    )?;
-    Ok(text)
-}
-
-fn write_text(alloc: Global, sink: &mut MemSink, bytes: &[u8]) -> Result<String, AllocError> {
-    match sink.write(bytes) {
-        Ok(count) => format!(in alloc; "{count};"),
-        Err(Failed) => String::from_str(alloc, "failed;"),
-    }
+    let mut source = new_source(alloc, bytes, failing)?;
+    put_reads(alloc, text, &mut source, words)
 }
 
 // What a sink has taken, and how often it failed.
-fn put_taken(alloc: Global, text: &mut String, sink: &MemSink) -> Result<(), AllocError> {
+fn put_taken(text: &mut String, sink: &MemSink) -> Result<(), AllocError> {
     put_word(text, "taken ")?;
     put_bytes(text, sink.taken())?;
-    text.push_str(format!(in alloc; " faults {}", sink.faults())?.as_str())
+    write!(text, " faults {}", sink.faults())
 }
 
 fn new_sink(alloc: Global, taken: &str, failing: &str) -> Result<MemSink, Failure> {
@@ -78,143 +94,218 @@ fn new_sink(alloc: Global, taken: &str, failing: &str) -> Result<MemSink, Failur
     Ok(MemSink::new(taken, fails(alloc, failing)?)?)
 }
 
+// Writes the bytes that the word stands for, and puts what that answers.
+fn write(
+    alloc: Global,
+    text: &mut String,
+    sink: &mut MemSink,
+    word: &str,
+) -> Result<(), AllocError> {
+    let bytes = bytes_of(alloc, word)?;
+    let answer = sink.write(&bytes);
+    drop(bytes);
+    put_word(text, "")?;
+    match answer {
+        Ok(count) => write!(text, "{count};"),
+        Err(Failed) => text.push_str("failed;"),
+    }
+}
+
+fn put_writes(
+    alloc: Global,
+    text: &mut String,
+    sink: &mut MemSink,
+    words: &str,
+) -> Result<(), AllocError> {
+    for word in words.split(' ') {
+        write(alloc, text, sink, word)?;
+    }
+    put_taken(text, sink)
+}
+
 /// `sink TAKEN FAILS PIECE ..`: what the writes of a sink answer.
-pub fn sink(alloc: Global, words: &str) -> Result<String, Failure> {
+pub fn sink(alloc: Global, text: &mut String, words: &str) -> Result<(), Failure> {
     let (taken, words) = first_word(words);
     let (failing, words) = first_word(words);
     let mut sink = new_sink(alloc, taken, failing)?;
-    let mut text = String::new(alloc);
-    for word in words.split(' ') {
-        let bytes = bytes_of(alloc, word)?;
-        put_word(&mut text, write_text(alloc, &mut sink, &bytes)?.as_str())?;
+    Ok(put_writes(alloc, text, &mut sink, words)?)
+}
+
+// Writes all bytes. What is said of that.
+fn write_whole(alloc: Global, slow: &mut SlowSink, word: &str) -> Result<&'static str, AllocError> {
+    let bytes = bytes_of(alloc, word)?;
+    match write_all(slow, &bytes) {
+        Ok(()) => Ok("done"),
+        Err(Failed) => Ok("failed"),
     }
-    put_taken(alloc, &mut text, &sink)?;
-    Ok(text)
+}
+
+fn put_whole(
+    alloc: Global,
+    text: &mut String,
+    slow: &mut SlowSink,
+    word: &str,
+) -> Result<(), AllocError> {
+    text.push_str(write_whole(alloc, slow, word)?)?;
+    put_taken(text, &slow.sink)
 }
 
 /// `write-all TAKEN FAILS BYTES`: all bytes to a sink that takes one of them a call.
-pub fn all_written(alloc: Global, words: &str) -> Result<String, Failure> {
+pub fn all_written(alloc: Global, text: &mut String, words: &str) -> Result<(), Failure> {
     let (taken, words) = first_word(words);
     let (failing, words) = first_word(words);
-    let bytes = bytes_of(alloc, words)?;
     let mut slow = SlowSink {
         sink: new_sink(alloc, taken, failing)?,
     };
-    let answer = match write_all(&mut slow, &bytes) {
-        Ok(()) => "done",
-        Err(Failed) => "failed",
-    };
-    let mut text = String::from_str(alloc, answer)?;
-    put_taken(alloc, &mut text, &slow.sink)?;
-    Ok(text)
-}
-
-fn number_of(word: &str) -> Result<usize, Failure> {
-    let (number, _) = first_number(word)?;
-    Ok(number as usize)
+    Ok(put_whole(alloc, text, &mut slow, words)?)
 }
 
 fn append_both(alloc: Global, bytes: &mut Bytes, given: &str) -> Result<(), Failure> {
     let Some((front, back)) = given.split_once(",") else {
         return Err(Failure::Words);
     };
-    Ok(bytes.append_both(&bytes_of(alloc, front)?, &bytes_of(alloc, back)?)?)
+    let front = bytes_of(alloc, front)?;
+    let back = bytes_of(alloc, back)?;
+    Ok(bytes.append_both(&front, &back)?)
 }
 
-fn overwrite(bytes: &mut Bytes, with: &[u8]) -> Result<(), Failure> {
+fn append(alloc: Global, bytes: &mut Bytes, given: &str) -> Result<(), Failure> {
+    let given = bytes_of(alloc, given)?;
+    Ok(bytes.append(&given)?)
+}
+
+fn overwrite(alloc: Global, bytes: &mut Bytes, given: &str) -> Result<(), Failure> {
+    let with = bytes_of(alloc, given)?;
     if with.len() > bytes.len() {
         return Err(Failure::Words);
     }
-    bytes.overwrite_front(with);
+    bytes.overwrite_front(&with);
+    Ok(())
+}
+
+fn truncate(bytes: &mut Bytes, given: &str) -> Result<(), Failure> {
+    let (number, _) = first_number(given)?;
+    bytes.truncate(number as usize);
+    Ok(())
+}
+
+fn copy(bytes: &mut Bytes) -> Result<(), Failure> {
+    *bytes = bytes.copy()?;
     Ok(())
 }
 
 fn change(alloc: Global, bytes: &mut Bytes, call: &str, given: &str) -> Result<(), Failure> {
-    if call == "append" {
-        return Ok(bytes.append(&bytes_of(alloc, given)?)?);
+    match call {
+        "append" => append(alloc, bytes, given),
+        "both" => append_both(alloc, bytes, given),
+        "overwrite" => overwrite(alloc, bytes, given),
+        "truncate" => truncate(bytes, given),
+        "clear" => {
+            bytes.clear();
+            Ok(())
+        }
+        "copy" => copy(bytes),
+        _ => Err(Failure::Words),
     }
-    if call == "both" {
-        return append_both(alloc, bytes, given);
+}
+
+fn put_changes(
+    alloc: Global,
+    text: &mut String,
+    bytes: &mut Bytes,
+    words: &str,
+) -> Result<(), Failure> {
+    for word in words.split(' ') {
+        let (call, given) = word.split_once("=").unwrap_or((word, ""));
+        change(alloc, bytes, call, given)?;
+        put_word(text, "")?;
+        write!(text, "{} ", bytes.len())?;
+        put_bytes(text, bytes.as_slice())?;
+        text.push(';')?;
     }
-    if call == "overwrite" {
-        return overwrite(bytes, &bytes_of(alloc, given)?);
-    }
-    if call == "truncate" {
-        bytes.truncate(number_of(given)?);
-        return Ok(());
-    }
-    if call == "clear" {
-        bytes.clear();
-        return Ok(());
-    }
-    if call == "copy" {
-        *bytes = bytes.copy()?;
-        return Ok(());
-    }
-    Err(Failure::Words)
+    Ok(())
 }
 
 /// `bytes CALL=GIVEN ..`: the bytes after each call, and their number.
-pub fn bytes(alloc: Global, words: &str) -> Result<String, Failure> {
+pub fn bytes(alloc: Global, text: &mut String, words: &str) -> Result<(), Failure> {
     let mut bytes = Bytes::new(alloc);
-    let mut text = String::new(alloc);
-    for word in words.split(' ') {
-        let (call, given) = match word.split_once("=") {
-            Some(parts) => parts,
-            None => (word, ""),
-        };
-        change(alloc, &mut bytes, call, given)?;
-        put_word(&mut text, format!(in alloc; "{} ", bytes.len())?.as_str())?;
-        put_bytes(&mut text, bytes.as_slice())?;
-        text.push(';')?;
+    put_changes(alloc, text, &mut bytes, words)
+}
+
+// Appends the piece so often, and puts the number of bytes, and as many of the last of them as the piece has.
+fn append_often(
+    text: &mut String,
+    bytes: &mut Bytes,
+    piece: &[u8],
+    count: u32,
+) -> Result<(), AllocError> {
+    for _ in 0..count {
+        bytes.append(piece)?;
     }
-    Ok(text)
+    write!(text, "{} ", bytes.len())?;
+    let from = bytes.len().saturating_sub(piece.len());
+    put_bytes(text, &bytes.as_slice()[from..])
 }
 
 /// `append-often COUNT BYTES`: how many bytes there are when these were appended so often, and the last of them.
-pub fn appended_often(alloc: Global, words: &str) -> Result<String, Failure> {
+pub fn appended_often(alloc: Global, text: &mut String, words: &str) -> Result<(), Failure> {
     let (count, word) = first_number(words)?;
     let piece = bytes_of(alloc, word)?;
     let mut bytes = Bytes::new(alloc);
-    for _ in 0..count {
-        bytes.append(&piece)?;
+    Ok(append_often(text, &mut bytes, &piece, count)?)
+}
+
+fn put_refusal(text: &mut String, refusal: FileNameRefusal) -> Result<(), Failure> {
+    match refusal {
+        FileNameRefusal::Memory(error) => Err(Failure::Memory(error)),
+        refusal => Ok(write!(text, "{refusal}")?),
     }
-    let mut text = format!(in alloc; "{} ", bytes.len())?;
-    let from = bytes.len().saturating_sub(piece.len());
-    put_bytes(&mut text, &bytes.as_slice()[from..])?;
-    Ok(text)
+}
+
+fn put_name(text: &mut String, name: &FileName) -> Result<(), AllocError> {
+    text.push_str("name ")?;
+    put_bytes(text, name.as_slice())
 }
 
 /// `name BYTES`: the file name, or why it is none.
-pub fn name(alloc: Global, word: &str) -> Result<String, Failure> {
-    match FileName::read(alloc, &bytes_of(alloc, word)?) {
-        Ok(name) => {
-            let mut text = String::from_str(alloc, "name ")?;
-            put_bytes(&mut text, name.as_slice())?;
-            Ok(text)
-        }
-        Err(FileNameRefusal::Memory(error)) => Err(Failure::Memory(error)),
-        Err(refusal) => Ok(format!(in alloc; "{refusal}")?),
+pub fn name(alloc: Global, text: &mut String, word: &str) -> Result<(), Failure> {
+    let bytes = bytes_of(alloc, word)?;
+    let read = FileName::read(alloc, &bytes);
+    drop(bytes);
+    match read {
+        Ok(name) => Ok(put_name(text, &name)?),
+        Err(refusal) => put_refusal(text, refusal),
     }
 }
 
-/// `order NAME ..`: the names in order.
-pub fn order(alloc: Global, words: &str) -> Result<String, Failure> {
-    let mut names = Vec::new(alloc);
+fn names_of(alloc: Global, names: &mut Vec<FileName>, words: &str) -> Result<(), Failure> {
     for word in words.split(' ') {
         names.push(FileName::read(alloc, word.as_bytes())?)?;
     }
-    let mut text = String::new(alloc);
-    for name in &names_in_order(alloc, names)? {
-        put_word(&mut text, "")?;
-        put_bytes(&mut text, name.as_slice())?;
+    Ok(())
+}
+
+fn put_names(text: &mut String, names: &[FileName]) -> Result<(), AllocError> {
+    for name in names {
+        put_word(text, "")?;
+        put_bytes(text, name.as_slice())?;
     }
-    Ok(text)
+    Ok(())
+}
+
+/// `order NAME ..`: the names in order.
+pub fn order(alloc: Global, text: &mut String, words: &str) -> Result<(), Failure> {
+    let mut names = Vec::new(alloc);
+    names_of(alloc, &mut names, words)?;
+    let ordered = names_in_order(alloc, names)?;
+    Ok(put_names(text, &ordered)?)
 }
 
 /// `shown MOST BYTES`: the bytes as a text that no terminal acts on.
-pub fn shown(alloc: Global, words: &str) -> Result<String, Failure> {
+pub fn shown(alloc: Global, text: &mut String, words: &str) -> Result<(), Failure> {
     let (most, word) = first_number(words)?;
     let bytes = bytes_of(alloc, word)?;
-    Ok(shown_bytes(alloc, &bytes, most as usize)?)
+    let shown = shown_bytes(alloc, &bytes, most as usize);
+    drop(bytes);
+    Ok(text.push_str(shown?.as_str())?)
 }

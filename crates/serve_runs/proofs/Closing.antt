@@ -1,5 +1,6 @@
 -- Doors that are closed one after the other, and what that does to the count of their net.
-use Rattle.std.proofs.Common.{◌≡◌, ◌∙◌, ◌≤◌, inr, ℕ, List, [], ◌∷◌, ◌++◌, Option, Some, refl, sym, ap, subst, append_assoc, append-nil, arith}
+use Rattle.std.proofs.Common.{◌≡◌, ◌∙◌, ◌≤◌, inr, ℕ, List, [], ◌∷◌, ◌++◌, Option, Some, refl, sym, ap, subst, append_assoc, append-nil}
+use Rattle.std.proofs.Common.{arith}
 use Rattle.desk_ports.specs.Faults.{next_count}
 use Rattle.link_ports.specs.NetCounts.{count_after_close}
 use Rattle.link_ports.specs.Told.{AppendsTold}
@@ -9,7 +10,8 @@ use Rattle.door_workers.specs.Visit.{door_faults_after}
 use Rattle.door_workers.specs.declared.workers.WorkerEnd.{WorkerEnd}
 use Rattle.door_workers.specs.declared.workers.WorkerEnd.TheVariants.{DoorFailed}
 use Rattle.run_endings.specs.declared.endings.Ending.{Ending}
-use Rattle.run_endings.specs.declared.endings.Ending.TheVariants.{Done, Memory, Words, Line, Source, Sink, Disk, Net, Damaged, Reply, TooLong}
+use Rattle.run_endings.specs.declared.endings.Ending.TheVariants.{Done, Memory, Words, Line, Source, Sink, Disk, Net, Damaged, Reply}
+use Rattle.run_endings.specs.declared.endings.Ending.TheVariants.{TooLong}
 use Rattle.serve_runs.specs.Serving.{ClosesDoors, ClosesOpened, HasRisen, EndsUnopened}
 
 pub closes_none : {E : Type 0} (told : Option (List E)) → ClosesDoors told [] told

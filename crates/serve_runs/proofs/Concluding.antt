@@ -8,7 +8,8 @@ use Rattle.folder_runs.specs.Mounting.{mounting_ending}
 use Rattle.door_workers.specs.declared.workers.WorkerEnd.{WorkerEnd}
 use Rattle.door_workers.specs.declared.workers.WorkerEnd.TheVariants.{Stopped, DoorFailed, Memory as LacksMemory}
 use Rattle.run_endings.specs.declared.endings.Ending.{Ending}
-use Rattle.run_endings.specs.declared.endings.Ending.TheVariants.{Done, Memory, Words, Line, Source, Sink, Disk, Net, Damaged, Reply, TooLong}
+use Rattle.run_endings.specs.declared.endings.Ending.TheVariants.{Done, Memory, Words, Line, Source, Sink, Disk, Net, Damaged, Reply}
+use Rattle.run_endings.specs.declared.endings.Ending.TheVariants.{TooLong}
 use Rattle.serve_runs.specs.Serving.{HasRisen, HasNotRisen, FoundMemory, EndsService, EndsUnopened, IsUndone}
 use Rattle.serve_runs.specs.parts.Officiating.{EndsBy}
 

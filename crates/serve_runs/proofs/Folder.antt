@@ -4,15 +4,17 @@ use Rattle.std.specs.List.{AllByRecursion}
 use Rattle.desk_ports.specs.FileMap.{FileMap}
 use Rattle.desk_ports.specs.Disk.{DiskState, MayLeave, WhereTold}
 use Rattle.desk_ports.specs.Moments.{LeavesOnly}
-use Rattle.desk_keeper.specs.Kept.{kept}
+use Rattle.desk_keeper.specs.Kept.{Standing, kept}
+use Rattle.desk_keeper.proofs.Keeping.{standing-kept}
 use Rattle.desk_keeper.specs.Keeper.{disk_of, held_of}
-use Rattle.desk_keeper.specs.Keeping.{EndsKept, StandsAsAllowed}
+use Rattle.desk_keeper.specs.Keeping.{EndsKept}
+use Rattle.guard_files.specs.Mounted.{RecoversAsAllowed}
 use Rattle.desk_keeper.specs.declared.keeper.Keeper.{Keeper}
 use Rattle.desk_state.specs.DeskState.{DeskState}
 use Rattle.link_ports.specs.Traffic.{Traffic}
 use Rattle.link_ports.specs.LinkMarks.{LinkMarks}
 use Rattle.admin_door.specs.Serving.{Exchange}
-use Rattle.admin_door.specs.Running.{Standing, LeadsTo, ComesFrom, IsReached, RunsOver}
+use Rattle.admin_door.specs.Running.{LeadsTo, ComesFrom, IsReached, RunsOver}
 use Rattle.door_workers.specs.Visit.{Works}
 use Rattle.door_workers.specs.Administrators.{Office, VisitsOffice, EndsOffice}
 use Rattle.door_workers.specs.declared.workers.WorkerEnd.{WorkerEnd}
@@ -28,7 +30,7 @@ module _ {D : Type 0} (state : D → Option DiskState) (moment : D → ℕ) (lef
     (old : D) (first last : Keeper D) where
   pub keeps_service : (frames : List Exchange) → WhereTold (state old) (λ before. kept before.current ≡ Ok first.desk)
       → WhereTold (state old) (λ before. EndsKept first.desk (held_of first) (state (disk_of first)))
-      → WhereTold (state old) (λ before. LeavesOnly moment left_since old (disk_of first) (StandsAsAllowed before))
+      → WhereTold (state old) (λ before. LeavesOnly moment left_since old (disk_of first) (RecoversAsAllowed before))
       → RunsOver state moment left_since first last frames
       → WhereTold (state old)
       (λ entry. KeepsService entry (disk_seen state moment left_since faults old)
@@ -56,7 +58,8 @@ module _ {D : Type 0} (state : D → Option DiskState) (moment : D → ℕ) (lef
       }
 
 -- memory was wanting before the folder was looked at
-module _ {D : Type 0} (state : D → Option DiskState) (moment : D → ℕ) (left_since : D → ℕ → FileMap → Type 0) (faults : D → ℕ) (disk : D) where
+module _ {D : Type 0} (state : D → Option DiskState) (moment : D → ℕ) (left_since : D → ℕ → FileMap → Type 0) (faults : D → ℕ)
+    (disk : D) where
   pub refuses-early : ((left : FileMap) → WhereTold (state disk) (λ now. left_since disk (moment disk) left → MayLeave now left))
       → RefusesFolder silence Memory (disk_seen state moment left_since faults disk) (disk_seen state moment left_since faults disk)
   refuses-early only_now =
@@ -75,7 +78,7 @@ module _ (mounted : DiskState) (start : DeskState) (alone : (map : FileMap) → 
   made-so : (front : List Exchange) (desk : DeskState) → ComesFrom mounted start front desk → LeadsTo (Ok start) front (Ok desk)
   made-so front desk (inl leads) = leads
   made-so front desk (inr (other, may, leads)) =
-      subst (λ (at : Standing). LeadsTo at front (Ok desk)) (alone other may) leads
+      subst (λ (at : Standing). LeadsTo at front (Ok desk)) (standing-kept other start (alone other may)) leads
 
   all-made : (published : List DeskState) → AllByRecursion (IsReached mounted start frames) published → AreMadeBy start frames published
   all-made [] all = tt

@@ -5,7 +5,7 @@ use Rattle.desk_ports.specs.FileMap.{FileMap}
 use Rattle.desk_ports.specs.Disk.{DiskState, MayLeave}
 use Rattle.desk_state.specs.DeskState.{DeskState}
 use Rattle.desk_keeper.specs.Kept.{kept}
-use Rattle.desk_keeper.specs.Keeping.{StandsAsAllowed}
+use Rattle.guard_files.specs.Mounted.{RecoversAsAllowed}
 use Rattle.admin_door.specs.Serving.{Exchange}
 use Rattle.admin_door.specs.Running.{LeadsTo, StandsSince, StandsBehind, TellsEach}
 use Rattle.run_endings.specs.Outside.{DiskSeen}
@@ -22,7 +22,7 @@ pub record KeepsService (entry : DiskState) (before after : DiskSeen) (start : D
   -- Until then a stop leaves what one at entry may have left, and from then on what the first few of the frames made of the
   -- state, or the one that was answered then.
   pub mounting : (map : FileMap) → after.left_since before.moment map
-      → StandsAsAllowed entry map ⊎ StandsSince mounted [] frames map
+      → RecoversAsAllowed entry map ⊎ StandsSince mounted [] frames map
   pub running : (map : FileMap) → after.left_since mounted_at map → StandsSince mounted [] frames map
   -- From some moment on the first of the frames are answered, and no stop leaves what stood before them.
   pub since : (front back : List Exchange) → frames ≡ front ++ back

@@ -26,7 +26,8 @@ pub data RunsServe {L E : Type 0} (traffic : L → Option Traffic) (marks : L �
       → after.faults ≡ before.faults → EndsUnopened ending net net_now → ClosesOpened kind closed closed_now
       → RunsServe traffic marks faults given_back door_faults kind ending before after net net_now closed closed_now
   served : (start : DeskState)
-      → (administers : Administers traffic marks faults given_back door_faults kind ending start before.faults after.faults net net_now closed closed_now)
+      → (administers : Administers traffic marks faults given_back door_faults kind ending start before.faults after.faults net net_now
+      closed closed_now)
       → WhereTold before.state (λ entry. KeepsService entry before after start administers.last.frames
       × AreMadeBy start administers.last.frames administers.last.published)
       → RunsServe traffic marks faults given_back door_faults kind ending before after net net_now closed closed_now

@@ -11,7 +11,7 @@ use door_workers::{Chore, Notes, WorkerEnd, work_for_administrators};
 use link_ports::{Door, HangEnd, Link, Net};
 use live_desk::Publisher;
 use live_roll::Roll;
-use locked_hall::{Locked, QuestionDesk};
+use server_hall::{Locked, QuestionDesk};
 use std::alloc::Global;
 use std::sync::{Mutex, Wait};
 use std::thread;
@@ -47,7 +47,8 @@ pub(crate) fn beside<
 ) -> WorkerEnd
     requires workers { F.IsAlwaysCallable each.now }
     requires behind { last_commit 0 publisher.old ≤ keeper.old.desk.commit }
-    ensures officiates { Officiates D.faults D.state D.moment D.left_since L.traffic L.marks L.faults E.given_back E.faults E.kind N.faults N.closed result
+    ensures officiates { Officiates D.faults D.state D.moment D.left_since L.traffic L.marks L.faults
+        E.given_back E.faults E.kind N.faults N.closed result
         keeper.old keeper.new publisher.old publisher.new door.old door.new net.old net.new }
     ensures chore { C.goes chore.old chore.new }
     ensures workers { HaveWorked F.Fn each.now workers.old workers.new }
@@ -58,7 +59,8 @@ pub(crate) fn beside<
     { each_of(rt, each, workers) };
     let mut office = || -> WorkerEnd
         requires { last_commit 0 publisher.now ≤ keeper.now.desk.commit }
-        ensures officiates { Officiates D.faults D.state D.moment D.left_since L.traffic L.marks L.faults E.given_back E.faults E.kind N.faults N.closed result
+        ensures officiates { Officiates D.faults D.state D.moment D.left_since L.traffic L.marks L.faults
+            E.given_back E.faults E.kind N.faults N.closed result
             keeper.entry.now keeper.exit.now publisher.entry.now publisher.exit.now door.entry.now door.exit.now
             net.entry.now net.exit.now }
         ensures chore { C.goes chore.entry.now chore.exit.now }
@@ -102,7 +104,8 @@ fn officiate<R: Wait, D: Disk, H: HangEnd, L: Link, E: Door<Link = L>, N: Net, T
     chore: &mut C,
 ) -> WorkerEnd
     requires { last_commit 0 publisher.old ≤ keeper.old.desk.commit }
-    ensures officiates { Officiates D.faults D.state D.moment D.left_since L.traffic L.marks L.faults E.given_back E.faults E.kind N.faults N.closed result
+    ensures officiates { Officiates D.faults D.state D.moment D.left_since L.traffic L.marks L.faults
+        E.given_back E.faults E.kind N.faults N.closed result
         keeper.old keeper.new publisher.old publisher.new door.old door.new net.old net.new }
     ensures chore { C.goes chore.old chore.new }
 {

@@ -8,7 +8,7 @@ use door_workers::{ClientDuty, Notes, WorkerEnd, work_for_agents};
 use link_ports::{Door, DoorKind, Gate, Link};
 use live_desk::Seat;
 use live_roll::Roll;
-use locked_hall::{QuestionDesk, StopNews};
+use server_hall::{QuestionDesk, StopNews};
 use std::alloc::{AllocError, Global};
 use std::sync::{Mutex, Wait};
 

@@ -18,8 +18,8 @@ use door_workers::{Chore, ClientDuty, Notes, WorkerEnd};
 use link_ports::{Door, DoorKind, Gate, Link, Net};
 use live_desk::{Publisher, Seat, start};
 use live_roll::Roll;
-use locked_hall::QuestionDesk;
 use run_endings::Ending;
+use server_hall::QuestionDesk;
 use std::alloc::Global;
 use std::sync::{Mutex, Wait};
 use std::thread::Threads;
@@ -60,7 +60,8 @@ where
     requires most { workers ≤ 64 }
     requires duties { length duties.items ≡ workers }
     ensures served { MatchResult result
-        (λ met. Staffs D.faults D.state D.moment D.left_since N.Door.Link.traffic N.Door.Link.marks N.Door.Link.faults N.Door.given_back N.Door.faults N.Door.kind met.lacked_memory
+        (λ met. Staffs D.faults D.state D.moment D.left_since N.Door.Link.traffic N.Door.Link.marks N.Door.Link.faults
+        N.Door.given_back N.Door.faults N.Door.kind met.lacked_memory
         keeper.old keeper.new (N.faults net.old) (N.faults net.new) (N.closed net.old) (N.closed net.new))
         (λ ending. EndsUnopened ending (N.faults net.old) (N.faults net.new)) }
     ensures closed { OnErr result (ClosesOpened N.Door.kind (N.closed net.old) (N.closed net.new)) }
@@ -122,7 +123,8 @@ where
     requires published { publisher.old ≡ keeper.old.desk ∷ [] }
     requires seats { length duties.items ≤ length seats.items }
     ensures served { MatchResult result
-        (λ met. Staffs D.faults D.state D.moment D.left_since N.Door.Link.traffic N.Door.Link.marks N.Door.Link.faults N.Door.given_back N.Door.faults N.Door.kind met.lacked_memory
+        (λ met. Staffs D.faults D.state D.moment D.left_since N.Door.Link.traffic N.Door.Link.marks N.Door.Link.faults
+        N.Door.given_back N.Door.faults N.Door.kind met.lacked_memory
         keeper.old keeper.new (N.faults net.old) (N.faults net.new) (N.closed net.old) (N.closed net.new))
         (λ ending. EndsUnopened ending (N.faults net.old) (N.faults net.new)) }
     ensures closed { OnErr result (ClosesOpened N.Door.kind (N.closed net.old) (N.closed net.new)) }
@@ -179,7 +181,8 @@ where
     <<N::Door as Door>::Link as Link>::End: Send,
     requires published { publisher.old ≡ keeper.old.desk ∷ [] }
     ensures served { MatchResult result
-        (λ lacked. Staffs D.faults D.state D.moment D.left_since N.Door.Link.traffic N.Door.Link.marks N.Door.Link.faults N.Door.given_back N.Door.faults N.Door.kind lacked
+        (λ lacked. Staffs D.faults D.state D.moment D.left_since N.Door.Link.traffic N.Door.Link.marks N.Door.Link.faults
+        N.Door.given_back N.Door.faults N.Door.kind lacked
         keeper.old keeper.new (N.faults net.old) (N.faults net.new) (N.closed net.old) (N.closed net.new))
         (λ ending. EndsUnopened ending (N.faults net.old) (N.faults net.new)) }
     ensures closed { OnErr result (ClosesOpened N.Door.kind (N.closed net.old) (N.closed net.new)) }
@@ -234,7 +237,8 @@ where
     E::Link: Send,
     <E::Link as Link>::End: Send,
     requires { last_commit 0 publisher.old ≤ keeper.old.desk.commit }
-    ensures officiates { Officiates D.faults D.state D.moment D.left_since E.Link.traffic E.Link.marks E.Link.faults E.given_back E.faults E.kind N.faults N.closed result
+    ensures officiates { Officiates D.faults D.state D.moment D.left_since E.Link.traffic E.Link.marks E.Link.faults
+        E.given_back E.faults E.kind N.faults N.closed result
         keeper.old keeper.new publisher.old publisher.new door.old door.new net.old net.new }
     ensures chore { C.goes chore.old chore.new }
     ensures duties { AllZip (DutyGoes X.goes) (map duty_of crew.old) (map duty_of crew.new) }

@@ -3,3 +3,4 @@ pub mod Tally
 pub mod Told
 pub mod Table
 pub mod ListHall
+pub mod StopNews

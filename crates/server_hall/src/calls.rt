@@ -4,9 +4,43 @@ ghost use Rattle.std.specs.Prelude.{◌≡◌};
 use crate::{AskRefusal, NextRefusal};
 use agent_table::{AnswerRefusal, Asked, RegisterRefusal, Taken};
 use cynara_keys::{Kind, Metadata, Question};
-use live_roll::Left;
+use live_roll::{Left, Stopped};
 use std::marker::Model;
 use std::snapshot::Snapshot;
+
+/// A connection came to enter, and entered at this commit, or was refused. Only `enter_roll` makes one: so a hall that counts one
+/// has asked a roll.
+#[derive(Drop)]
+pub struct EnterCall {
+    outcome: Result<u64, Stopped>,
+}
+
+impl Model for EnterCall {
+    ghost use Rattle.std.specs.Prelude.{ℕ, Result};
+    ghost use Rattle.live_roll.specs.declared.answers.Stopped.{Stopped};
+
+    ghost Value = { Result ℕ Stopped };
+
+    ghost view = { λ call. call.outcome };
+}
+
+impl EnterCall {
+    pub(crate) fn of(outcome: Result<u64, Stopped>) -> EnterCall
+        ensures { result ≡ outcome }
+    {
+        EnterCall { outcome }
+    }
+
+    /// What was answered.
+    pub fn outcome(&self) -> Result<u64, Stopped>
+        ensures { result ≡ self.now }
+    {
+        match &self.outcome {
+            Ok(note) => Ok(*note),
+            Err(refusal) => Err(*refusal),
+        }
+    }
+}
 
 /// A question was put to the agent of the kind, and this was answered.
 #[derive(Drop)]

@@ -228,8 +228,9 @@ impl<H: HangEnd> Hall for ListHall<H> {
             (λ note. (note ≡ self.old.roll.note) × (self.new.roll ≡ with_entry seat.old.number end self.old.roll)) }
         ensures kept { OnErr result (self.new.roll ≡ self.old.roll) }
     {
-        let entered = enter_roll(&mut self.roll, end, seat);
-        self.tally.count_enter(&entered);
+        let call = enter_roll(&mut self.roll, end, seat);
+        let entered = call.outcome();
+        self.tally.count_enter(call);
         entered
     }
 

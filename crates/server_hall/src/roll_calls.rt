@@ -5,13 +5,13 @@ ghost use Rattle.live_desk.specs.History.{last_commit};
 ghost use Rattle.live_desk.specs.Seat.{with_note};
 ghost use Rattle.server_hall.specs.Tally.{IsRaised};
 
-use crate::{HangCall, LeaveCall};
+use crate::{EnterCall, HangCall, LeaveCall};
 use link_ports::HangEnd;
 use live_desk::{Publisher, Seat};
-use live_roll::{Roll, Stopped};
+use live_roll::Roll;
 
-/// A connection enters, as `Roll::enter` says. The end of one that is refused is dropped.
-pub fn enter_roll<H: HangEnd>(roll: &mut Roll<H>, end: H, seat: &mut Seat) -> Result<u64, Stopped>
+/// A connection enters, as `Roll::enter` says, or is refused, and its end is dropped. The call is handed out, for a hall to count.
+pub fn enter_roll<H: HangEnd>(roll: &mut Roll<H>, end: H, seat: &mut Seat) -> EnterCall
     ensures open { OnOk result (roll.old.is_stopped ≡ false) }
     ensures refused { OnErr result (IsTrue roll.old.is_stopped) }
     ensures note { IfOk result (λ note. note ≡ roll.old.note) }
@@ -22,10 +22,10 @@ pub fn enter_roll<H: HangEnd>(roll: &mut Roll<H>, end: H, seat: &mut Seat) -> Re
     ensures untold { OnErr result (seat.new ≡ seat.old) }
 {
     match roll.enter(end, seat) {
-        Ok(note) => Ok(note),
+        Ok(note) => EnterCall::of(Ok(note)),
         Err((end, stopped)) => {
             drop(end);
-            Err(stopped)
+            EnterCall::of(Err(stopped))
         }
     }
 }

@@ -4,11 +4,13 @@ ghost use Rattle.server_hall.specs.Tally.{no_calls, after_enter, after_leave, af
 ghost use Rattle.server_hall.specs.Tally.{after_next, after_answer, after_part, after_stop};
 ghost use Rattle.server_hall.specs.Tally.{stops_after_ask, losses_after_ask, stops_after_join, stops_after_next};
 
-use crate::calls::{AnswerCall, AskCall, HangCall, JoinCall, LeaveCall, NextCall, PartCall};
+use crate::calls::{
+    AnswerCall, AskCall, EnterCall, HangCall, JoinCall, LeaveCall, NextCall, PartCall,
+};
 use crate::{AskRefusal, NextRefusal};
 use agent_table::{AnswerRefusal, Asked, RegisterRefusal, Taken};
 use cynara_keys::{Kind, Metadata, Question};
-use live_roll::{Left, Stopped};
+use live_roll::Left;
 use std::marker::Model;
 use std::snapshot::Snapshot;
 
@@ -178,12 +180,12 @@ impl HallTally {
     }
 
     /// Counts a connection that entered, and keeps at which commit, or that was refused.
-    pub fn count_enter(&mut self, outcome: &Result<u64, Stopped>)
-        ensures { self.new ≡ after_enter outcome.now self.old }
+    pub fn count_enter(&mut self, call: EnterCall)
+        ensures { self.new ≡ after_enter call self.old }
     {
         self.enters = self.enters.saturating_add(1);
-        match outcome {
-            Ok(note) => self.last_enter = Some(*note),
+        match call.outcome() {
+            Ok(note) => self.last_enter = Some(note),
             Err(_) => self.stops = self.stops.saturating_add(1),
         }
     }

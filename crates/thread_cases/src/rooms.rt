@@ -7,7 +7,7 @@ use desk_ports::{Disk, MemDisk};
 use joined_net::{JoinedEnd, JoinedLink, JoinedNet};
 use link_ports::{Dial, Door, DoorKind, Net};
 use live_desk::{Publisher, Roll, Seat, start};
-use locked_hall::QuestionDesk;
+use server_hall::QuestionDesk;
 use std::alloc::Global;
 use std::sync::{Mutex, Wait};
 use std::thread::Threads;

@@ -8,7 +8,7 @@ use desk_ports::Disk;
 use desk_server::{serve_admin, serve_agent, serve_client};
 use link_ports::{Link, OpenGate};
 use live_desk::{Publisher, Roll, Seat};
-use locked_hall::QuestionDesk;
+use server_hall::QuestionDesk;
 use std::alloc::{AllocError, Global};
 use std::sync::{Mutex, Wait};
 use std::thread::{Threads, join};

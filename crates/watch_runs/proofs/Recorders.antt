@@ -16,7 +16,7 @@ use Rattle.monitor_journal.specs.Journal.{entries_text, missed_lines, Writes, Jo
 use Rattle.monitor_journal.specs.declared.writing.Writing.{Writing}
 use Rattle.monitor_journal.specs.declared.writing.Writing.TheVariants.{GoesOn}
 use Rattle.std.proofs.lemmas.Grind.{flat_map-append}
-use Rattle.monitor_lines.specs.Lines.{entry_text}
+use Rattle.monitor_journal.specs.Lines.{entry_text}
 use Rattle.monitor_journal.proofs.Lines.{known-more}
 use Rattle.monitor_journal.proofs.Writes.{writes_then}
 use Rattle.door_workers.specs.Monitored.{RecordsSome}

@@ -41,10 +41,31 @@ fn kind(words: &[&str], at: usize) -> Kind {
     }
 }
 
+// Both values, or the first failure.
+fn both<A: Drop, B: Drop>(
+    one: Result<A, Failure>,
+    other: Result<B, Failure>,
+) -> Result<(A, B), Failure> {
+    match one {
+        Ok(one) => with(one, other),
+        Err(failure) => Err(failure),
+    }
+}
+
+fn with<A: Drop, B: Drop>(one: A, other: Result<B, Failure>) -> Result<(A, B), Failure> {
+    match other {
+        Ok(other) => Ok((one, other)),
+        Err(failure) => Err(failure),
+    }
+}
+
+fn name(alloc: Global, text: &str) -> Result<Name, Failure> {
+    Ok(Name::read(alloc, text.as_bytes())?)
+}
+
 fn question(alloc: Global, words: &[&str], at: usize) -> Result<Question, Failure> {
-    let client = Name::read(alloc, b"c")?;
-    let user = Name::read(alloc, b"u")?;
-    let privilege = Name::read(alloc, word(words, at).as_bytes())?;
+    let names = both(name(alloc, "c"), name(alloc, "u"));
+    let ((client, user), privilege) = both(names, name(alloc, word(words, at)))?;
     Ok(Question::of(
         alloc,
         client.as_slice(),
@@ -64,179 +85,133 @@ fn bare(alloc: Global, kind: Kind) -> Result<PolicyResult, Failure> {
     Ok(PolicyResult::of(kind, metadata).ok().ok_or(Failure::Words)?)
 }
 
+// A list of one value.
+fn one<T: Drop>(alloc: Global, value: T) -> Result<Vec<T>, Failure> {
+    let mut list = Vec::new(alloc);
+    list.push(value)?;
+    Ok(list)
+}
+
 fn set(alloc: Global, privilege: &str, kind: Kind) -> Result<Command, Failure> {
+    let (key, result) = both(key(alloc, privilege), bare(alloc, kind))?;
+    let bucket = BucketName::root(alloc);
     let change = Change::Set {
-        bucket: BucketName::root(alloc),
-        key: key(alloc, privilege)?,
-        result: bare(alloc, kind)?,
+        bucket,
+        key,
+        result,
     };
-    Ok(Command::SetPolicies {
-        changes: Changes::of(vec![in alloc; change]?),
-    })
+    let changes = Changes::of(one(alloc, change)?);
+    Ok(Command::SetPolicies { changes })
 }
 
 fn command(alloc: Global, words: &[&str], at: usize) -> Result<Command, Failure> {
     if word(words, at) == "set" {
-        return set(
-            alloc,
-            word(words, at.saturating_add(1)),
-            kind(words, at.saturating_add(2)),
-        );
+        let kind = kind(words, at.saturating_add(2));
+        return set(alloc, word(words, at.saturating_add(1)), kind);
     }
-    Ok(Command::RemoveBucket {
-        bucket: BucketName::root(alloc),
-    })
+    let bucket = BucketName::root(alloc);
+    Ok(Command::RemoveBucket { bucket })
 }
 
-fn of_agents(words: &[&str]) -> Option<Event> {
-    let first = word(words, 0);
-    if first == "join" {
-        return Some(Event::AgentJoin {
-            kind: kind(words, 1),
-        });
-    }
-    if first == "put" {
-        let link = number(words, 1);
-        let full = words.get(2).map(|_| number(words, 2));
-        return Some(Event::AgentPut { link, full });
-    }
-    if first == "reply" {
-        return Some(Event::AgentReply {
-            number: number(words, 1),
-            allowed: word(words, 2) == "allow",
-        });
-    }
-    if first == "leave" {
-        return Some(Event::AgentLeave {
-            kind: kind(words, 1),
-        });
-    }
-    None
-}
-
-fn of_commits(words: &[&str]) -> Option<Event> {
-    let first = word(words, 0);
-    if first == "decide" {
-        return Some(Event::Decide {
-            kept: word(words, 1) == "keep",
-        });
-    }
-    if first == "publish" {
-        return Some(Event::Publish);
-    }
-    if first == "hang" {
-        return Some(Event::Hang);
-    }
-    if first == "acknowledge" {
-        return Some(Event::Acknowledge);
-    }
-    of_agents(words)
-}
-
-fn of_links(words: &[&str]) -> Option<Event> {
-    let first = word(words, 0);
-    let link = number(words, 1);
-    if first == "enter" {
-        return Some(Event::Connect {
-            half: Half::Enter { link },
-        });
-    }
-    if first == "read" {
-        return Some(Event::Read {
-            link,
-            commit: commit(words, 2),
-        });
-    }
-    if first == "write" {
-        return Some(Event::Write { link });
-    }
-    if first == "lose" {
-        return Some(Event::Lose { link });
-    }
-    of_commits(words)
-}
-
-fn of_clients(words: &[&str]) -> Option<Event> {
-    let first = word(words, 0);
-    let client = number(words, 1);
-    if first == "dial" {
-        return Some(Event::Connect {
-            half: Half::Dial { client },
-        });
-    }
-    if first == "send" {
-        return Some(Event::Send { client });
-    }
-    if first == "deliver" {
-        return Some(Event::Deliver { client });
-    }
-    if first == "notice" {
-        return Some(Event::Notice { client });
-    }
-    of_links(words)
-}
-
-fn of_caches(words: &[&str]) -> Option<Event> {
-    let first = word(words, 0);
-    let client = number(words, 1);
-    if first == "hit" {
-        return Some(Event::Hit {
-            client,
+// An event of a client, of a link or of its cache.
+fn of_clients(words: &[&str], at: u32) -> Option<Event> {
+    let event = match word(words, 0) {
+        "dial" => Event::Connect {
+            half: Half::Dial { client: at },
+        },
+        "enter" => Event::Connect {
+            half: Half::Enter { link: at },
+        },
+        "hit" => Event::Hit {
+            client: at,
             entry: number(words, 2),
-        });
-    }
-    if first == "tell" {
-        return Some(Event::Tell {
-            client,
+        },
+        "tell" => Event::Tell {
+            client: at,
             commit: commit(words, 2),
-        });
+        },
+        "send" => Event::Send { client: at },
+        "deliver" => Event::Deliver { client: at },
+        "notice" => Event::Notice { client: at },
+        "read" => Event::Read {
+            link: at,
+            commit: commit(words, 2),
+        },
+        "write" => Event::Write { link: at },
+        "lose" => Event::Lose { link: at },
+        _ => return None,
+    };
+    Some(event)
+}
+
+// An event of a commit or of an agent.
+fn of_commits(words: &[&str], at: u32) -> Option<Event> {
+    let event = match word(words, 0) {
+        "decide" => Event::Decide {
+            kept: word(words, 1) == "keep",
+        },
+        "publish" => Event::Publish,
+        "hang" => Event::Hang,
+        "acknowledge" => Event::Acknowledge,
+        "join" => Event::AgentJoin {
+            kind: kind(words, 1),
+        },
+        "put" => Event::AgentPut {
+            link: at,
+            full: words.get(2).map(|_| number(words, 2)),
+        },
+        "reply" => Event::AgentReply {
+            number: at,
+            allowed: word(words, 2) == "allow",
+        },
+        "leave" => Event::AgentLeave {
+            kind: kind(words, 1),
+        },
+        _ => return None,
+    };
+    Some(event)
+}
+
+// An event without a command or a question.
+fn plain(words: &[&str]) -> Result<Event, Failure> {
+    let at = number(words, 1);
+    match of_clients(words, at) {
+        Some(event) => Ok(event),
+        None => of_commits(words, at).ok_or(Failure::Words),
     }
-    of_clients(words)
+}
+
+fn ask(alloc: Global, words: &[&str], simple: bool) -> Result<Event, Failure> {
+    Ok(Event::Ask {
+        client: number(words, 1),
+        question: question(alloc, words, 2)?,
+        simple,
+    })
 }
 
 fn stop(alloc: Global, words: &[&str]) -> Result<Event, Failure> {
     let kept = word(words, 1) == "keep";
-    if words.len() < 3 {
-        return Ok(Event::Stop {
-            command: None,
-            kept,
-        });
-    }
-    let command = command(alloc, words, 2)?;
-    Ok(Event::Stop {
-        command: Some(command),
-        kept,
-    })
-}
-
-fn of_commands(alloc: Global, words: &[&str]) -> Result<Event, Failure> {
-    let first = word(words, 0);
-    if first == "stored" {
-        return Ok(Event::Stored {
-            command: command(alloc, words, 1)?,
-        });
-    }
-    if first == "undecided" {
-        return Ok(Event::Undecided {
-            command: command(alloc, words, 1)?,
-        });
-    }
-    if first == "stop" {
-        return stop(alloc, words);
-    }
-    Ok(of_caches(words).ok_or(Failure::Words)?)
+    let command = if words.len() < 3 {
+        None
+    } else {
+        Some(command(alloc, words, 2)?)
+    };
+    Ok(Event::Stop { command, kept })
 }
 
 fn of_words(alloc: Global, words: &[&str]) -> Result<Event, Failure> {
-    let first = word(words, 0);
-    if first == "ask" || first == "simple" {
-        return Ok(Event::Ask {
-            client: number(words, 1),
-            question: question(alloc, words, 2)?,
-            simple: first == "simple",
-        });
+    match word(words, 0) {
+        "ask" => ask(alloc, words, false),
+        "simple" => ask(alloc, words, true),
+        "stored" => Ok(Event::Stored {
+            command: command(alloc, words, 1)?,
+        }),
+        "undecided" => Ok(Event::Undecided {
+            command: command(alloc, words, 1)?,
+        }),
+        "stop" => stop(alloc, words),
+        _ => plain(words),
     }
-    of_commands(alloc, words)
 }
 
 fn event(alloc: Global, text: &str) -> Result<Event, Failure> {
@@ -247,11 +222,16 @@ fn event(alloc: Global, text: &str) -> Result<Event, Failure> {
     of_words(alloc, &words)
 }
 
+// Puts a value that was made behind the others.
+fn put_made<T: Drop>(list: &mut Vec<T>, made: Result<T, Failure>) -> Result<(), Failure> {
+    Ok(list.push(made?)?)
+}
+
 /// The events of a text are added to these.
 pub fn add_events(alloc: Global, events: &mut Vec<Event>, text: &str) -> Result<(), Failure> {
     for part in text.split(';') {
         if !part.trim().is_empty() {
-            events.push(event(alloc, part)?)?;
+            put_made(events, event(alloc, part))?;
         }
     }
     Ok(())

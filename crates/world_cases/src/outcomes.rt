@@ -11,58 +11,67 @@ use case_words::Failure;
 use desk_state::Desk;
 use desk_world::{Event, Given, Reply, World, WorldRefusal, run};
 use std::alloc::{AllocError, Global};
+use std::fmt::Write;
 
 // So many replies are told one by one.
 const MOST_TOLD: usize = 20;
 
-fn reply_text(alloc: Global, reply: &Reply) -> Result<String, AllocError> {
+fn put_reply(text: &mut String, reply: &Reply) -> Result<(), AllocError> {
     match reply {
         Reply::Judged(verdict) => {
-            format!(in alloc; "judged {} {}", verdict.commit, verdict.answer.kind.0)
+            write!(text, "judged {} {}", verdict.commit, verdict.answer.kind.0)
         }
         Reply::FromAgent {
             commit,
             kind,
             number,
             allowed,
-        } => format!(in alloc; "from {commit} {} {number} {allowed}", kind.0),
-        Reply::NotResolved { commit, kind } => format!(in alloc; "simple {commit} {}", kind.0),
-        Reply::NoAgent { commit, kind } => format!(in alloc; "none {commit} {}", kind.0),
-        Reply::AgentGone { commit, number } => format!(in alloc; "gone {commit} {number}"),
+        } => write!(text, "from {commit} {} {number} {allowed}", kind.0),
+        Reply::NotResolved { commit, kind } => write!(text, "simple {commit} {}", kind.0),
+        Reply::NoAgent { commit, kind } => write!(text, "none {commit} {}", kind.0),
+        Reply::AgentGone { commit, number } => write!(text, "gone {commit} {number}"),
         Reply::AgentFull { commit, kind, most } => {
-            format!(in alloc; "full {commit} {} {most}", kind.0)
+            write!(text, "full {commit} {} {most}", kind.0)
         }
     }
 }
 
-fn given_text(alloc: Global, given: &[Given]) -> Result<String, AllocError> {
-    let mut text = String::new(alloc);
+fn put_given(text: &mut String, given: &[Given]) -> Result<(), AllocError> {
     if given.is_empty() {
-        text.push_str("no reply")?;
+        return text.push_str("no reply");
     }
     for one in given {
-        let reply = reply_text(alloc, &one.reply)?;
-        text.push_str(format!(in alloc; "{} {} {reply}; ", one.ask, one.run)?.as_str())?;
+        write!(text, "{} {} ", one.ask, one.run)?;
+        put_reply(text, &one.reply)?;
+        text.push_str("; ")?;
     }
-    Ok(text)
+    Ok(())
 }
 
-fn told_text(alloc: Global, given: &[Given]) -> Result<String, AllocError> {
+fn put_told(text: &mut String, given: &[Given]) -> Result<(), AllocError> {
     if given.len() <= MOST_TOLD {
-        return given_text(alloc, given);
+        return put_given(text, given);
     }
-    let last = given_text(alloc, &given[given.len() - 1..])?;
-    format!(in alloc; "{} replies, the last {last}", given.len())
+    write!(text, "{} replies, the last ", given.len())?;
+    put_given(text, &given[given.len() - 1..])
 }
 
 /// The world after the events, from a fresh one; or why there is none.
 fn ran(alloc: Global, events: &[Event]) -> Result<World, WorldRefusal> {
     let desk = fresh_desk(alloc)?;
-    let world = fresh_world(alloc, &desk)?;
+    let world = fresh_world(alloc, &desk);
+    drop(desk);
+    let world = world?;
+    let ran = run_in_room(&world, events);
+    drop(world);
+    ran
+}
+
+fn run_in_room(world: &World, events: &[Event]) -> Result<World, WorldRefusal> {
     if !world.has_room(events.len()) {
         return Err(WorldRefusal::NotEnabled(usize::MAX));
     }
-    run(&world, events)
+    run(world, events)
 }
 
 fn fresh_desk(alloc: Global) -> Result<Desk, WorldRefusal> {
@@ -116,19 +125,36 @@ fn add_part(alloc: Global, events: &mut Vec<Event>, part: &str) -> Result<(), Fa
 }
 
 // What the events lead to.
-fn outcome(alloc: Global, events: &[Event]) -> Result<String, AllocError> {
+fn put_outcome(alloc: Global, text: &mut String, events: &[Event]) -> Result<(), AllocError> {
     match ran(alloc, events) {
-        Ok(world) => told_text(alloc, world.given()),
-        Err(WorldRefusal::NotEnabled(at)) => format!(in alloc; "not enabled {at}"),
+        Ok(world) => {
+            let told = put_told(text, world.given());
+            drop(world);
+            told
+        }
+        Err(WorldRefusal::NotEnabled(at)) => write!(text, "not enabled {at}"),
         Err(WorldRefusal::Memory(error)) => Err(error),
     }
+}
+
+fn add_parts(alloc: Global, events: &mut Vec<Event>, line: &str) -> Result<(), Failure> {
+    for part in line.split(" / ") {
+        add_part(alloc, events, part)?;
+    }
+    Ok(())
+}
+
+fn line_told(alloc: Global, events: &mut Vec<Event>, line: &str) -> Result<String, Failure> {
+    add_parts(alloc, events, line)?;
+    let mut text = String::new(alloc);
+    put_outcome(alloc, &mut text, events)?;
+    Ok(text)
 }
 
 /// What the list of a line leads to. Its parts stand between ` / `.
 pub fn line_outcome(alloc: Global, line: &str) -> Result<String, Failure> {
     let mut events = Vec::new(alloc);
-    for part in line.split(" / ") {
-        add_part(alloc, &mut events, part)?;
-    }
-    Ok(outcome(alloc, &events)?)
+    let told = line_told(alloc, &mut events, line);
+    drop(events);
+    told
 }

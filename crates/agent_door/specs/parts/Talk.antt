@@ -62,7 +62,8 @@ Ends registration old feeder asked new ended =
 -- ---- parts of a round
 
 -- Why no answer comes: no frame comes, or one that is not known where it stands.
-pub data EndsHearing (old new : Feeding) (before after : Option Traffic) (marks : LinkMarks) (faults faults_now : ℕ) (ended : Ended) : Type 0 where
+pub data EndsHearing (old new : Feeding) (before after : Option Traffic) (marks : LinkMarks) (faults faults_now : ℕ) (ended : Ended) :
+    Type 0 where
   unheard : (bytes : List ℕ) → Carried before after bytes [] → HearsMore bytes old new → new.waiting ≡ [] → new.heard ≡ old.heard
       → EndsReading ended new marks faults faults_now → EndsHearing old new before after marks faults faults_now ended
   misplaced : (bytes : List ℕ) (framed : Framed) → Carried before after bytes [] → HandsOut bytes framed old new → new.heard ≡ old.heard

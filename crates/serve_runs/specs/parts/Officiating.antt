@@ -29,7 +29,8 @@ pub record Knocks {N C : Type 0} (net_faults : N → ℕ) (net_closed : N → Op
 -- Administrators were served until their worker ended, and then the net was knocked at.
 pub record Officiates {D L E N C : Type 0} (disk_faults : D → ℕ) (state : D → Option DiskState) (moment : D → ℕ)
     (left_since : D → ℕ → FileMap → Type 0) (traffic : L → Option Traffic) (marks : L → LinkMarks)
-    (faults : L → ℕ) (given_back : E → Option (List L)) (door_faults : E → ℕ) (kind : E → Option DoorKind) (net_faults : N → ℕ) (net_closed : N → Option (List C))
+    (faults : L → ℕ) (given_back : E → Option (List L)) (door_faults : E → ℕ) (kind : E → Option DoorKind) (net_faults : N → ℕ)
+    (net_closed : N → Option (List C))
     (end : WorkerEnd) (keeper keeper_now : Keeper D) (published published_now : List DeskState) (door door_now : E)
     (net net_now : N) : Type 0 where
   -- the frames that came, each with its answer

@@ -13,4 +13,5 @@ returns-clause-adds g c =
     (g.L.Link.traffic c.args.link.now) (g.L.Link.marks c.args.link.now) (g.L.Link.faults c.args.link.now))
     (talk_of (side_of g.D.Disk.faults served.keeper served.publisher (g.A.Hall.tally served.hall) (g.A.Hall.calls served.hall))
     (g.L.Link.traffic served.link) (g.L.Link.marks served.link) (g.L.Link.faults served.link))
-    c.serve-ended.result (RunsOver g.D.Disk.state g.D.Disk.moment g.D.Disk.left_since c.args.keeper.now served.keeper) c.serve-ended.ensures.served
+    c.serve-ended.result (RunsOver g.D.Disk.state g.D.Disk.moment g.D.Disk.left_since c.args.keeper.now served.keeper)
+    c.serve-ended.ensures.served

@@ -10,7 +10,8 @@ use Rattle.admin_door.proofs.admin_loops.turn.Goals as goal
 
 pub returns-in-Err-clause-talk : goal.returns-in-Err-clause-talk
 returns-in-Err-clause-talk g c first start s =
-    let side = side_of g.D.Disk.faults c.args.keeper.now c.args.publisher.now (g.A.Hall.tally c.args.hall.now) (g.A.Hall.calls c.args.hall.now) in
+    let side = side_of g.D.Disk.faults c.args.keeper.now c.args.publisher.now (g.A.Hall.tally c.args.hall.now)
+    (g.A.Hall.calls c.args.hall.now) in
     let old = talk_of side (g.L.Link.traffic c.args.link.now) (g.L.Link.marks c.args.link.now) (g.L.Link.faults c.args.link.now) in
     let heard = c.in-Err.ensures.heard in
     ends-reading start old c.args.feeder.now c.next_frame.new.feeder heard.0 (g.L.Link.traffic c.next_frame.new.link)
@@ -25,7 +26,8 @@ returns-clause-talk g c =
     let side = side_of g.D.Disk.faults keeper c.args.publisher.now (g.A.Hall.tally c.args.hall.now) (g.A.Hall.calls c.args.hall.now) in
     let old = talk_of side (g.L.Link.traffic c.args.link.now) (g.L.Link.marks c.args.link.now) (g.L.Link.faults c.args.link.now) in
     let answered = c.answer_frame-outcome.new in
-    let now_side = side_of g.D.Disk.faults answered.keeper answered.publisher (g.A.Hall.tally answered.hall) (g.A.Hall.calls answered.hall) in
+    let now_side =
+    side_of g.D.Disk.faults answered.keeper answered.publisher (g.A.Hall.tally answered.hall) (g.A.Hall.calls answered.hall) in
     let now = talk_of now_side (g.L.Link.traffic answered.link) (g.L.Link.marks answered.link) (g.L.Link.faults answered.link) in
     let heard = c.in-Ok.ensures.framed in
     let at_admin = c.next_frame.ensures.side ∙ c.requires.side in

@@ -1,4 +1,4 @@
-use Rattle.std.proofs.Common.{rules, ◌≡◌, ◌∙◌, ◌∷◌, [], inl, refl, List, ap}
+use Rattle.std.proofs.Common.{rules, ◌≡◌, ◌∙◌, ◌∷◌, [], inl, refl, ap}
 use Rattle.desk_state.specs.DeskState.{DeskState}
 use Rattle.wire_messages.specs.declared.messages.Message.TheVariants.{Done}
 use Rattle.admin_door.specs.Side.{AdminSide, side_of, with_kept, with_shown}
@@ -14,7 +14,8 @@ returns-in-Ok-show-clause-shown g c =
     let between = side_of g.D.Disk.faults c.commit.new.self c.prepare.new.self tally calls in
     let kept : c.commit.new.self.desk ≡ desk = search rules in
     let keeps : between ≡ with_kept desk old =
-    same-side between (with_kept desk old) kept c.in-Ok-commit.ensures.decided c.prepare.ensures.kept refl refl c.in-Ok-commit.ensures.count in
+    same-side between (with_kept desk old) kept c.in-Ok-commit.ensures.decided c.prepare.ensures.kept refl refl
+    c.in-Ok-commit.ensures.count in
     let replies : c.in-Ok.done.items ≡ Done desk.commit c.args.prepared.erased ∷ [] = search rules in
     inl (
       c.in-Ok-show.ensures.shown ∙ (ap (λ (shown : DeskState). with_shown shown between) kept

@@ -14,7 +14,8 @@ returns-in-Ok-clause-shown g c =
     let published : c.publish.new.self ≡ c.args.publisher.now ++ desk ∷ [] = search rules in
     let hung = hung-last c.args.publisher.now desk tally (g.A.Hall.tally c.hang.new.self)
     (c.hang.ensures.tally ∙ ap (λ (list : List DeskState). after_hang (last_commit 0 list) tally) published) in
-    same-side (side_of g.D.Disk.faults c.args.keeper.now c.publish.new.self (g.A.Hall.tally c.hang.new.self) (g.A.Hall.calls c.hang.new.self))
+    same-side (side_of g.D.Disk.faults c.args.keeper.now c.publish.new.self (g.A.Hall.tally c.hang.new.self)
+    (g.A.Hall.calls c.hang.new.self))
     (with_shown desk old) refl refl published hung c.hang.ensures.calls refl
 
 pub returns-in-Ok-clause-even : goal.returns-in-Ok-clause-even

@@ -14,11 +14,13 @@ returns-in-Err g c =
     let heard = c.in-Err.ensures.heard in
     Serves.unregistered
     (none_heard
-    (agent_side (g.A.Hall.tally c.args.hall.now) (g.A.Hall.calls c.args.hall.now) (g.L.Link.traffic c.args.link.now) (g.L.Link.marks c.args.link.now)
+    (agent_side (g.A.Hall.tally c.args.hall.now) (g.A.Hall.calls c.args.hall.now) (g.L.Link.traffic c.args.link.now)
+    (g.L.Link.marks c.args.link.now)
     (g.L.Link.faults c.args.link.now))
     (agent_side (g.A.Hall.tally c.args.hall.now) (g.A.Hall.calls c.args.hall.now) (g.L.Link.traffic c.next_frame.new.link)
     (g.L.Link.marks c.next_frame.new.link) (g.L.Link.faults c.next_frame.new.link))
-    c.new-feeder.result c.next_frame.new.feeder c.in-Err.ended heard.0 c.new-feeder.ensures heard.2 c.in-Err.ensures.empty c.next_frame.ensures.side
+    c.new-feeder.result c.next_frame.new.feeder c.in-Err.ended heard.0 c.new-feeder.ensures heard.2 c.in-Err.ensures.empty
+    c.next_frame.ensures.side
     c.in-Err.ensures.ended refl refl heard.1 c.next_frame.ensures.ends)
 
 pub returns-in-Err-read_registration : goal.returns-in-Err-read_registration
@@ -26,7 +28,8 @@ returns-in-Err-read_registration g c =
     let framed = c.in-Ok.ensures.framed in
     Serves.unregistered
     (none_in_place
-    (agent_side (g.A.Hall.tally c.args.hall.now) (g.A.Hall.calls c.args.hall.now) (g.L.Link.traffic c.args.link.now) (g.L.Link.marks c.args.link.now)
+    (agent_side (g.A.Hall.tally c.args.hall.now) (g.A.Hall.calls c.args.hall.now) (g.L.Link.traffic c.args.link.now)
+    (g.L.Link.marks c.args.link.now)
     (g.L.Link.faults c.args.link.now))
     (agent_side (g.A.Hall.tally c.args.hall.now) (g.A.Hall.calls c.args.hall.now) (g.L.Link.traffic c.next_frame.new.link)
     (g.L.Link.marks c.next_frame.new.link) (g.L.Link.faults c.next_frame.new.link))
@@ -39,7 +42,8 @@ returns-in-Err-Taken g c =
     let registration = c.in-Ok-read_registration.registered in
     Serves.unjoined
     (kind_is_taken
-    (agent_side (g.A.Hall.tally c.args.hall.now) (g.A.Hall.calls c.args.hall.now) (g.L.Link.traffic c.args.link.now) (g.L.Link.marks c.args.link.now)
+    (agent_side (g.A.Hall.tally c.args.hall.now) (g.A.Hall.calls c.args.hall.now) (g.L.Link.traffic c.args.link.now)
+    (g.L.Link.marks c.args.link.now)
     (g.L.Link.faults c.args.link.now))
     (agent_side (g.A.Hall.tally c.join.new.self) (g.A.Hall.calls c.join.new.self) (g.L.Link.traffic c.tell_taken.new.link)
     (g.L.Link.marks c.tell_taken.new.link) (g.L.Link.faults c.tell_taken.new.link))
@@ -57,7 +61,8 @@ returns-in-Err-Stopped g c =
     let registration = c.in-Ok-read_registration.registered in
     Serves.unjoined
     (not_joined
-    (agent_side (g.A.Hall.tally c.args.hall.now) (g.A.Hall.calls c.args.hall.now) (g.L.Link.traffic c.args.link.now) (g.L.Link.marks c.args.link.now)
+    (agent_side (g.A.Hall.tally c.args.hall.now) (g.A.Hall.calls c.args.hall.now) (g.L.Link.traffic c.args.link.now)
+    (g.L.Link.marks c.args.link.now)
     (g.L.Link.faults c.args.link.now))
     (agent_side (g.A.Hall.tally c.join.new.self) (g.A.Hall.calls c.join.new.self) (g.L.Link.traffic c.next_frame.new.link)
     (g.L.Link.marks c.next_frame.new.link) (g.L.Link.faults c.next_frame.new.link))
@@ -75,7 +80,8 @@ returns-in-Err-Memory g c =
     let registration = c.in-Ok-read_registration.registered in
     Serves.unjoined
     (not_joined
-    (agent_side (g.A.Hall.tally c.args.hall.now) (g.A.Hall.calls c.args.hall.now) (g.L.Link.traffic c.args.link.now) (g.L.Link.marks c.args.link.now)
+    (agent_side (g.A.Hall.tally c.args.hall.now) (g.A.Hall.calls c.args.hall.now) (g.L.Link.traffic c.args.link.now)
+    (g.L.Link.marks c.args.link.now)
     (g.L.Link.faults c.args.link.now))
     (agent_side (g.A.Hall.tally c.join.new.self) (g.A.Hall.calls c.join.new.self) (g.L.Link.traffic c.next_frame.new.link)
     (g.L.Link.marks c.next_frame.new.link) (g.L.Link.faults c.next_frame.new.link))
@@ -86,23 +92,6 @@ returns-in-Err-Memory g c =
     (subst (λ (refusal : RegisterRefusal). TellsRefusal registration refusal Memory []) (sym c.in-Err-Memory.field-0-is) refl)
     framed.1 (carried_same (g.L.Link.traffic c.next_frame.new.link)) c.in-Err-Memory.ensures.tally c.in-Err-Memory.ensures.calls
     c.in-Ok.ensures.faults c.next_frame.ensures.ends)
-
-pub serve-ended-requires-clause-joined : goal.serve-ended-requires-clause-joined
-serve-ended-requires-clause-joined g c =
-    let framed = c.in-Ok.ensures.framed in (
-      agent_side (g.A.Hall.tally c.args.hall.now) (g.A.Hall.calls c.args.hall.now) (g.L.Link.traffic c.args.link.now)
-          (g.L.Link.marks c.args.link.now) (g.L.Link.faults c.args.link.now),
-      record {
-        received = framed.0;
-        heard = registers framed.0 c.in-Ok.framed c.in-Ok-read_registration.registered c.new-feeder.result c.next_frame.new.feeder
-            c.new-feeder.ensures c.in-Ok-read_registration.ensures.0 framed.2;
-        carried = framed.1;
-        tally = c.in-Ok-join.ensures.tally;
-        calls = c.in-Ok-join.ensures.calls;
-        faults = c.in-Ok.ensures.faults;
-        ends = c.next_frame.ensures.ends;
-      },
-    )
 
 pub returns : goal.returns
 returns g c =

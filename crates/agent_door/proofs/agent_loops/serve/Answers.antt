@@ -8,9 +8,11 @@ pub returns-in-Err : goal.returns-in-Err
 returns-in-Err g c start s =
     let sent = c.in-Err.ensures.sent in
     ends_unregistered c.args.registered start
-    (agent_side (g.A.Hall.tally c.args.hall.now) (g.A.Hall.calls c.args.hall.now) (g.L.Link.traffic c.args.link.now) (g.L.Link.marks c.args.link.now)
+    (agent_side (g.A.Hall.tally c.args.hall.now) (g.A.Hall.calls c.args.hall.now) (g.L.Link.traffic c.args.link.now)
+    (g.L.Link.marks c.args.link.now)
     (g.L.Link.faults c.args.link.now))
-    (agent_side (g.A.Hall.tally c.args.hall.now) (g.A.Hall.calls c.args.hall.now) (g.L.Link.traffic c.send.new.link) (g.L.Link.marks c.send.new.link)
+    (agent_side (g.A.Hall.tally c.args.hall.now) (g.A.Hall.calls c.args.hall.now) (g.L.Link.traffic c.send.new.link)
+    (g.L.Link.marks c.send.new.link)
     (g.L.Link.faults c.send.new.link))
     c.args.feeder.now c.in-Err.ended sent.0 c.requires.side sent.1 refl refl (ap (λ (marks : LinkMarks). marks.ends) c.send.ensures.marks) s
 
@@ -34,8 +36,3 @@ loop-init g c =
         ),
       ),
     )
-
-pub round-requires-clause-answered : goal.round-requires-clause-answered
-round-requires-clause-answered g c =
-    let (start, joined) = c.requires.joined in
-    (start, c.loop.invariant.1.1.1.1 start joined)

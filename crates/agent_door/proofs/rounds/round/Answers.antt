@@ -11,30 +11,37 @@ use Rattle.agent_door.proofs.rounds.round.Goals as goal
 pub returns-in-Err-Stopped-clause-round : goal.returns-in-Err-Stopped-clause-round
 returns-in-Err-Stopped-clause-round g c start s =
     ends_for_next c.args.registration start
-    (agent_side (g.A.Hall.tally c.args.hall.now) (g.A.Hall.calls c.args.hall.now) (g.L.Link.traffic c.args.link.now) (g.L.Link.marks c.args.link.now)
+    (agent_side (g.A.Hall.tally c.args.hall.now) (g.A.Hall.calls c.args.hall.now) (g.L.Link.traffic c.args.link.now)
+    (g.L.Link.marks c.args.link.now)
     (g.L.Link.faults c.args.link.now))
-    (agent_side (g.A.Hall.tally c.next.new.self) (g.A.Hall.calls c.next.new.self) (g.L.Link.traffic c.args.link.now) (g.L.Link.marks c.args.link.now)
+    (agent_side (g.A.Hall.tally c.next.new.self) (g.A.Hall.calls c.next.new.self) (g.L.Link.traffic c.args.link.now)
+    (g.L.Link.marks c.args.link.now)
     (g.L.Link.faults c.args.link.now))
     c.args.feeder.now Stopped (Next (record { kind = c.args.registration.kind; result = Err c.in-Err-Stopped.field-0 })) c.requires.side
-    (refl, ap (λ (why : NextRefusal). Next (record { kind = c.args.registration.kind; result = Err why }) ∷ []) c.in-Err-Stopped.field-0-is) (λ bytes heeded heard. heard) refl not_stopped tt refl c.in-Err-Stopped.ensures.tally c.in-Err-Stopped.ensures.calls
+    (refl, ap (λ (why : NextRefusal). Next (record { kind = c.args.registration.kind; result = Err why }) ∷ []) c.in-Err-Stopped.field-0-is)
+    (λ bytes heeded heard. heard) refl not_stopped tt refl c.in-Err-Stopped.ensures.tally c.in-Err-Stopped.ensures.calls
     (carried_same (g.L.Link.traffic c.args.link.now)) refl s
 
 pub returns-in-Err-Memory-clause-round : goal.returns-in-Err-Memory-clause-round
 returns-in-Err-Memory-clause-round g c start s =
     ends_for_next c.args.registration start
-    (agent_side (g.A.Hall.tally c.args.hall.now) (g.A.Hall.calls c.args.hall.now) (g.L.Link.traffic c.args.link.now) (g.L.Link.marks c.args.link.now)
+    (agent_side (g.A.Hall.tally c.args.hall.now) (g.A.Hall.calls c.args.hall.now) (g.L.Link.traffic c.args.link.now)
+    (g.L.Link.marks c.args.link.now)
     (g.L.Link.faults c.args.link.now))
-    (agent_side (g.A.Hall.tally c.next.new.self) (g.A.Hall.calls c.next.new.self) (g.L.Link.traffic c.args.link.now) (g.L.Link.marks c.args.link.now)
+    (agent_side (g.A.Hall.tally c.next.new.self) (g.A.Hall.calls c.next.new.self) (g.L.Link.traffic c.args.link.now)
+    (g.L.Link.marks c.args.link.now)
     (g.L.Link.faults c.args.link.now))
     c.args.feeder.now Memory (Next (record { kind = c.args.registration.kind; result = Err c.in-Err-Memory.field-0 })) c.requires.side
-    (inr (refl, c.in-Err-Memory.field-0, refl)) (λ bytes heeded heard. heard) (omega arith) not_memory tt refl c.in-Err-Memory.ensures.tally c.in-Err-Memory.ensures.calls
+    (inr (refl, c.in-Err-Memory.field-0, refl)) (λ bytes heeded heard. heard) (omega arith) not_memory tt refl c.in-Err-Memory.ensures.tally
+    c.in-Err-Memory.ensures.calls
     (carried_same (g.L.Link.traffic c.args.link.now)) refl s
 
 pub returns-in-Err-clause-round : goal.returns-in-Err-clause-round
 returns-in-Err-clause-round g c start s =
     let sent = c.in-Err.ensures.sent in
     ends_unasked c.args.registration start
-    (agent_side (g.A.Hall.tally c.args.hall.now) (g.A.Hall.calls c.args.hall.now) (g.L.Link.traffic c.args.link.now) (g.L.Link.marks c.args.link.now)
+    (agent_side (g.A.Hall.tally c.args.hall.now) (g.A.Hall.calls c.args.hall.now) (g.L.Link.traffic c.args.link.now)
+    (g.L.Link.marks c.args.link.now)
     (g.L.Link.faults c.args.link.now))
     (agent_side (g.A.Hall.tally c.next.new.self) (g.A.Hall.calls c.next.new.self) (g.L.Link.traffic c.send_question.new.link)
     (g.L.Link.marks c.send_question.new.link) (g.L.Link.faults c.send_question.new.link))
@@ -46,7 +53,8 @@ returns-in-Ok-take_answers-clause-round g c start s =
     let sent = c.in_default.ensures.sent in
     c.in-Ok-take_answers.ensures.answered c.in-Ok.asked refl start
     (asks_next c.args.registration start
-    (agent_side (g.A.Hall.tally c.args.hall.now) (g.A.Hall.calls c.args.hall.now) (g.L.Link.traffic c.args.link.now) (g.L.Link.marks c.args.link.now)
+    (agent_side (g.A.Hall.tally c.args.hall.now) (g.A.Hall.calls c.args.hall.now) (g.L.Link.traffic c.args.link.now)
+    (g.L.Link.marks c.args.link.now)
     (g.L.Link.faults c.args.link.now))
     (agent_side (g.A.Hall.tally c.next.new.self) (g.A.Hall.calls c.next.new.self) (g.L.Link.traffic c.send_question.new.link)
     (g.L.Link.marks c.send_question.new.link) (g.L.Link.faults c.send_question.new.link))
@@ -58,7 +66,8 @@ returns-in-Err-take_answers-clause-round g c start s =
     let sent = c.in_default.ensures.sent in
     c.in-Err-take_answers.ensures.answered c.in-Ok.asked refl start
     (asks_next c.args.registration start
-    (agent_side (g.A.Hall.tally c.args.hall.now) (g.A.Hall.calls c.args.hall.now) (g.L.Link.traffic c.args.link.now) (g.L.Link.marks c.args.link.now)
+    (agent_side (g.A.Hall.tally c.args.hall.now) (g.A.Hall.calls c.args.hall.now) (g.L.Link.traffic c.args.link.now)
+    (g.L.Link.marks c.args.link.now)
     (g.L.Link.faults c.args.link.now))
     (agent_side (g.A.Hall.tally c.next.new.self) (g.A.Hall.calls c.next.new.self) (g.L.Link.traffic c.send_question.new.link)
     (g.L.Link.marks c.send_question.new.link) (g.L.Link.faults c.send_question.new.link))

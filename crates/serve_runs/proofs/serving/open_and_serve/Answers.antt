@@ -15,14 +15,16 @@ returns-clause-served g c =
     let works_so = subst (λ (published : List DeskState). Works
     (VisitsOffice g.N.Door.Link.Link.traffic g.N.Door.Link.Link.marks g.N.Door.Link.Link.faults) EndsOffice
     g.N.Door.Link.Link.marks g.N.Door.Link.Link.faults c.serve-end.result
-    (office_of g.D.Disk.faults c.args.keeper.now published []) (office_of g.D.Disk.faults c.serve-end.new.keeper c.serve-end.new.publisher c.serve-end.ensures.officiates.frames)
+    (office_of g.D.Disk.faults c.args.keeper.now published [])
+    (office_of g.D.Disk.faults c.serve-end.new.keeper c.serve-end.new.publisher c.serve-end.ensures.officiates.frames)
     (g.N.Door.Door.given_back c.in-Ok.door) (g.N.Door.Door.given_back c.serve-end.new.door)
     (g.N.Door.Door.faults c.in-Ok.door) (g.N.Door.Door.faults c.serve-end.new.door))
     c.requires.published c.serve-end.ensures.officiates.works in
     let works = subst (λ (count : ℕ). Works
     (VisitsOffice g.N.Door.Link.Link.traffic g.N.Door.Link.Link.marks g.N.Door.Link.Link.faults) EndsOffice
     g.N.Door.Link.Link.marks g.N.Door.Link.Link.faults c.serve-end.result
-    (office_of g.D.Disk.faults c.args.keeper.now (c.args.keeper.now.desk ∷ []) []) (office_of g.D.Disk.faults c.serve-end.new.keeper c.serve-end.new.publisher c.serve-end.ensures.officiates.frames)
+    (office_of g.D.Disk.faults c.args.keeper.now (c.args.keeper.now.desk ∷ []) [])
+    (office_of g.D.Disk.faults c.serve-end.new.keeper c.serve-end.new.publisher c.serve-end.ensures.officiates.frames)
     (g.N.Door.Door.given_back c.in-Ok.door) (g.N.Door.Door.given_back c.serve-end.new.door)
     count (g.N.Door.Door.faults c.serve-end.new.door))
     c.in-Ok.ensures.fresh works_so in

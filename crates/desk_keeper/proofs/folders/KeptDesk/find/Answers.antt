@@ -1,13 +1,11 @@
 use Rattle.std.proofs.Common.{◌≡◌, Ok, ap, sym, ◌∙◌}
 use Rattle.desk_keeper.specs.Kept.{desk_of_set}
-use Rattle.desk_keeper.proofs.Keeping.{moments-stand, store-damage, set-damage, at-rest-kept, kept-of, store-unchanged, set-unchanged}
+use Rattle.desk_keeper.proofs.Keeping.{store-damage, set-damage, at-rest-kept, kept-of, store-unchanged, set-unchanged}
 use Rattle.desk_keeper.proofs.folders.KeptDesk.find.Goals as goal
 use Rattle.desk_keeper.proofs.folders.KeptDesk.find.Given.{Over}
 
 pub returns-in-Err-clause-moments : goal.returns-in-Err-clause-moments
-returns-in-Err-clause-moments g c before told =
-    moments-stand g.D.Disk.moment g.D.Disk.left_since c.args.disk.now c.find.new.disk before
-    (c.in-Err.ensures.refused.moments before told)
+returns-in-Err-clause-moments g c = c.in-Err.ensures.refused.moments
 
 pub returns-in-Err-clause-damaged : goal.returns-in-Err-clause-damaged
 returns-in-Err-clause-damaged g c =
@@ -15,9 +13,7 @@ returns-in-Err-clause-damaged g c =
     (store-damage (g.D.Disk.state c.args.disk.now) _ c.in-Err.refusal c.in-Err.ensures.refused.damaged)
 
 pub returns-in-Err-desk_of-clause-moments : goal.returns-in-Err-desk_of-clause-moments
-returns-in-Err-desk_of-clause-moments g c before told =
-    moments-stand g.D.Disk.moment g.D.Disk.left_since c.args.disk.now c.find.new.disk before
-    (c.in-Ok.ensures.moments before told)
+returns-in-Err-desk_of-clause-moments g c = c.in-Ok.ensures.moments
 
 pub returns-in-Err-desk_of-clause-damaged : goal.returns-in-Err-desk_of-clause-damaged
 returns-in-Err-desk_of-clause-damaged g c =
@@ -36,9 +32,7 @@ returns-in-Ok-desk_of-clause-settled g c before told =
     at-rest-kept _ c.in-Ok.found (g.D.Disk.state c.find.new.disk) (stands g c) (c.in-Ok.ensures.settled before told)
 
 pub returns-in-Ok-desk_of-clause-moments : goal.returns-in-Ok-desk_of-clause-moments
-returns-in-Ok-desk_of-clause-moments g c before told =
-    moments-stand g.D.Disk.moment g.D.Disk.left_since c.args.disk.now c.find.new.disk before
-    (c.in-Ok.ensures.moments before told)
+returns-in-Ok-desk_of-clause-moments g c = c.in-Ok.ensures.moments
 
 pub returns-in-Err-clause-unchanged : goal.returns-in-Err-clause-unchanged
 returns-in-Err-clause-unchanged g c =

@@ -2,14 +2,12 @@ use Rattle.std.proofs.Common.{Ok, ap, sym, subst, ◌∙◌, arith}
 use Rattle.std.proofs.lemmas.Bool.Decides.{nat_tests}
 use Rattle.desk_keeper.specs.parts.Reading.{RefusesSet}
 use Rattle.desk_keeper.specs.Kept.{desk_of_set}
-use Rattle.desk_keeper.proofs.Keeping.{moments-stand, store-damage, set-damage, older-damage, first-damage}
+use Rattle.desk_keeper.proofs.Keeping.{store-damage, set-damage, older-damage, first-damage}
 use Rattle.desk_keeper.proofs.Keeping.{at-rest-kept, at-rest-current, kept-of, store-unchanged, store-still, set-unchanged}
 use Rattle.desk_keeper.proofs.keeper.Keeper.remount.Goals as goal
 
 pub returns-in-Err-clause-moments : goal.returns-in-Err-clause-moments
-returns-in-Err-clause-moments g c before told =
-    moments-stand g.D.Disk.moment g.D.Disk.left_since c.args.self.now.vault.disk.now c.remount.new.self.disk.now before
-    (c.remount.ensures.moments before told)
+returns-in-Err-clause-moments g c = c.remount.ensures.moments
 
 pub returns-in-Err-clause-damaged : goal.returns-in-Err-clause-damaged
 returns-in-Err-clause-damaged g c =
@@ -17,9 +15,7 @@ returns-in-Err-clause-damaged g c =
     (store-damage (g.D.Disk.state c.args.self.now.vault.disk.now) _ c.in-Err.refusal c.in-Err.ensures.damaged))
 
 pub returns-in-Err-desk_of-clause-moments : goal.returns-in-Err-desk_of-clause-moments
-returns-in-Err-desk_of-clause-moments g c before told =
-    moments-stand g.D.Disk.moment g.D.Disk.left_since c.args.self.now.vault.disk.now c.remount.new.self.disk.now before
-    (c.remount.ensures.moments before told)
+returns-in-Err-desk_of-clause-moments g c = c.remount.ensures.moments
 
 pub returns-in-Err-desk_of-clause-damaged : goal.returns-in-Err-desk_of-clause-damaged
 returns-in-Err-desk_of-clause-damaged g c =
@@ -29,9 +25,7 @@ returns-in-Err-desk_of-clause-damaged g c =
     c.in_default.ensures.held)
 
 pub returns-then-commit-clause-moments : goal.returns-then-commit-clause-moments
-returns-then-commit-clause-moments g c before told =
-    moments-stand g.D.Disk.moment g.D.Disk.left_since c.args.self.now.vault.disk.now c.remount.new.self.disk.now before
-    (c.remount.ensures.moments before told)
+returns-then-commit-clause-moments g c = c.remount.ensures.moments
 
 pub returns-then-commit-clause-damaged : goal.returns-then-commit-clause-damaged
 returns-then-commit-clause-damaged g c =
@@ -52,9 +46,7 @@ returns-clause-settled g c before told =
     (ap desk_of_set (sym c.held.ensures) ∙ c.in-Ok.ensures.desk) (c.in_default.ensures.settled before told)
 
 pub returns-clause-moments : goal.returns-clause-moments
-returns-clause-moments g c before told =
-    moments-stand g.D.Disk.moment g.D.Disk.left_since c.args.self.now.vault.disk.now c.remount.new.self.disk.now before
-    (c.remount.ensures.moments before told)
+returns-clause-moments g c = c.remount.ensures.moments
 
 pub returns-in-Err-clause-unchanged : goal.returns-in-Err-clause-unchanged
 returns-in-Err-clause-unchanged g c =

@@ -1,5 +1,5 @@
 ghost use Rattle.std.specs.Prelude.{◌≡◌};
-ghost use Rattle.locked_hall.specs.StopNews.{unasked, told_so};
+ghost use Rattle.server_hall.specs.StopNews.{unasked, told_so};
 
 use crate::locked::QuestionDesk;
 use std::marker::Model;
@@ -14,7 +14,7 @@ pub struct StopNews {
 }
 
 impl Model for StopNews {
-    ghost use Rattle.locked_hall.specs.StopNews.{StopsTold};
+    ghost use Rattle.server_hall.specs.StopNews.{StopsTold};
 
     ghost Value = { StopsTold };
 

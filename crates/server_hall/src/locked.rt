@@ -2,15 +2,15 @@ ghost use Rattle.std.specs.Prelude.{◌≡◌, None, IsTrue, IfErr};
 ghost use Rattle.cynara_keys.specs.PolicyResult.{is_agent};
 ghost use Rattle.server_hall.specs.Tally.{no_calls, IsNamedForItself};
 
+use crate::roll_calls::{enter_roll, hang_roll, leave_roll};
+use crate::table_calls::{Awaited, await_answer, give_next, put_question};
+use crate::tallies::HallTally;
+use crate::{AskRefusal, Hall, NextRefusal};
 use agent_table::{AnswerRefusal, Asked, Questions, RegisterRefusal, Taken};
 use cynara_keys::{Kind, Metadata, Question};
 use link_ports::HangEnd;
 use live_desk::{Publisher, Seat};
 use live_roll::{Left, Roll, Stopped};
-use server_hall::{
-    AskRefusal, Awaited, Hall, HallTally, NextRefusal, await_answer, enter_roll, give_next,
-    hang_roll, leave_roll, put_question,
-};
 use std::alloc::Global;
 use std::snapshot::Snapshot;
 use std::sync::{Condvar, Mutex, Wait};
@@ -77,9 +77,10 @@ impl<'a, R: Wait + Drop, H: HangEnd> Hall for Locked<'a, R, H> {
 
     fn enter(&mut self, end: H, seat: &mut Seat) -> Result<u64, Stopped> {
         let mut roll = self.roll.lock(&self.rt);
-        let entered = enter_roll(&mut *roll, end, seat);
+        let call = enter_roll(&mut *roll, end, seat);
         drop(roll);
-        self.tally.count_enter(&entered);
+        let entered = call.outcome();
+        self.tally.count_enter(call);
         entered
     }
 
