@@ -60,7 +60,7 @@ pub record IsDecided (told : Option DiskState) (command : Command) (old now : Ad
   pub settles : Settles told old between
   pub done : IsDone command between now replies ⊎ IsRefused command between now replies
 
--- what an earlier one left undone could not be settled, since the folder is damaged
+-- what an earlier one left undone could not be settled, since the folder is damaged or stands for an older state
 pub record FindsDamage (told : Option DiskState) (old now : AdminSide) (replies : List Message) : Type 0 where
   pub file : List ℕ
   pub line : ℕ

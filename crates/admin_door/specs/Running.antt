@@ -108,7 +108,7 @@ pub record KeepsThrough {D : Type 0} (state : D → Option DiskState) (moment : 
   -- what a stop may leave: at any moment of the call, and behind it
   pub leaves : LeavesOnly moment left_since (disk_of start) (disk_of now) (StandsSince before [] exchanges)
   pub behind : (left : FileMap) → MayLeave after left → StandsBehind before exchanges left
-  -- From some moment on the first of the frames are answered, and no stop leaves what stood before them.
+  -- From some moment on, the last at the latest, the first of the frames are answered, and no stop leaves what stood before them.
   pub since : (front back : List Exchange) → exchanges ≡ front ++ back
       → (at : ℕ) × (moment (disk_of start) ≤ at) × (at ≤ moment (disk_of now))
       × ((left : FileMap) → left_since (disk_of now) at left → StandsSince before front back left)

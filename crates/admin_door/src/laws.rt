@@ -35,7 +35,7 @@ pub fn each_frame_of_an_administrator_is_answered<D: Disk>()
 {}
 
 /// A command that is answered while no call of the disk fails is done, or refused by a rule, behind what an earlier one left
-/// undone; or that could not be settled, since the folder is damaged.
+/// undone; or that could not be settled, since the folder is damaged or stands for an older state.
 pub fn a_command_is_decided_where_no_call_fails()
     ensures { (told : Option DiskState) (asked : message.Message) (command : command.Command) (old now : AdminSide)
         (replies : List message.Message) → command_of asked ≡ Some command → Answers told asked old now replies

@@ -1,5 +1,5 @@
 -- From what a store recovers to, to what its folder keeps.
-use Rattle.std.proofs.Common.{◌≡◌, ℕ, List, Option, Some, Ok, Err, ◌⊎◌, ◌<◌, ap, sym, ◌∙◌, inl, inr}
+use Rattle.std.proofs.Common.{◌≡◌, ℕ, List, Option, Some, Result, Ok, Err, ◌⊎◌, ◌<◌, refl, ap, sym, ◌∙◌, inl, inr}
 use Rattle.desk_ports.specs.declared.file_sets.SetFile.{SetFile}
 use Rattle.desk_ports.specs.FileMap.{FileMap}
 use Rattle.desk_ports.specs.Disk.{DiskState, WhereTold, IsTouchedOnly, with_all_durable}
@@ -9,29 +9,44 @@ use Rattle.guard_files.specs.Mounted.{EndsAtRest, IfDamaged as IfStoreDamaged}
 use Rattle.guard_files.specs.declared.refusals.VaultRefusal.{VaultRefusal}
 use Rattle.guard_files.specs.declared.refusals.VaultRefusal.TheVariants as vault
 use Rattle.guard_files.specs.Recovery.{Recovered, recover}
-use Rattle.guard_files.specs.Settled.{IsLeftCurrent, IsInSave, IsBeforeOrAfter as IsSetBeforeOrAfter}
+use Rattle.guard_files.specs.Settled.{IsLeftCurrent, IsInSave, KeepsOthers, IsBeforeOrAfter as IsSetBeforeOrAfter}
 use Rattle.guard_files.proofs.SaveMoments.{settled_leaves}
 use Rattle.desk_state.specs.DeskState.{DeskState}
+use Rattle.set_text.specs.Fault.{Fault, whole}
 use Rattle.set_text.specs.FileNames.{stamp}
 use Rattle.set_text.specs.Reading.{read_of}
-use Rattle.desk_keeper.specs.Kept.{desk_of_set, desk_of, kept, standing_of_set, standing_of, standing}
+use Rattle.desk_keeper.specs.Kept.{desk_of_set, Standing, of_store, of_set, standing_of_set, standing_of, standing, as_told, kept}
 use Rattle.desk_keeper.specs.Keeping.{IsKept, EndsKept, IfDamaged, LeavesDamaged, IsOlder, IsBeforeOrAfter}
 use Rattle.desk_keeper.specs.parts.Reading.{RefusesSet, NamesStamp, refused}
 use Rattle.desk_keeper.specs.declared.refusals.KeeperRefusal.{KeeperRefusal}
 use Rattle.desk_keeper.specs.declared.refusals.KeeperRefusal.TheVariants.{StoreFault, Damaged, Memory}
 
+-- what was recovered, as a refusal tells it
+abbrev pub desk_of : Recovered → Result DeskState Fault
+desk_of (Err file) = Err (whole file)
+desk_of (Ok held) = desk_of_set held
+
+told-set : (read : Result DeskState Fault) → as_told (standing_of_set read) ≡ read
+told-set (Ok desk) = refl
+told-set (Err fault) = refl
+
+told-of : (found : Recovered) → as_told (standing_of found) ≡ desk_of found
+told-of (Err file) = refl
+told-of (Ok held) = told-set (desk_of_set held)
+
 pub kept-of : (files : FileMap) (found : Recovered) → recover files ≡ found → kept files ≡ desk_of found
-unfolding kept
-kept-of files found same = ap desk_of same
+unfolding kept standing
+kept-of files found same = ap (λ (at : Recovered). as_told (standing_of at)) same ∙ told-of found
 
 -- what keeps a policy state stands for it
 pub standing-kept : (files : FileMap) (desk : DeskState) → kept files ≡ Ok desk → standing files ≡ Ok desk
-unfolding kept standing
-standing-kept files desk is = by_found (recover files) is
+unfolding kept
+standing-kept files desk is = by_standing (standing files) is
   where
-    by_found : (found : Recovered) → desk_of found ≡ Ok desk → standing_of found ≡ Ok desk
-    by_found (Err file) is = cc
-    by_found (Ok held) is = ap standing_of_set is
+    by_standing : (found : Standing) → as_told found ≡ Ok desk → found ≡ Ok desk
+    by_standing (Ok other) is = is
+    by_standing (Err (of_store file)) is = cc
+    by_standing (Err (of_set fault)) is = cc
 
 pub standing-alike : (files others : FileMap) → recover files ≡ recover others → standing files ≡ standing others
 unfolding standing
@@ -68,6 +83,11 @@ module _ {D : Type 0} (moment : D → ℕ) (left_since : D → ℕ → FileMap �
   moments-one-of at before next held set stands reads leaves =
       LeavesOnly-more moment left_since old new (IsInSave at held set) (IsBeforeOrAfter before next)
       (λ left is. one-of before next held set stands reads left is.sets) leaves
+
+  pub moments-others : (at : DiskState) (held : Option (List SetFile)) (set : List SetFile)
+      → LeavesOnly moment left_since old new (IsInSave at held set) → LeavesOnly moment left_since old new (KeepsOthers at)
+  moments-others at held set leaves =
+      LeavesOnly-more moment left_since old new (IsInSave at held set) (KeepsOthers at) (λ left is. is.others) leaves
 
 -- what a damaged store and a damaged set are called
 pub store-damage : (told : Option DiskState) (Left : DiskState → Type 0) (refusal : VaultRefusal)

@@ -55,7 +55,7 @@ abbrev pub count_after_mount : {T : Type 0} → Result T KeeperRefusal → ℕ �
 count_after_mount (Ok value) count = count
 count_after_mount (Err refusal) count = count_after_refusal refusal count
 
--- The folder stands for a state with a lower commit than that of the last decided one. No stop leaves such a folder.
+-- the folder stands for a state with a lower commit than that of the last decided one
 abbrev pub IsOlder : DeskState → FileMap → Fault → Type 0
 IsOlder last files fault =
     (desk : DeskState) × (kept files ≡ Ok desk) × (desk.commit < last.commit) × (fault ≡ whole name.stamp)

@@ -3,7 +3,7 @@ ghost use Rattle.desk_ports.specs.Disk.{WhereTold};
 ghost use Rattle.desk_ports.specs.Faults.{next_count};
 ghost use Rattle.desk_ports.specs.Moments.{LeavesOnly};
 ghost use Rattle.guard_files.specs.Mounted.{RecoversAsAllowed};
-ghost use Rattle.guard_files.specs.Settled.{gone_names};
+ghost use Rattle.guard_files.specs.Settled.{gone_names, KeepsOthers};
 ghost use Rattle.guard_files.specs.Telling.{StillTells};
 ghost use Rattle.desk_state.specs.Next.{next, erased_by};
 ghost use Rattle.desk_state.specs.Rules.{Refuses, fault};
@@ -210,6 +210,11 @@ impl<'d, D: Disk> Keeper<'d, D> {
             (λ before. IsKept self.old.desk self.old.vault.held before
             → LeavesOnly D.moment D.left_since self.old.vault.disk.now self.new.vault.disk.now
             (IsBeforeOrAfter self.old.desk prepared.desk)) }
+
+        // It writes and removes own names alone.
+        ensures others { WhereTold (D.state self.old.vault.disk.now)
+            (λ before. IsKept self.old.desk self.old.vault.held before
+            → LeavesOnly D.moment D.left_since self.old.vault.disk.now self.new.vault.disk.now (KeepsOthers before)) }
 
         // A disk that told its state tells it behind the call, also where it failed.
         ensures tells { StillTells (D.state self.old.vault.disk.now) (D.state self.new.vault.disk.now) }

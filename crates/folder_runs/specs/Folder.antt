@@ -51,12 +51,13 @@ EndsOver Disk start answered steps told =
 EndsOver ending start answered steps told =
     (held : Option (List SetFile)) × EndsKept (state_after start answered) held told
 
--- What a stop may have left at each moment of a run, over a folder that was mounted, with these steps: from the mount on
--- what stands for the state after the first few of them, and before also what a stop at entry may leave.
+-- What a stop may have left at each moment of a run, over a folder that was mounted, with these steps: from some moment on, which
+-- the code makes that of the mount, what stands for the state after the first few of them, and before also what a stop at entry
+-- may leave.
 pub record KeepsFolder (entry : DiskState) (before after : DiskSeen) (ending : Ending) (start : DeskState)
     (answered steps : List Step) : Type 0 where
   pub stood : kept entry.current ≡ Ok start
-  -- the moment when the folder was mounted
+  -- the moment
   pub mounted_at : ℕ
   pub later : before.moment ≤ mounted_at
   pub within : mounted_at ≤ after.moment

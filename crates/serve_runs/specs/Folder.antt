@@ -13,18 +13,18 @@ use Rattle.run_endings.specs.Outside.{DiskSeen}
 -- A folder was mounted that told this state at entry, and administrators then sent these frames, each with its answer.
 pub record KeepsService (entry : DiskState) (before after : DiskSeen) (start : DeskState) (frames : List Exchange) : Type 0 where
   pub stood : kept entry.current ≡ Ok start
-  -- what the disk told once the folder was mounted, when a stop left nothing but what stands for the state
+  -- a state of the disk at which a stop leaves nothing but what stands for the state, as the one behind the mount is
   pub mounted : DiskState
   pub alone : (map : FileMap) → MayLeave mounted map → kept map ≡ Ok start
   pub mounted_at : ℕ
   pub later : before.moment ≤ mounted_at
   pub within : mounted_at ≤ after.moment
-  -- Until then a stop leaves what one at entry may have left, and from then on what the first few of the frames made of the
-  -- state, or the one that was answered then.
+  -- Until some moment, which the code makes that of the mount, a stop leaves what one at entry may have left, and from then on what
+  -- the first few of the frames made of the state, or the one that was answered then.
   pub mounting : (map : FileMap) → after.left_since before.moment map
       → RecoversAsAllowed entry map ⊎ StandsSince mounted [] frames map
   pub running : (map : FileMap) → after.left_since mounted_at map → StandsSince mounted [] frames map
-  -- From some moment on the first of the frames are answered, and no stop leaves what stood before them.
+  -- From some moment on, the last at the latest, the first of the frames are answered, and no stop leaves what stood before them.
   pub since : (front back : List Exchange) → frames ≡ front ++ back
       → (at : ℕ) × (mounted_at ≤ at) × (at ≤ after.moment)
       × ((map : FileMap) → after.left_since at map → StandsSince mounted front back map)

@@ -4,7 +4,7 @@ use Rattle.desk_keeper.specs.Kept.{desk_of_set}
 use Rattle.desk_ports.specs.Moments.{LeavesOnly}
 use Rattle.desk_keeper.specs.Commit.{Commit}
 use Rattle.desk_keeper.specs.Keeping.{IsBeforeOrAfter}
-use Rattle.desk_keeper.proofs.Keeping.{moments-one-of, at-rest-kept}
+use Rattle.desk_keeper.proofs.Keeping.{moments-one-of, moments-others, at-rest-kept}
 use Rattle.desk_keeper.proofs.keeper.Keeper.commit.Goals as goal
 
 pub returns-in-Err-clause-moments : goal.returns-in-Err-clause-moments
@@ -31,3 +31,13 @@ returns-clause-moments g c before told kept =
     before c.args.self.now.desk c.prepared.inside.desk c.args.self.now.vault.held c.prepared.inside.save.set kept.stands
     c.prepared.invariant
     (c.replace.ensures.moments before told kept.settled))
+
+pub returns-in-Err-clause-others : goal.returns-in-Err-clause-others
+returns-in-Err-clause-others g c before told kept =
+    moments-others g.D.Disk.moment g.D.Disk.left_since c.args.self.now.vault.disk.now c.replace.new.self.disk.now before
+    c.args.self.now.vault.held c.prepared.inside.save.set (c.replace.ensures.moments before told kept.settled)
+
+pub returns-clause-others : goal.returns-clause-others
+returns-clause-others g c before told kept =
+    moments-others g.D.Disk.moment g.D.Disk.left_since c.args.self.now.vault.disk.now c.replace.new.self.disk.now before
+    c.args.self.now.vault.held c.prepared.inside.save.set (c.replace.ensures.moments before told kept.settled)
