@@ -7,19 +7,14 @@ use Rattle.desk_ports.specs.Faults.{next_count}
 use Rattle.link_ports.specs.Traffic.{Traffic}
 use Rattle.desk_state.specs.declared.commands.Command.{Command}
 use Rattle.wire_messages.specs.Commands.{command_of}
-use Rattle.wire_messages.specs.Stream.{Hears, BeginsWrong, IsOpen, first_of, Front}
+use Rattle.wire_messages.specs.Stream.{Hears, first_of}
 use Rattle.wire_messages.specs.declared.messages.Framed.{Framed}
 use Rattle.wire_messages.specs.declared.messages.Message.{Message}
 use Rattle.wire_messages.specs.declared.operations.Heard.TheVariants.{AtAdmin}
-use Rattle.wire_messages.specs.declared.refusals.WireRefusal.{WireRefusal}
-use Rattle.wire_messages.specs.declared.refusals.WireRefusal.TheVariants.{TooShort, TooLong, BadOperation, BadField, Trailing}
-use Rattle.wire_messages.specs.declared.refusals.WireRefusal.TheVariants.{Memory as NoMemory}
-use Rattle.wire_messages.proofs.Settling.{short_open}
 use Rattle.wire_messages.proofs.Hearings.{heard_once}
-use Rattle.wire_messages.proofs.Refusing.{refused_to_its_end}
 use Rattle.live_desk.specs.History.{last_commit}
+use Rattle.door_frames.proofs.WholeFrames.{nothing_open, right_whole, same_whole, partial_not_whole, carried_so}
 use Rattle.door_frames.specs.Carried.{Carried}
-use Rattle.door_frames.specs.Ending.{IsOfBytes}
 use Rattle.door_frames.specs.declared.endings.Ended.{Ended}
 use Rattle.door_frames.specs.declared.endings.Ended.TheVariants.{Closed, Cut, Hung, LinkFault, BadFrame, Stopped, Memory, Strayed}
 use Rattle.admin_door.specs.Side.{AdminSide, with_shown}
@@ -36,58 +31,18 @@ moves before between after (below, same) least rises = omega (arith, below, same
 
 -- ---- bytes
 
-nothing_open : IsOpen AtAdmin []
-nothing_open = short_open AtAdmin [] (omega arith)
-
--- bytes that are whole frames do not begin with a wrong one behind some of them
-never : (bytes : List ℕ) (frames answered : List Framed) (rest : List ℕ) (refusal : WireRefusal) → Hears AtAdmin bytes frames []
-    → Hears AtAdmin bytes answered rest → first_of AtAdmin rest ≡ Front.Wrong refusal → ⊥
-never bytes frames answered rest refusal all some wrong =
-    refused_to_its_end AtAdmin bytes [] answered frames rest [] refusal some wrong
-    (subst (λ list. Hears AtAdmin list frames []) (sym (append-nil bytes)) all) nothing_open
-
-right_whole : (bytes : List ℕ) (frames answered : List Framed) (rest : List ℕ) (refusal : WireRefusal) → Hears AtAdmin bytes frames []
-    → Hears AtAdmin bytes answered rest → BeginsWrong AtAdmin rest refusal → IsOfBytes refusal → ⊥
-right_whole bytes frames answered rest (NoMemory error) all some wrong of_bytes = absurd of_bytes
-right_whole bytes frames answered rest (TooShort count) all some wrong of_bytes =
-    never bytes frames answered rest (TooShort count) all some wrong
-right_whole bytes frames answered rest (TooLong count) all some wrong of_bytes =
-    never bytes frames answered rest (TooLong count) all some wrong
-right_whole bytes frames answered rest (BadOperation number) all some wrong of_bytes =
-    never bytes frames answered rest (BadOperation number) all some wrong
-right_whole bytes frames answered rest (BadField place) all some wrong of_bytes =
-    never bytes frames answered rest (BadField place) all some wrong
-right_whole bytes frames answered rest (Trailing place) all some wrong of_bytes =
-    never bytes frames answered rest (Trailing place) all some wrong
-
-same_whole : (a b : Framed) (x y : List ℕ) → Front.Whole a x ≡ Front.Whole b y → (a ≡ b) × (x ≡ y)
-same_whole a b x y same = (cc, cc)
-
-partial_not_whole : (a : Framed) (x : List ℕ) → Front.Partial ≡ Front.Whole a x → ⊥
-partial_not_whole a x same = cc
-
 -- what is heard of whole frames is a front of them
 front_of : (bytes : List ℕ) (some frames : List Framed) (rest : List ℕ) → Hears AtAdmin bytes some rest → Hears AtAdmin bytes frames []
     → (more : List Framed) × (frames ≡ some ++ more)
 front_of bytes [] frames rest first all = (frames, refl)
 front_of bytes (framed ∷ some) [] rest (behind, first, others) all =
-    absurd (partial_not_whole framed behind (sym nothing_open ∙ (ap (first_of AtAdmin) (sym all) ∙ first)))
+    absurd (partial_not_whole framed behind (sym (nothing_open AtAdmin) ∙ (ap (first_of AtAdmin) (sym all) ∙ first)))
 front_of bytes (framed ∷ some) (one ∷ frames) rest (behind, first, others) (left, is, all) =
     let same = same_whole framed one behind left (sym first ∙ is) in
     let later = front_of behind some frames rest others (subst (λ list. Hears AtAdmin list frames []) (sym same.1) all) in
     (later.0, (λ i. sym same.0 i ∷ later.1 i))
 
 -- ---- the connection
-
-same_inside : (a b : Traffic) → Some a ≡ Some b → a ≡ b
-same_inside a b same = cc
-
--- what the link carried, where it tells it
-carried_so : (start now : Option Traffic) (received sent : List ℕ) (before after : Traffic) → Carried start now received sent
-    → start ≡ Some before → now ≡ Some after → after ≡ record { received = before.received ++ received; sent = before.sent ++ sent }
-carried_so start now received sent before after carried told told_now =
-    same_inside after (record { received = before.received ++ received; sent = before.sent ++ sent })
-    (sym told_now ∙ carried before told)
 
 -- nothing came behind the frames that were answered whole
 record IsAlone (between now : AdminSide) (last : List Exchange) (sent : List ℕ) : Type 0 where
@@ -145,19 +100,19 @@ module _ (start now : AdminTalk) (Keeps : List Exchange → Type 0) (frames : Li
   by_end Closed s quiet =
       let alone = alone_closed s.between now.side s.last s.last_bytes s.ending in
       let heard = heard_so s.received (exchanges_bytes s.answered ++ s.last_bytes) s.carried in
-      let all = heard_once AtAdmin s.received (frames_of s.answered ++ frames_of s.last) frames [] [] s.bytes nothing_open heard
-      nothing_open in
+      let all = heard_once AtAdmin s.received (frames_of s.answered ++ frames_of s.last) frames [] [] s.bytes (nothing_open AtAdmin) heard
+      (nothing_open AtAdmin) in
       inl (refl, each_so Closed frames s alone (sym (frames_alone s.answered s.last alone.frames) ∙ all.0))
   by_end (Cut count) s quiet =
       let (rest, some, unfinished, length_is, many) = s.bytes in
       let heard = heard_so s.received (exchanges_bytes s.answered ++ s.last_bytes) s.carried in
       let same = heard_once AtAdmin s.received (frames_of s.answered ++ frames_of s.last) frames rest [] some unfinished heard
-      nothing_open in
+      (nothing_open AtAdmin) in
       absurd (omega (arith, sym (ap length same.1) ∙ length_is, many))
   by_end (BadFrame refusal) s quiet =
       let (rest, some, wrong, of_bytes) = s.bytes in
       let heard = heard_so s.received (exchanges_bytes s.answered ++ s.last_bytes) s.carried in
-      absurd (right_whole s.received frames (frames_of s.answered ++ frames_of s.last) rest refusal heard some wrong of_bytes)
+      absurd (right_whole AtAdmin s.received frames (frames_of s.answered ++ frames_of s.last) rest refusal heard some wrong of_bytes)
   by_end LinkFault s quiet = absurd (moves start.faults start.faults now.faults quiet refl s.faults)
   by_end Stopped s quiet =
       let (more, rest, some) = s.bytes in

@@ -1,5 +1,5 @@
 -- A connection around which nothing fails is heeded whole.
-use Rattle.std.proofs.Common.{◌≡◌, ◌∙◌, ◌≤◌, ◌⊎◌, inl, inr, ℕ, List, [], ◌∷◌, ◌++◌, map, length, Option, Some, Result, Ok, Err, refl, sym}
+use Rattle.std.proofs.Common.{◌≡◌, ◌∙◌, ◌≤◌, ◌⊎◌, inl, inr, ℕ, List, [], ◌∷◌, ◌++◌, map, length, Result, Ok, Err, refl, sym}
 use Rattle.std.proofs.Common.{ap, subst, append-nil, arith}
 use Rattle.std.proofs.lemmas.List.{append_cancel_left}
 use Rattle.std.specs.List.{flat_map}
@@ -12,16 +12,13 @@ use Rattle.agent_table.specs.declared.refusals.RegisterRefusal.TheVariants.{Stop
 use Rattle.wire_messages.specs.Frame.{spelling}
 use Rattle.wire_messages.specs.Message.{operation}
 use Rattle.wire_messages.specs.Operation.{number_of}
-use Rattle.wire_messages.specs.Stream.{Hears, BeginsWrong, IsOpen, first_of, Front}
+use Rattle.wire_messages.specs.Stream.{Hears, first_of}
 use Rattle.wire_messages.specs.declared.messages.Framed.{Framed}
 use Rattle.wire_messages.specs.declared.messages.Message.TheVariants.{Register}
 use Rattle.wire_messages.specs.declared.operations.Heard.TheVariants.{AtAgent}
-use Rattle.wire_messages.specs.declared.refusals.WireRefusal.{WireRefusal}
 use Rattle.wire_messages.specs.declared.refusals.WireRefusal.TheVariants.{TooShort, TooLong, BadOperation, BadField, Trailing}
 use Rattle.wire_messages.specs.declared.refusals.WireRefusal.TheVariants.{Memory as NoMemory}
-use Rattle.wire_messages.proofs.Settling.{short_open}
 use Rattle.wire_messages.proofs.Hearings.{heard_once}
-use Rattle.wire_messages.proofs.Refusing.{refused_to_its_end}
 use Rattle.server_hall.specs.Tally.{Tally, after_call, after_calls, after_join, after_part, stops_after_ask, stops_after_join}
 use Rattle.server_hall.specs.Tally.{stops_after_next}
 use Rattle.server_hall.specs.declared.calls.HallCall.{HallCall}
@@ -30,8 +27,9 @@ use Rattle.server_hall.specs.declared.refusals.NextRefusal.{NextRefusal}
 use Rattle.server_hall.specs.declared.refusals.NextRefusal.TheVariants.{Stopped as NoneIsGiven, Memory as NoneForMemory}
 use Rattle.server_hall.specs.declared.refusals.AskRefusal.TheVariants.{Put, Gone, Stopped as AskStopped, Lost}
 use Rattle.server_hall.specs.Call.{AskResult}
+use Rattle.door_frames.proofs.WholeFrames.{nothing_open, right_whole, same_whole, partial_not_whole, carried_so}
 use Rattle.door_frames.specs.Carried.{Carried}
-use Rattle.door_frames.specs.Ending.{IsOfBytes, faults_after}
+use Rattle.door_frames.specs.Ending.{faults_after}
 use Rattle.door_frames.specs.declared.endings.Ended.{Ended}
 use Rattle.door_frames.specs.declared.endings.Ended.TheVariants.{Closed, Cut, Hung, LinkFault, BadFrame, Stopped, Memory, Strayed}
 use Rattle.agent_door.specs.Frame.{register_frame, registered_frame, taken_frame, answer_frame}
@@ -86,49 +84,20 @@ calls_kept (call ∷ calls) tally fits =
 
 -- ---- bytes
 
-pub nothing_open : IsOpen AtAgent []
-nothing_open = short_open AtAgent [] (omega arith)
-
-never : (bytes : List ℕ) (frames heeded : List Framed) (rest : List ℕ) (refusal : WireRefusal) → Hears AtAgent bytes frames []
-    → Hears AtAgent bytes heeded rest → first_of AtAgent rest ≡ Front.Wrong refusal → ⊥
-never bytes frames heeded rest refusal all some wrong =
-    refused_to_its_end AtAgent bytes [] heeded frames rest [] refusal some wrong
-    (subst (λ list. Hears AtAgent list frames []) (sym (append-nil bytes)) all) nothing_open
-
--- bytes that are whole frames do not begin with a wrong one behind some of them
-pub right_whole : (bytes : List ℕ) (frames heeded : List Framed) (rest : List ℕ) (refusal : WireRefusal) → Hears AtAgent bytes frames []
-    → Hears AtAgent bytes heeded rest → BeginsWrong AtAgent rest refusal → IsOfBytes refusal → ⊥
-right_whole bytes frames heeded rest (NoMemory error) all some wrong of_bytes = absurd of_bytes
-right_whole bytes frames heeded rest (TooShort count) all some wrong of_bytes =
-    never bytes frames heeded rest (TooShort count) all some wrong
-right_whole bytes frames heeded rest (TooLong count) all some wrong of_bytes = never bytes frames heeded rest (TooLong count) all some wrong
-right_whole bytes frames heeded rest (BadOperation number) all some wrong of_bytes =
-    never bytes frames heeded rest (BadOperation number) all some wrong
-right_whole bytes frames heeded rest (BadField place) all some wrong of_bytes =
-    never bytes frames heeded rest (BadField place) all some wrong
-right_whole bytes frames heeded rest (Trailing place) all some wrong of_bytes =
-    never bytes frames heeded rest (Trailing place) all some wrong
-
-same_whole : (a b : Framed) (x y : List ℕ) → Front.Whole a x ≡ Front.Whole b y → (a ≡ b) × (x ≡ y)
-same_whole a b x y same = (cc, cc)
-
 same_list : (a b : Framed) (x y : List Framed) → a ∷ x ≡ b ∷ y → (a ≡ b) × (x ≡ y)
 same_list a b x y same = (cc, cc)
 
 not_empty : (a : Framed) (x : List Framed) → a ∷ x ≡ [] → ⊥
 not_empty a x same = cc
 
-pub partial_not_whole : (a : Framed) (x : List ℕ) → Front.Partial ≡ Front.Whole a x → ⊥
-partial_not_whole a x same = cc
-
 -- a frame that is heard among answers is one
 is_answer : (bytes : List ℕ) (before : List Framed) (framed : Framed) (more : List Framed) (rest : List ℕ) (answers : List Answer)
     → Hears AtAgent bytes (before ++ framed ∷ more) rest → Hears AtAgent bytes (map answer_frame answers) []
     → number_of (operation framed.message) ≡ 0x21
 is_answer bytes [] framed more rest [] (behind, some, others) all =
-    absurd (partial_not_whole framed behind (sym nothing_open ∙ (ap (first_of AtAgent) (sym all) ∙ some)))
+    absurd (partial_not_whole framed behind (sym (nothing_open AtAgent) ∙ (ap (first_of AtAgent) (sym all) ∙ some)))
 is_answer bytes (one ∷ before) framed more rest [] (behind, some, others) all =
-    absurd (partial_not_whole one behind (sym nothing_open ∙ (ap (first_of AtAgent) (sym all) ∙ some)))
+    absurd (partial_not_whole one behind (sym (nothing_open AtAgent) ∙ (ap (first_of AtAgent) (sym all) ∙ some)))
 is_answer bytes [] framed more rest (answer ∷ answers) (behind, some, others) (left, first, all) =
     ap (λ (f : Framed). number_of (operation f.message)) (same_whole framed (answer_frame answer) behind left (sym some ∙ first)).0
 is_answer bytes (one ∷ before) framed more rest (answer ∷ answers) (behind, some, others) (left, first, all) =
@@ -150,15 +119,6 @@ same_registration a b same =
 
     both : (m n : ℕ) (k l : Kind) → m ≡ n → k ≡ l → registration_of m k ≡ registration_of n l
     both m n k l sequence kind = cc
-
--- what the link carried, where it tells it
-same_inside : (a b : Traffic) → Some a ≡ Some b → a ≡ b
-same_inside a b same = cc
-
-carried_so : (start now : Option Traffic) (received sent : List ℕ) (before after : Traffic) → Carried start now received sent
-    → start ≡ Some before → now ≡ Some after → after ≡ record { received = before.received ++ received; sent = before.sent ++ sent }
-carried_so start now received sent before after carried told told_now =
-    same_inside after (record { received = before.received ++ received; sent = before.sent ++ sent }) (sym told_now ∙ carried before told)
 
 -- the bytes that were received are those of the frames
 pub heard_so : (start now : AgentSide) (frames : List Framed) (received sent : List ℕ) (r : Receives frames start now)
@@ -187,7 +147,7 @@ sends_so start now frames sent received others r carried is =
 misplaced_first : (received : List ℕ) (told : Registration) (answers : List Answer) (number : ℕ)
     → Hears AtAgent received (frames_of told answers) [] → EndsHeeding received [] (BadFrame (BadOperation number)) → ⊥
 misplaced_first received told answers number heard (inl (rest, none, wrong, of_bytes)) =
-    right_whole received (frames_of told answers) [] rest (BadOperation number) heard none wrong of_bytes
+    right_whole AtAgent received (frames_of told answers) [] rest (BadOperation number) heard none wrong of_bytes
 misplaced_first received told answers number (left, first, all) (inr (framed, more, rest, (behind, some, others), is, place)) =
     let same = (same_whole framed (register_frame told) behind left (sym some ∙ first)).0 in
     let known : number_of (operation framed.message) ≡ 0x20 = ap (λ (f : Framed). number_of (operation f.message)) same in
@@ -198,7 +158,7 @@ misplaced_later : (received : List ℕ) (told registration : Registration) (heed
     → Hears AtAgent received (frames_of told answers) []
     → EndsHeeding received (register_frame registration ∷ heeded) (BadFrame (BadOperation number)) → ⊥
 misplaced_later received told registration heeded answers number heard (inl (rest, some, wrong, of_bytes)) =
-    right_whole received (frames_of told answers) (register_frame registration ∷ heeded) rest (BadOperation number) heard some
+    right_whole AtAgent received (frames_of told answers) (register_frame registration ∷ heeded) rest (BadOperation number) heard some
     wrong of_bytes
 misplaced_later received told registration heeded answers number (left, first, all)
     (inr (framed, more, rest, (behind, some, others), is, place)) =
@@ -213,22 +173,22 @@ none_so : (result : Ended) (received : List ℕ) (told : Registration) (answers 
     → Stays faults faults_now → faults_now ≡ faults_after result faults → result ≡ Memory
 none_so Closed received told answers faults faults_now heard so bytes still counted =
     absurd (not_empty (register_frame told) (map answer_frame answers)
-    (heard_once AtAgent received (frames_of told answers) [] [] [] heard nothing_open bytes nothing_open).0)
+    (heard_once AtAgent received (frames_of told answers) [] [] [] heard (nothing_open AtAgent) bytes (nothing_open AtAgent)).0)
 none_so (Cut count) received told answers faults faults_now heard so (rest, none, unfinished, length_is, many) still counted =
     absurd (not_empty (register_frame told) (map answer_frame answers)
-    (heard_once AtAgent received (frames_of told answers) [] [] rest heard nothing_open none unfinished).0)
+    (heard_once AtAgent received (frames_of told answers) [] [] rest heard (nothing_open AtAgent) none unfinished).0)
 none_so LinkFault received told answers faults faults_now heard so bytes still rose =
     absurd (moves faults faults faults_now still (omega arith) (omega (arith, rose)))
 none_so (BadFrame (BadOperation number)) received told answers faults faults_now heard so bytes still counted =
     absurd (misplaced_first received told answers number heard bytes)
 none_so (BadFrame (TooShort count)) received told answers faults faults_now heard so (rest, none, wrong, of_bytes) still counted =
-    absurd (right_whole received (frames_of told answers) [] rest (TooShort count) heard none wrong of_bytes)
+    absurd (right_whole AtAgent received (frames_of told answers) [] rest (TooShort count) heard none wrong of_bytes)
 none_so (BadFrame (TooLong count)) received told answers faults faults_now heard so (rest, none, wrong, of_bytes) still counted =
-    absurd (right_whole received (frames_of told answers) [] rest (TooLong count) heard none wrong of_bytes)
+    absurd (right_whole AtAgent received (frames_of told answers) [] rest (TooLong count) heard none wrong of_bytes)
 none_so (BadFrame (BadField place)) received told answers faults faults_now heard so (rest, none, wrong, of_bytes) still counted =
-    absurd (right_whole received (frames_of told answers) [] rest (BadField place) heard none wrong of_bytes)
+    absurd (right_whole AtAgent received (frames_of told answers) [] rest (BadField place) heard none wrong of_bytes)
 none_so (BadFrame (Trailing place)) received told answers faults faults_now heard so (rest, none, wrong, of_bytes) still counted =
-    absurd (right_whole received (frames_of told answers) [] rest (Trailing place) heard none wrong of_bytes)
+    absurd (right_whole AtAgent received (frames_of told answers) [] rest (Trailing place) heard none wrong of_bytes)
 none_so (BadFrame (NoMemory error)) received told answers faults faults_now heard so (rest, none, wrong, of_bytes) still counted =
     absurd of_bytes
 none_so Memory received told answers faults faults_now heard so bytes still counted = refl
@@ -292,7 +252,7 @@ asked_so Closed start last told registration answers a quiet r =
     let same = same_list (register_frame registration) (register_frame told) (rounds_frames (a.rounds ++ a.open_round))
     (map answer_frame answers)
     (heard_once AtAgent a.received (register_frame registration ∷ rounds_frames (a.rounds ++ a.open_round)) (frames_of told answers) [] []
-    a.bytes nothing_open heard nothing_open).0 in
+    a.bytes (nothing_open AtAgent) heard (nothing_open AtAgent)).0 in
     let sent : a.sent ≡ registered_frame registration ∷ rounds_told registration.kind (a.rounds ++ a.open_round) =
     sym (a.due ∙ (ap (λ list. a.sent ++ list) a.missed ∙ append-nil a.sent)) in
     inl (
@@ -308,7 +268,7 @@ asked_so (Cut count) start last told registration answers a quiet r =
     heard_so start last (frames_of told answers) a.received (flat_map spelling a.sent) r a.carried in
     let same = (heard_once AtAgent a.received (register_frame registration ∷ rounds_frames (a.rounds ++ a.open_round))
     (frames_of told answers) rest []
-    some unfinished heard nothing_open).1 in
+    some unfinished heard (nothing_open AtAgent)).1 in
     absurd (omega (arith, sym (ap length same) ∙ length_is, many))
 asked_so LinkFault start last told registration answers a quiet r =
     let rose : last.faults ≡ next_count start.faults = a.faults in
@@ -318,22 +278,26 @@ asked_so (BadFrame (BadOperation number)) start last told registration answers a
     (heard_so start last (frames_of told answers) a.received (flat_map spelling a.sent) r a.carried) a.bytes)
 asked_so (BadFrame (TooShort count)) start last told registration answers a quiet r =
     let (rest, some, wrong, of_bytes) = a.bytes in
-    absurd (right_whole a.received (frames_of told answers) (register_frame registration ∷ rounds_frames (a.rounds ++ a.open_round)) rest
+    absurd (right_whole AtAgent a.received (frames_of told answers)
+    (register_frame registration ∷ rounds_frames (a.rounds ++ a.open_round)) rest
     (TooShort count)
     (heard_so start last (frames_of told answers) a.received (flat_map spelling a.sent) r a.carried) some wrong of_bytes)
 asked_so (BadFrame (TooLong count)) start last told registration answers a quiet r =
     let (rest, some, wrong, of_bytes) = a.bytes in
-    absurd (right_whole a.received (frames_of told answers) (register_frame registration ∷ rounds_frames (a.rounds ++ a.open_round)) rest
+    absurd (right_whole AtAgent a.received (frames_of told answers)
+    (register_frame registration ∷ rounds_frames (a.rounds ++ a.open_round)) rest
     (TooLong count)
     (heard_so start last (frames_of told answers) a.received (flat_map spelling a.sent) r a.carried) some wrong of_bytes)
 asked_so (BadFrame (BadField place)) start last told registration answers a quiet r =
     let (rest, some, wrong, of_bytes) = a.bytes in
-    absurd (right_whole a.received (frames_of told answers) (register_frame registration ∷ rounds_frames (a.rounds ++ a.open_round)) rest
+    absurd (right_whole AtAgent a.received (frames_of told answers)
+    (register_frame registration ∷ rounds_frames (a.rounds ++ a.open_round)) rest
     (BadField place)
     (heard_so start last (frames_of told answers) a.received (flat_map spelling a.sent) r a.carried) some wrong of_bytes)
 asked_so (BadFrame (Trailing place)) start last told registration answers a quiet r =
     let (rest, some, wrong, of_bytes) = a.bytes in
-    absurd (right_whole a.received (frames_of told answers) (register_frame registration ∷ rounds_frames (a.rounds ++ a.open_round)) rest
+    absurd (right_whole AtAgent a.received (frames_of told answers)
+    (register_frame registration ∷ rounds_frames (a.rounds ++ a.open_round)) rest
     (Trailing place)
     (heard_so start last (frames_of told answers) a.received (flat_map spelling a.sent) r a.carried) some wrong of_bytes)
 asked_so (BadFrame (NoMemory error)) start last told registration answers a quiet r =

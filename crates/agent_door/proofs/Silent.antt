@@ -16,13 +16,14 @@ use Rattle.agent_door.specs.Frame.{register_frame}
 use Rattle.agent_door.specs.Round.{rounds_frames}
 use Rattle.agent_door.specs.Serving.{AgentSide, Serves, IsUnregistered, EndsUnregistered, EndsHeeding}
 use Rattle.agent_door.specs.Complete.{IsQuiet, Receives, IsUntold}
-use Rattle.agent_door.proofs.Complete.{moves, nothing_open, right_whole, partial_not_whole, heard_so, sends_so}
+use Rattle.door_frames.proofs.WholeFrames.{nothing_open, right_whole, partial_not_whole}
+use Rattle.agent_door.proofs.Complete.{moves, heard_so, sends_so}
 
 -- no frame is heard in no bytes
 never_heard : (bytes : List ℕ) (framed : Framed) (more : List Framed) (rest : List ℕ) → Hears AtAgent bytes (framed ∷ more) rest
     → Hears AtAgent bytes [] [] → ⊥
 never_heard bytes framed more rest (behind, some, others) none =
-    partial_not_whole framed behind (sym nothing_open ∙ (ap (first_of AtAgent) (sym none) ∙ some))
+    partial_not_whole framed behind (sym (nothing_open AtAgent) ∙ (ap (first_of AtAgent) (sym none) ∙ some))
 
 -- nor heeded
 never_heeded : (ended : Ended) (bytes : List ℕ) (framed : Framed) (heeded : List Framed) → EndsHeeding bytes (framed ∷ heeded) ended
@@ -63,21 +64,21 @@ untold_so result start now u quiet r =
     by Closed is so bytes counted =
         inl (is, record { sends = sends_so start now [] [] u.received [] r u.carried refl; tally = u.tally; calls = u.calls })
     by (Cut count) is so (rest, some, unfinished, length_is, many) counted =
-        let same = (heard_once AtAgent u.received [] [] rest [] some unfinished none nothing_open).1 in
+        let same = (heard_once AtAgent u.received [] [] rest [] some unfinished none (nothing_open AtAgent)).1 in
         absurd (omega (arith, sym (ap length same) ∙ length_is, many))
     by LinkFault is so bytes rose = absurd (moves start.faults start.faults now.faults quiet.faults (omega arith) (omega (arith, rose)))
     by (BadFrame (BadOperation number)) is so (inl (rest, some, wrong, of_bytes)) counted =
-        absurd (right_whole u.received [] [] rest (BadOperation number) none some wrong of_bytes)
+        absurd (right_whole AtAgent u.received [] [] rest (BadOperation number) none some wrong of_bytes)
     by (BadFrame (BadOperation number)) is so (inr (framed, more, rest, some, named, place)) counted =
         absurd (never_heard u.received framed more rest some none)
     by (BadFrame (TooShort count)) is so (rest, some, wrong, of_bytes) counted =
-        absurd (right_whole u.received [] [] rest (TooShort count) none some wrong of_bytes)
+        absurd (right_whole AtAgent u.received [] [] rest (TooShort count) none some wrong of_bytes)
     by (BadFrame (TooLong count)) is so (rest, some, wrong, of_bytes) counted =
-        absurd (right_whole u.received [] [] rest (TooLong count) none some wrong of_bytes)
+        absurd (right_whole AtAgent u.received [] [] rest (TooLong count) none some wrong of_bytes)
     by (BadFrame (BadField place)) is so (rest, some, wrong, of_bytes) counted =
-        absurd (right_whole u.received [] [] rest (BadField place) none some wrong of_bytes)
+        absurd (right_whole AtAgent u.received [] [] rest (BadField place) none some wrong of_bytes)
     by (BadFrame (Trailing place)) is so (rest, some, wrong, of_bytes) counted =
-        absurd (right_whole u.received [] [] rest (Trailing place) none some wrong of_bytes)
+        absurd (right_whole AtAgent u.received [] [] rest (Trailing place) none some wrong of_bytes)
     by (BadFrame (NoMemory error)) is so (rest, some, wrong, of_bytes) counted = absurd of_bytes
     by Memory is so bytes counted = inr is
     by (Hung entered at) is so bytes counted = absurd so

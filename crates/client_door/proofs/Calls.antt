@@ -8,7 +8,8 @@ use Rattle.server_hall.specs.Told.{AppendsCalls}
 use Rattle.server_hall.specs.declared.calls.HallCall.{HallCall}
 use Rattle.client_door.specs.Answered.{Answered, IsRight, call_list, calls_for, after_asks, reply_bytes, replies_bytes}
 
-pub after_asks_more : (calls more : List AskMade) (tally : Tally) → after_asks (calls ++ more) tally ≡ after_asks more (after_asks calls tally)
+pub after_asks_more : (calls more : List AskMade) (tally : Tally)
+    → after_asks (calls ++ more) tally ≡ after_asks more (after_asks calls tally)
 after_asks_more [] more tally = refl
 after_asks_more (call ∷ calls) more tally = after_asks_more calls more (after_ask call tally)
 
@@ -24,7 +25,8 @@ calls_more first more start between end one two after is =
 
 -- ---- of checks that were answered
 
-pub calls_for_snoc : (answered : List Answered) (next : Answered) → calls_for (answered ++ next ∷ []) ≡ calls_for answered ++ call_list next.call
+pub calls_for_snoc : (answered : List Answered) (next : Answered)
+    → calls_for (answered ++ next ∷ []) ≡ calls_for answered ++ call_list next.call
 calls_for_snoc answered next =
     flat_map-append (λ (one : Answered). call_list one.call) answered (next ∷ [])
     ∙ ap (λ list. calls_for answered ++ list) (append-nil (call_list next.call))
@@ -32,7 +34,8 @@ calls_for_snoc answered next =
 pub calls_for_more : (answered more : List Answered) → calls_for (answered ++ more) ≡ calls_for answered ++ calls_for more
 calls_for_more answered more = flat_map-append (λ (one : Answered). call_list one.call) answered more
 
-pub replies_snoc : (answered : List Answered) (next : Answered) → replies_bytes (answered ++ next ∷ []) ≡ replies_bytes answered ++ reply_bytes next
+pub replies_snoc : (answered : List Answered) (next : Answered)
+    → replies_bytes (answered ++ next ∷ []) ≡ replies_bytes answered ++ reply_bytes next
 replies_snoc answered next =
     flat_map-append reply_bytes answered (next ∷ []) ∙ ap (λ list. replies_bytes answered ++ list) (append-nil (reply_bytes next))
 

@@ -1,24 +1,21 @@
 -- A connection around which nothing fails is answered whole.
-use Rattle.std.proofs.Common.{◌≡◌, ◌∙◌, ◌≤◌, ◌⊎◌, inl, inr, ℕ, List, [], ◌∷◌, ◌++◌, length, Option, Some, None, Ok, Err, refl, sym, ap, subst, append-nil, arith}
+use Rattle.std.proofs.Common.{◌≡◌, ◌∙◌, ◌≤◌, ◌⊎◌, inl, inr, ℕ, List, [], ◌∷◌, ◌++◌, length, Option, Some, None, Ok, Err, refl, sym, ap}
+use Rattle.std.proofs.Common.{subst, arith}
 use Rattle.std.proofs.lemmas.List.{append_cancel_left}
 use Rattle.desk_ports.specs.Faults.{next_count, last_count}
 use Rattle.link_ports.specs.Traffic.{Traffic}
 use Rattle.cynara_keys.specs.Key.{Question}
 use Rattle.live_roll.specs.declared.answers.Left.{Left}
 use Rattle.live_roll.specs.declared.answers.Left.TheVariants.{Still, Hung as LeftHung, Stopped as LeftStopped}
-use Rattle.wire_messages.specs.Stream.{Hears, BeginsWrong, IsOpen, first_of, Front}
+use Rattle.wire_messages.specs.Stream.{Hears}
 use Rattle.wire_messages.specs.declared.messages.Framed.{Framed}
 use Rattle.wire_messages.specs.declared.operations.Heard.TheVariants.{AtClient}
-use Rattle.wire_messages.specs.declared.refusals.WireRefusal.{WireRefusal}
-use Rattle.wire_messages.specs.declared.refusals.WireRefusal.TheVariants.{TooShort, TooLong, BadOperation, BadField, Trailing, Memory as NoMemory}
-use Rattle.wire_messages.proofs.Settling.{short_open}
 use Rattle.wire_messages.proofs.Hearings.{heard_once}
-use Rattle.wire_messages.proofs.Refusing.{refused_to_its_end}
 use Rattle.server_hall.specs.Call.{AskResult, AskMade, LeaveMade}
 use Rattle.server_hall.specs.Tally.{Tally, after_ask, after_leave, stops_after_ask, losses_after_ask}
 use Rattle.server_hall.specs.declared.refusals.AskRefusal.TheVariants.{Put, Gone, Stopped as AskStopped, Lost}
+use Rattle.door_frames.proofs.WholeFrames.{nothing_open, right_whole, carried_so}
 use Rattle.door_frames.specs.Carried.{Carried}
-use Rattle.door_frames.specs.Ending.{IsOfBytes}
 use Rattle.door_frames.specs.declared.endings.Ended.{Ended}
 use Rattle.door_frames.specs.declared.endings.Ended.TheVariants.{Closed, Cut, Hung, LinkFault, BadFrame, Stopped, Memory, Strayed}
 use Rattle.door_frames.proofs.Carrying.{carried_more}
@@ -56,40 +53,21 @@ asks_stops : (calls : List AskMade) (tally : Tally) → tally.stops ≤ last_cou
 asks_stops [] tally fits = (omega arith, fits)
 asks_stops (call ∷ calls) tally fits =
     let first : Kept tally.stops (after_ask call tally).stops = stops_kept call.result tally.stops fits in
-    let then : Kept (after_ask call tally).stops (after_asks calls (after_ask call tally)).stops = asks_stops calls (after_ask call tally) first.1 in
+    let then : Kept (after_ask call tally).stops (after_asks calls (after_ask call tally)).stops =
+    asks_stops calls (after_ask call tally) first.1 in
     (omega (arith, first.0, then.0), then.1)
 
 asks_losses : (calls : List AskMade) (tally : Tally) → tally.losses ≤ last_count → Kept tally.losses (after_asks calls tally).losses
 asks_losses [] tally fits = (omega arith, fits)
 asks_losses (call ∷ calls) tally fits =
     let first : Kept tally.losses (after_ask call tally).losses = losses_kept call.result tally.losses fits in
-    let then : Kept (after_ask call tally).losses (after_asks calls (after_ask call tally)).losses = asks_losses calls (after_ask call tally) first.1 in
+    let then : Kept (after_ask call tally).losses (after_asks calls (after_ask call tally)).losses =
+    asks_losses calls (after_ask call tally) first.1 in
     (omega (arith, first.0, then.0), then.1)
 
 asks_hangs : (calls : List AskMade) (tally : Tally) → (after_asks calls tally).hangs ≡ tally.hangs
 asks_hangs [] tally = refl
 asks_hangs (call ∷ calls) tally = asks_hangs calls (after_ask call tally)
-
--- ---- bytes
-
-nothing_open : IsOpen AtClient []
-nothing_open = short_open AtClient [] (omega arith)
-
--- bytes that are whole frames do not begin with a wrong one behind some of them
-never : (bytes : List ℕ) (frames answered : List Framed) (rest : List ℕ) (refusal : WireRefusal) → Hears AtClient bytes frames []
-    → Hears AtClient bytes answered rest → first_of AtClient rest ≡ Front.Wrong refusal → ⊥
-never bytes frames answered rest refusal all some wrong =
-    refused_to_its_end AtClient bytes [] answered frames rest [] refusal some wrong
-    (subst (λ list. Hears AtClient list frames []) (sym (append-nil bytes)) all) nothing_open
-
-right_whole : (bytes : List ℕ) (frames answered : List Framed) (rest : List ℕ) (refusal : WireRefusal) → Hears AtClient bytes frames []
-    → Hears AtClient bytes answered rest → BeginsWrong AtClient rest refusal → IsOfBytes refusal → ⊥
-right_whole bytes frames answered rest (NoMemory error) all some wrong of_bytes = absurd of_bytes
-right_whole bytes frames answered rest (TooShort count) all some wrong of_bytes = never bytes frames answered rest (TooShort count) all some wrong
-right_whole bytes frames answered rest (TooLong count) all some wrong of_bytes = never bytes frames answered rest (TooLong count) all some wrong
-right_whole bytes frames answered rest (BadOperation number) all some wrong of_bytes = never bytes frames answered rest (BadOperation number) all some wrong
-right_whole bytes frames answered rest (BadField place) all some wrong of_bytes = never bytes frames answered rest (BadField place) all some wrong
-right_whole bytes frames answered rest (Trailing place) all some wrong of_bytes = never bytes frames answered rest (Trailing place) all some wrong
 
 -- ---- how the answering ends
 
@@ -97,7 +75,8 @@ right_whole bytes frames answered rest (Trailing place) all some wrong of_bytes 
 last_called : (front : List AskMade) (call : AskMade) (tally : Tally) → (after_asks (front ++ call ∷ []) tally).last_ask ≡ Some call
 last_called front call tally = ap (λ (t : Tally). t.last_ask) (after_asks_more front (call ∷ []) tally)
 
-lost_none : (call : AskMade) (stops losses : ℕ) (number : ℕ) → call.result ≡ Err (Lost number) → losses_after_ask call.result losses ≡ next_count losses
+lost_none : (call : AskMade) (stops losses : ℕ) (number : ℕ) → call.result ≡ Err (Lost number)
+    → losses_after_ask call.result losses ≡ next_count losses
 lost_none call stops losses number is = ap (λ (result : AskResult). losses_after_ask result losses) is
 
 found_stop : (call : AskMade) (stops : ℕ) → call.result ≡ Err AskStopped → stops_after_ask call.result stops ≡ next_count stops
@@ -121,16 +100,17 @@ talked first last Closed bytes frames faults stops losses t is heard still_f is_
     inl (
       refl,
       (heard_once AtClient bytes (frames_of t.answered) frames [] []
-          (subst (λ list. Hears AtClient list (frames_of t.answered) []) is t.bytes) nothing_open heard nothing_open).0,
+          (subst (λ list. Hears AtClient list (frames_of t.answered) []) is t.bytes) (nothing_open AtClient) heard
+          (nothing_open AtClient)).0,
     )
 talked first last (Cut count) bytes frames faults stops losses t is heard still_f is_f still_s is_s still_l is_l gives =
     let (rest, some, unfinished, length_is, many) = t.bytes in
     let same = heard_once AtClient bytes (frames_of t.answered) frames rest []
-    (subst (λ list. Hears AtClient list (frames_of t.answered) rest) is some) unfinished heard nothing_open in
+    (subst (λ list. Hears AtClient list (frames_of t.answered) rest) is some) unfinished heard (nothing_open AtClient) in
     absurd (omega (arith, sym (ap length same.1) ∙ length_is, many))
 talked first last (BadFrame refusal) bytes frames faults stops losses t is heard still_f is_f still_s is_s still_l is_l gives =
     let (rest, some, wrong, of_bytes) = t.bytes in
-    absurd (right_whole bytes frames (frames_of t.answered) rest refusal heard
+    absurd (right_whole AtClient bytes frames (frames_of t.answered) rest refusal heard
     (subst (λ list. Hears AtClient list (frames_of t.answered) rest) is some) wrong of_bytes)
 talked first last LinkFault bytes frames faults stops losses t is heard still_f is_f still_s is_s still_l is_l gives =
     let rose : last.faults ≡ next_count first.faults = t.faults in
@@ -150,7 +130,8 @@ talked first last (Strayed number None) bytes frames faults stops losses t is he
     let counted : last.tally ≡ after_ask call before = t.tally
     ∙ (ap (λ (list : List AskMade). after_asks (calls_for t.answered ++ list) first.tally) only
     ∙ after_asks_more (calls_for t.answered) (call ∷ []) first.tally) in
-    let rose : last.tally.losses ≡ next_count before.losses = ap (λ (x : Tally). x.losses) counted ∙ lost_none call before.stops before.losses number lost in
+    let rose : last.tally.losses ≡ next_count before.losses =
+    ap (λ (x : Tally). x.losses) counted ∙ lost_none call before.stops before.losses number lost in
     let kept : Kept first.tally.losses before.losses = asks_losses (calls_for t.answered) first.tally (omega (arith, is_l, still_l.0)) in
     absurd (moves losses before.losses last.tally.losses still_l (omega (arith, is_l, kept.0)) (omega (arith, rose)))
 talked first last (Strayed number (Some found)) bytes frames faults stops losses t is heard still_f is_f still_s is_s still_l is_l gives =
@@ -160,20 +141,11 @@ talked first last (Strayed number (Some found)) bytes frames faults stops losses
     ∙ last_called (calls_for t.answered) call first.tally) in
     absurd (strays_elsewhere call.question number found call.result strays
     (subst (λ (made : Option AskMade). GivesItsQuestion made) called gives))
-talked first last (Hung entered now) bytes frames faults stops losses t is heard still_f is_f still_s is_s still_l is_l gives = absurd t.asking
+talked first last (Hung entered now) bytes frames faults stops losses t is heard still_f is_f still_s is_s still_l is_l gives =
+    absurd t.asking
 talked first last Memory bytes frames faults stops losses t is heard still_f is_f still_s is_s still_l is_l gives = inr refl
 
 -- ---- the whole connection
-
-same_inside : (a b : Traffic) → Some a ≡ Some b → a ≡ b
-same_inside a b same = cc
-
--- what the link carried, where it tells it
-carried_so : (start now : Option Traffic) (received sent : List ℕ) (before after : Traffic) → Carried start now received sent
-    → start ≡ Some before → now ≡ Some after → after ≡ record { received = before.received ++ received; sent = before.sent ++ sent }
-carried_so start now received sent before after carried told told_now =
-    same_inside after (record { received = before.received ++ received; sent = before.sent ++ sent })
-    (sym told_now ∙ carried before told)
 
 ends_so : (result inner : Ended) (start now : ClientSide) (frames : List Framed) (answered : List Answered) → result ≡ inner
     → (frames_of answered ≡ frames → AnswersEach frames start now)
@@ -196,7 +168,8 @@ left_so result start now frames s (LeftHung at) is quiet gives r =
     let entered : s.first.tally.hangs ≡ start.tally.hangs = ap (λ (x : Tally). x.hangs) s.entry in
     let talked_on : s.last.tally.hangs ≡ s.first.tally.hangs = ap (λ (x : Tally). x.hangs) s.talks.tally
     ∙ asks_hangs (calls_for s.talks.answered ++ s.talks.last) s.first.tally in
-    absurd (moves start.tally.hangs s.last.tally.hangs now.tally.hangs quiet.hangs (omega (arith, entered, talked_on)) (omega (arith, rose)))
+    absurd (moves start.tally.hangs s.last.tally.hangs now.tally.hangs quiet.hangs (omega (arith, entered, talked_on))
+    (omega (arith, rose)))
 left_so result start now frames s (LeftStopped at) is quiet gives r =
     let tally : now.tally ≡ after_leave (leaves s (LeftStopped at)) s.last.tally = ap (λ (x : ClientSide). x.tally) s.leaving
     ∙ ap (λ (left : Left). after_leave (leaves s left) s.last.tally) is in
@@ -205,14 +178,17 @@ left_so result start now frames s (LeftStopped at) is quiet gives r =
     let talked_on : s.last.tally.stops ≡ (after_asks (calls_for s.talks.answered ++ s.talks.last) s.first.tally).stops =
     ap (λ (x : Tally). x.stops) s.talks.tally in
     let kept = asks_stops (calls_for s.talks.answered ++ s.talks.last) s.first.tally (omega (arith, entered, quiet.stops.0)) in
-    absurd (moves start.tally.stops s.last.tally.stops now.tally.stops quiet.stops (omega (arith, entered, talked_on, kept.0)) (omega (arith, rose)))
+    absurd (moves start.tally.stops s.last.tally.stops now.tally.stops quiet.stops (omega (arith, entered, talked_on, kept.0))
+    (omega (arith, rose)))
 left_so result start now frames s Still is quiet gives r =
     let leaving : now ≡ record s.last { tally = after_leave (leaves s Still) s.last.tally } = s.leaving
     ∙ ap (λ (left : Left). record s.last { tally = after_leave (leaves s left) s.last.tally }) is in
     let carried : Carried start.traffic now.traffic s.talks.received (replies_bytes s.talks.answered) =
     subst (λ (x : ClientSide). Carried start.traffic x.traffic s.talks.received (replies_bytes s.talks.answered)) (sym leaving)
-    (carried_more [] s.talks.received [] (replies_bytes s.talks.answered) start.traffic s.first.traffic s.last.traffic s.opened s.talks.carried) in
-    let at = carried_so start.traffic now.traffic s.talks.received (replies_bytes s.talks.answered) r.before r.after carried r.told r.told_now in
+    (carried_more [] s.talks.received [] (replies_bytes s.talks.answered) start.traffic s.first.traffic s.last.traffic s.opened
+    s.talks.carried) in
+    let at = carried_so start.traffic now.traffic s.talks.received (replies_bytes s.talks.answered) r.before r.after carried r.told
+    r.told_now in
     let bytes : s.talks.received ≡ r.bytes =
     append_cancel_left r.before.received s.talks.received r.bytes (sym (ap (λ (x : Traffic). x.received) at) ∙ r.received) in
     ends_so result s.inner start now frames s.talks.answered
@@ -235,7 +211,8 @@ left_so result start now frames s Still is quiet gives r =
 
 -- no hang end was to be had
 unbegun_so : (result : Ended) (start now : ClientSide) → IsUnbegun result start.faults now.faults → IsQuiet start now → result ≡ Memory
-unbegun_so LinkFault start now rose quiet = absurd (moves start.faults start.faults now.faults quiet.faults (omega arith) (omega (arith, rose)))
+unbegun_so LinkFault start now rose quiet =
+    absurd (moves start.faults start.faults now.faults quiet.faults (omega arith) (omega (arith, rose)))
 unbegun_so Memory start now still quiet = refl
 unbegun_so Closed start now wrong quiet = absurd wrong
 unbegun_so (Cut count) start now wrong quiet = absurd wrong

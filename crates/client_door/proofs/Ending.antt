@@ -1,5 +1,6 @@
 -- How the answering of checks ends.
-use Rattle.std.proofs.Common.{◌≡◌, ◌∙◌, ◌≤◌, ℕ, List, [], ◌∷◌, ◌++◌, map, length, Option, Some, refl, sym, ap, subst, append_assoc, append-nil, arith}
+use Rattle.std.proofs.Common.{◌≡◌, ◌∙◌, ◌≤◌, ℕ, List, [], ◌∷◌, ◌++◌, map, length, Option, Some, refl, sym, ap, subst, append_assoc}
+use Rattle.std.proofs.Common.{append-nil, arith}
 use Rattle.std.proofs.lemmas.List.{map-append}
 use Rattle.std.specs.List.{AllByRecursion}
 use Rattle.desk_ports.specs.Faults.{next_count}
@@ -45,7 +46,8 @@ use Rattle.client_door.proofs.Unsent.{back_right, back_read, read_below, all_cal
 use Rattle.client_door.proofs.Steps.{answered_with, answered_by_policies, reseated, flushed, heard_more}
 
 -- the first of some checks were read as all of them
-front_read : (seen : List DeskState) (low : ℕ) (answered more : List Answered) → AreReadIn seen low (answered ++ more) → AreReadIn seen low answered
+front_read : (seen : List DeskState) (low : ℕ) (answered more : List Answered) → AreReadIn seen low (answered ++ more)
+    → AreReadIn seen low answered
 front_read seen low [] more read = tt
 front_read seen low (one ∷ answered) more (there, fresh, others) =
     (there, fresh, front_read seen one.desk.commit answered more others)
@@ -71,14 +73,17 @@ unanswered start now feeder waiting taken side s =
     (frames_of s.unsent ++ (map framed_of taken ++ feeder.waiting), s.heard.behind, heard_behind start now feeder waiting taken side s)
 
 -- the answering ends, after these calls of `ask` more
-pub ends_with : (start now after : ClientSide) (feeder : Feeding) (waiting : List ℕ) (taken : List Check) (ended : Ended) (extra : List AskMade)
+pub ends_with : (start now after : ClientSide) (feeder : Feeding) (waiting : List ℕ) (taken : List Check) (ended : Ended)
+    (extra : List AskMade)
     → (s : Stands start now feeder waiting taken)
-    → after.seat ≡ now.seat → after.recording ≡ now.recording → after.tally ≡ after_asks extra now.tally → AppendsCalls now.calls (map Ask extra) after.calls
+    → after.seat ≡ now.seat → after.recording ≡ now.recording → after.tally ≡ after_asks extra now.tally
+    → AppendsCalls now.calls (map Ask extra) after.calls
     → Carried now.traffic after.traffic [] [] → after.faults ≡ faults_after ended now.faults → IsAtEnd ended after.marks
     → after.marks.ends ≡ now.marks.ends → EndsAsking ended (calls_for s.unsent ++ extra) → feeder.heard ≡ AtClient
     → AllByRecursion (IsCallFor now.seat s.received s.sent) extra
     → EndsBytes AtClient s.received (frames_of s.sent) ended → Talks start after ended
-ends_with start now after feeder waiting taken ended extra s seat recording tally told carried faults at_end ends asking side for_extra bytes =
+ends_with start now after feeder waiting taken ended extra s seat recording tally told carried faults at_end ends asking side
+    for_extra bytes =
     let read = back_read now.seat.seen now.seat.note s.sent s.unsent s.read in
     let made : calls_for (s.sent ++ s.unsent) ++ extra ≡ calls_for s.sent ++ (calls_for s.unsent ++ extra) =
     ap (λ list. list ++ extra) (calls_for_more s.sent s.unsent) ∙ append_assoc (calls_for s.sent) (calls_for s.unsent) extra in
@@ -105,7 +110,8 @@ ends_with start now after feeder waiting taken ended extra s seat recording tall
       for_checks = subst (λ (x : SeatState). AllByRecursion (IsCallFor x s.received s.sent) (calls_for s.unsent ++ extra)) (sym seat)
           (all_calls (IsCallFor now.seat s.received s.sent) (calls_for s.unsent) extra
           (unsent_calls now.seat s.received s.sent [] s.unsent (map framed_of taken ++ feeder.waiting) s.heard.behind
-          (read_up_to now.seat.note s.sent) (omega arith) (back_right s.sent s.unsent s.right) read (heard_behind start now feeder waiting taken side s))
+          (read_up_to now.seat.note s.sent) (omega arith) (back_right s.sent s.unsent s.right) read
+          (heard_behind start now feeder waiting taken side s))
           for_extra);
       faults = faults ∙ ap (λ count. faults_after ended count) s.faults;
       at_end = at_end;
@@ -129,7 +135,8 @@ pub ends_for_fault : (start now : ClientSide) (traffic : Option Traffic) (marks 
     → Stands start now feeder waiting taken → Talks start (with_sent now traffic marks faults recording) ended
 ends_for_fault start now traffic marks faults recording feeder waiting taken ended is side carried same rose kept s =
     subst (λ (e : Ended). Talks start (with_sent now traffic marks faults recording) e) (sym is)
-    (ends_with start now (with_sent now traffic marks faults recording) feeder waiting taken LinkFault [] s refl kept refl (calls_same now.calls)
+    (ends_with start now (with_sent now traffic marks faults recording) feeder waiting taken LinkFault [] s refl kept refl
+    (calls_same now.calls)
     carried rose tt same
     (subst (λ (list : List AskMade). length list ≤ 1) (sym (append-nil (calls_for s.unsent))) s.few) side tt
     (unanswered start now feeder waiting taken side s))
@@ -152,18 +159,21 @@ no_calls : (start now : ClientSide) (feeder : Feeding) (waiting : List ℕ) (s :
     → calls_for s.unsent ++ [] ≡ []
 no_calls start now feeder waiting s sent = append-nil (calls_for s.unsent) ∙ ap calls_for sent
 
-pub ends_reading : (start now : ClientSide) (traffic : Option Traffic) (marks : LinkMarks) (faults : ℕ) (feeder : Feeding) (waiting : List ℕ)
+pub ends_reading : (start now : ClientSide) (traffic : Option Traffic) (marks : LinkMarks) (faults : ℕ) (feeder : Feeding)
+    (waiting : List ℕ)
     (ended : Ended) → feeder.heard ≡ AtClient → feeder.waiting ≡ [] → Carried now.traffic traffic [] [] → marks.ends ≡ now.marks.ends
     → EndsReading ended feeder marks now.faults faults
     → (s : Stands start now feeder waiting []) → s.unsent ≡ [] → Talks start (with_link now traffic marks faults) ended
 ends_reading start now traffic marks faults feeder waiting Closed side none carried same (sound, empty, mark, still) s sent =
     let behind : s.heard.behind ≡ [] = (s.heard.sound sound).0 ∙ empty in
-    ends_with start now (with_link now traffic marks faults) feeder waiting [] Closed [] s refl refl refl (calls_same now.calls) carried still mark same
+    ends_with start now (with_link now traffic marks faults) feeder waiting [] Closed [] s refl refl refl (calls_same now.calls) carried
+    still mark same
     (no_calls start now feeder waiting s sent) side tt
     (subst (λ rest. Hears AtClient s.received (frames_of s.sent) rest) behind (all_answered start now feeder waiting side none s sent))
 ends_reading start now traffic marks faults feeder waiting (Cut count) side none carried same (sound, is, some, mark, still) s sent =
     let at = s.heard.sound sound in
-    ends_with start now (with_link now traffic marks faults) feeder waiting [] (Cut count) [] s refl refl refl (calls_same now.calls) carried still mark same
+    ends_with start now (with_link now traffic marks faults) feeder waiting [] (Cut count) [] s refl refl refl (calls_same now.calls)
+    carried still mark same
     (no_calls start now feeder waiting s sent) side tt (
       s.heard.behind,
       all_answered start now feeder waiting side none s sent,
@@ -200,7 +210,8 @@ pub asked_once : (start now : ClientSide) (tally : Tally) (calls : Option (List 
     → frame ≡ spelling (with_sequence check.sequence (message_of (reply_of reply))) → after ≡ [] ++ frame
     → (s : Stands start now feeder [] (check ∷ [])) → s.unsent ≡ []
     → Stands start (record now { tally = tally; calls = calls }) feeder after []
-asked_once start now tally calls feeder frame after check desk commit kind metadata reply now_read is (result, asked, leads) spelled put s sent =
+asked_once start now tally calls feeder frame after check desk commit kind metadata reply now_read is (result, asked, leads) spelled
+    put s sent =
     let call : AskMade = ask_made kind check.question metadata result in
     answered_with start now tally calls now.recording feeder [] after check desk (Some call) (reply_of reply) s now_read
     (subst (λ (seen : Reading). Answers seen check.question (Some call) (reply_of reply)) (sym is) (result, refl, leads))
@@ -223,21 +234,25 @@ made_for start now feeder check desk commit kind metadata result side now_read d
   fresh = let top : last_commit 0 now.seat.seen ≡ desk.commit = commit_of_last now.seat.seen desk now_read.last in
       let below : read_up_to now.seat.note s.sent ≤ last_commit 0 now.seat.seen =
       read_below now.seat.seen now.seat.note s.sent s.unsent (omega (arith, top, now_read.fresh)) s.read in
-      reads_between (read_up_to now.seat.note s.sent) (last_commit 0 now.seat.seen) desk.commit (omega (arith, top, below)) (omega (arith, top));
+      reads_between (read_up_to now.seat.note s.sent) (last_commit 0 now.seat.seen) desk.commit (omega (arith, top, below))
+      (omega (arith, top));
   heard = (frames_of s.unsent, feeder.waiting, s.heard.behind, heard_behind start now feeder [] (check ∷ []) side s);
 }
 
 -- memory is wanting after the call
 pub asked_for_nothing : (start now : ClientSide) (tally : Tally) (calls : Option (List HallCall)) (feeder : Feeding)
     (check : Check) (desk : DeskState) (commit : ℕ) (kind : Kind) (metadata : List ℕ) (reply : AgentReply) (ended : Ended) → ended ≡ Memory
-    → feeder.heard ≡ AtClient → IsReadNow desk now.seat → reading desk check ≡ IsDue commit kind metadata → AsksOnce commit kind check.question metadata now.tally now.calls tally calls reply
+    → feeder.heard ≡ AtClient → IsReadNow desk now.seat → reading desk check ≡ IsDue commit kind metadata
+    → AsksOnce commit kind check.question metadata now.tally now.calls tally calls reply
     → (s : Stands start now feeder [] (check ∷ [])) → s.unsent ≡ []
     → Talks start (record now { tally = tally; calls = calls }) ended
-asked_for_nothing start now tally calls feeder check desk commit kind metadata reply ended is side now_read due (result, asked, leads) s sent =
+asked_for_nothing start now tally calls feeder check desk commit kind metadata reply ended is side now_read due
+    (result, asked, leads) s sent =
     let call : AskMade = ask_made kind check.question metadata result in
     let after : ClientSide = record now { tally = tally; calls = calls } in
     subst (λ (e : Ended). Talks start after e) (sym is)
-    (ends_with start now after feeder [] (check ∷ []) Memory (call ∷ []) s refl refl asked.counted asked.told (carried_same now.traffic) refl tt refl
+    (ends_with start now after feeder [] (check ∷ []) Memory (call ∷ []) s refl refl asked.counted asked.told (carried_same now.traffic)
+    refl tt refl
     (subst (λ (list : List Answered). length (calls_for list ++ call ∷ []) ≤ 1) (sym sent) (omega arith)) side
     (made_for start now feeder check desk commit kind metadata result side now_read due s, tt)
     (unanswered start now feeder [] (check ∷ []) side s))
@@ -251,7 +266,8 @@ vain : (start now after : ClientSide) (feeder : Feeding) (check : Check) (desk :
     → (s : Stands start now feeder [] (check ∷ [])) → s.unsent ≡ [] → Talks start after ended
 vain start now after feeder check desk commit kind metadata result Stopped now_read due side same asked stop s sent =
     let call : AskMade = ask_made kind check.question metadata result in
-    ends_with start now after feeder [] (check ∷ []) Stopped (call ∷ []) s (ap (λ (x : ClientSide). x.seat) same) (ap (λ (x : ClientSide). x.recording) same) asked.counted asked.told
+    ends_with start now after feeder [] (check ∷ []) Stopped (call ∷ []) s (ap (λ (x : ClientSide). x.seat) same)
+    (ap (λ (x : ClientSide). x.recording) same) asked.counted asked.told
     (subst (λ (x : ClientSide). Carried now.traffic x.traffic [] []) (sym same) (carried_same now.traffic))
     (ap (λ (x : ClientSide). x.faults) same) tt (ap (λ (x : ClientSide). x.marks.ends) same)
     (call, ap (λ (list : List Answered). calls_for list ++ call ∷ []) sent, stop) side
@@ -259,7 +275,8 @@ vain start now after feeder check desk commit kind metadata result Stopped now_r
     (unanswered start now feeder [] (check ∷ []) side s)
 vain start now after feeder check desk commit kind metadata result Memory now_read due side same asked free s sent =
     let call : AskMade = ask_made kind check.question metadata result in
-    ends_with start now after feeder [] (check ∷ []) Memory (call ∷ []) s (ap (λ (x : ClientSide). x.seat) same) (ap (λ (x : ClientSide). x.recording) same) asked.counted asked.told
+    ends_with start now after feeder [] (check ∷ []) Memory (call ∷ []) s (ap (λ (x : ClientSide). x.seat) same)
+    (ap (λ (x : ClientSide). x.recording) same) asked.counted asked.told
     (subst (λ (x : ClientSide). Carried now.traffic x.traffic [] []) (sym same) (carried_same now.traffic))
     (ap (λ (x : ClientSide). x.faults) same) tt (ap (λ (x : ClientSide). x.marks.ends) same)
     (subst (λ (list : List Answered). length (calls_for list ++ call ∷ []) ≤ 1) (sym sent) (omega arith)) side
@@ -267,7 +284,8 @@ vain start now after feeder check desk commit kind metadata result Memory now_re
     (unanswered start now feeder [] (check ∷ []) side s)
 vain start now after feeder check desk commit kind metadata result (Strayed number found) now_read due side same asked strays s sent =
     let call : AskMade = ask_made kind check.question metadata result in
-    ends_with start now after feeder [] (check ∷ []) (Strayed number found) (call ∷ []) s (ap (λ (x : ClientSide). x.seat) same) (ap (λ (x : ClientSide). x.recording) same) asked.counted asked.told
+    ends_with start now after feeder [] (check ∷ []) (Strayed number found) (call ∷ []) s (ap (λ (x : ClientSide). x.seat) same)
+    (ap (λ (x : ClientSide). x.recording) same) asked.counted asked.told
     (subst (λ (x : ClientSide). Carried now.traffic x.traffic [] []) (sym same) (carried_same now.traffic))
     (ap (λ (x : ClientSide). x.faults) same) tt (ap (λ (x : ClientSide). x.marks.ends) same)
     (call, ap (λ (list : List Answered). calls_for list ++ call ∷ []) sent, strays) side
@@ -275,13 +293,16 @@ vain start now after feeder check desk commit kind metadata result (Strayed numb
     (unanswered start now feeder [] (check ∷ []) side s)
 vain start now after feeder check desk commit kind metadata result Closed now_read due side same asked wrong s sent = absurd wrong
 vain start now after feeder check desk commit kind metadata result (Cut count) now_read due side same asked wrong s sent = absurd wrong
-vain start now after feeder check desk commit kind metadata result (Hung entered at) now_read due side same asked wrong s sent = absurd wrong
+vain start now after feeder check desk commit kind metadata result (Hung entered at) now_read due side same asked wrong s sent =
+    absurd wrong
 vain start now after feeder check desk commit kind metadata result LinkFault now_read due side same asked wrong s sent = absurd wrong
-vain start now after feeder check desk commit kind metadata result (BadFrame refusal) now_read due side same asked wrong s sent = absurd wrong
+vain start now after feeder check desk commit kind metadata result (BadFrame refusal) now_read due side same asked wrong s sent =
+    absurd wrong
 
 pub asked_in_vain : (start now : ClientSide) (tally : Tally) (calls : Option (List HallCall)) (feeder : Feeding)
     (check : Check) (desk : DeskState) (commit : ℕ) (kind : Kind) (metadata : List ℕ) (ended : Ended) → IsReadNow desk now.seat
-    → reading desk check ≡ IsDue commit kind metadata → feeder.heard ≡ AtClient → AsksInVain kind check.question metadata now.tally now.calls tally calls ended
+    → reading desk check ≡ IsDue commit kind metadata → feeder.heard ≡ AtClient
+    → AsksInVain kind check.question metadata now.tally now.calls tally calls ended
     → (s : Stands start now feeder [] (check ∷ [])) → s.unsent ≡ []
     → Talks start (record now { tally = tally; calls = calls }) ended
 asked_in_vain start now tally calls feeder check desk commit kind metadata ended now_read due side made s sent =
@@ -295,13 +316,15 @@ asked_in_vain start now tally calls feeder check desk commit kind metadata ended
           (subst (λ (list : List AskMade). length list ≤ 1) (sym (append-nil (calls_for s.unsent))) s.few) side tt
           (unanswered start now feeder [] (check ∷ []) side s))
       | AsksInVain.vain result asked why ↦
-          vain start now (record now { tally = tally; calls = calls }) feeder check desk commit kind metadata result ended now_read due side refl asked why s sent
+          vain start now (record now { tally = tally; calls = calls }) feeder check desk commit kind metadata result ended now_read due side
+          refl asked why s sent
     ]
 
 -- ---- the parts of a turn
 
 -- a check was read and put behind those that wait, by the policies alone
-pub reads_and_puts : (old new : ClientSide) (seat : SeatState) (recording : Option Recording) (feeder : Feeding) (waiting frame after : List ℕ)
+pub reads_and_puts : (old new : ClientSide) (seat : SeatState) (recording : Option Recording) (feeder : Feeding)
+    (waiting frame after : List ℕ)
     (check : Check) (desk : DeskState) (reply : Reply) → seat ≡ record old.seat { seen = seat.seen } → GoesOn old.seat.seen seat.seen
     → new ≡ record old { seat = seat; recording = recording } → IsReadNow desk seat → reading desk check ≡ IsReady reply
     → frame ≡ spelling (with_sequence check.sequence (message_of reply)) → Notes old.recording (judged_by check.question reply) recording
@@ -309,11 +332,13 @@ pub reads_and_puts : (old new : ClientSide) (seat : SeatState) (recording : Opti
     → (start : ClientSide) → Stands start old feeder waiting (check ∷ []) → Stands start new feeder after []
 reads_and_puts old new seat recording feeder waiting frame after check desk reply same goes_on is now_read read spelled noted put start s =
     subst (λ (x : ClientSide). Stands start x feeder after []) (sym is)
-    (answered_by_policies start (record old { seat = seat }) recording feeder waiting frame after check desk reply now_read read spelled noted put
+    (answered_by_policies start (record old { seat = seat }) recording feeder waiting frame after check desk reply now_read read
+    spelled noted put
     (reseated start old seat desk feeder waiting (check ∷ []) same goes_on now_read s))
 
 -- a check was read, and memory was wanting
-pub reads_for_nothing : (old new : ClientSide) (seat : SeatState) (desk : DeskState) (feeder : Feeding) (waiting : List ℕ) (check : Check) (ended : Ended)
+pub reads_for_nothing : (old new : ClientSide) (seat : SeatState) (desk : DeskState) (feeder : Feeding) (waiting : List ℕ) (check : Check)
+    (ended : Ended)
     → seat ≡ record old.seat { seen = seat.seen } → GoesOn old.seat.seen seat.seen → new ≡ record old { seat = seat }
     → IsReadNow desk seat → ended ≡ Memory → feeder.heard ≡ AtClient
     → (start : ClientSide) → Stands start old feeder waiting (check ∷ []) → Talks start new ended
@@ -324,65 +349,90 @@ reads_for_nothing old new seat desk feeder waiting check ended same goes_on is n
 
 -- replies were sent, and more was received
 pub sends_and_receives : (side : ClientSide) (before : Option Traffic) (marks : LinkMarks) (faults : ℕ) (noted recording : Option Recording)
-    (sent : Option Traffic) (marks_sent : LinkMarks) (faults_sent : ℕ) (after : Option Traffic) (marks_after : LinkMarks) (faults_after : ℕ) (feeder fed : Feeding) (waiting bytes : List ℕ)
+    (sent : Option Traffic) (marks_sent : LinkMarks) (faults_sent : ℕ) (after : Option Traffic) (marks_after : LinkMarks) (faults_after : ℕ)
+    (feeder fed : Feeding) (waiting bytes : List ℕ)
     → Carried before sent [] waiting → marks_sent ≡ marks → faults_sent ≡ faults → ChangesTold noted with_all_recorded recording
     → Carried sent after bytes [] → HearsMore bytes feeder fed → marks_after.ends ≡ marks_sent.ends → faults_after ≡ faults_sent
     → (start : ClientSide) → Stands start (with_sent side before marks faults noted) feeder waiting []
     → Stands start (with_sent side after marks_after faults_after recording) fed [] []
-sends_and_receives side before marks faults noted recording sent marks_sent faults_sent after marks_after faults_after feeder fed waiting bytes carried same still recorded received hears ends rest start s =
-    let first = flushed start (with_sent side before marks faults noted) sent marks_sent faults_sent recording feeder waiting [] carried same still recorded s in
-    (heard_more start (with_sent side sent marks_sent faults_sent recording) after marks_after faults_after feeder fed [] bytes received hears ends rest first.0).0
+sends_and_receives side before marks faults noted recording sent marks_sent faults_sent after marks_after faults_after feeder fed waiting
+    bytes carried same still recorded received hears ends rest start s =
+    let first = flushed start (with_sent side before marks faults noted) sent marks_sent faults_sent recording feeder waiting [] carried
+    same still recorded s in
+    (heard_more start (with_sent side sent marks_sent faults_sent recording) after marks_after faults_after feeder fed [] bytes received
+    hears ends rest first.0).0
 
 -- replies were sent, and no more comes
 pub sends_and_ends : (side : ClientSide) (before : Option Traffic) (marks : LinkMarks) (faults : ℕ) (noted recording : Option Recording)
-    (sent : Option Traffic) (marks_sent : LinkMarks) (faults_sent : ℕ) (after : Option Traffic) (marks_after : LinkMarks) (faults_now : ℕ) (feeder fed : Feeding) (waiting bytes : List ℕ) (ended : Ended)
+    (sent : Option Traffic) (marks_sent : LinkMarks) (faults_sent : ℕ) (after : Option Traffic) (marks_after : LinkMarks) (faults_now : ℕ)
+    (feeder fed : Feeding) (waiting bytes : List ℕ) (ended : Ended)
     → Carried before sent [] waiting → marks_sent ≡ marks → faults_sent ≡ faults → ChangesTold noted with_all_recorded recording
     → Carried sent after bytes [] → HearsMore bytes feeder fed → marks_after.ends ≡ marks_sent.ends
     → fed.heard ≡ AtClient → fed.waiting ≡ [] → EndsReading ended fed marks_after faults_sent faults_now
     → (start : ClientSide) → Stands start (with_sent side before marks faults noted) feeder waiting []
     → Talks start (with_sent side after marks_after faults_now recording) ended
-sends_and_ends side before marks faults noted recording sent marks_sent faults_sent after marks_after faults_now feeder fed waiting bytes ended carried same still recorded received hears ends heard none reading start s =
-    let first = flushed start (with_sent side before marks faults noted) sent marks_sent faults_sent recording feeder waiting [] carried same still recorded s in
-    let then = heard_more start (with_sent side sent marks_sent faults_sent recording) after marks_sent faults_sent feeder fed [] bytes received hears refl refl first.0 in
-    ends_reading start (with_sent side after marks_sent faults_sent recording) after marks_after faults_now fed [] ended heard none (carried_same after) ends reading
+sends_and_ends side before marks faults noted recording sent marks_sent faults_sent after marks_after faults_now feeder fed waiting bytes
+    ended carried same still recorded received hears ends heard none reading start s =
+    let first = flushed start (with_sent side before marks faults noted) sent marks_sent faults_sent recording feeder waiting [] carried
+    same still recorded s in
+    let then = heard_more start (with_sent side sent marks_sent faults_sent recording) after marks_sent faults_sent feeder fed [] bytes
+    received hears refl refl first.0 in
+    ends_reading start (with_sent side after marks_sent faults_sent recording) after marks_after faults_now fed [] ended heard none
+    (carried_same after) ends reading
     then.0 (then.1 ∙ first.1)
 
 -- replies were sent, an agent was asked, and the reply waits
-pub sends_and_asks : (old : ClientSide) (sent : Option Traffic) (marks : LinkMarks) (faults : ℕ) (recording : Option Recording) (tally : Tally) (calls : Option (List HallCall))
-    (feeder : Feeding) (waiting between frame after : List ℕ) (check : Check) (desk : DeskState) (commit : ℕ) (kind : Kind) (metadata : List ℕ) (reply : AgentReply)
-    → Carried old.traffic sent [] waiting → marks ≡ old.marks → faults ≡ old.faults → ChangesTold old.recording with_all_recorded recording → between ≡ []
+pub sends_and_asks : (old : ClientSide) (sent : Option Traffic) (marks : LinkMarks) (faults : ℕ) (recording : Option Recording)
+    (tally : Tally) (calls : Option (List HallCall))
+    (feeder : Feeding) (waiting between frame after : List ℕ) (check : Check) (desk : DeskState) (commit : ℕ) (kind : Kind)
+    (metadata : List ℕ) (reply : AgentReply)
+    → Carried old.traffic sent [] waiting → marks ≡ old.marks → faults ≡ old.faults → ChangesTold old.recording with_all_recorded recording
+    → between ≡ []
     → IsReadNow desk old.seat → reading desk check ≡ IsDue commit kind metadata
     → AsksOnce commit kind check.question metadata old.tally old.calls tally calls reply
     → after ≡ between ++ spelling (with_sequence check.sequence (message_of (reply_of reply)))
     → (start : ClientSide) → Stands start old feeder waiting (check ∷ [])
     → Stands start (recorded_side old.seat tally calls sent marks faults recording) feeder after []
-sends_and_asks old sent marks faults recording tally calls feeder waiting between frame after check desk commit kind metadata reply carried same still recorded none now_read is asks put start s =
+sends_and_asks old sent marks faults recording tally calls feeder waiting between frame after check desk commit kind metadata reply carried
+    same still recorded none now_read is asks put start s =
     let first = flushed start old sent marks faults recording feeder waiting (check ∷ []) carried same still recorded s in
-    asked_once start (with_sent old sent marks faults recording) tally calls feeder (spelling (with_sequence check.sequence (message_of (reply_of reply)))) after
+    asked_once start (with_sent old sent marks faults recording) tally calls feeder
+    (spelling (with_sequence check.sequence (message_of (reply_of reply)))) after
     check desk commit kind metadata reply now_read is asks refl
     (put ∙ ap (λ list. list ++ spelling (with_sequence check.sequence (message_of (reply_of reply)))) none) first.0 first.1
 
 -- the same, and memory was wanting for the reply
-pub sends_and_asks_for_nothing : (old : ClientSide) (sent : Option Traffic) (marks : LinkMarks) (faults : ℕ) (recording : Option Recording) (tally : Tally) (calls : Option (List HallCall))
-    (feeder : Feeding) (waiting : List ℕ) (check : Check) (desk : DeskState) (commit : ℕ) (kind : Kind) (metadata : List ℕ) (reply : AgentReply) (ended : Ended)
-    → Carried old.traffic sent [] waiting → marks ≡ old.marks → faults ≡ old.faults → ChangesTold old.recording with_all_recorded recording → ended ≡ Memory → feeder.heard ≡ AtClient
-    → IsReadNow desk old.seat → reading desk check ≡ IsDue commit kind metadata → AsksOnce commit kind check.question metadata old.tally old.calls tally calls reply
+pub sends_and_asks_for_nothing : (old : ClientSide) (sent : Option Traffic) (marks : LinkMarks) (faults : ℕ) (recording : Option Recording)
+    (tally : Tally) (calls : Option (List HallCall))
+    (feeder : Feeding) (waiting : List ℕ) (check : Check) (desk : DeskState) (commit : ℕ) (kind : Kind) (metadata : List ℕ)
+    (reply : AgentReply) (ended : Ended)
+    → Carried old.traffic sent [] waiting → marks ≡ old.marks → faults ≡ old.faults → ChangesTold old.recording with_all_recorded recording
+    → ended ≡ Memory → feeder.heard ≡ AtClient
+    → IsReadNow desk old.seat → reading desk check ≡ IsDue commit kind metadata
+    → AsksOnce commit kind check.question metadata old.tally old.calls tally calls reply
     → (start : ClientSide) → Stands start old feeder waiting (check ∷ [])
     → Talks start (recorded_side old.seat tally calls sent marks faults recording) ended
-sends_and_asks_for_nothing old sent marks faults recording tally calls feeder waiting check desk commit kind metadata reply ended carried same still recorded is side now_read due asks start s =
+sends_and_asks_for_nothing old sent marks faults recording tally calls feeder waiting check desk commit kind metadata reply ended carried
+    same still recorded is side now_read due asks start s =
     let first = flushed start old sent marks faults recording feeder waiting (check ∷ []) carried same still recorded s in
-    asked_for_nothing start (with_sent old sent marks faults recording) tally calls feeder check desk commit kind metadata reply ended is side now_read due asks first.0 first.1
+    asked_for_nothing start (with_sent old sent marks faults recording) tally calls feeder check desk commit kind metadata reply ended is
+    side now_read due asks first.0 first.1
 
 -- the same, and no reply comes of it
-pub sends_and_asks_in_vain : (old : ClientSide) (sent : Option Traffic) (marks : LinkMarks) (faults : ℕ) (recording : Option Recording) (tally : Tally) (calls : Option (List HallCall))
+pub sends_and_asks_in_vain : (old : ClientSide) (sent : Option Traffic) (marks : LinkMarks) (faults : ℕ) (recording : Option Recording)
+    (tally : Tally) (calls : Option (List HallCall))
     (feeder : Feeding) (waiting : List ℕ) (check : Check) (desk : DeskState) (commit : ℕ) (kind : Kind) (metadata : List ℕ) (ended : Ended)
-    → Carried old.traffic sent [] waiting → marks ≡ old.marks → faults ≡ old.faults → ChangesTold old.recording with_all_recorded recording → feeder.heard ≡ AtClient
-    → IsReadNow desk old.seat → reading desk check ≡ IsDue commit kind metadata → AsksInVain kind check.question metadata old.tally old.calls tally calls ended
+    → Carried old.traffic sent [] waiting → marks ≡ old.marks → faults ≡ old.faults → ChangesTold old.recording with_all_recorded recording
+    → feeder.heard ≡ AtClient
+    → IsReadNow desk old.seat → reading desk check ≡ IsDue commit kind metadata
+    → AsksInVain kind check.question metadata old.tally old.calls tally calls ended
     → (start : ClientSide) → Stands start old feeder waiting (check ∷ [])
     → Talks start (recorded_side old.seat tally calls sent marks faults recording) ended
-sends_and_asks_in_vain old sent marks faults recording tally calls feeder waiting check desk commit kind metadata ended carried same still recorded side now_read due made start s =
+sends_and_asks_in_vain old sent marks faults recording tally calls feeder waiting check desk commit kind metadata ended carried same still
+    recorded side now_read due made start s =
     let first = flushed start old sent marks faults recording feeder waiting (check ∷ []) carried same still recorded s in
-    asked_in_vain start (with_sent old sent marks faults recording) tally calls feeder check desk commit kind metadata ended now_read due side made first.0 first.1
+    asked_in_vain start (with_sent old sent marks faults recording) tally calls feeder check desk commit kind metadata ended now_read due
+    side made first.0 first.1
 
 -- a check was read, and an agent is to be asked
 pub reads_on : (old : ClientSide) (seat : SeatState) (desk : DeskState) (feeder fed : Feeding) (waiting after : List ℕ) (check : Check)

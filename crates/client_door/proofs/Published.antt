@@ -43,11 +43,13 @@ rises_behind : (low : ℕ) (front : List DeskState) (desk : DeskState) (back : L
 rises_behind low [] desk back rises = rises.1
 rises_behind low (x ∷ front) desk back rises = rises_behind x.commit front desk back rises.1
 
-rises_within : (front : List DeskState) (desk : DeskState) (back : List DeskState) → Rises (front ++ desk ∷ back) → RisesFrom desk.commit back
+rises_within : (front : List DeskState) (desk : DeskState) (back : List DeskState) → Rises (front ++ desk ∷ back)
+    → RisesFrom desk.commit back
 rises_within [] desk back rises = rises
 rises_within (x ∷ front) desk back rises = rises_behind x.commit front desk back rises
 
-pub not_above : (one last : DeskState) (seen : List DeskState) → Rises seen → IsLast seen last → StandsIn one seen → one.commit ≤ last.commit
+pub not_above : (one last : DeskState) (seen : List DeskState) → Rises seen → IsLast seen last → StandsIn one seen
+    → one.commit ≤ last.commit
 not_above one last seen rises (front, is_last) (before, behind, is) =
     let up : RisesFrom one.commit behind = rises_within before one behind (subst (λ (list : List DeskState). Rises list) is rises) in
     let same : last_or one behind ≡ last =
@@ -98,7 +100,8 @@ read_in_more seen later last goes_on rises is_last low [] read = tt
 read_in_more seen later last goes_on rises is_last low (one ∷ more) (at, may, others) =
     let there = stands_in_more one.desk seen later at goes_on in
     let high : one.desk.commit ≤ last_commit 0 later =
-    subst (λ (top : ℕ). one.desk.commit ≤ top) (sym (commit_of_last later last is_last)) (not_above one.desk last later rises is_last there) in (
+    subst (λ (top : ℕ). one.desk.commit ≤ top) (sym (commit_of_last later last is_last))
+    (not_above one.desk last later rises is_last there) in (
       there,
       reads_between low (last_commit 0 later) one.desk.commit (read_from low (last_commit 0 seen) one.desk.commit may) high,
       read_in_more seen later last goes_on rises is_last one.desk.commit more others,

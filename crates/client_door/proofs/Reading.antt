@@ -14,7 +14,8 @@ use Rattle.desk_world.specs.declared.links.Reading.TheVariants.{Ready, Due}
 use Rattle.desk_world.specs.declared.replies.Reply.TheVariants.{Judged, NotResolved}
 use Rattle.client_door.specs.Reading.{Finds, TellsNotResolved}
 use Rattle.client_door.specs.declared.readings.Found.{Found}
-use Rattle.client_door.specs.declared.readings.Found.TheVariants.{Judged as FoundJudged, Unresolved as FoundUnresolved, Due as FoundDue, Memory as FoundMemory}
+use Rattle.client_door.specs.declared.readings.Found.TheVariants.{Judged as FoundJudged, Unresolved as FoundUnresolved, Due as FoundDue}
+use Rattle.client_door.specs.declared.readings.Found.TheVariants.{Memory as FoundMemory}
 
 -- the policies decide
 pub reads_judged : (sequence : ℕ) (simple : Bool) (commit : ℕ) (lent : BorrowedAnswer) (frame : List ℕ) (allowed : Bool)

@@ -1,5 +1,6 @@
 -- Each kind of step keeps how the answering of checks stands, or ends it.
-use Rattle.std.proofs.Common.{◌≡◌, ◌∙◌, ◌≤◌, ℕ, List, [], ◌∷◌, ◌++◌, map, length, Option, None, refl, sym, ap, subst, append_assoc, append-nil, arith}
+use Rattle.std.proofs.Common.{◌≡◌, ◌∙◌, ◌≤◌, ℕ, List, [], ◌∷◌, ◌++◌, map, length, Option, None, refl, sym, ap, subst, append_assoc}
+use Rattle.std.proofs.Common.{append-nil, arith}
 use Rattle.std.proofs.lemmas.List.{map-append}
 use Rattle.std.specs.List.{AllByRecursion}
 use Rattle.link_ports.specs.Traffic.{Traffic}
@@ -25,7 +26,8 @@ use Rattle.door_frames.proofs.Carrying.{carried_more, carried_same}
 use Rattle.door_frames.proofs.Hearing.{unfed_heard}
 use Rattle.client_door.specs.Check.{framed_of, message_of}
 use Rattle.client_door.specs.Reading.{reading}
-use Rattle.client_door.specs.Answered.{Answered, Answers, IsRight, call_list, calls_for, after_asks, reply_bytes, replies_bytes, frames_of, AreReadIn}
+use Rattle.client_door.specs.Answered.{Answered, Answers, IsRight, call_list, calls_for, after_asks, reply_bytes, replies_bytes, frames_of}
+use Rattle.client_door.specs.Answered.{AreReadIn}
 use Rattle.client_door.specs.Serving.{ClientSide, with_link}
 use Rattle.client_door.specs.Recording.{Recording, with_all_recorded, judged_by}
 use Rattle.client_door.specs.parts.Talk.{Stands, IsReadNow, Notes, with_sent}
@@ -113,11 +115,13 @@ reseated start now seat desk feeder waiting taken same goes_on read_now s =
     }
   where
     goes_on_more : (first then last : List DeskState) → GoesOn first then → GoesOn then last → GoesOn first last
-    goes_on_more first then last (more, is) (others, after) = (more ++ others, after ∙ (ap (λ list. list ++ others) is ∙ append_assoc first more others))
+    goes_on_more first then last (more, is) (others, after) =
+        (more ++ others, after ∙ (ap (λ list. list ++ others) is ∙ append_assoc first more others))
 
 -- ---- a check that was taken is answered
 
-pub answered_with : (start now : ClientSide) (tally : Tally) (calls : Option (List HallCall)) (recording : Option Recording) (feeder : Feeding) (waiting after : List ℕ)
+pub answered_with : (start now : ClientSide) (tally : Tally) (calls : Option (List HallCall)) (recording : Option Recording)
+    (feeder : Feeding) (waiting after : List ℕ)
     (check : Check) (desk : DeskState) (call : Option AskMade) (reply : Reply)
     → (s : Stands start now feeder waiting (check ∷ [])) → IsReadNow desk now.seat
     → Answers (reading desk check) check.question call reply
@@ -178,7 +182,8 @@ answered_by_policies start now recording feeder waiting frame after check desk r
 
 -- ---- replies are sent
 
-pub flushed : (start now : ClientSide) (traffic : Option Traffic) (marks : LinkMarks) (faults : ℕ) (recording : Option Recording) (feeder : Feeding)
+pub flushed : (start now : ClientSide) (traffic : Option Traffic) (marks : LinkMarks) (faults : ℕ) (recording : Option Recording)
+    (feeder : Feeding)
     (waiting : List ℕ) (taken : List Check) → Carried now.traffic traffic [] waiting → marks ≡ now.marks → faults ≡ now.faults
     → ChangesTold now.recording with_all_recorded recording → Stands start now feeder waiting taken
     → (s : Stands start (with_sent now traffic marks faults recording) feeder [] taken) × (s.unsent ≡ [])
@@ -211,7 +216,8 @@ flushed start now traffic marks faults recording feeder waiting taken sent_now s
 
 -- ---- bytes are received and heard
 
-pub heard_more : (start now : ClientSide) (traffic : Option Traffic) (marks : LinkMarks) (faults : ℕ) (feeder fed : Feeding) (waiting bytes : List ℕ)
+pub heard_more : (start now : ClientSide) (traffic : Option Traffic) (marks : LinkMarks) (faults : ℕ) (feeder fed : Feeding)
+    (waiting bytes : List ℕ)
     → Carried now.traffic traffic bytes [] → HearsMore bytes feeder fed → marks.ends ≡ now.marks.ends → faults ≡ now.faults
     → (s : Stands start now feeder waiting [])
     → (after : Stands start (with_link now traffic marks faults) fed waiting []) × (after.unsent ≡ s.unsent)

@@ -68,17 +68,20 @@ call_of seat received sent between behind rest check desk call reply (Waiting co
 
 -- those that were made for checks in turn
 pub unsent_calls : (seat : SeatState) (received : List ℕ) (sent : List Answered) (between : List Framed) (more : List Answered)
-    (behind : List Framed) (rest : List ℕ) (low : ℕ) → read_up_to seat.note sent ≤ low → AllByRecursion IsRight more → AreReadIn seat.seen low more
+    (behind : List Framed) (rest : List ℕ) (low : ℕ) → read_up_to seat.note sent ≤ low → AllByRecursion IsRight more
+    → AreReadIn seat.seen low more
     → Hears AtClient received (frames_of sent ++ (between ++ (frames_of more ++ behind))) rest
     → AllByRecursion (IsCallFor seat received sent) (calls_for more)
 unsent_calls seat received sent between [] behind rest low note right read heard = tt
 unsent_calls seat received sent between (one ∷ more) behind rest low note (right, others) (there, fresh, read) heard =
     let up : low ≤ one.desk.commit = read_from low (last_commit 0 seat.seen) one.desk.commit fresh in
     let may : may_read (read_up_to seat.note sent) (last_commit 0 seat.seen) one.desk.commit ≡ true =
-    reads_between (read_up_to seat.note sent) (last_commit 0 seat.seen) one.desk.commit (omega (arith, note, up)) (read_to low (last_commit 0 seat.seen) one.desk.commit fresh) in
+    reads_between (read_up_to seat.note sent) (last_commit 0 seat.seen) one.desk.commit (omega (arith, note, up))
+    (read_to low (last_commit 0 seat.seen) one.desk.commit fresh) in
     all_calls (IsCallFor seat received sent) (call_list one.call) (calls_for more)
     (call_of seat received sent between (frames_of more ++ behind) rest one.check one.desk one.call one.reply
     (reading one.desk one.check) refl right there may heard)
-    (unsent_calls seat received sent (between ++ framed_of one.check ∷ []) more behind rest one.desk.commit (omega (arith, note, up)) others read
+    (unsent_calls seat received sent (between ++ framed_of one.check ∷ []) more behind rest one.desk.commit (omega (arith, note, up))
+    others read
     (subst (λ (list : List Framed). Hears AtClient received (frames_of sent ++ list) rest)
     (sym (append_assoc between (framed_of one.check ∷ []) (frames_of more ++ behind))) heard))

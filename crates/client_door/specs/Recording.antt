@@ -28,7 +28,8 @@ with_all_recorded recording = with_none_waiting (recording.recorded ++ recording
 -- two this holds. Of a recorder that records nothing it is none.
 abbrev pub Leads : {S : Type 0} → (S → Option Recording → Type 0) → (S → Option Recording → Type 0)
     → (Option Recording → Option Recording → Type 0) → Type 0
-Leads {S} Was Is P = (start : S) (before : Option Recording) → Was start before → (after : Option Recording) × Is start after × P before after
+Leads {S} Was Is P =
+    (start : S) (before : Option Recording) → Was start before → (after : Option Recording) × Is start after × P before after
 
 -- ---- of checks that were answered
 

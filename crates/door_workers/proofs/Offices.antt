@@ -26,7 +26,8 @@ module _ {L : Type 0} (traffic : L → Option Traffic) (marks : L → LinkMarks)
   module _ (before : DiskState) (last : DeskState) (first : List DeskState) (all : List Exchange) (tells : TellsEach before all) where
     pub office-holds : (start : Office) (visits : List (Visit L)) (now : Office) (rest : List Exchange)
         → InTurn (VisitsOffice traffic marks faults) start visits now → all ≡ now.frames ++ rest
-        → Reaches before last first all start.frames start.desk start.published → Reaches before last first all now.frames now.desk now.published
+        → Reaches before last first all start.frames start.desk start.published
+        → Reaches before last first all now.frames now.desk now.published
     office-holds start [] now rest is cut holds =
         subst (λ (office : Office). Reaches before last first all office.frames office.desk office.published) (sym is) holds
     office-holds start (visit ∷ visits) now rest (between, (silent, (tally, served)), others) cut holds =

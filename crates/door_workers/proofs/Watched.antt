@@ -10,7 +10,8 @@ use Rattle.door_workers.specs.Monitored.{Post, VisitsWatched, RecordsSome}
 pub same_then : (old between new : RecorderState) → IsSame old between → IsSame between new → IsSame old new
 same_then old between new first then = (then.0 ∙ first.0, then.1 ∙ first.1)
 
-pub visits_record : {L : Type 0} (traffic : L → Option Traffic) (marks : L → LinkMarks) (faults : L → ℕ) (visits : List (Visit L)) (start now : Post)
+pub visits_record : {L : Type 0} (traffic : L → Option Traffic) (marks : L → LinkMarks) (faults : L → ℕ) (visits : List (Visit L))
+    (start now : Post)
     → InTurn (VisitsWatched traffic marks faults) start visits now → RecordsSome start.recorder now.recorder
 visits_record traffic marks faults [] start now same = ([], ap (λ (post : Post). post.recorder) same)
 visits_record traffic marks faults (visit ∷ more) start now (between, (silent, (tally, calls, serves)), rest) =

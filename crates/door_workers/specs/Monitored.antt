@@ -22,7 +22,8 @@ post_of seat recorder = record { seat = seat; recorder = recorder }
 
 -- what `serve_monitored` does: a hall of the connection's own, by way of which no call was made before
 abbrev pub ServesWatched : {L : Type 0} → (L → Option Traffic) → (L → LinkMarks) → (L → ℕ) → Ended → Post → L → Post → L → Type 0
-ServesWatched traffic marks faults ended post link post_now link_now = (tally : Tally) × (calls : Option (List HallCall)) × ServesMonitored ended
+ServesWatched traffic marks faults ended post link post_now link_now =
+    (tally : Tally) × (calls : Option (List HallCall)) × ServesMonitored ended
     (client_side post.seat no_calls None (traffic link) (marks link) (faults link))
     (client_side post_now.seat tally calls (traffic link_now) (marks link_now) (faults link_now))
     post.recorder post_now.recorder

@@ -1,5 +1,6 @@
 -- What records add up to.
-use Rattle.std.proofs.Common.{◌≡◌, ◌∙◌, ◌≤◌, ◌⊎◌, inl, inr, ℕ, suc, ◌+◌, List, [], ◌∷◌, ◌++◌, length, refl, sym, ap, subst, append_assoc, append-nil, arith}
+use Rattle.std.proofs.Common.{◌≡◌, ◌∙◌, ◌≤◌, ◌⊎◌, inl, inr, ℕ, suc, ◌+◌, List, [], ◌∷◌, ◌++◌, length, refl, sym, ap, subst, append_assoc}
+use Rattle.std.proofs.Common.{append-nil, arith}
 use mathlib.Core.Logic.{dite}
 use native.Mathlib.Decide.{dec_le}
 use Rattle.std.proofs.lemmas.List.{length-append}
@@ -47,7 +48,8 @@ pub adds_up : (judged : List Judgement) (old new : RecorderState) → old.missed
 adds_up [] old new fits same = inl (ap (λ (x : RecorderState). length x.put + x.missed) same ∙ omega arith)
 adds_up (judgement ∷ more) old new fits (recorded, between, one, rest) =
     let first = one_more old between (entry_for old.worker (length old.put) judgement) recorded fits one in
-    join (length old.put + old.missed) (length between.put + between.missed) (length new.put + new.missed) (length more) between.missed new.missed
+    join (length old.put + old.missed) (length between.put + between.missed) (length new.put + new.missed) (length more)
+    between.missed new.missed
     first.1 (adds_up more between new first.0 rest) (stays more between new first.0 rest)
   where
     join : (a b c n m k : ℕ) → (b ≡ suc a) ⊎ (m ≡ last_count) → (c ≡ b + n) ⊎ (k ≡ last_count) → (m ≤ k) × (k ≤ last_count)
@@ -73,7 +75,8 @@ left_out judgement [] more part = part
 left_out judgement (one ∷ put) more part = inr part
 
 -- a check that was missed
-after_miss : (judgement : Judgement) (more : List Judgement) (old between new : RecorderState) → between.put ≡ old.put → between.worker ≡ old.worker
+after_miss : (judgement : Judgement) (more : List Judgement) (old between new : RecorderState) → between.put ≡ old.put
+    → between.worker ≡ old.worker
     → ((put : List Judgement) × IsPart put more × (new.put ≡ between.put ++ entries_from between.worker (length between.put) put))
     → (put : List Judgement) × IsPart put (judgement ∷ more) × (new.put ≡ old.put ++ entries_from old.worker (length old.put) put)
 after_miss judgement more old between new same worker (put, part, is) = (

@@ -7,7 +7,8 @@ use Rattle.agent_table.specs.Refusals.{RefusesQuestion, told}
 use Rattle.agent_table.specs.declared.refusals.PutRefusal.{PutRefusal}
 use Rattle.agent_table.specs.declared.refusals.PutRefusal.TheVariants.{Stopped as NoneIsPut}
 use Rattle.agent_table.specs.declared.refusals.TakeRefusal.{TakeRefusal}
-use Rattle.agent_table.specs.declared.refusals.TakeRefusal.TheVariants.{UnknownNumber, AgentGone, Stopped as NoneIsTaken, NotYet as NoAnswer}
+use Rattle.agent_table.specs.declared.refusals.TakeRefusal.TheVariants.{UnknownNumber, AgentGone, Stopped as NoneIsTaken}
+use Rattle.agent_table.specs.declared.refusals.TakeRefusal.TheVariants.{NotYet as NoAnswer}
 use Rattle.agent_table.specs.declared.table.Asked.{Asked}
 use Rattle.agent_table.specs.declared.table.Taken.{Taken}
 use Rattle.server_hall.specs.declared.refusals.AskRefusal.{AskRefusal}

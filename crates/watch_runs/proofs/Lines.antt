@@ -66,7 +66,8 @@ last_of_failed before sink after risen last =
     (w.last, w.taken, inl (w.counts ∙ sym risen, w.is_written.1))
 
 -- a sink had failed where the run ends for that
-failed : (workers : ℕ) (met : Ending) (writing : Writing) (before sink : SinkSeen) → ending.Sink ≡ ending_with met writing → (met ≡ ending.Sink → ⊥)
+failed : (workers : ℕ) (met : Ending) (writing : Writing) (before sink : SinkSeen) → ending.Sink ≡ ending_with met writing
+    → (met ≡ ending.Sink → ⊥)
     → Journaled workers met writing before sink → sink.faults ≡ next_count before.faults
 failed workers ending.Done SinkFailed before sink is other (unserved undone none same) = cc
 failed workers ending.Done SinkFailed before sink is other (journaled entries recorders recorded whole known (count, part)) = count
@@ -94,7 +95,8 @@ last_line_behind workers (ending.Line number) before sink after lines last = las
 last_line_behind workers ending.Source before sink after lines last = last_is ending.Source sink after (λ is. cc) last
 last_line_behind workers ending.Disk before sink after lines last = last_is ending.Disk sink after (λ is. cc) last
 last_line_behind workers ending.Net before sink after lines last = last_is ending.Net sink after (λ is. cc) last
-last_line_behind workers (ending.Damaged file line) before sink after lines last = last_is (ending.Damaged file line) sink after (λ is. cc) last
+last_line_behind workers (ending.Damaged file line) before sink after lines last =
+    last_is (ending.Damaged file line) sink after (λ is. cc) last
 last_line_behind workers ending.Reply before sink after lines last = last_is ending.Reply sink after (λ is. cc) last
 last_line_behind workers (ending.TooLong size) before sink after lines last = last_is (ending.TooLong size) sink after (λ is. cc) last
 

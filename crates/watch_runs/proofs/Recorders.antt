@@ -1,5 +1,6 @@
 -- The recorders of a run, from its start to its end.
-use Rattle.std.proofs.Common.{◌≡◌, ◌∙◌, ℕ, zero, suc, Option, Some, None, OnSome, List, [], ◌∷◌, ◌++◌, length, refl, sym, ap, subst, append_assoc, arith}
+use Rattle.std.proofs.Common.{◌≡◌, ◌∙◌, ℕ, zero, suc, Option, Some, None, OnSome, List, [], ◌∷◌, ◌++◌, length, refl, sym, ap, subst}
+use Rattle.std.proofs.Common.{append_assoc, arith}
 use Rattle.std.specs.List.{AllZip}
 use Rattle.std.proofs.lemmas.List.{length-append}
 use Rattle.atomic_table.specs.Seated.{TableId}
@@ -31,7 +32,8 @@ same_each (x ∷ old) (y ∷ new) ((judged, records), all) = (stays_same judged 
 count_is : (queue : TableId) (room count : ℕ) → length (new_recorders queue room count) ≡ count
 count_is queue room zero = refl
 count_is queue room (suc count) =
-    length-append (new_recorders queue room count) (new_recorder_of queue room count ∷ []) ∙ (let is = count_is queue room count in omega (arith, is))
+    length-append (new_recorders queue room count) (new_recorder_of queue room count ∷ [])
+    ∙ (let is = count_is queue room count in omega (arith, is))
 
 -- as many recorders as workers
 pub as_many : (queue : TableId) (workers : ℕ) (recorders : List RecorderState) → recorders ≡ new_recorders queue 1024 workers

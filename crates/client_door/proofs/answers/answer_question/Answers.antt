@@ -30,7 +30,8 @@ returns-in-NotResolved-clause-answer g c =
       record {
         call = None;
         reply = NotResolved c.in-NotResolved.commit c.in-NotResolved.kind;
-        answers = subst (λ (seen : Reading). Answers seen c.args.question.now None (NotResolved c.in-NotResolved.commit c.in-NotResolved.kind))
+        answers = subst
+            (λ (seen : Reading). Answers seen c.args.question.now None (NotResolved c.in-NotResolved.commit c.in-NotResolved.kind))
             (sym read.2) (refl, refl);
         answer_is = refl;
         counted = refl;

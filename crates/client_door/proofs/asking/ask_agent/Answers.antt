@@ -7,7 +7,8 @@ use Rattle.client_door.proofs.asking.ask_agent.Goals as goal
 
 pub returns-then-eq : goal.returns-then-eq
 returns-then-eq g c =
-    let same : c.in-Ok-ask.taken.question ≡ c.args.question.now = same_questions c.in-Ok-ask.taken.question c.args.question.now (search rules) in (
+    let same : c.in-Ok-ask.taken.question ≡ c.args.question.now =
+    same_questions c.in-Ok-ask.taken.question c.args.question.now (search rules) in (
       Ok (c.in-Ok-ask.number, c.in-Ok-ask.taken),
       asked_so c.args.kind c.args.question.now c.in-Ok.put c.args.metadata c.ask.result (Ok (c.in-Ok-ask.number, c.in-Ok-ask.taken))
           (g.A.Hall.tally c.args.hall.now) (g.A.Hall.tally c.ask.new.self) (g.A.Hall.calls c.args.hall.now) (g.A.Hall.calls c.ask.new.self)
@@ -40,7 +41,8 @@ returns-in-Err-Lost g c =
 
 pub returns-in-Err : goal.returns-in-Err
 returns-in-Err g c =
-    subst (λ (e : Ended). AsksInVain c.args.kind c.args.question.now c.args.metadata (g.A.Hall.tally c.args.hall.now) (g.A.Hall.calls c.args.hall.now)
+    subst (λ (e : Ended). AsksInVain c.args.kind c.args.question.now c.args.metadata (g.A.Hall.tally c.args.hall.now)
+    (g.A.Hall.calls c.args.hall.now)
     (g.A.Hall.tally c.ask.new.self) (g.A.Hall.calls c.ask.new.self) e) (sym c.in-Err.ensures)
     (AsksInVain.vain (Err (Put c.in-Err-Put.refusal))
     (asked_so c.args.kind c.args.question.now c.in-Ok.put c.args.metadata c.ask.result (Err (Put c.in-Err-Put.refusal))

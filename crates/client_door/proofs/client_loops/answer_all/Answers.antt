@@ -18,12 +18,14 @@ loop-init g c = (
       (
         subst (λ (feeder : Feeding). IsSound feeder) (sym c.new-talk.ensures.feeder) (unfed_sound AtClient),
         λ since before fits. let side : ClientSide =
-            (recorded_side c.args.seat.now (g.A.Hall.tally c.args.hall.now) (g.A.Hall.calls c.args.hall.now) (g.L.Link.traffic c.args.link.now) (g.L.Link.marks c.args.link.now)
+            (recorded_side c.args.seat.now (g.A.Hall.tally c.args.hall.now) (g.A.Hall.calls c.args.hall.now)
+            (g.L.Link.traffic c.args.link.now) (g.L.Link.marks c.args.link.now)
             (g.L.Link.faults c.args.link.now) before) in (
               before,
               fits,
               subst (λ (feeder : Feeding). Stands side side feeder c.new-talk.result.outbox []) (sym c.new-talk.ensures.feeder)
-                  (subst (λ (waiting : List ℕ). Stands side side (unfed AtClient) waiting []) (sym c.new-talk.ensures.outbox) (begins side)),
+                  (subst (λ (waiting : List ℕ). Stands side side (unfed AtClient) waiting []) (sym c.new-talk.ensures.outbox)
+                  (begins side)),
             ),
       ),
     ),
@@ -43,7 +45,8 @@ loop-preserved g c = (
             let then = c.in_default.ensures.talk since first.0 first.1 in (
               then.0,
               then.1,
-              then.2 (recorded_side c.args.seat.now (g.A.Hall.tally c.args.hall.now) (g.A.Hall.calls c.args.hall.now) (g.L.Link.traffic c.args.link.now) (g.L.Link.marks c.args.link.now)
+              then.2 (recorded_side c.args.seat.now (g.A.Hall.tally c.args.hall.now) (g.A.Hall.calls c.args.hall.now)
+                  (g.L.Link.traffic c.args.link.now) (g.L.Link.marks c.args.link.now)
                   (g.L.Link.faults c.args.link.now) before) first.2,
             ),
       ),
@@ -57,6 +60,7 @@ returns-in-Err g c since before fits =
     let then = c.in-Err.ensures.talk since first.0 first.1 in (
       then.0,
       then.1,
-      then.2 (recorded_side c.args.seat.now (g.A.Hall.tally c.args.hall.now) (g.A.Hall.calls c.args.hall.now) (g.L.Link.traffic c.args.link.now) (g.L.Link.marks c.args.link.now)
+      then.2 (recorded_side c.args.seat.now (g.A.Hall.tally c.args.hall.now) (g.A.Hall.calls c.args.hall.now)
+          (g.L.Link.traffic c.args.link.now) (g.L.Link.marks c.args.link.now)
           (g.L.Link.faults c.args.link.now) before) first.2,
     )

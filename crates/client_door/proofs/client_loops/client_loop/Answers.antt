@@ -10,5 +10,6 @@ returns g c =
     (client_side c.args.seat.now (g.A.Hall.tally c.args.hall.now) (g.A.Hall.calls c.args.hall.now) (g.L.Link.traffic c.args.link.now)
     (g.L.Link.marks c.args.link.now) (g.L.Link.faults c.args.link.now))
     (recorded_side c.recorded_loop.new.seat (g.A.Hall.tally c.recorded_loop.new.hall) (g.A.Hall.calls c.recorded_loop.new.hall)
-    (g.L.Link.traffic c.recorded_loop.new.link) (g.L.Link.marks c.recorded_loop.new.link) (g.L.Link.faults c.recorded_loop.new.link) recording))
+    (g.L.Link.traffic c.recorded_loop.new.link) (g.L.Link.marks c.recorded_loop.new.link) (g.L.Link.faults c.recorded_loop.new.link)
+    recording))
     told.1 told.2

@@ -10,7 +10,8 @@ pub returns-in-Ok : goal.returns-in-Ok
 returns-in-Ok c =
     let no_agent : is_agent (outcome_lent c.args.answer.now).result.kind ≡ false = search rules in
     subst (λ (read : Read). Reads c.args.sequence c.args.simple c.args.commit (outcome_lent c.args.answer.now) read) (sym c.judged.ensures)
-    (reads_judged c.args.sequence c.args.simple c.args.commit c.args.answer.now c.encode_judged_into.new.frame _ no_agent c.in-Ok.ensures.spelled
+    (reads_judged c.args.sequence c.args.simple c.args.commit c.args.answer.now c.encode_judged_into.new.frame _ no_agent
+    c.in-Ok.ensures.spelled
     (search rules))
 
 pub returns-then-simple : goal.returns-then-simple

@@ -14,7 +14,8 @@ returns-in-Err-clause-worked g c told start given count so_far =
 
 pub returns-then-is_over-clause-worked : goal.returns-then-is_over-clause-worked
 returns-then-is_over-clause-worked g c told start given count so_far =
-    let visit : Visit g.row.L.Denot = record { accepted = c.in-Ok.link; returned = c.serve_client-ended.new.link; ended = c.serve_client-ended.result } in
+    let visit : Visit g.row.L.Denot =
+    record { accepted = c.in-Ok.link; returned = c.serve_client-ended.new.link; ended = c.serve_client-ended.result } in
     stops (VisitsClients g.L.Link.traffic g.L.Link.marks g.L.Link.faults) g.L.Link.marks g.L.Link.faults
     start c.args.seat.now c.serve_client-ended.new.seat
     given (g.D.Door.given_back c.args.door.now) (g.D.Door.given_back c.accept.new.door) (g.D.Door.given_back c.give_back.new.self)
@@ -28,7 +29,8 @@ returns-then-is_over-clause-worked g c told start given count so_far =
 
 pub returns-clause-worked : goal.returns-clause-worked
 returns-clause-worked g c told start given count so_far =
-    let visit : Visit g.row.L.Denot = record { accepted = c.in-Ok.link; returned = c.serve_client-ended.new.link; ended = c.serve_client-ended.result } in
+    let visit : Visit g.row.L.Denot =
+    record { accepted = c.in-Ok.link; returned = c.serve_client-ended.new.link; ended = c.serve_client-ended.result } in
     goes_on (VisitsClients g.L.Link.traffic g.L.Link.marks g.L.Link.faults) g.L.Link.marks g.L.Link.faults
     start c.args.seat.now c.serve_client-ended.new.seat
     given (g.D.Door.given_back c.args.door.now) (g.D.Door.given_back c.accept.new.door) (g.D.Door.given_back c.give_back.new.self)

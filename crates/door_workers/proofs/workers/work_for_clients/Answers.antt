@@ -20,4 +20,5 @@ loop-init g c = (
 
 pub returns-in-Err-clause-worked : goal.returns-in-Err-clause-worked
 returns-in-Err-clause-worked g c =
-    c.in-Err.ensures.worked c.args.news.now c.args.seat.now (g.D.Door.given_back c.args.door.now) (g.D.Door.faults c.args.door.now) c.loop.invariant.1.1.0
+    c.in-Err.ensures.worked c.args.news.now c.args.seat.now (g.D.Door.given_back c.args.door.now) (g.D.Door.faults c.args.door.now)
+    c.loop.invariant.1.1.0

@@ -8,7 +8,8 @@ use Rattle.monitor_door.proofs.monitor_loops.serve_noting.Goals as goal
 
 pub returns : goal.returns
 returns g c =
-    let none : HasRecorded c.new-notes.result.recorder.now c.new-notes.result.noted.items c.new-notes.result.recorder.now (Some (with_none_waiting [])) = (
+    let none : HasRecorded c.new-notes.result.recorder.now c.new-notes.result.noted.items c.new-notes.result.recorder.now
+    (Some (with_none_waiting [])) = (
       [],
       ap (λ (list : List Judgement). Some (record { recorded = []; waiting = list })) (sym c.new-notes.ensures.noted),
       refl,
@@ -19,11 +20,13 @@ returns g c =
       judged = recorded;
       waiting = c.recorded_loop-ended.new.recorder.noted.items;
       serves = subst (λ (after : Option Recording). Serves c.recorded_loop-ended.result
-          (recorded_side c.args.seat.now (g.A.Hall.tally c.args.hall.now) (g.A.Hall.calls c.args.hall.now) (g.L.Link.traffic c.args.link.now)
+          (recorded_side c.args.seat.now (g.A.Hall.tally c.args.hall.now) (g.A.Hall.calls c.args.hall.now)
+          (g.L.Link.traffic c.args.link.now)
           (g.L.Link.marks c.args.link.now) (g.L.Link.faults c.args.link.now) (Some (with_none_waiting [])))
           (recorded_side c.recorded_loop-ended.new.seat (g.A.Hall.tally c.recorded_loop-ended.new.hall)
           (g.A.Hall.calls c.recorded_loop-ended.new.hall) (g.L.Link.traffic c.recorded_loop-ended.new.link)
           (g.L.Link.marks c.recorded_loop-ended.new.link) (g.L.Link.faults c.recorded_loop-ended.new.link) after)) is told.2;
       records = subst (λ (state : RecorderState). RecordsEach c.args.recorder.now recorded state) (search rules)
-          (subst (λ (state : RecorderState). RecordsEach state recorded c.recorded_loop-ended.new.recorder.recorder.now) c.new-notes.ensures.recorder each);
+          (subst (λ (state : RecorderState). RecordsEach state recorded c.recorded_loop-ended.new.recorder.recorder.now)
+          c.new-notes.ensures.recorder each);
     }

@@ -11,7 +11,8 @@ loop-judgement-preserved g c =
     subst (λ (list : List Judgement). RecordsEach c.args.recorder.now list c.record_decision.new.self)
     (sym (take_more c.args.judged.now c.loop-judgement.judgement-index c.judgement-item.result c.loop-judgement-test.true
     ∙ ap (λ (one : Judgement). before ++ one ∷ []) (sym c.judgement-item.is)))
-    (records_next before c.judgement-item.result c.args.recorder.now c.loop-judgement.recorder c.record_decision.new.self c.record_decision.result
+    (records_next before c.judgement-item.result c.args.recorder.now c.loop-judgement.recorder c.record_decision.new.self
+    c.record_decision.result
     c.loop-judgement.invariant c.record_decision.ensures.recorded)
 
 pub returns : goal.returns

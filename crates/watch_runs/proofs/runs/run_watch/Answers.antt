@@ -14,7 +14,8 @@ returns-in_default g c = (
   Memory,
   GoesOn,
   RunsServe.refused
-      (refuses-early g.D.Disk.state g.D.Disk.moment g.D.Disk.left_since g.D.Disk.faults c.args.disk.now (g.met.D.Disk.only_now c.args.disk.now))
+      (refuses-early g.D.Disk.state g.D.Disk.moment g.D.Disk.left_since g.D.Disk.faults c.args.disk.now
+      (g.met.D.Disk.only_now c.args.disk.now))
       refl refl refl,
   Journaled.unserved tt refl refl,
   refl,

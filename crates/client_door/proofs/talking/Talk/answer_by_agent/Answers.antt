@@ -11,7 +11,8 @@ returns-in-Err-clause-talk g c reader desk now_read is since before fits = (
   before,
   subst (λ recorder. g.M.Records.fits recorder since before) (sym c.in-Err.ensures.unrecorded) fits,
   λ start s. ends_for_fault start
-      (recorded_side reader (g.A.Hall.tally c.args.hall.now) (g.A.Hall.calls c.args.hall.now) (g.L.Link.traffic c.args.link.now) (g.L.Link.marks c.args.link.now)
+      (recorded_side reader (g.A.Hall.tally c.args.hall.now) (g.A.Hall.calls c.args.hall.now) (g.L.Link.traffic c.args.link.now)
+      (g.L.Link.marks c.args.link.now)
       (g.L.Link.faults c.args.link.now) before)
       (g.L.Link.traffic c.flush.new.link) (g.L.Link.marks c.flush.new.link) (g.L.Link.faults c.flush.new.link) before
       c.args.self.now.feeder c.args.self.now.outbox (c.args.check.now ∷ []) c.in-Err.ended c.in-Err.ensures.ended.0 c.requires.side
@@ -24,15 +25,19 @@ returns-in-Ok-tell-clause-talk g c reader desk now_read is since before fits =
       told.0,
       told.1,
       λ start s. subst (λ (feeder : Feeding). Stands start
-          (recorded_side reader (g.A.Hall.tally c.ask_agent.new.hall) (g.A.Hall.calls c.ask_agent.new.hall) (g.L.Link.traffic c.flush.new.link) (g.L.Link.marks c.flush.new.link)
+          (recorded_side reader (g.A.Hall.tally c.ask_agent.new.hall) (g.A.Hall.calls c.ask_agent.new.hall)
+          (g.L.Link.traffic c.flush.new.link) (g.L.Link.marks c.flush.new.link)
           (g.L.Link.faults c.flush.new.link) told.0) feeder c.tell.new.self.outbox []) (sym c.tell.ensures.feeder)
           (sends_and_asks
-          (recorded_side reader (g.A.Hall.tally c.args.hall.now) (g.A.Hall.calls c.args.hall.now) (g.L.Link.traffic c.args.link.now) (g.L.Link.marks c.args.link.now)
+          (recorded_side reader (g.A.Hall.tally c.args.hall.now) (g.A.Hall.calls c.args.hall.now) (g.L.Link.traffic c.args.link.now)
+          (g.L.Link.marks c.args.link.now)
           (g.L.Link.faults c.args.link.now) before)
           (g.L.Link.traffic c.flush.new.link) (g.L.Link.marks c.flush.new.link) (g.L.Link.faults c.flush.new.link) told.0
           (g.A.Hall.tally c.ask_agent.new.hall) (g.A.Hall.calls c.ask_agent.new.hall)
-          c.args.self.now.feeder c.args.self.now.outbox c.flush.new.self [] c.tell.new.self.outbox c.args.check.now desk c.args.commit c.args.kind c.args.metadata
-          c.in-Ok.reply c.in_default.ensures.sent c.flush.ensures.marks c.in_default.ensures.faults told.2 c.in_default.ensures.empty now_read is
+          c.args.self.now.feeder c.args.self.now.outbox c.flush.new.self [] c.tell.new.self.outbox c.args.check.now desk c.args.commit
+          c.args.kind c.args.metadata
+          c.in-Ok.reply c.in_default.ensures.sent c.flush.ensures.marks c.in_default.ensures.faults told.2 c.in_default.ensures.empty
+          now_read is
           c.in-Ok.ensures c.in-Ok-tell.ensures.put start s),
     )
 
@@ -42,12 +47,14 @@ returns-in-Err-tell-clause-talk g c reader desk now_read is since before fits =
       told.0,
       told.1,
       λ start s. sends_and_asks_for_nothing
-          (recorded_side reader (g.A.Hall.tally c.args.hall.now) (g.A.Hall.calls c.args.hall.now) (g.L.Link.traffic c.args.link.now) (g.L.Link.marks c.args.link.now)
+          (recorded_side reader (g.A.Hall.tally c.args.hall.now) (g.A.Hall.calls c.args.hall.now) (g.L.Link.traffic c.args.link.now)
+          (g.L.Link.marks c.args.link.now)
           (g.L.Link.faults c.args.link.now) before)
           (g.L.Link.traffic c.flush.new.link) (g.L.Link.marks c.flush.new.link) (g.L.Link.faults c.flush.new.link) told.0
           (g.A.Hall.tally c.ask_agent.new.hall) (g.A.Hall.calls c.ask_agent.new.hall)
           c.args.self.now.feeder c.args.self.now.outbox c.args.check.now desk c.args.commit c.args.kind c.args.metadata
-          c.in-Ok.reply c.in-Err-tell.ended c.in_default.ensures.sent c.flush.ensures.marks c.in_default.ensures.faults told.2 c.in-Err-tell.ensures.put.0
+          c.in-Ok.reply c.in-Err-tell.ended c.in_default.ensures.sent c.flush.ensures.marks c.in_default.ensures.faults told.2
+          c.in-Err-tell.ensures.put.0
           c.requires.side now_read is c.in-Ok.ensures start s,
     )
 
@@ -57,7 +64,8 @@ returns-in-Err-ask_agent-clause-talk g c reader desk now_read is since before fi
       told.0,
       told.1,
       λ start s. sends_and_asks_in_vain
-          (recorded_side reader (g.A.Hall.tally c.args.hall.now) (g.A.Hall.calls c.args.hall.now) (g.L.Link.traffic c.args.link.now) (g.L.Link.marks c.args.link.now)
+          (recorded_side reader (g.A.Hall.tally c.args.hall.now) (g.A.Hall.calls c.args.hall.now) (g.L.Link.traffic c.args.link.now)
+          (g.L.Link.marks c.args.link.now)
           (g.L.Link.faults c.args.link.now) before)
           (g.L.Link.traffic c.flush.new.link) (g.L.Link.marks c.flush.new.link) (g.L.Link.faults c.flush.new.link) told.0
           (g.A.Hall.tally c.ask_agent.new.hall) (g.A.Hall.calls c.ask_agent.new.hall)

@@ -16,15 +16,19 @@ returns-in-Ok-clause-talk g c since before fits =
       told.0,
       told.1,
       λ start s. subst (λ (feeder : Feeding). Stands start
-          (recorded_side c.read.new.seat (g.A.Hall.tally c.args.hall.now) (g.A.Hall.calls c.args.hall.now) (g.L.Link.traffic c.args.link.now) (g.L.Link.marks c.args.link.now)
+          (recorded_side c.read.new.seat (g.A.Hall.tally c.args.hall.now) (g.A.Hall.calls c.args.hall.now)
+          (g.L.Link.traffic c.args.link.now) (g.L.Link.marks c.args.link.now)
           (g.L.Link.faults c.args.link.now) told.0) feeder c.put_judged.new.self.outbox [])
           (sym (c.put_judged.ensures.feeder ∙ c.read.ensures.feeder))
           (reads_and_puts
-          (recorded_side c.args.seat.now (g.A.Hall.tally c.args.hall.now) (g.A.Hall.calls c.args.hall.now) (g.L.Link.traffic c.args.link.now) (g.L.Link.marks c.args.link.now)
+          (recorded_side c.args.seat.now (g.A.Hall.tally c.args.hall.now) (g.A.Hall.calls c.args.hall.now)
+          (g.L.Link.traffic c.args.link.now) (g.L.Link.marks c.args.link.now)
           (g.L.Link.faults c.args.link.now) before)
-          (recorded_side c.read.new.seat (g.A.Hall.tally c.args.hall.now) (g.A.Hall.calls c.args.hall.now) (g.L.Link.traffic c.args.link.now) (g.L.Link.marks c.args.link.now)
+          (recorded_side c.read.new.seat (g.A.Hall.tally c.args.hall.now) (g.A.Hall.calls c.args.hall.now)
+          (g.L.Link.traffic c.args.link.now) (g.L.Link.marks c.args.link.now)
           (g.L.Link.faults c.args.link.now) told.0)
-          c.read.new.seat told.0 c.args.self.now.feeder c.args.self.now.outbox c.read.new.self.frame c.put_judged.new.self.outbox c.args.check
+          c.read.new.seat told.0 c.args.self.now.feeder c.args.self.now.outbox c.read.new.self.frame c.put_judged.new.self.outbox
+          c.args.check
           read.0 (Judged verdict) c.read.ensures.same c.read.ensures.seen refl read.1 is spelled
           (notes_judged before told.0 c.args.check.question verdict c.in-Judged.commit c.in-Judged.allowed at allowed told.2)
           (c.in-Ok.ensures.put ∙ ap (λ (list : List ℕ). list ++ c.read.new.self.frame) c.read.ensures.outbox) start s),
@@ -37,11 +41,14 @@ returns-in-Err-clause-talk g c since before fits =
       before,
       subst (λ (recording : Option Recording). g.M.Records.fits c.put_judged.new.recorder since recording) told.2 told.1,
       reads_for_nothing
-          (recorded_side c.args.seat.now (g.A.Hall.tally c.args.hall.now) (g.A.Hall.calls c.args.hall.now) (g.L.Link.traffic c.args.link.now) (g.L.Link.marks c.args.link.now)
+          (recorded_side c.args.seat.now (g.A.Hall.tally c.args.hall.now) (g.A.Hall.calls c.args.hall.now)
+          (g.L.Link.traffic c.args.link.now) (g.L.Link.marks c.args.link.now)
           (g.L.Link.faults c.args.link.now) before)
-          (recorded_side c.read.new.seat (g.A.Hall.tally c.args.hall.now) (g.A.Hall.calls c.args.hall.now) (g.L.Link.traffic c.args.link.now) (g.L.Link.marks c.args.link.now)
+          (recorded_side c.read.new.seat (g.A.Hall.tally c.args.hall.now) (g.A.Hall.calls c.args.hall.now)
+          (g.L.Link.traffic c.args.link.now) (g.L.Link.marks c.args.link.now)
           (g.L.Link.faults c.args.link.now) before)
-          c.read.new.seat read.0 c.args.self.now.feeder c.args.self.now.outbox c.args.check c.in-Err.ended c.read.ensures.same c.read.ensures.seen refl
+          c.read.new.seat read.0 c.args.self.now.feeder c.args.self.now.outbox c.args.check c.in-Err.ended c.read.ensures.same
+          c.read.ensures.seen refl
           read.1 c.in-Err.ensures.ended c.requires,
     )
 
@@ -52,15 +59,19 @@ returns-in-Ok-put_reply-clause-talk g c since before fits =
       before,
       fits,
       λ start s. subst (λ (feeder : Feeding). Stands start
-          (recorded_side c.read.new.seat (g.A.Hall.tally c.args.hall.now) (g.A.Hall.calls c.args.hall.now) (g.L.Link.traffic c.args.link.now) (g.L.Link.marks c.args.link.now)
+          (recorded_side c.read.new.seat (g.A.Hall.tally c.args.hall.now) (g.A.Hall.calls c.args.hall.now)
+          (g.L.Link.traffic c.args.link.now) (g.L.Link.marks c.args.link.now)
           (g.L.Link.faults c.args.link.now) before) feeder c.put_reply.new.self.outbox [])
           (sym (c.put_reply.ensures.feeder ∙ c.read.ensures.feeder))
           (reads_and_puts
-          (recorded_side c.args.seat.now (g.A.Hall.tally c.args.hall.now) (g.A.Hall.calls c.args.hall.now) (g.L.Link.traffic c.args.link.now) (g.L.Link.marks c.args.link.now)
+          (recorded_side c.args.seat.now (g.A.Hall.tally c.args.hall.now) (g.A.Hall.calls c.args.hall.now)
+          (g.L.Link.traffic c.args.link.now) (g.L.Link.marks c.args.link.now)
           (g.L.Link.faults c.args.link.now) before)
-          (recorded_side c.read.new.seat (g.A.Hall.tally c.args.hall.now) (g.A.Hall.calls c.args.hall.now) (g.L.Link.traffic c.args.link.now) (g.L.Link.marks c.args.link.now)
+          (recorded_side c.read.new.seat (g.A.Hall.tally c.args.hall.now) (g.A.Hall.calls c.args.hall.now)
+          (g.L.Link.traffic c.args.link.now) (g.L.Link.marks c.args.link.now)
           (g.L.Link.faults c.args.link.now) before)
-          c.read.new.seat before c.args.self.now.feeder c.args.self.now.outbox c.read.new.self.frame c.put_reply.new.self.outbox c.args.check
+          c.read.new.seat before c.args.self.now.feeder c.args.self.now.outbox c.read.new.self.frame c.put_reply.new.self.outbox
+          c.args.check
           read.0 (NotResolved commit kind) c.read.ensures.same c.read.ensures.seen refl read.1 is spelled
           (notes_nothing before [] refl)
           (c.in-Ok-put_reply.ensures.put ∙ ap (λ (list : List ℕ). list ++ c.read.new.self.frame) c.read.ensures.outbox) start s),
@@ -72,11 +83,14 @@ returns-in-Err-put_reply-clause-talk g c since before fits =
       before,
       fits,
       reads_for_nothing
-          (recorded_side c.args.seat.now (g.A.Hall.tally c.args.hall.now) (g.A.Hall.calls c.args.hall.now) (g.L.Link.traffic c.args.link.now) (g.L.Link.marks c.args.link.now)
+          (recorded_side c.args.seat.now (g.A.Hall.tally c.args.hall.now) (g.A.Hall.calls c.args.hall.now)
+          (g.L.Link.traffic c.args.link.now) (g.L.Link.marks c.args.link.now)
           (g.L.Link.faults c.args.link.now) before)
-          (recorded_side c.read.new.seat (g.A.Hall.tally c.args.hall.now) (g.A.Hall.calls c.args.hall.now) (g.L.Link.traffic c.args.link.now) (g.L.Link.marks c.args.link.now)
+          (recorded_side c.read.new.seat (g.A.Hall.tally c.args.hall.now) (g.A.Hall.calls c.args.hall.now)
+          (g.L.Link.traffic c.args.link.now) (g.L.Link.marks c.args.link.now)
           (g.L.Link.faults c.args.link.now) before)
-          c.read.new.seat read.0 c.args.self.now.feeder c.args.self.now.outbox c.args.check c.in-Err-put_reply.ended c.read.ensures.same c.read.ensures.seen refl
+          c.read.new.seat read.0 c.args.self.now.feeder c.args.self.now.outbox c.args.check c.in-Err-put_reply.ended c.read.ensures.same
+          c.read.ensures.seen refl
           read.1 c.in-Err-put_reply.ensures.put.0 c.requires,
     )
 
@@ -86,9 +100,11 @@ returns-in-Memory-clause-talk g c since before fits =
       before,
       fits,
       reads_for_nothing
-          (recorded_side c.args.seat.now (g.A.Hall.tally c.args.hall.now) (g.A.Hall.calls c.args.hall.now) (g.L.Link.traffic c.args.link.now) (g.L.Link.marks c.args.link.now)
+          (recorded_side c.args.seat.now (g.A.Hall.tally c.args.hall.now) (g.A.Hall.calls c.args.hall.now)
+          (g.L.Link.traffic c.args.link.now) (g.L.Link.marks c.args.link.now)
           (g.L.Link.faults c.args.link.now) before)
-          (recorded_side c.read.new.seat (g.A.Hall.tally c.args.hall.now) (g.A.Hall.calls c.args.hall.now) (g.L.Link.traffic c.args.link.now) (g.L.Link.marks c.args.link.now)
+          (recorded_side c.read.new.seat (g.A.Hall.tally c.args.hall.now) (g.A.Hall.calls c.args.hall.now)
+          (g.L.Link.traffic c.args.link.now) (g.L.Link.marks c.args.link.now)
           (g.L.Link.faults c.args.link.now) before)
           c.read.new.seat read.0 c.args.self.now.feeder c.args.self.now.outbox c.args.check _ c.read.ensures.same c.read.ensures.seen refl
           read.1 refl c.requires,
@@ -102,7 +118,8 @@ returns-in-Ok-answered-clause-talk g c since before fits =
       then.1,
       λ start s. then.2 start
           (reads_on
-          (recorded_side c.args.seat.now (g.A.Hall.tally c.args.hall.now) (g.A.Hall.calls c.args.hall.now) (g.L.Link.traffic c.args.link.now) (g.L.Link.marks c.args.link.now)
+          (recorded_side c.args.seat.now (g.A.Hall.tally c.args.hall.now) (g.A.Hall.calls c.args.hall.now)
+          (g.L.Link.traffic c.args.link.now) (g.L.Link.marks c.args.link.now)
           (g.L.Link.faults c.args.link.now) before)
           c.read.new.seat read.0 c.args.self.now.feeder c.read.new.self.feeder c.args.self.now.outbox c.read.new.self.outbox c.args.check
           c.read.ensures.same c.read.ensures.seen read.1 c.read.ensures.feeder c.read.ensures.outbox start s),
@@ -116,7 +133,8 @@ returns-in-Err-answered-clause-talk g c since before fits =
       then.1,
       λ start s. then.2 start
           (reads_on
-          (recorded_side c.args.seat.now (g.A.Hall.tally c.args.hall.now) (g.A.Hall.calls c.args.hall.now) (g.L.Link.traffic c.args.link.now) (g.L.Link.marks c.args.link.now)
+          (recorded_side c.args.seat.now (g.A.Hall.tally c.args.hall.now) (g.A.Hall.calls c.args.hall.now)
+          (g.L.Link.traffic c.args.link.now) (g.L.Link.marks c.args.link.now)
           (g.L.Link.faults c.args.link.now) before)
           c.read.new.seat read.0 c.args.self.now.feeder c.read.new.self.feeder c.args.self.now.outbox c.read.new.self.outbox c.args.check
           c.read.ensures.same c.read.ensures.seen read.1 c.read.ensures.feeder c.read.ensures.outbox start s),

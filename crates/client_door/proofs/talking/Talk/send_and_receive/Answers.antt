@@ -22,7 +22,8 @@ returns-in-Ok-clause-talk g c side since before fits =
       told.0,
       told.1,
       λ start s. subst (λ list. Stands start
-          (with_sent side (g.L.Link.traffic c.receive_more.new.link) (g.L.Link.marks c.receive_more.new.link) (g.L.Link.faults c.receive_more.new.link) told.0)
+          (with_sent side (g.L.Link.traffic c.receive_more.new.link) (g.L.Link.marks c.receive_more.new.link)
+          (g.L.Link.faults c.receive_more.new.link) told.0)
           c.receive_more.new.feeder list []) (sym c.in_default.ensures.empty)
           (sends_and_receives side
           (g.L.Link.traffic c.args.link.now) (g.L.Link.marks c.args.link.now) (g.L.Link.faults c.args.link.now) before told.0

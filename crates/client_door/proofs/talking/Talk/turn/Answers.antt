@@ -5,7 +5,8 @@ pub returns-in-Ok-clause-talk : goal.returns-in-Ok-clause-talk
 returns-in-Ok-clause-talk g c since before fits =
     let first = c.in_default.ensures.talk since before fits in
     let then = c.in-Ok.ensures.talk
-    (recorded_side c.answer_waiting.new.seat (g.A.Hall.tally c.answer_waiting.new.hall) (g.A.Hall.calls c.answer_waiting.new.hall) (g.L.Link.traffic c.answer_waiting.new.link) (g.L.Link.marks c.answer_waiting.new.link)
+    (recorded_side c.answer_waiting.new.seat (g.A.Hall.tally c.answer_waiting.new.hall) (g.A.Hall.calls c.answer_waiting.new.hall)
+    (g.L.Link.traffic c.answer_waiting.new.link) (g.L.Link.marks c.answer_waiting.new.link)
     (g.L.Link.faults c.answer_waiting.new.link) first.0)
     since first.0 first.1 in
     (then.0, then.1, λ start s. then.2 start (first.2 start s))
@@ -14,7 +15,8 @@ pub returns-in-Err-send_and_receive-clause-talk : goal.returns-in-Err-send_and_r
 returns-in-Err-send_and_receive-clause-talk g c since before fits =
     let first = c.in_default.ensures.talk since before fits in
     let then = c.in-Err-send_and_receive.ensures.talk
-    (recorded_side c.answer_waiting.new.seat (g.A.Hall.tally c.answer_waiting.new.hall) (g.A.Hall.calls c.answer_waiting.new.hall) (g.L.Link.traffic c.answer_waiting.new.link) (g.L.Link.marks c.answer_waiting.new.link)
+    (recorded_side c.answer_waiting.new.seat (g.A.Hall.tally c.answer_waiting.new.hall) (g.A.Hall.calls c.answer_waiting.new.hall)
+    (g.L.Link.traffic c.answer_waiting.new.link) (g.L.Link.marks c.answer_waiting.new.link)
     (g.L.Link.faults c.answer_waiting.new.link) first.0)
     since first.0 first.1 in
     (then.0, then.1, λ start s. then.2 start (first.2 start s))

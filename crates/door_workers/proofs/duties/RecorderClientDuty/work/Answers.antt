@@ -9,7 +9,8 @@ returns-clause-worked g c =
     let call = c.work_for_monitored_clients in
     works-untold g.L.Link.traffic g.L.Link.marks g.L.Link.faults (EndsWorking c.args.news.now call.new.news) call.result
     (post_of c.args.seat.now c.args.self.now) (post_of call.new.seat call.new.recorder)
-    (g.D.Door.given_back c.args.door.now) (g.D.Door.given_back call.new.door) (g.D.Door.faults c.args.door.now) (g.D.Door.faults call.new.door)
+    (g.D.Door.given_back c.args.door.now) (g.D.Door.given_back call.new.door) (g.D.Door.faults c.args.door.now)
+    (g.D.Door.faults call.new.door)
     call.ensures.worked
 
 pub returns-clause-goes : goal.returns-clause-goes

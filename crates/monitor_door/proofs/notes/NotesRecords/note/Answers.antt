@@ -6,7 +6,8 @@ use Rattle.monitor_door.proofs.notes.NotesRecords.note.Goals as goal
 
 pub returns-in-Ok : goal.returns-in-Ok
 returns-in-Ok g c since before fits =
-    let told = notes_next since.recorder.now c.args.self.now.recorder.now c.args.self.now.noted.items c.push.new.noted.items c.args.judgement
+    let told = notes_next since.recorder.now c.args.self.now.recorder.now c.args.self.now.noted.items c.push.new.noted.items
+    c.args.judgement
     before c.in-Ok.ensures.pushed fits.1 in
     (told.0, (fits.0, told.1), told.2)
 
@@ -15,7 +16,8 @@ returns-in-Err g c since before fits = (
   before,
   (
     fits.0,
-    subst (λ (list : List Judgement). HasRecorded since.recorder.now list c.args.self.now.recorder.now before) (sym c.in-Err.ensures.kept) fits.1,
+    subst (λ (list : List Judgement). HasRecorded since.recorder.now list c.args.self.now.recorder.now before)
+        (sym c.in-Err.ensures.kept) fits.1,
   ),
   refl,
 )
