@@ -1,4 +1,4 @@
-// A policy state over the disk: commits, what a mount finds, and what stops and failing calls leave.
+// A policy state over the disk: commits, what a mount finds, and what failing calls leave.
 use crate::vaults::failing_disk;
 use app_registry::{Ident, IdentRefusal, Install, NameSet, Scope, UserType};
 use case_words::{Failure, Runs, first_number, first_word, put_bytes, put_word};

@@ -3,8 +3,9 @@
 //!
 //!     disk FAILS FILE ..                                        the disk that later cases are about
 //!     folder, calls                                             what it holds, and which calls were made
-//!     mount, replace, stops, failing                            a store over it, in the forms of `vaults`
-//!     found, commit, prepare, commit-stops, commit-failing      a policy state over it, in the forms of `keepers`
+//!     mount, replace, failing                                   a store over it, in the forms of `vaults`
+//!     found, commit, prepare, commit-failing                    a policy state over it, in the forms of `keepers`
+//!     stops, commit-stops                                       what stops leave, of a store and of a policy state
 #![tactic(auto)]
 
 mod keepers;
@@ -84,7 +85,6 @@ fn answer_lines(rt: &HostRuntime, disk: &mut MemDisk) -> io::Result<()> {
 
 fn main(rt: HostRuntime) -> io::Result<()> {
     let fails = FailList::of(Vec::new(rt.alloc()));
-    let none = set_in_order(rt.alloc(), &[])?;
-    let mut disk = MemDisk::new(rt.alloc(), none, fails)?;
+    let mut disk = MemDisk::new(rt.alloc(), set_in_order(rt.alloc(), &[])?, fails)?;
     answer_lines(&rt, &mut disk)
 }

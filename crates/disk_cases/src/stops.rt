@@ -26,7 +26,7 @@ pub fn seen_later(
     }
 }
 
-/// Stops of a disk, for each number below this one and the greatest, and what was found so far.
+/// Stops of a disk, and what was found so far. The numbers below `most` are tried, and the greatest.
 #[derive(Drop)]
 pub struct Stops<'a> {
     pub seen: Seen,

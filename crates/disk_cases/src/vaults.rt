@@ -1,4 +1,4 @@
-// A store over the disk: what a mount finds, replacements, and what stops and failing calls leave.
+// A store over the disk: what a mount finds, replacements, and what failing calls leave.
 ghost use Rattle.std.specs.Prelude.{◌≡◌};
 ghost use Rattle.std.specs.List.{list_all};
 ghost use Rattle.guard_files.specs.OwnName.{is_listable as may_stand};

@@ -17,7 +17,7 @@ fn put(answer: &[u8], out: &mut Vec<u8>) -> Option<()> {
 }
 
 // Puts the value that a call gave in the place of the other, if it gave one.
-fn keep<T: Drop, E: Drop>(place: &mut T, made: Result<T, E>) -> Option<()> {
+fn replace_if_ok<T: Drop, E: Drop>(place: &mut T, made: Result<T, E>) -> Option<()> {
     match made {
         Ok(made) => {
             *place = made;
@@ -42,7 +42,7 @@ fn set_bucket(
     let fallback = result_of(alloc, ruling)?;
     let made = database.set_bucket(name, &fallback);
     drop(fallback);
-    keep(database, made)
+    replace_if_ok(database, made)
 }
 
 // A policy of the bucket.
@@ -61,7 +61,7 @@ fn policy(
 
 fn set_policies(database: &mut Database, changes: &[Change]) -> Option<()> {
     let made = database.set_policies(changes);
-    keep(database, made)
+    replace_if_ok(database, made)
 }
 
 fn set_policy(alloc: Global, database: &mut Database, words: &[&[u8]]) -> Option<()> {
@@ -179,13 +179,17 @@ fn set_chain(alloc: Global, database: &mut Database, count: usize, ways: usize) 
         Ok(copy) => make_chain(alloc, copy, count, ways),
         Err(_) => None,
     };
-    keep_told(database, copy, told)
+    replace_if_told(database, copy, told)
 }
 
 // Puts the value in the place of the other, where all went well.
-fn keep_told<T: Drop, E: Drop>(place: &mut T, made: Result<T, E>, told: Option<()>) -> Option<()> {
+fn replace_if_told<T: Drop, E: Drop>(
+    place: &mut T,
+    made: Result<T, E>,
+    told: Option<()>,
+) -> Option<()> {
     told?;
-    keep(place, made)
+    replace_if_ok(place, made)
 }
 
 // What the root bucket answers, found in three ways.
@@ -235,16 +239,22 @@ fn put_from(
     deep: bool,
     out: &mut Vec<u8>,
 ) -> Option<()> {
-    let question = question_at(alloc, words, 2)?;
-    let place = place_of(alloc, database, word(words, 1)?)?;
-    let found = plain(database, place, &question, deep);
+    let bucket = bucket_of(alloc, word(words, 1)?);
+    let (bucket, question) = both(bucket, question_at(alloc, words, 2))?;
+    let answer = answer_from(database, &bucket, &question, deep);
+    drop(bucket);
     drop(question);
-    put_answer(&describe(database, found), out)
+    put_answer(&answer?, out)
 }
 
-fn place_of(alloc: Global, database: &Database, bucket: &[u8]) -> Option<usize> {
-    let bucket = bucket_of(alloc, bucket)?;
-    database.place(&bucket)
+fn answer_from(
+    database: &Database,
+    bucket: &BucketName,
+    question: &Question,
+    deep: bool,
+) -> Option<Answer> {
+    let place = database.place(bucket)?;
+    Some(describe(database, plain(database, place, question, deep)))
 }
 
 // Changes the database as a case says. `None` where it is no such case, or a rule refuses it.

@@ -16,8 +16,8 @@ pub fn word<'a>(words: &[&'a [u8]], at: usize) -> Option<&'a [u8]> {
     words.get(at).copied()
 }
 
-/// Both values, if there are two. A function that takes values one after another by `?` lets those that it has go at each
-/// end.
+/// Both values, if there are two. Taking them one after another by `?` would let go of those before at each end, which is dear to
+/// prove.
 pub fn both<A: Drop, B: Drop>(one: Option<A>, other: Option<B>) -> Option<(A, B)> {
     match (one, other) {
         (Some(one), Some(other)) => Some((one, other)),

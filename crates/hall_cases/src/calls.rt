@@ -68,7 +68,7 @@ fn counts<R: Wait + Drop>(alloc: Global, hall: &mut Locked<'_, R, MemEnd>) -> Op
     format!(in alloc; "leaves {leaves}, stops {stops}, losses {losses}").ok()
 }
 
-/// Enters, joins, asks in vain, answers in vain, leaves and enters again.
+/// Enters, joins, asks in vain, answers in vain, leaves and enters again by a further link.
 pub fn before_a_commit<R: Wait + Drop>(
     alloc: Global,
     hall: &mut Locked<'_, R, MemEnd>,

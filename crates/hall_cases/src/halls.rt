@@ -73,15 +73,15 @@ fn with_seat<R: Wait>(
     let roll = Mutex::new(roll);
     let questions = QuestionDesk::new(alloc);
     let mut hall = Locked::new(rt, &roll, &questions);
-    let first = first_line(alloc, &mut hall, seat)?;
+    let first = line_before_a_commit(alloc, &mut hall, seat)?;
     publish_next(rt, alloc, desk, publisher)?;
-    let second = second_line(alloc, &mut hall, seat, publisher)?;
-    let third = third_line(alloc, &mut hall, seat)?;
+    let second = line_behind_a_commit(alloc, &mut hall, seat, publisher)?;
+    let third = line_behind_a_stop(alloc, &mut hall, seat)?;
     let stopped = questions.is_stopped(rt);
     format!(in alloc; "{first}\n{second}\n{third}; table stopped {stopped}").ok()
 }
 
-fn first_line<R: Wait + Drop>(
+fn line_before_a_commit<R: Wait + Drop>(
     alloc: Global,
     hall: &mut Locked<'_, R, MemEnd>,
     seat: &mut Seat,
@@ -91,7 +91,7 @@ fn first_line<R: Wait + Drop>(
     before_a_commit(alloc, hall, seat, &mut link, &mut further)
 }
 
-fn second_line<R: Wait + Drop>(
+fn line_behind_a_commit<R: Wait + Drop>(
     alloc: Global,
     hall: &mut Locked<'_, R, MemEnd>,
     seat: &mut Seat,
@@ -101,7 +101,7 @@ fn second_line<R: Wait + Drop>(
     behind_a_commit(alloc, hall, seat, publisher, &mut link)
 }
 
-fn third_line<R: Wait + Drop>(
+fn line_behind_a_stop<R: Wait + Drop>(
     alloc: Global,
     hall: &mut Locked<'_, R, MemEnd>,
     seat: &mut Seat,

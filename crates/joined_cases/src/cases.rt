@@ -14,45 +14,43 @@ fn memory<T: Drop>(answer: Result<T, PortFault>) -> Result<T, AllocError> {
     }
 }
 
-// Serves so many links by a new door, and asks as often by a new handle. How many bytes came, how many questions were
+// Serves so many links by a new door, and asks as often by a new handle. How many bytes came and how many questions were
 // answered, and the faults and the dials of the handle.
 fn serve_and_ask<R, N: ThreadNet<R>>(
     rt: &R,
     net: &mut N,
     times: u32,
-) -> Result<(u64, u32, u64, u64), AllocError> {
+) -> Result<((u64, u32), (u64, u64)), AllocError> {
     let mut theirs = net.handle()?;
     let mut door = memory(net.door(DoorKind::Client))?;
     let (bytes, answered) = N::serve_and_ask(rt, &mut door, &mut theirs, times);
     net.close(door);
-    Ok((bytes, answered, theirs.faults(), theirs.dials_made()))
+    Ok(((bytes, answered), (theirs.faults(), theirs.dials_made())))
 }
 
 /// A client on one thread, a worker on another.
-pub fn echo<R, N: ThreadNet<R>>(rt: &R, alloc: Global, net: N) -> Result<String, AllocError> {
-    let mut net = net;
-    let (bytes, answered, faults, _) = serve_and_ask(rt, &mut net, 1)?;
-    format!(in alloc;
-        "echo: {answered} answered, {bytes} bytes served, faults {} and {faults}",
-        net.faults()
-    )
+pub fn echo<R, N: ThreadNet<R>>(rt: &R, alloc: Global, mut net: N) -> Result<String, AllocError> {
+    let ((bytes, answered), (faults, _)) = serve_and_ask(rt, &mut net, 1)?;
+    let mine = net.faults();
+    format!(in alloc; "echo: {answered} answered, {bytes} bytes served, faults {mine} and {faults}")
 }
 
 /// Two workers with a door each, and two clients.
 pub fn two_workers<R, N: ThreadNet<R>>(
     rt: &R,
     alloc: Global,
-    net: N,
+    mut net: N,
 ) -> Result<String, AllocError> {
-    let mut net = net;
     let mut mine = net.handle()?;
     let mut theirs = net.handle()?;
     let mut first = memory(net.door(DoorKind::Client))?;
     let mut second = memory(net.door(DoorKind::Client))?;
     let ((one, other), (asked, also)) = N::serve_and_ask_two(
         rt,
-        (&mut first, &mut second),
-        (&mut mine, &mut theirs),
+        &mut first,
+        &mut second,
+        &mut mine,
+        &mut theirs,
     );
     net.close(first);
     net.close(second);
@@ -60,18 +58,24 @@ pub fn two_workers<R, N: ThreadNet<R>>(
 }
 
 /// Many dials one after another.
-pub fn many_dials<R, N: ThreadNet<R>>(rt: &R, alloc: Global, net: N) -> Result<String, AllocError> {
-    let mut net = net;
-    let (bytes, answered, _, dials) = serve_and_ask(rt, &mut net, 500)?;
+pub fn many_dials<R, N: ThreadNet<R>>(
+    rt: &R,
+    alloc: Global,
+    mut net: N,
+) -> Result<String, AllocError> {
+    let ((bytes, answered), (_, dials)) = serve_and_ask(rt, &mut net, 500)?;
+    let mine = net.dials_made();
     format!(in alloc;
-        "many dials: {answered} answered, {bytes} bytes served, dials {dials} and {}",
-        net.dials_made()
+        "many dials: {answered} answered, {bytes} bytes served, dials {dials} and {mine}"
     )
 }
 
 /// Many bytes in one direction, and then the end.
-pub fn many_bytes<R, N: ThreadNet<R>>(rt: &R, alloc: Global, net: N) -> Result<String, AllocError> {
-    let mut net = net;
+pub fn many_bytes<R, N: ThreadNet<R>>(
+    rt: &R,
+    alloc: Global,
+    mut net: N,
+) -> Result<String, AllocError> {
     let mut theirs = net.handle()?;
     let mut door = memory(net.door(DoorKind::Client))?;
     let (bytes, is_sent) = N::drain_and_send(rt, &mut door, &mut theirs, 300);
@@ -84,9 +88,8 @@ pub fn many_bytes<R, N: ThreadNet<R>>(rt: &R, alloc: Global, net: N) -> Result<S
 pub fn hung_up_from_another_thread<R, N: ThreadNet<R>>(
     rt: &R,
     alloc: Global,
-    net: N,
+    mut net: N,
 ) -> Result<String, AllocError> {
-    let mut net = net;
     let mut door = memory(net.door(DoorKind::Client))?;
     let mut link = memory(net.dial(DoorKind::Client))?;
     let mut accepted = memory(door.accept())?;
@@ -113,8 +116,7 @@ fn hang_up_while_read<R, N: ThreadNet<R>>(
 }
 
 /// What was written before an end was closed is read at the other; what is written later goes nowhere.
-pub fn read_after_closing<N: CaseNet>(alloc: Global, net: N) -> Result<String, AllocError> {
-    let mut net = net;
+pub fn read_after_closing<N: CaseNet>(alloc: Global, mut net: N) -> Result<String, AllocError> {
     let mut door = memory(net.door(DoorKind::Admin))?;
     let mut link = memory(net.dial(DoorKind::Admin))?;
     let is_sent = link.send(b"before").is_ok();
@@ -132,9 +134,8 @@ pub fn read_after_closing<N: CaseNet>(alloc: Global, net: N) -> Result<String, A
 pub fn knock_wakes_an_accept<R, N: ThreadNet<R>>(
     rt: &R,
     alloc: Global,
-    net: N,
+    mut net: N,
 ) -> Result<String, AllocError> {
-    let mut net = net;
     let mut theirs = net.handle()?;
     let mut door = memory(net.door(DoorKind::Agent))?;
     let state = N::accept_and_knock(rt, alloc, &mut door, &mut theirs);
@@ -144,8 +145,7 @@ pub fn knock_wakes_an_accept<R, N: ThreadNet<R>>(
 }
 
 /// Knocks that come before an `accept`, and a connection that was there before them.
-pub fn knock_before_an_accept<N: CaseNet>(alloc: Global, net: N) -> Result<String, AllocError> {
-    let mut net = net;
+pub fn knock_before_an_accept<N: CaseNet>(alloc: Global, mut net: N) -> Result<String, AllocError> {
     let mut door = memory(net.door(DoorKind::Client))?;
     let told = accept_knocks(alloc, &mut net, &mut door);
     net.close(door);
@@ -172,14 +172,13 @@ fn accept_knocks<N: CaseNet, D: Door>(
 pub fn doors_closed<R, N: ThreadNet<R>>(
     rt: &R,
     alloc: Global,
-    net: N,
+    mut net: N,
 ) -> Result<String, AllocError> {
-    let mut net = net;
     let closed = links_closed(alloc, &mut net)?;
-    let (bytes, answered, _, _) = serve_and_ask(rt, &mut net, 1)?;
+    let ((bytes, answered), _) = serve_and_ask(rt, &mut net, 1)?;
+    let mine = net.faults();
     format!(in alloc;
-        "doors closed: {closed}; then {answered} answered, {bytes} bytes served, faults {}",
-        net.faults()
+        "doors closed: {closed}; then {answered} answered, {bytes} bytes served, faults {mine}"
     )
 }
 
@@ -213,17 +212,14 @@ fn state_given_back<N: Dial>(
 pub fn kinds_of_doors<R, N: ThreadNet<R>>(
     rt: &R,
     alloc: Global,
-    net: N,
+    mut net: N,
 ) -> Result<String, AllocError> {
-    let mut net = net;
     let mut admin = memory(net.door(DoorKind::Admin))?;
     let mut agent = memory(net.door(DoorKind::Agent))?;
     let first = memory(net.dial(DoorKind::Agent))?;
     let second = memory(net.dial(DoorKind::Admin))?;
     let ((one, other), (asked, also)) = N::serve_and_ask_over(
-        rt,
-        (&mut admin, &mut agent),
-        (first, second),
+        rt, &mut admin, &mut agent, first, second,
     );
     net.close(admin);
     net.close(agent);
@@ -231,8 +227,7 @@ pub fn kinds_of_doors<R, N: ThreadNet<R>>(
 }
 
 /// What giving a link back counts.
-pub fn given_back<N: CaseNet>(alloc: Global, net: N) -> Result<String, AllocError> {
-    let mut net = net;
+pub fn given_back<N: CaseNet>(alloc: Global, mut net: N) -> Result<String, AllocError> {
     let mut door = memory(net.door(DoorKind::Client))?;
     let fresh = memory(net.dial(DoorKind::Client))?;
     net.give_back(fresh);

@@ -28,15 +28,19 @@ pub trait ThreadNet<R>: CaseNet {
     /// Serves a link at each door, and asks once with each handle.
     fn serve_and_ask_two(
         rt: &R,
-        doors: (&mut Self::Door, &mut Self::Door),
-        nets: (&mut Self, &mut Self),
+        first: &mut Self::Door,
+        second: &mut Self::Door,
+        mine: &mut Self,
+        theirs: &mut Self,
     ) -> ((u64, u64), (u32, u32));
 
     /// Serves a link at each door, and asks over each link.
     fn serve_and_ask_over(
         rt: &R,
-        doors: (&mut Self::Door, &mut Self::Door),
-        links: (Self::Link, Self::Link),
+        first: &mut Self::Door,
+        second: &mut Self::Door,
+        one: Self::Link,
+        other: Self::Link,
     ) -> ((u64, u64), (bool, bool));
 
     /// Reads a link to its end and sends so many pieces. How many bytes came, and whether all were sent.
@@ -68,15 +72,15 @@ impl<R: Wait + Copy + Drop> CaseNet for JoinedNet<R> {
     }
 }
 
-impl<R: Wait + Threads + Sync> ThreadNet<R> for JoinedNet<&R> {
-    fn ends_taken(link: &JoinedLink<&R>) -> u64 {
+impl<'r, R: Wait + Threads + Sync> ThreadNet<R> for JoinedNet<&'r R> {
+    fn ends_taken(link: &JoinedLink<&'r R>) -> u64 {
         link.tally().ends()
     }
 
     fn serve_and_ask(
         rt: &R,
-        door: &mut JoinedDoor<&R>,
-        net: &mut JoinedNet<&R>,
+        door: &mut JoinedDoor<&'r R>,
+        net: &mut JoinedNet<&'r R>,
         times: u32,
     ) -> (u64, u32) {
         join(rt, || serve(door, times), || ask_often(net, times))
@@ -84,8 +88,10 @@ impl<R: Wait + Threads + Sync> ThreadNet<R> for JoinedNet<&R> {
 
     fn serve_and_ask_two(
         rt: &R,
-        (first, second): (&mut JoinedDoor<&R>, &mut JoinedDoor<&R>),
-        (mine, theirs): (&mut JoinedNet<&R>, &mut JoinedNet<&R>),
+        first: &mut JoinedDoor<&'r R>,
+        second: &mut JoinedDoor<&'r R>,
+        mine: &mut JoinedNet<&'r R>,
+        theirs: &mut JoinedNet<&'r R>,
     ) -> ((u64, u64), (u32, u32)) {
         join(
             rt,
@@ -96,8 +102,10 @@ impl<R: Wait + Threads + Sync> ThreadNet<R> for JoinedNet<&R> {
 
     fn serve_and_ask_over(
         rt: &R,
-        (first, second): (&mut JoinedDoor<&R>, &mut JoinedDoor<&R>),
-        (one, other): (JoinedLink<&R>, JoinedLink<&R>),
+        first: &mut JoinedDoor<&'r R>,
+        second: &mut JoinedDoor<&'r R>,
+        one: JoinedLink<&'r R>,
+        other: JoinedLink<&'r R>,
     ) -> ((u64, u64), (bool, bool)) {
         join(
             rt,
@@ -108,14 +116,14 @@ impl<R: Wait + Threads + Sync> ThreadNet<R> for JoinedNet<&R> {
 
     fn drain_and_send(
         rt: &R,
-        door: &mut JoinedDoor<&R>,
-        net: &mut JoinedNet<&R>,
+        door: &mut JoinedDoor<&'r R>,
+        net: &mut JoinedNet<&'r R>,
         pieces: u32,
     ) -> (u64, bool) {
         join(rt, || drain_one(door), || send_pieces(net, pieces))
     }
 
-    fn drain_and_hang_up(rt: &R, link: &mut JoinedLink<&R>, end: &mut JoinedEnd<&R>) -> u64 {
+    fn drain_and_hang_up(rt: &R, link: &mut JoinedLink<&'r R>, end: &mut JoinedEnd<&'r R>) -> u64 {
         let (bytes, ()) = join(rt, || drain(link), || end.hang_up());
         bytes
     }
@@ -123,8 +131,8 @@ impl<R: Wait + Threads + Sync> ThreadNet<R> for JoinedNet<&R> {
     fn accept_and_knock(
         rt: &R,
         alloc: Global,
-        door: &mut JoinedDoor<&R>,
-        net: &mut JoinedNet<&R>,
+        door: &mut JoinedDoor<&'r R>,
+        net: &mut JoinedNet<&'r R>,
     ) -> Result<String, AllocError> {
         let (state, ()) = join(
             rt,

@@ -51,14 +51,14 @@ pub fn sync(text: &mut String, disk: &mut MemDisk) -> Result<(), Failure> {
     Ok(put_done(text, answer)?)
 }
 
-fn put_file(text: &mut String, bytes: &[u8]) -> Result<(), AllocError> {
+fn put_read_bytes(text: &mut String, bytes: &[u8]) -> Result<(), AllocError> {
     text.push_str("bytes ")?;
     put_bytes(text, bytes)
 }
 
 fn put_found(text: &mut String, found: Option<Bytes>) -> Result<(), AllocError> {
     match found {
-        Some(bytes) => put_file(text, bytes.as_slice()),
+        Some(bytes) => put_read_bytes(text, bytes.as_slice()),
         None => text.push_str("absent"),
     }
 }
@@ -85,7 +85,8 @@ pub fn names(text: &mut String, disk: &mut MemDisk) -> Result<(), Failure> {
     }
 }
 
-fn put_names(text: &mut String, names: &[FileName]) -> Result<(), AllocError> {
+/// Puts the names, each behind a space.
+pub fn put_names(text: &mut String, names: &[FileName]) -> Result<(), AllocError> {
     for name in names {
         put_word(text, "")?;
         put_bytes(text, name.as_slice())?;

@@ -1,6 +1,7 @@
 // Sources, sinks and bytes in memory.
 ghost use Rattle.std.specs.Prelude.{Some};
 
+use crate::folders::put_names;
 use case_words::{Failure, bytes_of, fails, first_number, first_word, put_bytes, put_word};
 use desk_ports::{
     Bytes, Failed, FileName, FileNameRefusal, MemSink, MemSource, Sink, Source, names_in_order,
@@ -281,14 +282,6 @@ pub fn name(alloc: Global, text: &mut String, word: &str) -> Result<(), Failure>
 fn names_of(alloc: Global, names: &mut Vec<FileName>, words: &str) -> Result<(), Failure> {
     for word in words.split(' ') {
         names.push(FileName::read(alloc, word.as_bytes())?)?;
-    }
-    Ok(())
-}
-
-fn put_names(text: &mut String, names: &[FileName]) -> Result<(), AllocError> {
-    for name in names {
-        put_word(text, "")?;
-        put_bytes(text, name.as_slice())?;
     }
     Ok(())
 }

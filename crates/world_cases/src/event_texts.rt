@@ -41,18 +41,19 @@ fn kind(words: &[&str], at: usize) -> Kind {
     }
 }
 
-// Both values, or the first failure.
+// Both values, or the first failure. Taking them one after another by `?` would let go of those before at each end, which is dear
+// to prove.
 fn both<A: Drop, B: Drop>(
     one: Result<A, Failure>,
     other: Result<B, Failure>,
 ) -> Result<(A, B), Failure> {
     match one {
-        Ok(one) => with(one, other),
+        Ok(one) => with_second(one, other),
         Err(failure) => Err(failure),
     }
 }
 
-fn with<A: Drop, B: Drop>(one: A, other: Result<B, Failure>) -> Result<(A, B), Failure> {
+fn with_second<A: Drop, B: Drop>(one: A, other: Result<B, Failure>) -> Result<(A, B), Failure> {
     match other {
         Ok(other) => Ok((one, other)),
         Err(failure) => Err(failure),
