@@ -44,7 +44,7 @@ unfolding kept
 standing-kept files desk is = by_standing (standing files) is
   where
     by_standing : (found : Standing) → as_told found ≡ Ok desk → found ≡ Ok desk
-    by_standing (Ok other) is = is
+    by_standing (Ok other) is = let same : other ≡ desk = cc in ap Ok same
     by_standing (Err (of_store file)) is = cc
     by_standing (Err (of_set fault)) is = cc
 
