@@ -43,6 +43,15 @@ module _ {D : Type 0} (moment : D → ℕ) (left_since : D → ℕ → FileMap �
       LeavesOnly-from moment left_since disk disk (StandsAsAt before) (λ left was. (left, only_now left was, refl))
       (AddsOnly-none moment left_since disk (StandsAsAt before))
 
+  -- nothing is done on a disk that keeps the policy state
+  pub rests-kept : (disk : D) (before : DiskState) (desk : DeskState) (held : Option (List SetFile)) (command : Command)
+      → IsKept desk held before → ((left : FileMap) → left_since disk (moment disk) left → MayLeave before left)
+      → LeavesOnly moment left_since disk disk (IsBeforeOrApplied desk command)
+  rests-kept disk before desk held command is only_now =
+      LeavesOnly-from moment left_since disk disk (IsBeforeOrApplied desk command)
+      (λ left was. inl (standing-kept left desk (is.alone left (only_now left was))))
+      (AddsOnly-none moment left_since disk (IsBeforeOrApplied desk command))
+
   module _ (old new : D) where
     pub stands-as-at : (before : DiskState) → LeavesOnly moment left_since old new (RecoversAsAllowed before)
         → LeavesOnly moment left_since old new (StandsAsAt before)

@@ -1,6 +1,8 @@
 use Rattle.std.proofs.Common.{inl, refl}
+use Rattle.desk_keeper.specs.Keeper.{disk_of, held_of}
 use Rattle.admin_door.specs.Side.{side_of}
 use Rattle.admin_door.proofs.Answering.{either-way, commits-shown, lacks-unshown, commits-refused}
+use Rattle.admin_door.proofs.Stopping.{rests-kept, applies}
 use Rattle.admin_door.proofs.commands.commit.Goals as goal
 
 pub returns-in-Ok-clause-committed : goal.returns-in-Ok-clause-committed
@@ -25,3 +27,15 @@ returns-in-Err-clause-committed g c =
     either-way c.tell_refusal.result _ _ _ _
     (λ replies told. commits-refused c.args.command.now old c.in-Err.refusal replies.items c.in-Err.ensures.refused told)
     (λ ended is. (is, inl refl)) c.tell_refusal.ensures
+
+pub returns-in-Ok-clause-stops : goal.returns-in-Ok-clause-stops
+returns-in-Ok-clause-stops g c before told kept =
+    applies g.D.Disk.moment g.D.Disk.left_since (disk_of c.args.keeper.now) (disk_of c.commit_prepared.new.keeper)
+    c.args.keeper.now.desk c.in-Ok.prepared.desk c.args.command.now c.in-Ok.ensures.accepted c.in-Ok.ensures.desk
+    (c.commit_prepared.ensures.stops before told kept)
+
+pub returns-in-Err-clause-stops : goal.returns-in-Err-clause-stops
+returns-in-Err-clause-stops g c before told kept =
+    rests-kept g.D.Disk.moment g.D.Disk.left_since (disk_of c.args.keeper.now) before c.args.keeper.now.desk
+    (held_of c.args.keeper.now) c.args.command.now kept
+    (λ left was. g.met.D.Disk.only_now (disk_of c.args.keeper.now) left before told was)
