@@ -4,43 +4,8 @@ ghost use Rattle.std.specs.Prelude.{◌≡◌};
 use crate::{AskRefusal, NextRefusal};
 use agent_table::{AnswerRefusal, Asked, RegisterRefusal, Taken};
 use cynara_keys::{Kind, Metadata, Question};
-use live_roll::{Left, Stopped};
 use std::marker::Model;
 use std::snapshot::Snapshot;
-
-/// A connection came to enter, and entered at this commit, or was refused. Only `enter_roll` makes one: so a hall that counts one
-/// has asked a roll.
-#[derive(Drop)]
-pub struct EnterCall {
-    outcome: Result<u64, Stopped>,
-}
-
-impl Model for EnterCall {
-    ghost use Rattle.std.specs.Prelude.{ℕ, Result};
-    ghost use Rattle.live_roll.specs.declared.answers.Stopped.{Stopped};
-
-    ghost Value = { Result ℕ Stopped };
-
-    ghost view = { λ call. call.outcome };
-}
-
-impl EnterCall {
-    pub(crate) fn of(outcome: Result<u64, Stopped>) -> EnterCall
-        ensures { result ≡ outcome }
-    {
-        EnterCall { outcome }
-    }
-
-    /// What was answered.
-    pub fn outcome(&self) -> Result<u64, Stopped>
-        ensures { result ≡ self.now }
-    {
-        match &self.outcome {
-            Ok(note) => Ok(*note),
-            Err(refusal) => Err(*refusal),
-        }
-    }
-}
 
 /// A question was put to the agent of the kind, and this was answered.
 #[derive(Drop)]
@@ -92,36 +57,6 @@ impl AskCall {
         ensures { result ≡ self.now.kind }
     {
         self.kind
-    }
-}
-
-/// All connections of a roll were hung up that had entered before this commit. Only `hang_roll` makes one: so a hall that notes
-/// one has hung up a roll.
-#[derive(Drop)]
-pub struct HangCall {
-    commit: u64,
-}
-
-impl Model for HangCall {
-    ghost use Rattle.std.specs.Prelude.{ℕ};
-
-    ghost Value = { ℕ };
-
-    ghost view = { λ call. call.commit };
-}
-
-impl HangCall {
-    pub(crate) fn of(commit: u64) -> HangCall
-        ensures { result ≡ commit }
-    {
-        HangCall { commit }
-    }
-
-    /// The commit.
-    pub fn commit(&self) -> u64
-        ensures { result ≡ self.now }
-    {
-        self.commit
     }
 }
 
@@ -252,42 +187,6 @@ impl AnswerCall {
         ensures { result ≡ self.now.allowed }
     {
         self.allowed
-    }
-}
-
-/// A connection left the place of this seat, which had entered at this commit, and this was answered. Only `leave_roll` makes
-/// one: so a hall that counts one has left a roll.
-#[derive(Drop)]
-pub struct LeaveCall {
-    seat: u32,
-    entered: u64,
-    left: Left,
-}
-
-impl Model for LeaveCall {
-    ghost use Rattle.server_hall.specs.Call.{LeaveMade};
-
-    ghost Value = { LeaveMade };
-
-    ghost view = { λ call. record { seat = call.seat; entered = call.entered; left = call.left } };
-}
-
-impl LeaveCall {
-    pub(crate) fn of(seat: u32, entered: u64, left: Left) -> LeaveCall
-        ensures { result ≡ record { seat = seat; entered = entered; left = left } }
-    {
-        LeaveCall {
-            seat,
-            entered,
-            left,
-        }
-    }
-
-    /// What was answered.
-    pub fn left(&self) -> Left
-        ensures { result ≡ self.now.left }
-    {
-        self.left
     }
 }
 

@@ -20,15 +20,13 @@ mod stop_news;
 mod table_calls;
 mod tallies;
 
-pub use calls::{
-    AnswerCall, AskCall, EnterCall, HallCall, HangCall, JoinCall, LeaveCall, NextCall, PartCall,
-};
+pub use calls::{AnswerCall, AskCall, HallCall, JoinCall, NextCall, PartCall};
 pub use halls::Hall;
 pub use list_answers::HallAnswer;
 pub use list_hall::ListHall;
 pub use locked::{Locked, QuestionDesk};
 pub use refusals::{AskRefusal, NextRefusal};
-pub use roll_calls::{enter_roll, hang_roll, leave_roll};
+pub use roll_calls::{EnterCall, HangCall, LeaveCall, enter_roll, hang_roll, leave_roll};
 pub use stop_news::StopNews;
 pub use table_calls::{Awaited, await_answer, give_next, put_question};
 pub use tallies::HallTally;

@@ -1,14 +1,93 @@
-// What the calls of a hall make of the roll that they are lent.
+// What the calls of a hall make of the roll that they are lent. What a hall may count and note of them these functions alone make:
+// no other module can.
 ghost use Rattle.std.specs.Prelude.{◌≡◌, ◌<◌, false, IsTrue, IfOk, IfErr, OnOk, OnErr};
 ghost use Rattle.live_roll.specs.Roll.{left_of, with_entry, without_entry, hung_to};
 ghost use Rattle.live_desk.specs.History.{last_commit};
 ghost use Rattle.live_desk.specs.Seat.{with_note};
 ghost use Rattle.server_hall.specs.Tally.{IsRaised};
 
-use crate::{EnterCall, HangCall, LeaveCall};
 use link_ports::HangEnd;
 use live_desk::{Publisher, Seat};
-use live_roll::Roll;
+use live_roll::{Left, Roll, Stopped};
+use std::marker::Model;
+
+/// A connection came to enter, and entered at this commit, or was refused. Only `enter_roll` makes one: so a hall that counts one
+/// has asked a roll.
+#[derive(Drop)]
+pub struct EnterCall {
+    outcome: Result<u64, Stopped>,
+}
+
+impl Model for EnterCall {
+    ghost use Rattle.std.specs.Prelude.{ℕ, Result};
+    ghost use Rattle.live_roll.specs.declared.answers.Stopped.{Stopped};
+
+    ghost Value = { Result ℕ Stopped };
+
+    ghost view = { λ call. call.outcome };
+}
+
+impl EnterCall {
+    /// What was answered.
+    pub fn outcome(&self) -> Result<u64, Stopped>
+        ensures { result ≡ self.now }
+    {
+        match &self.outcome {
+            Ok(note) => Ok(*note),
+            Err(refusal) => Err(*refusal),
+        }
+    }
+}
+
+/// A connection left the place of this seat, which had entered at this commit, and this was answered. Only `leave_roll` makes
+/// one: so a hall that counts one has left a roll.
+#[derive(Drop)]
+pub struct LeaveCall {
+    seat: u32,
+    entered: u64,
+    left: Left,
+}
+
+impl Model for LeaveCall {
+    ghost use Rattle.server_hall.specs.Call.{LeaveMade};
+
+    ghost Value = { LeaveMade };
+
+    ghost view = { λ call. record { seat = call.seat; entered = call.entered; left = call.left } };
+}
+
+impl LeaveCall {
+    /// What was answered.
+    pub fn left(&self) -> Left
+        ensures { result ≡ self.now.left }
+    {
+        self.left
+    }
+}
+
+/// All connections of a roll were hung up that had entered before this commit. Only `hang_roll` makes one: so a hall that notes
+/// one has hung up a roll.
+#[derive(Drop)]
+pub struct HangCall {
+    commit: u64,
+}
+
+impl Model for HangCall {
+    ghost use Rattle.std.specs.Prelude.{ℕ};
+
+    ghost Value = { ℕ };
+
+    ghost view = { λ call. call.commit };
+}
+
+impl HangCall {
+    /// The commit.
+    pub fn commit(&self) -> u64
+        ensures { result ≡ self.now }
+    {
+        self.commit
+    }
+}
 
 /// A connection enters, as `Roll::enter` says, or is refused, and its end is dropped. The call is handed out, for a hall to count.
 pub fn enter_roll<H: HangEnd>(roll: &mut Roll<H>, end: H, seat: &mut Seat) -> EnterCall
@@ -22,10 +101,12 @@ pub fn enter_roll<H: HangEnd>(roll: &mut Roll<H>, end: H, seat: &mut Seat) -> En
     ensures untold { OnErr result (seat.new ≡ seat.old) }
 {
     match roll.enter(end, seat) {
-        Ok(note) => EnterCall::of(Ok(note)),
+        Ok(note) => EnterCall { outcome: Ok(note) },
         Err((end, stopped)) => {
             drop(end);
-            EnterCall::of(Err(stopped))
+            EnterCall {
+                outcome: Err(stopped),
+            }
         }
     }
 }
@@ -38,7 +119,11 @@ pub fn leave_roll<H: HangEnd>(roll: &mut Roll<H>, seat: u32, entered: u64) -> Le
     ensures left { roll.new ≡ without_entry seat roll.old }
 {
     let left = roll.leave(seat, entered);
-    LeaveCall::of(seat, entered, left)
+    LeaveCall {
+        seat,
+        entered,
+        left,
+    }
 }
 
 /// All connections that entered before the last commit of the publisher are hung up, as `Roll::hang_all` says. The call is
@@ -49,5 +134,5 @@ pub fn hang_roll<H: HangEnd>(roll: &mut Roll<H>, publisher: &Publisher) -> HangC
 {
     let commit = publisher.commit();
     roll.hang_all(commit);
-    HangCall::of(commit)
+    HangCall { commit }
 }

@@ -4,9 +4,8 @@ ghost use Rattle.server_hall.specs.Tally.{no_calls, after_enter, after_leave, af
 ghost use Rattle.server_hall.specs.Tally.{after_next, after_answer, after_part, after_stop};
 ghost use Rattle.server_hall.specs.Tally.{stops_after_ask, losses_after_ask, stops_after_join, stops_after_next};
 
-use crate::calls::{
-    AnswerCall, AskCall, EnterCall, HangCall, JoinCall, LeaveCall, NextCall, PartCall,
-};
+use crate::calls::{AnswerCall, AskCall, JoinCall, NextCall, PartCall};
+use crate::roll_calls::{EnterCall, HangCall, LeaveCall};
 use crate::{AskRefusal, NextRefusal};
 use agent_table::{AnswerRefusal, Asked, RegisterRefusal, Taken};
 use cynara_keys::{Kind, Metadata, Question};
