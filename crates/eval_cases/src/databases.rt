@@ -239,21 +239,21 @@ fn put_from(
     deep: bool,
     out: &mut Vec<u8>,
 ) -> Option<()> {
-    let bucket = bucket_of(alloc, word(words, 1)?);
-    let (bucket, question) = both(bucket, question_at(alloc, words, 2))?;
-    let answer = answer_from(database, &bucket, &question, deep);
-    drop(bucket);
+    let question = question_at(alloc, words, 2)?;
+    let answer = answer_from(alloc, database, words, &question, deep);
     drop(question);
     put_answer(&answer?, out)
 }
 
 fn answer_from(
+    alloc: Global,
     database: &Database,
-    bucket: &BucketName,
+    words: &[&[u8]],
     question: &Question,
     deep: bool,
 ) -> Option<Answer> {
-    let place = database.place(bucket)?;
+    let bucket = bucket_of(alloc, word(words, 1)?)?;
+    let place = database.place(&bucket)?;
     Some(describe(database, plain(database, place, question, deep)))
 }
 
