@@ -242,7 +242,8 @@ fn put_from(
     let question = question_at(alloc, words, 2)?;
     let answer = answer_from(alloc, database, words, &question, deep);
     drop(question);
-    put_answer(&answer?, out)
+    let answer = answer?;
+    put_answer(&answer, out)
 }
 
 fn answer_from(
