@@ -233,29 +233,27 @@ fn put_other(text: &[u8], other: &Answer, wanted: &Answer, out: &mut Vec<u8>) ->
 
 // What a bucket answers by `plain` alone.
 fn put_from(
+    database: &Database,
+    name: &BucketName,
+    question: &Question,
+    deep: bool,
+    out: &mut Vec<u8>,
+) -> Option<()> {
+    let place = database.place(name)?;
+    let found = plain(database, place, question, deep);
+    put_answer(&describe(database, found), out)
+}
+
+fn put_from_words(
     alloc: Global,
     database: &Database,
     words: &[&[u8]],
     deep: bool,
     out: &mut Vec<u8>,
 ) -> Option<()> {
-    let question = question_at(alloc, words, 2)?;
-    let answer = answer_from(alloc, database, words, &question, deep);
-    drop(question);
-    let answer = answer?;
-    put_answer(&answer, out)
-}
-
-fn answer_from(
-    alloc: Global,
-    database: &Database,
-    words: &[&[u8]],
-    question: &Question,
-    deep: bool,
-) -> Option<Answer> {
     let bucket = bucket_of(alloc, word(words, 1)?)?;
-    let place = database.place(&bucket)?;
-    Some(describe(database, plain(database, place, question, deep)))
+    let question = question_at(alloc, words, 2)?;
+    put_from(database, &bucket, &question, deep, out)
 }
 
 // Changes the database as a case says. `None` where it is no such case, or a rule refuses it.
@@ -287,8 +285,8 @@ fn put_question(
             let question = question_at(alloc, words, 1)?;
             put_check(alloc, database, &question, out)
         }
-        b"from" => put_from(alloc, database, words, true, out),
-        b"flat" => put_from(alloc, database, words, false, out),
+        b"from" => put_from_words(alloc, database, words, true, out),
+        b"flat" => put_from_words(alloc, database, words, false, out),
         _ => None,
     }
 }
