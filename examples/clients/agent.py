@@ -1,7 +1,7 @@
 #!/usr/bin/env python3
 """agent.py SOCKET KIND COMMAND.. registers at the service as the agent of this kind, and runs COMMAND CLIENT USER PRIVILEGE
 for each question: status 0 allows, any other denies. It ends with 0 where the service ends. Status 7: no service. Status 9: what
-came is no frame for an agent (docs/PROTOCOL.md). Status 1: another agent of the kind is there."""
+came is no frame for an agent (docs/use/PROTOCOL.md). Status 1: another agent of the kind is there."""
 import socket, struct, subprocess, sys
 
 def frame_in(stream):

@@ -1,5 +1,5 @@
 /* check SOCKET CLIENT USER PRIVILEGE asks the service whether CLIENT may use PRIVILEGE for USER, and prints a verdict.
- * Status 7: no service, or it hung up three times. Status 9: what came is no verdict (docs/PROTOCOL.md). */
+ * Status 7: no service, or it hung up three times. Status 9: what came is no verdict (docs/use/PROTOCOL.md). */
 #include <stdint.h>
 #include <stdio.h>
 #include <string.h>

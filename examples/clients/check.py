@@ -1,6 +1,6 @@
 #!/usr/bin/env python3
 """check.py SOCKET CLIENT USER PRIVILEGE asks the service whether CLIENT may use PRIVILEGE for USER, and prints its answer.
-Status 7: no service, or it hung up three times. Status 9: what came is no reply (docs/PROTOCOL.md)."""
+Status 7: no service, or it hung up three times. Status 9: what came is no reply (docs/use/PROTOCOL.md)."""
 import socket, struct, sys
 
 # What an agent has to do with: the word of each reply, and its numbers behind the commit.

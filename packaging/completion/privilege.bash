@@ -1,6 +1,6 @@
 # Completion of the words of privilege(1) for bash: the command, and behind it what a device has: labels, users, modes.
 _privilege() {
-    local line=${COMP_LINE:0:COMP_POINT} offered= words at word front
+    local line=${COMP_LINE:0:COMP_POINT} offered='' words at word front
     # The words as the program is given them: bash parts them at a colon as well.
     read -ra words <<<"$line"
     [[ $line == *' ' ]] && words+=('')

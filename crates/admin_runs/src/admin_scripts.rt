@@ -209,7 +209,7 @@ fn note_store_damage<K: Sink>(alloc: Global, number: u32, sink: &mut K)
 {
     note_text(
         format!(in alloc;
-            "privilege: line {number}: another program damaged the store of the service; docs/GUIDE.md, \"Status 8\", says what to do"
+            "privilege: line {number}: another program damaged the store of the service; docs/use/GUIDE.md, \"Status 8\", says what to do"
         ),
         sink,
     );

@@ -28,7 +28,8 @@ use Rattle.bucket_store.proofs.Lists.{All-weaker, All-append}
 use Rattle.bucket_eval.specs.Evaluation.{Contribution, contribution_cmp}
 use Rattle.bucket_eval.specs.parts.Shapes.{is_wild, shape_by, shape_of, sought_field, sought, fits, FitsAt, OnlyAt}
 use Rattle.bucket_eval.specs.parts.Shapes.{in_shape, below_shape}
-use Rattle.bucket_eval.proofs.Lesser.{combined, combined-joined, combined-swapped}
+use Rattle.bucket_eval.specs.parts.Buckets.{combined}
+use Rattle.bucket_eval.proofs.Lesser.{combined-joined, combined-swapped}
 
 -- ---- a key that matches ties with the sought one of its shape
 

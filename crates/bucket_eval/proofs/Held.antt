@@ -75,6 +75,15 @@ answer-more buckets question deep most at bucket rise is =
     (first_least contribution_cmp (filter_map (offered buckets question deep most bucket.name) policies)))
     (policies_of-at buckets at bucket rise is)
 
+-- what a bucket answers, by the least contribution of its policies
+pub answer-least : (buckets : List Bucket) (question : Question) (deep : Bool) (most at : ℕ) (bucket : Bucket)
+    → IsStrictlySortedBy bucket_cmp buckets → slice_get buckets at ≡ Some bucket
+    → answer_within (database_of buckets) question deep (suc most) bucket.name
+    ≡ decided (fallback_of (database_of buckets) bucket.name)
+    (first_least contribution_cmp (filter_map (offered buckets question deep most bucket.name) bucket.policies))
+unfolding least_of
+answer-least buckets question deep most at bucket rise is = answer-more buckets question deep most at bucket rise is
+
 pub fallback-answers : (buckets : List Bucket) (question : Question) (deep : Bool) (most at : ℕ) (bucket : Bucket)
     (held : Held)
     → IsStrictlySortedBy bucket_cmp buckets

@@ -7,11 +7,10 @@ use Rattle.cynara_keys.specs.declared.keys.Policy.{Policy}
 use Rattle.cynara_keys.specs.Key.{Question}
 use Rattle.bucket_store.specs.Bucket.{Bucket}
 use Rattle.bucket_eval.specs.Evaluation.{Contribution, contribution_cmp}
-use Rattle.bucket_eval.specs.parts.Buckets.{Offers, chosen}
+use Rattle.bucket_eval.specs.parts.Buckets.{combined, Offers, chosen}
 use Rattle.bucket_eval.specs.parts.Windows.{FailsOutside, matches}
 use Rattle.bucket_eval.specs.declared.windows.Window.{Window}
 use Rattle.bucket_eval.specs.declared.nested.Offer.{Offer}
-use Rattle.bucket_eval.proofs.Lesser.{combined}
 use Rattle.bucket_eval.proofs.ByShape.{first_least-cons_option}
 use Rattle.bucket_eval.proofs.Offers.{chosen-offers, not-offered}
 

@@ -137,12 +137,12 @@ told-held asked at spot held told is =
 
 -- ---- a slot that is set
 
-get-set : {X : Type 0} (xs : List X) (at : ℕ) (x : X) → at < length xs → slice_get (set xs at x) at ≡ Some x
+pub get-set : {X : Type 0} (xs : List X) (at : ℕ) (x : X) → at < length xs → slice_get (set xs at x) at ≡ Some x
 get-set [] at x within = absurd (omega arith)
 get-set (y ∷ xs) zero x within = refl
 get-set (y ∷ xs) (suc at) x within = get-set xs at x (omega arith)
 
-get-set-other : {X : Type 0} (xs : List X) (at k : ℕ) (x : X) → k ≢ at → slice_get (set xs at x) k ≡ slice_get xs k
+pub get-set-other : {X : Type 0} (xs : List X) (at k : ℕ) (x : X) → k ≢ at → slice_get (set xs at x) k ≡ slice_get xs k
 get-set-other [] at k x apart = refl
 get-set-other (y ∷ xs) zero zero x apart = absurd (apart refl)
 get-set-other (y ∷ xs) zero (suc k) x apart = refl

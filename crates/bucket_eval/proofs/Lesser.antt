@@ -7,12 +7,8 @@ use Rattle.std.specs.Ordering.{is_gt, is_eq, ordering_reverse, min_by_ordering}
 use Rattle.std.proofs.lemmas.Cmp.{upto}
 use Rattle.std.proofs.lemmas.Bool.{true_from_ne_false, false≢true, true≢false}
 use Rattle.cynara_keys.specs.Minimum.{lesser}
+use Rattle.bucket_eval.specs.parts.Buckets.{combined}
 use Rattle.bucket_eval.proofs.Best.{min-after, min-before}
-
--- the lesser of two, where both are there, and the first where they tie
-abbrev pub combined : {X : Type 0} → (X → X → Ordering) → Option X → Option X → Option X
-combined cmp None rest = rest
-combined cmp (Some x) rest = Some (lesser cmp x rest)
 
 min-swap : {X : Type 0} (x y : X) (there back : Ordering) → there ≡ ordering_reverse back → is_eq there ≡ false
     → min_by_ordering there x y ≡ min_by_ordering back y x

@@ -15,4 +15,8 @@ mod Tabling
 mod Kept
 mod Known
 mod Settled
+mod Filing
+mod Growing
+mod KeyOrder
+mod Weighing
 pub mod Decisions

@@ -1,5 +1,5 @@
 -- Policies by the marks of their keys.
-use Rattle.std.proofs.Common.{◌≡◌, ℕ, ◌<◌, ◌%◌, ◌==◌, Bool, true, false, cond, nat_lt, nat_le, List, [], length}
+use Rattle.std.proofs.Common.{◌≡◌, ℕ, ◌<◌, ◌%◌, ◌==◌, Bool, true, false, cond, nat_lt, nat_le, List, [], ◌∷◌, zero, suc, length}
 use Rattle.std.proofs.Common.{slice_get, get_or, option_and_then, Option, None, Some, Ok, is_some, refl, sym, ap, ◌∙◌}
 use Rattle.std.proofs.Common.{subst, arith, ◌≢◌}
 use Rattle.std.proofs.Math.Seq.{get_or-append_seam}
@@ -22,10 +22,10 @@ use Rattle.cynara_keys.proofs.Order.{key_cmp-equal, key_total, same_text-≡, �
 use Rattle.bucket_store.specs.Order.{policy_cmp}
 use Rattle.bucket_store.specs.parts.Search.{StandsAt}
 use Rattle.bucket_store.proofs.Searching.{searched}
-use Rattle.bucket_eval.specs.declared.tables.Numbers.{Numbers}
-use Rattle.bucket_eval.specs.parts.Numbers.{IsMarked, IsTable, if_small, join, joined, mark_of, number_of}
+use Rattle.bucket_eval.specs.declared.numbers.Numbers.{Numbers}
+use Rattle.bucket_eval.specs.parts.Numbers.{IsMarked, IsTable, KeepsNumbers, if_small, join, joined, mark_of, number_of}
 use Rattle.bucket_eval.specs.parts.Shapes.{FitsAt, fits, is_wild, shape_of, sought, sought_field}
-use Rattle.bucket_eval.specs.parts.Tables.{AreNumbers, IsShaped, sought_mark}
+use Rattle.bucket_eval.specs.parts.Marks.{AreNumbers, sought_mark}
 use Rattle.bucket_eval.proofs.ByShape.{client-wild, equal-same, misfit, privilege-wild, user-wild}
 
 -- ---- numbers of texts
@@ -100,6 +100,30 @@ joined-same a b c d e f is lb lc le lf = record {
   third = omega arith;
 }
 
+-- what has a mark keeps it
+pub mark-kept : (old new : List (List ℕ)) (key : Key) (mark : ℕ) → KeepsNumbers old new → mark_of old key ≡ Some mark
+    → mark_of new key ≡ Some mark
+mark-kept old new key mark kept is =
+    let parts = parts-of (number_of old (field_text key.client)) (number_of old (field_text key.user))
+    (number_of old (field_text key.privilege)) mark is in
+    (λ i. join (kept (field_text key.client) parts.first parts.client_is i)
+    (kept (field_text key.user) parts.second parts.user_is i)
+    (kept (field_text key.privilege) parts.third parts.privilege_is i))
+    ∙ ap Some parts.mark_is
+
+-- the mark of a key whose texts were given numbers in turn
+pub mark-made : (first second third : List (List ℕ)) (client user privilege : Option ℕ) (key : Key) (mark : ℕ)
+    → client ≡ number_of first (field_text key.client) → user ≡ number_of second (field_text key.user)
+    → privilege ≡ number_of third (field_text key.privilege) → KeepsNumbers first second → KeepsNumbers second third
+    → join client user privilege ≡ Some mark → mark_of third key ≡ Some mark
+mark-made first second third client user privilege key mark client_is user_is privilege_is one two is =
+    let parts = parts-of client user privilege mark is in
+    (λ i. join
+    (two (field_text key.client) parts.first (one (field_text key.client) parts.first (sym client_is ∙ parts.client_is)) i)
+    (two (field_text key.user) parts.second (sym user_is ∙ parts.user_is) i)
+    ((sym privilege_is ∙ parts.privilege_is) i))
+    ∙ ap Some parts.mark_is
+
 -- keys of one mark tie
 pub marks-tie : (names : List (List ℕ)) (key other : Key) (mark : ℕ) → mark_of names key ≡ Some mark
     → mark_of names other ≡ Some mark → key_cmp key other ≡ Equal
@@ -147,6 +171,21 @@ sought-mark-is names question numbers shape are =
     (field-number names (nat_le 4 shape) question.client numbers.wildcard numbers.client are.wildcard are.client i)
     (field-number names (nat_le 2 (shape % 4)) question.user numbers.wildcard numbers.user are.wildcard are.user i)
     (field-number names (shape % 2 == 1) question.privilege numbers.wildcard numbers.privilege are.wildcard are.privilege i)
+
+-- what stands in a list of eight
+pub eight : {X : Type 0} (f : ℕ → X) (a b c d e g h i : X) → a ≡ f 0 → b ≡ f 1 → c ≡ f 2 → d ≡ f 3 → e ≡ f 4 → g ≡ f 5
+    → h ≡ f 6 → i ≡ f 7 → (shape : ℕ) → shape < 8
+    → slice_get (a ∷ (b ∷ (c ∷ (d ∷ (e ∷ (g ∷ (h ∷ (i ∷ [])))))))) shape ≡ Some (f shape)
+eight f a b c d e g h i ea eb ec ed ee eg eh ei zero less = ap Some ea
+eight f a b c d e g h i ea eb ec ed ee eg eh ei (suc zero) less = ap Some eb
+eight f a b c d e g h i ea eb ec ed ee eg eh ei (suc (suc zero)) less = ap Some ec
+eight f a b c d e g h i ea eb ec ed ee eg eh ei (suc (suc (suc zero))) less = ap Some ed
+eight f a b c d e g h i ea eb ec ed ee eg eh ei (suc (suc (suc (suc zero)))) less = ap Some ee
+eight f a b c d e g h i ea eb ec ed ee eg eh ei (suc (suc (suc (suc (suc zero))))) less = ap Some eg
+eight f a b c d e g h i ea eb ec ed ee eg eh ei (suc (suc (suc (suc (suc (suc zero)))))) less = ap Some eh
+eight f a b c d e g h i ea eb ec ed ee eg eh ei (suc (suc (suc (suc (suc (suc (suc zero))))))) less = ap Some ei
+eight f a b c d e g h i ea eb ec ed ee eg eh ei (suc (suc (suc (suc (suc (suc (suc (suc n)))))))) less =
+    absurd (omega arith)
 
 -- ---- where the policy of a mark stands
 
@@ -204,21 +243,6 @@ module _ (names : List (List ℕ)) (policies : List Policy) (places : ℕ → Op
       (ap is_eq (marks-tie names has.policy.key (sought question shape) mark has.is sought_is))
 
 -- ---- shapes
-
--- no policy fits where none has the shape
-pub unshaped-fits : (policies : List Policy) (shapes : List Bool) (question : Question) (shape : ℕ)
-    → IsShaped policies shapes → slice_get shapes shape ≡ Some false → FitsAt question shape policies None
-unshaped-fits policies shapes question shape shaped none =
-    recursion_from_All (λ policy. fits question shape policy ≡ false) policies
-    (λ k d within. apart k (get_or policies k d) (slice_get-get_or policies k d within)
-    (fits question shape (get_or policies k d)) refl)
-  where
-    apart : (place : ℕ) (policy : Policy) → slice_get policies place ≡ Some policy → (fit : Bool)
-        → fits question shape policy ≡ fit → fit ≡ false
-    apart place policy there true is =
-        let own : shape_of policy.key ≡ shape = eqb-true _ _ (second_so _ _ is) in
-        absurd (shaped place policy there (ap (slice_get shapes) own ∙ none))
-    apart place policy there false is = refl
 
 field-fits : (field : Field) (name : List ℕ) (wild : Bool) → wild ≡ is_wild field
     → same_text (field_text field) (field_text (sought_field wild name)) ≡ true → field_matches field name ≡ true

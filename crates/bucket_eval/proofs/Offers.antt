@@ -14,11 +14,10 @@ use Rattle.bucket_store.specs.Bucket.{Bucket}
 use Rattle.bucket_store.specs.Database.{database_of}
 use Rattle.bucket_store.specs.Order.{policy_cmp}
 use Rattle.bucket_eval.specs.Evaluation.{Outcome, Contribution, contribution_cmp, counted, outcome_of, answer_within}
-use Rattle.bucket_eval.specs.parts.Buckets.{IsOffer, Offers, offered, chosen, comes_after}
+use Rattle.bucket_eval.specs.parts.Buckets.{combined, IsOffer, Offers, offered, chosen, comes_after}
 use Rattle.bucket_eval.specs.parts.Shapes.{FitsAt, in_shape, below_shape}
 use Rattle.bucket_eval.specs.declared.nested.Offer.{Offer}
 use Rattle.bucket_eval.proofs.Best.{min-after, min-before}
-use Rattle.bucket_eval.proofs.Lesser.{combined}
 use Rattle.bucket_eval.proofs.ByShape.{IsOwn, if-some, least-of-one, least-of-none}
 use Rattle.bucket_eval.proofs.ByShape.{least-below-first, least-below-more, least-below-last}
 

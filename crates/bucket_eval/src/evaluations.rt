@@ -3,7 +3,6 @@ ghost use Rattle.bucket_store.specs.WellFormed.{IsKept};
 ghost use Rattle.bucket_eval.specs.Evaluation.{answer};
 ghost use Rattle.bucket_eval.specs.Found.{outcome_at, answer_of};
 ghost use Rattle.bucket_eval.specs.parts.Buckets.{IsHeld};
-ghost use Rattle.bucket_eval.specs.parts.Finding.{IsRight};
 ghost use Rattle.bucket_eval.specs.parts.Slots.{answer_to};
 
 use crate::answers::{Answer, Found};
@@ -68,7 +67,6 @@ fn found_from<'a>(
         buckets,
         question,
         deep: recursive,
-        finder: None,
     };
     from_the_start(&asked, start).found
 }
@@ -77,7 +75,6 @@ fn found_from<'a>(
 fn from_the_start<'a>(asked: &Asked<'a>, start: usize) -> Held<'a>
     requires kept { IsKept asked.now.buckets.now }
     requires there { start < length asked.now.buckets.now }
-    requires right { IsRight asked.now }
     ensures { IfSome (slice_get asked.now.buckets.now start) (λ bucket.
         IsHeld asked.now.buckets.now (answer_to asked.now bucket.name) result) }
 {
@@ -91,7 +88,6 @@ fn by_few_slots<'a>(asked: &Asked<'a>, start: usize) -> Held<'a>
     requires kept { IsKept asked.now.buckets.now }
     requires there { start < length asked.now.buckets.now }
     requires few { length asked.now.buckets.now ≤ 16 }
-    requires right { IsRight asked.now }
     ensures { IfSome (slice_get asked.now.buckets.now start) (λ bucket.
         IsHeld asked.now.buckets.now (answer_to asked.now bucket.name) result) }
 {
@@ -102,7 +98,6 @@ fn by_few_slots<'a>(asked: &Asked<'a>, start: usize) -> Held<'a>
 fn by_slots<'a>(asked: &Asked<'a>, start: usize) -> Held<'a>
     requires kept { IsKept asked.now.buckets.now }
     requires there { start < length asked.now.buckets.now }
-    requires right { IsRight asked.now }
     ensures { IfSome (slice_get asked.now.buckets.now start) (λ bucket.
         IsHeld asked.now.buckets.now (answer_to asked.now bucket.name) result) }
 {

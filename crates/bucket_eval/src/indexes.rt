@@ -1,19 +1,23 @@
-ghost use Rattle.std.specs.Prelude.{◌≡◌, ◌<◌, ◌≤◌, length, true, slice_get, IfOk, IfSome};
+ghost use Rattle.std.specs.Prelude.{◌≡◌, ◌<◌, ◌≤◌, length, slice_get, IfOk, IfSome, Some};
+ghost use Rattle.cynara_keys.specs.Field.{wildcard};
+ghost use Rattle.bucket_store.specs.Bucket.{Bucket as Content};
 ghost use Rattle.bucket_store.specs.WellFormed.{IsKept};
+ghost use Rattle.bucket_eval.specs.Found.{outcome_at as outcome_found};
 ghost use Rattle.bucket_eval.specs.Lent.{outcome_lent};
 ghost use Rattle.bucket_eval.specs.Root.{root_answer, root_outcome};
-ghost use Rattle.bucket_eval.specs.parts.Buckets.{IsHeld};
-ghost use Rattle.bucket_eval.specs.parts.Finding.{IsRight};
-ghost use Rattle.bucket_eval.specs.parts.Slots.{answer_to};
-ghost use Rattle.bucket_eval.specs.parts.Tables.{AreTables};
+ghost use Rattle.bucket_eval.specs.parts.Buckets.{outcome_at};
+ghost use Rattle.bucket_eval.specs.parts.Deciding.{IsRight, answer_of};
+ghost use Rattle.bucket_eval.specs.parts.Numbers.{number_of};
+ghost use Rattle.bucket_eval.specs.parts.Sheets.{AreSheets};
 
-use crate::answers::Answer;
+use crate::answers::{Answer, Found};
+use crate::deciding::{Asking, Known, decided};
+use crate::evaluations::plain_borrowed;
 use crate::lending::{BorrowedAnswer, lend};
 use crate::names::Names;
-use crate::nested::{Asked, Finder, Held};
-use crate::settling::settled;
-use crate::slots::{Slot, bucket_at};
-use crate::tables::{Table, numbers_of};
+use crate::numbers::{marks_of, numbers_of};
+use crate::sheets::Sheet;
+use crate::slots::bucket_at;
 use bucket_store::{Bucket, Database};
 use cynara_keys::{BorrowedQuestion, Question};
 use std::alloc::{AllocError, Global};
@@ -27,24 +31,30 @@ const MOST_SLOTS: usize = 1024;
 pub struct Index {
     database: Database,
     names: Names,
-    tables: Vec<Option<Table>>,
+    // The number of the wildcard.
+    star: Option<u64>,
+    // None where a key has no mark.
+    sheets: Option<Vec<Sheet>>,
 }
 
 impl Model for Index {
     ghost use Rattle.bucket_store.specs.Database.{Database as Content};
-    ghost use Rattle.bucket_eval.specs.parts.Tables.{AreTablesOf};
+    ghost use Rattle.std.specs.Prelude.{IfSome};
+    ghost use Rattle.bucket_eval.specs.parts.Marks.{IsStar};
+    ghost use Rattle.bucket_eval.specs.parts.Sheets.{AreSheetsOf};
 
     ghost Value = { Content };
 
     ghost view = { λ index. index.database };
 
-    ghost invariant = { λ index. AreTablesOf index.names index.database index.tables.items };
+    ghost invariant = { λ index. IsStar index.names index.star
+        × IfSome index.sheets (λ sheets. AreSheetsOf index.names index.database sheets.items) };
 }
 
 /// Room for what is known while a question is answered: one slot for each bucket that a database can have.
 #[derive(Drop)]
 pub struct Scratch {
-    slots: Vec<Slot>,
+    slots: Vec<Known>,
 }
 
 impl Model for Scratch {
@@ -60,7 +70,7 @@ impl Model for Scratch {
 impl Scratch {
     /// Room for one question at a time.
     pub fn new(alloc: Global) -> Result<Scratch, AllocError> {
-        let slots = Vec::from_array(alloc, [Slot::empty(); MOST_SLOTS])?;
+        let slots = Vec::from_array(alloc, [Known::nothing(); MOST_SLOTS])?;
         Ok(Scratch { slots })
     }
 }
@@ -70,13 +80,15 @@ impl Index {
     pub fn build(alloc: Global, database: &Database) -> Result<Index, AllocError>
         ensures { IfOk result (λ index. index ≡ database.now) }
     {
-        let names = names_in(alloc, database.buckets())?;
-        let tables = tables_of(alloc, &names, database.buckets())?;
+        let mut names = Names::new(alloc);
+        let sheets = sheets_of(alloc, &mut names, database.buckets())?;
+        let star = names.number(b"*");
         let database = database.copy()?;
         Ok(Index {
             database,
             names,
-            tables,
+            star,
+            sheets,
         })
     }
 
@@ -95,60 +107,55 @@ impl Index {
     ) -> BorrowedAnswer<'_>
         ensures { outcome_lent result ≡ root_outcome self.now question.now }
     {
-        let asked = Asked {
-            buckets: self.database.buckets(),
-            question,
-            deep: true,
-            finder: Some(Finder {
-                names: &self.names,
-                tables: self.tables.as_slice(),
-                numbers: numbers_of(&self.names, question),
-            }),
-        };
-        let found = from_the_root(&asked, scratch).found;
+        let found = self.found(scratch, question);
         lend(&self.database, found)
     }
-}
 
-// What the first bucket answers.
-fn from_the_root<'a>(asked: &Asked<'a>, scratch: &mut Scratch) -> Held<'a>
-    requires kept { IsKept asked.now.buckets.now }
-    requires there { 0 < length asked.now.buckets.now }
-    requires right { IsRight asked.now }
-    ensures { IfSome (slice_get asked.now.buckets.now 0) (λ bucket.
-        IsHeld asked.now.buckets.now (answer_to asked.now bucket.name) result) }
-{
-    settled(asked, &mut scratch.slots, 0)
-}
-
-// The names of all keys.
-fn names_in(alloc: Global, buckets: &[Bucket]) -> Result<Names, AllocError> {
-    let mut names = Names::new(alloc);
-    names.add(alloc, b"*")?;
-    for bucket in buckets {
-        for policy in bucket.policies() {
-            let key = &policy.key;
-            names.add(alloc, key.client())?;
-            names.add(alloc, key.user())?;
-            names.add(alloc, key.privilege())?;
-        }
+    // Where what the root bucket answers is found.
+    fn found(&self, scratch: &mut Scratch, question: &BorrowedQuestion<'_>) -> Found
+        ensures { outcome_found self.now result ≡ Some (root_outcome self.now question.now) }
+    {
+        let buckets = self.database.buckets();
+        let Some(sheets) = &self.sheets else {
+            return plain_borrowed(&self.database, 0, question, true);
+        };
+        let marks = marks_of(&numbers_of(&self.names, self.star, question));
+        let asking = Asking {
+            buckets,
+            sheets: sheets.as_slice(),
+            question,
+            marks: &marks,
+        };
+        from_the_root(&asking, scratch)
     }
-    Ok(names)
 }
 
-// The tables of the buckets in turn.
-fn tables_of(
+// Where what the first bucket answers is found.
+fn from_the_root(asking: &Asking<'_>, scratch: &mut Scratch) -> Found
+    requires right { IsRight asking.now }
+    requires there { 0 < length asking.now.buckets.now }
+    ensures { (bucket : Content) → slice_get asking.now.buckets.now 0 ≡ Some bucket
+        → outcome_at asking.now.buckets.now result ≡ Some (answer_of asking.now bucket.name) }
+{
+    decided(asking, &mut scratch.slots)
+}
+
+// The sheets of the buckets in turn, whose names are given numbers, unless a key has no mark.
+fn sheets_of(
     alloc: Global,
-    names: &Names,
+    names: &mut Names,
     buckets: &[Bucket],
-) -> Result<Vec<Option<Table>>, AllocError>
+) -> Result<Option<Vec<Sheet>>, AllocError>
     requires { IsKept buckets.now }
-    ensures { IfOk result (λ tables. AreTables names.now buckets.now tables.items) }
+    ensures { IfOk result (λ sheets. IfSome sheets (λ sheets. AreSheets names.new buckets.now sheets.items)) }
 {
-    let mut tables = Vec::with_capacity(alloc, buckets.len())?;
+    let mut sheets = Vec::with_capacity(alloc, buckets.len())?;
     for at in 0..buckets.len() {
-        let table = Table::of(alloc, names, bucket_at(buckets, at).policies())?;
-        tables.push(table)?;
+        let made = Sheet::of(alloc, names, buckets, at, bucket_at(buckets, at))?;
+        let Some(sheet) = made else {
+            return Ok(None);
+        };
+        sheets.push(sheet)?;
     }
-    Ok(tables)
+    Ok(Some(sheets))
 }

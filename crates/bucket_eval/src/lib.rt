@@ -12,16 +12,18 @@ ghost use Rattle.cynara_keys.specs.PolicyResult.{bucket};
 ghost use Rattle.bucket_eval.specs.Least.{counts, decision_cmp, least_policy, DecidesAmong, NoneCounts};
 
 mod answers;
+mod deciding;
 mod evaluations;
 mod indexes;
 mod laws;
 mod lending;
 mod names;
 mod nested;
+mod numbers;
 mod settling;
 mod shapes;
+mod sheets;
 mod slots;
-mod tables;
 mod windows;
 
 pub use answers::{Answer, Cause, Found, Row, Verdict};

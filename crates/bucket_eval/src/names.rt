@@ -1,6 +1,6 @@
 // The texts of policies' keys, numbered in the order in which they came.
-ghost use Rattle.std.specs.Prelude.{◌≡◌};
-ghost use Rattle.bucket_eval.specs.parts.Numbers.{number_of};
+ghost use Rattle.std.specs.Prelude.{◌≡◌, ◌<◌, IfOk, IfSome};
+ghost use Rattle.bucket_eval.specs.parts.Numbers.{KeepsNumbers, if_small, number_of};
 
 use indexmap::IndexSet;
 use std::alloc::{AllocError, Global};
@@ -28,26 +28,40 @@ impl Names {
         }
     }
 
-    /// Gives the text a number, if it has none.
-    pub fn add(&mut self, alloc: Global, text: &[u8]) -> Result<(), AllocError> {
-        if self.texts.contains(text) {
-            return Ok(());
+    /// The number of the text, which is given one if it has none, if that has 18 bits. Those of other texts stay.
+    pub fn add(&mut self, alloc: Global, text: &[u8]) -> Result<Option<u64>, AllocError>
+        ensures is { IfOk result (λ number. number ≡ number_of self.new text.now) }
+        ensures small { IfOk result (λ number. IfSome number (λ one. one < 262144)) }
+        ensures kept { IfOk result (λ number. KeepsNumbers self.old self.new) }
+    {
+        if let Some(place) = self.texts.get_index_of(text) {
+            return Ok(small(place));
         }
+        let place = self.texts.len();
         let text = Vec::from_slice(alloc, text)?;
         self.texts.insert(text)?;
-        Ok(())
+        Ok(small(place))
     }
 
     /// The number of the text, if it has one of 18 bits.
     pub fn number(&self, text: &[u8]) -> Option<u64>
-        ensures { result ≡ number_of self.now text.now }
+        ensures is { result ≡ number_of self.now text.now }
+        ensures small { IfSome result (λ number. number < 262144) }
     {
         let Some(place) = self.texts.get_index_of(text) else {
             return None;
         };
-        if place < 262_144 {
-            return Some(place as u64);
-        }
-        None
+        small(place)
     }
+}
+
+// The number, if it has 18 bits.
+fn small(number: usize) -> Option<u64>
+    ensures is { result ≡ if_small number }
+    ensures small { IfSome result (λ one. one < 262144) }
+{
+    if number < 262_144 {
+        return Some(number as u64);
+    }
+    None
 }

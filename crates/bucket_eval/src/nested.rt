@@ -11,24 +11,18 @@ ghost use Rattle.bucket_store.specs.WellFormed.{IsKept};
 ghost use Rattle.bucket_eval.specs.Evaluation.{contribution_cmp, outcome_of};
 ghost use Rattle.bucket_eval.specs.parts.Buckets.{chosen, comes_after};
 ghost use Rattle.bucket_eval.specs.parts.Shapes.{FitsAt, in_shape};
-ghost use Rattle.bucket_eval.specs.parts.Finding.{IsRight};
 ghost use Rattle.bucket_eval.specs.parts.Slots.{AreSound, Looks, Reaches, answer_to, offered_to};
 ghost use Rattle.bucket_eval.specs.parts.Windows.{FailsOutside, matches};
 
 use crate::answers::Found;
-use crate::names::Names;
 use crate::shapes::{SHAPES, place_of_shape};
 use crate::slots::{Slot, known, own};
-use crate::tables::{Numbers, Table};
 use crate::windows::{Window, window_of};
 use bucket_store::Bucket;
 use cynara_keys::{BorrowedQuestion, Key, Kind, Policy, PolicyResult};
 
 /// A pass over so many policies costs less than a search for each shape.
 const FEW: usize = 64;
-
-/// A pass over so many policies costs less than a look into a table for each shape.
-const TINY: usize = 8;
 
 /// What a bucket answers: where it was found, and the result there.
 #[derive(Clone, Copy)]
@@ -51,16 +45,6 @@ pub struct Asked<'a> {
     pub buckets: &'a [Bucket],
     pub question: &'a BorrowedQuestion<'a>,
     pub deep: bool,
-    pub finder: Option<Finder<'a>>,
-}
-
-/// What an index finds the places of policies by: numbers of names, tables of places by the numbers of keys for each
-/// bucket, and the numbers of the question.
-#[derive(Clone, Copy)]
-pub struct Finder<'a> {
-    pub names: &'a Names,
-    pub tables: &'a [Option<Table>],
-    pub numbers: Numbers,
 }
 
 /// What following a policy came to.
@@ -96,13 +80,9 @@ pub fn least_offer<'a>(
     requires there { slice_get asked.now.buckets.now at ≡ Some bucket.now }
     requires room { length asked.now.buckets.now ≤ length slots.now }
     requires sound { AreSound asked.now slots.now }
-    requires right { IsRight asked.now }
     ensures { Looks asked.now slots.now bucket.now.name
         (first_least contribution_cmp (filter_map (offered_to asked.now bucket.now.name) bucket.now.policies)) result }
 {
-    if asked.finder.is_some() && bucket.policies().len() > TINY {
-        return least_by_shape(asked, slots, at, bucket);
-    }
     let window = window_of(bucket.policies(), asked.question, FEW);
     if window.end - window.start <= FEW {
         return least_in_turn(asked, slots, at, bucket, window);
@@ -154,7 +134,6 @@ fn least_by_shape<'a>(
     requires there { slice_get asked.now.buckets.now at ≡ Some bucket.now }
     requires room { length asked.now.buckets.now ≤ length slots.now }
     requires sound { AreSound asked.now slots.now }
-    requires right { IsRight asked.now }
     ensures { Looks asked.now slots.now bucket.now.name
         (first_least contribution_cmp (filter_map (offered_to asked.now bucket.now.name) bucket.now.policies)) result }
 {
@@ -184,47 +163,13 @@ fn offer_in_shape<'a>(
     requires there { slice_get asked.now.buckets.now at ≡ Some bucket.now }
     requires room { length asked.now.buckets.now ≤ length slots.now }
     requires sound { AreSound asked.now slots.now }
-    requires right { IsRight asked.now }
     ensures { Looks asked.now slots.now bucket.now.name (first_least contribution_cmp (filter_map
         (in_shape shape (offered_to asked.now bucket.now.name)) bucket.now.policies)) result }
 {
     let policies = bucket.policies();
-    match place_in_shape(asked, at, policies, shape) {
+    match place_of_shape(policies, asked.question, shape) {
         Some(place) => offer_of_match(asked, slots, at, bucket, place, &policies[place]),
         None => Looked::Silent,
-    }
-}
-
-// Where the policy of the bucket stands whose key has this shape and matches the question.
-fn place_in_shape(asked: &Asked<'_>, at: usize, policies: &[Policy], shape: usize) -> Option<usize>
-    requires rising { IsStrictlySortedBy policy_cmp policies.now }
-    requires there { IfSome (slice_get asked.now.buckets.now at) (λ bucket. bucket.policies ≡ policies.now) }
-    requires within { at < length asked.now.buckets.now }
-    requires right { IsRight asked.now }
-    ensures { FitsAt asked.now.question.now shape policies.now result }
-{
-    let Some(finder) = asked.finder else {
-        return place_of_shape(policies, asked.question, shape);
-    };
-    match table_at(finder.tables, at) {
-        Some(table) => table.place_of_shape(
-            finder.names,
-            policies,
-            asked.question,
-            &finder.numbers,
-            shape,
-        ),
-        None => place_of_shape(policies, asked.question, shape),
-    }
-}
-
-// The table at the place, if there is one.
-fn table_at(tables: &[Option<Table>], at: usize) -> Option<&Table>
-    ensures { IfSome result (λ table. slice_get tables.now at ≡ Some (Some table.now)) }
-{
-    match tables.get(at) {
-        Some(Some(table)) => Some(table),
-        _ => None,
     }
 }
 
@@ -315,15 +260,15 @@ fn answered<'a>(
     }
 }
 
-// Whether the policy points to a bucket.
-fn points(policy: &Policy) -> bool
+/// Whether the policy points to a bucket.
+pub fn points(policy: &Policy) -> bool
     ensures { result ≡ points policy.now }
 {
     policy.result.kind() == Kind::BUCKET
 }
 
-// The place of the bucket of this name, found by halving.
-fn place_of_bucket(buckets: &[Bucket], name: &[u8]) -> Option<usize>
+/// The place of the bucket of this name, found by halving.
+pub fn place_of_bucket(buckets: &[Bucket], name: &[u8]) -> Option<usize>
     requires { IsStrictlySortedBy bucket_cmp buckets.now }
     ensures { result ≡ position (λ bucket. same_text bucket.name name.now) buckets.now }
 {

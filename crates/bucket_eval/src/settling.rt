@@ -5,7 +5,6 @@ ghost use Rattle.bucket_store.specs.Database.{database_of};
 ghost use Rattle.bucket_store.specs.WellFormed.{IsKept};
 ghost use Rattle.bucket_eval.specs.parts.Buckets.{IsHeld};
 ghost use Rattle.bucket_eval.specs.parts.Ends.{EndsWithin};
-ghost use Rattle.bucket_eval.specs.parts.Finding.{IsRight};
 ghost use Rattle.bucket_eval.specs.parts.Slots.{AreSound, Grows, IsWaiting, answer_to, is_known};
 
 use crate::nested::{Asked, Held, Looked, least_offer};
@@ -18,7 +17,6 @@ pub fn settled<'a>(asked: &Asked<'a>, slots: &mut [Slot], at: usize) -> Held<'a>
     requires kept { IsKept asked.now.buckets.now }
     requires there { at < length asked.now.buckets.now }
     requires room { length asked.now.buckets.now ≤ length slots.old }
-    requires right { IsRight asked.now }
     ensures held { IfSome (slice_get asked.now.buckets.now at) (λ bucket.
         IsHeld asked.now.buckets.now (answer_to asked.now bucket.name) result) }
     ensures room { length slots.new ≡ length slots.old }
@@ -48,7 +46,6 @@ fn settle<'a>(asked: &Asked<'a>, slots: &mut [Slot], at: usize, left: usize) -> 
     requires sound { AreSound asked.now slots.old }
     requires ends { IfSome (slice_get asked.now.buckets.now at) (λ bucket.
         EndsWithin (database_of asked.now.buckets.now).policies left bucket.name) }
-    requires right { IsRight asked.now }
     ensures held { IfSome (slice_get asked.now.buckets.now at) (λ bucket.
         IsHeld asked.now.buckets.now (answer_to asked.now bucket.name) result) }
     ensures sound { AreSound asked.now slots.new }
@@ -88,7 +85,6 @@ fn attempt<'a>(
     requires there { slice_get asked.now.buckets.now at ≡ Some bucket.now }
     requires room { length asked.now.buckets.now ≤ length slots.now }
     requires sound { AreSound asked.now slots.now }
-    requires right { IsRight asked.now }
     ensures held { IfOk result (IsHeld asked.now.buckets.now (answer_to asked.now bucket.now.name)) }
     ensures waits { IfErr result (IsWaiting asked.now slots.now bucket.now.name) }
 {

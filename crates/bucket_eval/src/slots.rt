@@ -11,7 +11,7 @@ use bucket_store::Bucket;
 use cynara_keys::Policy;
 
 /// The number of no place.
-const NO_PLACE: u32 = 4_294_967_295;
+pub const NO_PLACE: u32 = 4_294_967_295;
 
 /// Where an answer was found: the place of its bucket, or the number of no place where nothing is known; and there the
 /// place of the policy, or the number of no place for the fallback.

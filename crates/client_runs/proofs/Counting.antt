@@ -16,7 +16,7 @@ use Rattle.run_endings.specs.Saying.{Said}
 use Rattle.run_endings.specs.declared.endings.Ending.{Ending}
 use Rattle.run_endings.specs.declared.endings.Ending.TheVariants.{Net}
 use Rattle.cynara_client.specs.Reply.{said, answer_to, reply_of, refusal_of}
-use Rattle.cynara_client.specs.Single.{AsksOnce, answer_of, link_of}
+use Rattle.client_runs.specs.AskedOnce.{AsksOnce, answer_of, link_of}
 use Rattle.cynara_client.specs.declared.refusals.Checked.{Checked}
 use Rattle.cynara_client.specs.declared.refusals.ClientRefusal.{ClientRefusal}
 use Rattle.cynara_client.specs.declared.refusals.ClientRefusal.TheVariants as refusal

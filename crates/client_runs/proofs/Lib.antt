@@ -1,3 +1,4 @@
 pub mod Speaking
 pub mod Counting
 pub mod Ends
+mod Asking

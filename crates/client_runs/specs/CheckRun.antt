@@ -5,7 +5,7 @@ use Rattle.link_ports.specs.declared.links.Link.{Ghosts as LinkTells}
 use Rattle.cynara_keys.specs.Key.{Question}
 use Rattle.command_words.specs.declared.commands.AskedNames.{AskedNames}
 use Rattle.client_connection.specs.Asking.{counted}
-use Rattle.cynara_client.specs.Single.{first_frame, AsksOnce}
+use Rattle.client_runs.specs.AskedOnce.{first_frame, AsksOnce}
 use Rattle.cynara_client.specs.declared.refusals.Checked.{Checked}
 use Rattle.cynara_client.specs.declared.refusals.ClientRefusal.{ClientRefusal}
 use Rattle.run_endings.specs.Saying.{Said}

@@ -1,2 +1,3 @@
+pub mod AskedOnce
 pub mod AnswerLine
 pub mod CheckRun

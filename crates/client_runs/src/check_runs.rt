@@ -1,19 +1,25 @@
 // `check` and `simple`.
-ghost use Rattle.std.specs.Prelude.{◌≡◌, true, false};
+ghost use Rattle.std.specs.Prelude.{◌≡◌, true, false, None};
 ghost use Rattle.run_endings.specs.Outside.{sink_seen};
 ghost use Rattle.run_endings.specs.Saying.{Said, WritesAnswers};
-ghost use Rattle.cynara_client.specs.Single.{first_frame, AsksOnce};
+ghost use Rattle.answer_cache.specs.Cache.{asked_in, empty_cache};
+ghost use Rattle.cynara_client.specs.State.{with_dial};
+ghost use Rattle.cynara_client.specs.Checking.{Checks};
+ghost use Rattle.client_runs.specs.AskedOnce.{first_frame, AsksOnce};
 ghost use Rattle.client_runs.specs.CheckRun.{EndsCheck, IsCounted, RunsCheck, question_of};
 ghost use Rattle.client_runs.specs.AnswerLine.{Says};
 
 use crate::answer_lines::answer_line;
 use command_words::AskedNames;
-use cynara_client::{Checked, ClientRefusal, ReplyFault, check_once};
-use cynara_keys::Question;
+use cynara_client::{Checked, ClientLink, ClientRefusal, ReplyFault};
+use cynara_keys::{Name, Question};
 use desk_ports::{Failed, Sink, write_all};
 use link_ports::Dial;
 use run_endings::{Ending, note_text};
 use std::alloc::Global;
+
+/// How many answers the client of a run keeps: it asks one question.
+const ENTRIES: u32 = 1;
 
 /// Asks the service whether the use of a privilege is granted, where an agent may be asked, and writes the line of its
 /// answer. The link is given back. It may wait.
@@ -79,8 +85,61 @@ fn answer_to<N: Dial>(
     let user = asked.user.as_slice();
     let privilege = asked.privilege.as_slice();
     match Question::of(alloc, client, user, privilege) {
-        Ok(question) => check_once(alloc, dial, simple, &question),
+        Ok(question) => ask(alloc, &asked.session, &question, simple, dial),
         Err(error) => Err(ClientRefusal::Memory(error)),
+    }
+}
+
+// What a client that is made for this question is answered. It gives its link back.
+fn ask<N: Dial>(
+    alloc: Global,
+    session: &Name,
+    question: &Question,
+    simple: bool,
+    dial: &mut N,
+) -> Result<Checked, ClientRefusal>
+    ensures { AsksOnce N.Link.faults N.Link.marks N.Link.traffic N.faults N.dials N.given_back
+        (first_frame simple question.now) result dial.old dial.new }
+{
+    match ClientLink::new(alloc, ENTRIES) {
+        Ok(client) => ask_by(client, session, question, simple, dial),
+        Err(error) => Err(ClientRefusal::Memory(error)),
+    }
+}
+
+// What a new client is answered, which then gives its link back.
+fn ask_by<N: Dial>(
+    client: ClientLink<N>,
+    session: &Name,
+    question: &Question,
+    simple: bool,
+    dial: &mut N,
+) -> Result<Checked, ClientRefusal>
+    requires { client ≡ record { link = None; cache = empty_cache 1; sequence = 0 } }
+    ensures { AsksOnce N.Link.faults N.Link.marks N.Link.traffic N.faults N.dials N.given_back
+        (first_frame simple question.now) result dial.old dial.new }
+{
+    let mut client = client;
+    let answer = check(&mut client, session, question, simple, dial);
+    client.leave(dial);
+    answer
+}
+
+fn check<N: Dial>(
+    client: &mut ClientLink<N>,
+    session: &Name,
+    question: &Question,
+    simple: bool,
+    dial: &mut N,
+) -> Result<Checked, ClientRefusal>
+    ensures { Checks N.Link.faults N.Link.marks N.Link.traffic N.Link.content N.faults N.dials N.given_back
+        (asked_in session.now question.now) simple result
+        (with_dial dial.old client.old) (with_dial dial.new client.new) }
+{
+    if simple {
+        client.simple_check(dial, session, question)
+    } else {
+        client.check(dial, session, question)
     }
 }
 

@@ -1,13 +1,15 @@
 // Reading the words of the command line.
-ghost use Rattle.std.specs.Prelude.{◌≡◌, ℕ, None, Some, IfOk, IfSome, option_map, MatchResult};
+ghost use Rattle.std.specs.Prelude.{◌≡◌, None, Some, true, IfOk, option_map};
 ghost use Rattle.std.specs.List.{list_any};
 ghost use Rattle.std.specs.String.{string_bytes};
 ghost use Rattle.cynara_keys.specs.Name.{name_fault};
 ghost use Rattle.smack_rules.specs.Label.{label_fault};
-ghost use Rattle.command_words.specs.Commands.{is_option, named, single_of, of_two, of_three, of_four, of_five};
-ghost use Rattle.command_words.specs.Commands.{serve_of, watch_of, sample_of, allowed_of, agent_of, access_of, names_of, command_of};
-ghost use Rattle.command_words.specs.Commands.{ReadsCommand, KeepsBounds};
+ghost use Rattle.command_words.specs.Commands.{is_option, command_of};
+ghost use Rattle.command_words.specs.Commands.{serve_of, watch_of, sample_of, allowed_of, agent_of, access_of, names_of};
+ghost use Rattle.command_words.specs.Commands.{ReadsCommand, IsUnknown, KeepsBounds};
 ghost use Rattle.command_words.specs.parts.Names.{ReadsNames};
+ghost use Rattle.command_words.specs.parts.Lines.{command_in};
+ghost use Rattle.command_words.specs.declared.commands.Command.TheVariants.{Check, Simple};
 
 use crate::commands::{AskedNames, Command, CommandRefusal};
 use crate::numbers::number_within;
@@ -15,17 +17,75 @@ use crate::word_faults::WordFault;
 use cynara_keys::{Kind, Name, NameRefusal, name_fault};
 use smack_rules::{Label, Modes, label_fault};
 use std::alloc::{AllocError, Global};
+use word_line::{Line, LineRefusal, read_line};
 
 impl Command {
-    /// Reads the words behind the program's name. `Unknown` exactly where they name no command.
+    /// Reads the words behind the program's name. `Unknown` exactly where they name no command, in this order: a word begins
+    /// with `-`, they are the words of no line, the first word is wrong that is no number, label, modes, name or answer in
+    /// its place. `Memory` may come at any words of which none begins with `-`.
     pub fn read(alloc: Global, words: &[String]) -> Result<Command, CommandRefusal>
         ensures command { ReadsCommand result (command_of words.now) }
+        ensures option { list_any is_option words.now ≡ true → IsUnknown result }
         ensures bounds { IfOk result KeepsBounds }
     {
         if has_option(words) {
             return Err(CommandRefusal::Unknown(option_fault(words)));
         }
-        read_named(alloc, words)
+        match read_line(alloc, words) {
+            Ok(line) => read_values(alloc, &line),
+            Err(LineRefusal::NoLine) => Err(CommandRefusal::Unknown(WordFault::NoLine)),
+            Err(LineRefusal::Memory(error)) => Err(CommandRefusal::Memory(error)),
+        }
+    }
+}
+
+// The command of a line, whose words are read each in its place.
+fn read_values(alloc: Global, line: &Line) -> Result<Command, CommandRefusal>
+    ensures command { ReadsCommand result (command_in line.now) }
+    ensures bounds { IfOk result KeepsBounds }
+{
+    match line {
+        Line::Local => Ok(Command::Local),
+        Line::SmackLoad => Ok(Command::SmackLoad),
+        Line::Admin => Ok(Command::Admin),
+        Line::Serve { workers } => read_serve(workers.as_bytes()),
+        Line::Watch { workers } => read_watch(workers.as_bytes()),
+        Line::Sample { count } => read_sample(count.as_bytes()),
+        Line::Agent { kind, answer } => read_agent(kind.as_bytes(), answer.as_bytes()),
+        Line::SmackAccess {
+            subject,
+            object,
+            modes,
+        } => read_access(
+            alloc,
+            subject.as_bytes(),
+            object.as_bytes(),
+            modes.as_bytes(),
+        ),
+        Line::Check {
+            client,
+            session,
+            user,
+            privilege,
+        } => read_check(
+            alloc,
+            client.as_bytes(),
+            session.as_bytes(),
+            user.as_bytes(),
+            privilege.as_bytes(),
+        ),
+        Line::Simple {
+            client,
+            session,
+            user,
+            privilege,
+        } => read_simple(
+            alloc,
+            client.as_bytes(),
+            session.as_bytes(),
+            user.as_bytes(),
+            privilege.as_bytes(),
+        ),
     }
 }
 
@@ -40,7 +100,7 @@ fn has_option(words: &[String]) -> bool
 fn option_fault(words: &[String]) -> WordFault {
     match words.iter().position(|word| is_option(word)) {
         Some(place) => WordFault::Dash { place },
-        None => WordFault::NoCommand,
+        None => WordFault::NoLine,
     }
 }
 
@@ -48,107 +108,6 @@ fn is_option(word: &String) -> bool
     ensures { result ≡ is_option word.now }
 {
     word.as_bytes().first() == Some(&b'-')
-}
-
-// The command that words name.
-fn read_named(alloc: Global, words: &[String]) -> Result<Command, CommandRefusal>
-    ensures command { ReadsCommand result (named words.now) }
-    ensures bounds { IfOk result KeepsBounds }
-{
-    match words {
-        [word] => read_single(word.as_bytes()),
-        [word, number] => read_two(word.as_bytes(), number.as_bytes()),
-        [word, kind, answer] => read_three(word.as_bytes(), kind.as_bytes(), answer.as_bytes()),
-        [word, subject, object, modes] => read_four(
-            alloc,
-            word.as_bytes(),
-            subject.as_bytes(),
-            object.as_bytes(),
-            modes.as_bytes(),
-        ),
-        [word, client, session, user, privilege] => read_five(
-            alloc,
-            word.as_bytes(),
-            client.as_bytes(),
-            session.as_bytes(),
-            user.as_bytes(),
-            privilege.as_bytes(),
-        ),
-        _ => Err(CommandRefusal::Unknown(count_fault(words))),
-    }
-}
-
-// What is wrong with words that are too few or too many for any command.
-fn count_fault(words: &[String]) -> WordFault {
-    let Some((first, behind)) = words.split_first() else {
-        return WordFault::NoWord;
-    };
-    name_fault_of(first.as_bytes(), behind.len())
-}
-
-// What is wrong with this name before so many words.
-fn name_fault_of(name: &[u8], given: usize) -> WordFault {
-    match words_behind(name) {
-        Some(taken) => WordFault::Count { taken, given },
-        None => WordFault::NoCommand,
-    }
-}
-
-// How many words the command of this name takes behind it.
-fn words_behind(name: &[u8]) -> Option<usize> {
-    if name == b"local".as_slice()
-        || name == b"smack-load".as_slice()
-        || name == b"admin".as_slice()
-    {
-        return Some(0);
-    }
-    if name == b"serve".as_slice() || name == b"watch".as_slice() || name == b"sample".as_slice() {
-        return Some(1);
-    }
-    if name == b"agent".as_slice() {
-        return Some(2);
-    }
-    if name == b"smack-access".as_slice() {
-        return Some(3);
-    }
-    if name == b"check".as_slice() || name == b"simple".as_slice() {
-        return Some(4);
-    }
-    None
-}
-
-// One word alone.
-fn read_single(word: &[u8]) -> Result<Command, CommandRefusal>
-    ensures command { ReadsCommand result (single_of word.now) }
-    ensures bounds { IfOk result KeepsBounds }
-{
-    if word == b"local".as_slice() {
-        return Ok(Command::Local);
-    }
-    if word == b"smack-load".as_slice() {
-        return Ok(Command::SmackLoad);
-    }
-    if word == b"admin".as_slice() {
-        return Ok(Command::Admin);
-    }
-    Err(CommandRefusal::Unknown(name_fault_of(word, 0)))
-}
-
-// Two words: a command with a number.
-fn read_two(word: &[u8], number: &[u8]) -> Result<Command, CommandRefusal>
-    ensures command { ReadsCommand result (of_two word.now number.now) }
-    ensures bounds { IfOk result KeepsBounds }
-{
-    if word == b"serve".as_slice() {
-        return read_serve(number);
-    }
-    if word == b"watch".as_slice() {
-        return read_watch(number);
-    }
-    if word == b"sample".as_slice() {
-        return read_sample(number);
-    }
-    Err(CommandRefusal::Unknown(name_fault_of(word, 1)))
 }
 
 fn read_serve(workers: &[u8]) -> Result<Command, CommandRefusal>
@@ -190,17 +149,6 @@ fn number_fault(least: u32, most: u32) -> WordFault {
     }
 }
 
-// Three words, the first of which is `agent`.
-fn read_three(word: &[u8], kind: &[u8], answer: &[u8]) -> Result<Command, CommandRefusal>
-    ensures command { ReadsCommand result (of_three word.now kind.now answer.now) }
-    ensures bounds { IfOk result KeepsBounds }
-{
-    if word != b"agent".as_slice() {
-        return Err(CommandRefusal::Unknown(name_fault_of(word, 2)));
-    }
-    read_agent(kind, answer)
-}
-
 fn read_agent(kind: &[u8], answer: &[u8]) -> Result<Command, CommandRefusal>
     ensures command { ReadsCommand result (agent_of kind.now answer.now) }
     ensures bounds { IfOk result KeepsBounds }
@@ -227,23 +175,6 @@ fn read_answer(answer: &[u8]) -> Option<bool>
         return Some(false);
     }
     None
-}
-
-// Four words, the first of which is `smack-access`.
-fn read_four(
-    alloc: Global,
-    word: &[u8],
-    subject: &[u8],
-    object: &[u8],
-    modes: &[u8],
-) -> Result<Command, CommandRefusal>
-    ensures command { ReadsCommand result (of_four word.now subject.now object.now modes.now) }
-    ensures bounds { IfOk result KeepsBounds }
-{
-    if word != b"smack-access".as_slice() {
-        return Err(CommandRefusal::Unknown(name_fault_of(word, 3)));
-    }
-    read_access(alloc, subject, object, modes)
 }
 
 // `smack-access`, behind the first word. The words are tested before memory is asked for.
@@ -289,31 +220,36 @@ fn copy_labels(
     })
 }
 
-// Five words, the first of which is `check` or `simple`.
-fn read_five(
+fn read_check(
     alloc: Global,
-    word: &[u8],
     client: &[u8],
     session: &[u8],
     user: &[u8],
     privilege: &[u8],
 ) -> Result<Command, CommandRefusal>
-    ensures command { ReadsCommand result (of_five word.now client.now session.now user.now privilege.now) }
+    ensures command { ReadsCommand result (option_map Check (names_of client.now session.now user.now privilege.now)) }
     ensures bounds { IfOk result KeepsBounds }
 {
-    if word == b"check".as_slice() {
-        return match read_names(alloc, client, session, user, privilege) {
-            Ok(asked) => Ok(Command::Check(asked)),
-            Err(refusal) => Err(refusal),
-        };
+    match read_names(alloc, client, session, user, privilege) {
+        Ok(asked) => Ok(Command::Check(asked)),
+        Err(refusal) => Err(refusal),
     }
-    if word == b"simple".as_slice() {
-        return match read_names(alloc, client, session, user, privilege) {
-            Ok(asked) => Ok(Command::Simple(asked)),
-            Err(refusal) => Err(refusal),
-        };
+}
+
+fn read_simple(
+    alloc: Global,
+    client: &[u8],
+    session: &[u8],
+    user: &[u8],
+    privilege: &[u8],
+) -> Result<Command, CommandRefusal>
+    ensures command { ReadsCommand result (option_map Simple (names_of client.now session.now user.now privilege.now)) }
+    ensures bounds { IfOk result KeepsBounds }
+{
+    match read_names(alloc, client, session, user, privilege) {
+        Ok(asked) => Ok(Command::Simple(asked)),
+        Err(refusal) => Err(refusal),
     }
-    Err(CommandRefusal::Unknown(name_fault_of(word, 4)))
 }
 
 // The names behind the first word. They are tested before memory is asked for.

@@ -6,15 +6,11 @@ use thiserror::Error;
 /// The first thing that is wrong with the words behind the program's name, whose places count from 0.
 #[derive(Clone, Copy, Debug, PartialEq, Eq, Error)]
 pub enum WordFault {
-    #[error("a command is wanted, and there is no word")]
-    NoWord,
+    /// They are too few or too many, or the first word is no command's name.
+    #[error("they are the words of no command")]
+    NoLine,
     #[error("a word does not begin with -, and there are no options")]
     Dash { place: usize },
-    /// The first word is no command's name.
-    #[error("no command has this name")]
-    NoCommand,
-    #[error("it takes {taken} {words} behind it, not {given}", words = words_for(*.taken))]
-    Count { taken: usize, given: usize },
     #[error("{fault}")]
     Label { place: usize, fault: LabelRefusal },
     #[error("modes are 1 to 64 of the letters r w x a t l, in either case, or - for none")]
@@ -33,8 +29,7 @@ impl WordFault {
     /// The place of the word that is wrong, where there is one.
     pub fn place(self) -> Option<usize> {
         match self {
-            WordFault::NoWord => None,
-            WordFault::NoCommand | WordFault::Count { .. } => Some(0),
+            WordFault::NoLine => None,
             WordFault::Dash { place }
             | WordFault::Label { place, .. }
             | WordFault::Modes { place }
@@ -44,8 +39,4 @@ impl WordFault {
             | WordFault::Answer { place } => Some(place),
         }
     }
-}
-
-fn words_for(count: usize) -> &'static str {
-    if count == 1 { "word" } else { "words" }
 }

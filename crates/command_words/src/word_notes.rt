@@ -5,39 +5,60 @@ use crate::word_faults::WordFault;
 use desk_ports::{Sink, shown_bytes};
 use run_endings::{MOST_SHOWN_BYTES, note_text};
 use std::alloc::{AllocError, Global};
+use word_line::{fault_text, form_text, help_text};
 
-/// The forms of the command line.
-const FORMS: [&str; 20] = [
-    "usage: privilege local",
-    "           answers the commands and questions on standard input, a line each, over the folder",
-    "       privilege smack-load",
-    "           writes the Smack rules of all packages of the folder",
-    "       privilege smack-access SUBJECT OBJECT MODES",
-    "           decides one request under the rules on standard input",
-    "       privilege serve WORKERS",
-    "           serves launchers, administrators and agents over the sockets, with the policies of the folder",
-    "       privilege watch WORKERS",
-    "           serves so, and writes each check that was answered",
-    "       privilege check CLIENT SESSION USER PRIVILEGE",
-    "           asks the service",
-    "       privilege simple CLIENT SESSION USER PRIVILEGE",
-    "           asks the service, and no agent",
-    "       privilege admin",
-    "           sends the commands and questions on standard input to the service",
-    "       privilege agent KIND allow, or deny",
-    "           answers the service's questions to agents of this kind",
-    "The folder `store` and the sockets are in the directory that PRIVILEGE_DIR names or else in the working directory.",
-    "docs/GUIDE.md tells more.",
-];
-
-/// Tells why the words are no command, and the forms of the command line.
+/// Tells why the words are no command. Where they are the words of no line, clap says what is wrong and what the form of the
+/// command is, or which names are near. Where a word begins with `-`, the help stands behind the fault, and where a word is
+/// wrong in its place, the form of the command.
 pub fn note_words<K: Sink>(alloc: Global, words: &[String], fault: WordFault, sink: &mut K)
     ensures taken { K.taken sink.new ≡ K.taken sink.old }
     ensures count { K.faults sink.new ≡ K.faults sink.old }
 {
-    note_text(word_text(alloc, words, fault), sink);
-    for form in FORMS {
-        sink.note(form);
+    match fault {
+        WordFault::NoLine => note_lines(line_text(alloc, words), sink),
+        WordFault::Dash { .. } => {
+            note_text(word_text(alloc, words, fault), sink);
+            note_lines(help_text(alloc), sink);
+        }
+        _ => {
+            note_text(word_text(alloc, words, fault), sink);
+            note_lines(command_form(alloc, words), sink);
+        }
+    }
+}
+
+// Tells each line of a text for which there was memory.
+fn note_lines<K: Sink>(text: Result<String, AllocError>, sink: &mut K)
+    ensures taken { K.taken sink.new ≡ K.taken sink.old }
+    ensures count { K.faults sink.new ≡ K.faults sink.old }
+{
+    if let Ok(text) = text {
+        for line in text.as_str().lines() {
+            sink.note(line);
+        }
+    }
+}
+
+// What clap says of words that are those of no line. Each stands in it as a person is shown it, so that none brings a line
+// of its own, or what a terminal acts on.
+fn line_text(alloc: Global, words: &[String]) -> Result<String, AllocError> {
+    let shown = shown_words(alloc, words)?;
+    fault_text(alloc, &shown)
+}
+
+fn shown_words(alloc: Global, words: &[String]) -> Result<Vec<String>, AllocError> {
+    let mut shown = Vec::new(alloc);
+    for word in words {
+        shown.push(shown_bytes(alloc, word.as_bytes(), MOST_SHOWN_BYTES)?)?;
+    }
+    Ok(shown)
+}
+
+// The form of the command that the first word names.
+fn command_form(alloc: Global, words: &[String]) -> Result<String, AllocError> {
+    match words.first() {
+        Some(name) => form_text(alloc, name.as_str()),
+        None => Ok(String::new(alloc)),
     }
 }
 

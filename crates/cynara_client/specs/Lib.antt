@@ -3,4 +3,3 @@ pub mod Reply
 pub mod State
 pub mod Looking
 pub mod Checking
-pub mod Single

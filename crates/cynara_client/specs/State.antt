@@ -8,6 +8,16 @@ pub record State (N L : Type 0) : Type 0 where
   pub cache : Cache
   pub sequence : ℕ
 
+-- what it keeps where the dialler is lent to each call
+pub record Kept (L : Type 0) : Type 0 where
+  pub link : Option L
+  pub cache : Cache
+  pub sequence : ℕ
+
+-- both together
+abbrev pub with_dial : {N L : Type 0} → N → Kept L → State N L
+with_dial dial kept = record { dial = dial; link = kept.link; cache = kept.cache; sequence = kept.sequence }
+
 -- numbers go from 0 to 65535, and from there to 0
 abbrev pub next_number : ℕ → ℕ
 next_number sequence = (sequence + 1) % 2 ^ 16

@@ -6,13 +6,13 @@
 //! acknowledged before the question was asked.
 #![tactic(auto)]
 
+mod client_links;
 mod clients;
 mod looking;
 mod refusals;
 mod replies;
-mod single_checks;
 
 pub use client_connection::ReplyFault;
+pub use client_links::ClientLink;
 pub use clients::Client;
 pub use refusals::{Checked, ClientRefusal};
-pub use single_checks::check_once;

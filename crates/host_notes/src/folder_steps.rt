@@ -15,7 +15,7 @@ pub(crate) fn folder_advice(step: FolderStep, kind: ErrorKind) -> &'static str {
             "move away what stands in the folder's place"
         }
         FolderStep::UseFolder => {
-            "nothing in it was changed; docs/GUIDE.md, \"To keep a store\", says how a lost list is written anew"
+            "nothing in it was changed; docs/use/GUIDE.md, \"To keep a store\", says how a lost list is written anew"
         }
         _ => kind_advice(kind),
     }

@@ -11,4 +11,4 @@ mod greetings;
 mod socket_steps;
 
 pub use explanations::{explain, explain_streams};
-pub use greetings::greet;
+pub use greetings::{COMMANDS_ARE_READ, RULES_ARE_READ};

@@ -16,7 +16,8 @@ use Rattle.bucket_store.specs.contracts.buckets.Bucket as Bucket
 use Rattle.bucket_store.specs.contracts.databases.Database as Database
 use Rattle.bucket_eval.specs.contracts.indexes.Index as Index
 use Rattle.bucket_eval.specs.contracts.names.Names as Names
-use Rattle.bucket_eval.specs.contracts.tables.Table as Table
+use Rattle.bucket_eval.specs.contracts.sheets.Filed as Filed
+use Rattle.bucket_eval.specs.contracts.sheets.Sheet as Sheet
 use Rattle.atomic_table.proofs.shared.Seat.TheSendSync as place
 use Rattle.atomic_table.proofs.shared.Shared.TheSendSync as board
 use Rattle.atomic_table.proofs.send_lease.SendLease.TheSendSync as lease
@@ -88,17 +89,23 @@ names_send = search (sendable, crosses, maps.crosses) depth 40
 names_sync : IsSync (Names.the_field).row
 names_sync = search (sendable, crosses, maps.crosses) depth 40
 
-table_send : IsSend (Table.the_field).row
-table_send = search (sendable, crosses, maps.crosses) depth 40
+filed_send : IsSend (Filed.the_field).row
+filed_send = search (sendable, crosses) depth 40
 
-table_sync : IsSync (Table.the_field).row
-table_sync = search (sendable, crosses, maps.crosses) depth 40
+filed_sync : IsSync (Filed.the_field).row
+filed_sync = search (sendable, crosses) depth 40
+
+sheet_send : IsSend (Sheet.the_field).row
+sheet_send = search (sendable, crosses, maps.crosses, filed_send) depth 40
+
+sheet_sync : IsSync (Sheet.the_field).row
+sheet_sync = search (sendable, crosses, maps.crosses, filed_sync) depth 40
 
 index_send : IsSend (Index.the_field).row
-index_send = search (sendable, crosses, database_send, names_send, table_send) depth 40
+index_send = search (sendable, crosses, database_send, names_send, sheet_send) depth 40
 
 index_sync : IsSync (Index.the_field).row
-index_sync = search (sendable, crosses, database_sync, names_sync, table_sync) depth 40
+index_sync = search (sendable, crosses, database_sync, names_sync, sheet_sync) depth 40
 
 -- the copies
 copy_send : IsSend (DeskCopy.the_field).row

@@ -1,8 +1,10 @@
 -- Runs that give no answers: without a command, without memory for its words, and a service, which may write lines.
-use Rattle.std.proofs.Common.{◌≡◌, ◌++◌, [], ℕ, String, List, Option, Some, None, IsTrue, true, false, Err, inl, inr, refl, sym, subst}
+use Rattle.std.proofs.Common.{◌≡◌, ◌++◌, [], ℕ, String, List, Option, Some, None, Err, inl, inr, refl, sym, subst}
+use Rattle.std.specs.Prelude.{alloc_error}
 use Rattle.std.specs.declared.alloc.Global.{Global}
-use Rattle.std.specs.declared.alloc.AllocError.{AllocError}
 use Rattle.desk_ports.specs.Content.{Appended}
+use Rattle.desk_ports.specs.Disk.{MayLeave, WhereTold}
+use Rattle.desk_ports.specs.FileMap.{FileMap}
 use Rattle.desk_ports.proofs.Appends.{Appended-none}
 use Rattle.desk_ports.proofs.Readings.{Took-nothing}
 use Rattle.link_ports.specs.declared.dials.Dial.{Ghosts as DialTells}
@@ -14,20 +16,23 @@ use Rattle.run_endings.specs.Saying.{Said, silence, WritesAnswers}
 use Rattle.run_endings.specs.declared.endings.Ending.{Ending}
 use Rattle.run_endings.specs.declared.endings.Ending.TheVariants.{Memory, Words, Source, Sink, Disk}
 use Rattle.run_endings.proofs.Hads.{Took-Had}
-use Rattle.command_words.specs.Commands.{ReadsCommand, command_of, copies_words}
+use Rattle.command_words.specs.Commands.{command_of}
 use Rattle.command_words.specs.declared.commands.Command.{Command}
-use Rattle.command_words.specs.declared.commands.Command.TheVariants.{Serve, Watch, Check, Simple, SmackAccess}
-use Rattle.command_words.specs.declared.commands.CommandRefusal.TheVariants.{Memory as NoMemory}
+use Rattle.command_words.specs.declared.commands.Command.TheVariants.{Local, Serve, Watch, Check, Simple, Admin, Agent, SmackAccess, SmackLoad, Sample}
+use Rattle.line_script.specs.declared.places.Place.TheVariants.{Admin as Admin_place}
+use Rattle.script_reading.proofs.Ending.{ends_unread}
+use Rattle.folder_runs.specs.Folder.{RefusesFolder}
+use Rattle.serve_runs.specs.Run.RunsServe.{refused}
+use Rattle.admin_runs.proofs.Turns.{in_turn_none}
 use Rattle.cynara_client.specs.declared.refusals.ClientRefusal.TheVariants as refusal
 use Rattle.client_runs.specs.CheckRun.{EndsCheck}
 use Rattle.monitor_journal.specs.declared.writing.Writing.{Writing}
+use Rattle.monitor_journal.specs.declared.writing.Writing.TheVariants.{GoesOn}
 use Rattle.watch_runs.specs.Watching.{Journaled, ending_with}
+use Rattle.watch_runs.specs.Watching.Journaled.{unserved as unserved_lines}
 use Rattle.watch_runs.proofs.Lines as lines
 use Rattle.privilege_cli.specs.Program.{Serves, RunsCommand, AnswersBy}
 use Rattle.privilege_cli.proofs.Serving.{never-sink, never-source}
-
-untrue : IsTrue false → ⊥
-untrue is = let wrong : false ≡ true = is in cc
 
 -- `check` and `simple` are given no source and no disk, and so no call of them ends it
 pub uncounted : (ending : Ending) (count : ℕ) → EndsCheck ending → (count ≡ source_faults_after ending count) × (count ≡ disk_faults_after ending count)
@@ -53,21 +58,60 @@ module _ {N L H E A J : Type 0} (dial : DialTells N L H) (link : LinkTells L H) 
   unwritten : WritesAnswers Memory silence before.sink before.sink
   unwritten = record { taken = Appended-none before.sink.taken; are_written = inl (refl, refl) }
 
-  -- there is no memory for the words of a command
-  unread : (error : AllocError) (command : Command) → IsTrue (copies_words command) → Says Memory before.sink before.disk net (Some command)
-  unread error (SmackAccess subject object asked) copies =
-      let had = Took-Had before.source.left before.source.left [] (Took-nothing before.source.left) in
-      (record { input = [] ++ had.0; rest = had.0; had = had.1; answered = refl }, unwritten)
-  unread error (Check asked) copies =
-      ((Err (refusal.Memory error), inr (record { error = error; answer_is = refl; same = refl }), (refl, refl)), unwritten)
-  unread error (Simple asked) copies =
-      ((Err (refusal.Memory error), inr (record { error = error; answer_is = refl; same = refl }), (refl, refl)), unwritten)
-  unread error command copies = absurd (untrue copies)
+  -- No memory was found to read the words, whatever they name. Since no call was made of the disk, a stop leaves what one at
+  -- entry may leave.
+  module _ (only_now : (left : FileMap) → WhereTold before.disk.state (λ now. before.disk.left_since before.disk.moment left → MayLeave now left)) where
+    unmounted : RefusesFolder silence Memory before.disk before.disk
+    unmounted = record {
+      refused = tt;
+      silent = refl;
+      moments = λ entry told left was. let may = only_now left entry told was in (left, may, refl, λ name foreign free. may name free);
+    }
 
-  pub without_memory : (error : AllocError) → ReadsCommand (Err (NoMemory error)) (command_of words) → Stops Memory before.sink before.disk net
-  without_memory error named =
-      let says = subst (Says Memory before.sink before.disk net) (sym named.1) (unread error named.0 named.2) in
-      (silence, says.0, says.1)
+    unserved : Serves dial link closed door accepted before.disk before.disk net net Memory
+    unserved = refused unmounted refl refl refl
+
+    unread : (command : Option Command) → Says Memory before.sink before.disk net command
+    unread None = ((tt, refl), unwritten)
+    unread (Some Local) = (inl (record { folder = unmounted; unread = refl }), unwritten)
+    unread (Some SmackLoad) = (inl unmounted, unwritten)
+    unread (Some (SmackAccess subject object asked)) =
+        let had = Took-Had before.source.left before.source.left [] (Took-nothing before.source.left) in
+        (record { input = [] ++ had.0; rest = had.0; had = had.1; answered = refl }, unwritten)
+    unread (Some (Sample count)) = (refl, unwritten)
+    unread (Some (Serve workers)) = ((refl, unserved), unwritten)
+    unread (Some (Watch workers)) = (refl, (Memory, GoesOn, refl, unserved, unserved_lines tt refl refl))
+    unread (Some (Check asked)) =
+        ((Err (refusal.Memory alloc_error), inr (record { error = alloc_error; answer_is = refl; same = refl }), (refl, refl)), unwritten)
+    unread (Some (Simple asked)) =
+        ((Err (refusal.Memory alloc_error), inr (record { error = alloc_error; answer_is = refl; same = refl }), (refl, refl)), unwritten)
+    unread (Some Admin) =
+        let unread_input = ends_unread Admin_place before.source.left in (
+          record {
+            client = record { dial = net; link = None; sequence = 0 };
+            script = record {
+              input = unread_input.0;
+              rest = unread_input.1;
+              steps = [];
+              answered = [];
+              last = [];
+              between = record { dial = net; link = None; sequence = 0 };
+              had = unread_input.2;
+              read = unread_input.3;
+              sent = refl;
+              exchanged = refl;
+              ends = inr (inr (refl, refl));
+              due = refl;
+              in_turn = in_turn_none [];
+            };
+            given = refl;
+          },
+          unwritten,
+        )
+    unread (Some (Agent kind allowed)) = (inl (record { said_is = refl; fails = refl; given = refl }), unwritten)
+
+    pub without_memory : Stops Memory before.sink before.disk net
+    without_memory = let says = unread (command_of words) in (silence, says.0, says.1)
 
   -- the words name no command, and only a note is made of them
   pub without_command : (after : SinkSeen) → command_of words ≡ None → after.taken ≡ before.sink.taken
@@ -77,7 +121,7 @@ module _ {N L H E A J : Type 0} (dial : DialTells N L H) (link : LinkTells L H) 
         taken = subst (λ (now : Option (List ℕ)). Appended before.sink.taken [] now) (sym taken) (Appended-none before.sink.taken);
         are_written = (faults, refl);
       } in
-      let says = subst (Says Words after before.disk net) (sym none) ((refl, refl), answers) in
+      let says = subst (Says Words after before.disk net) (sym none) ((tt, refl), answers) in
       (silence, says.0, says.1)
 
   -- ---- a service: it is given no source and no sink, and so no call of them ends it

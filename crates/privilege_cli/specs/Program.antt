@@ -15,7 +15,7 @@ use Rattle.run_endings.specs.Ending.{status_of, source_faults_after, disk_faults
 use Rattle.run_endings.specs.Outside.{Outside, SourceSeen, SinkSeen, DiskSeen, source_seen, sink_seen, disk_seen, seen}
 use Rattle.run_endings.specs.Saying.{Said, silence, WritesAnswers, Writes}
 use Rattle.run_endings.specs.declared.endings.Ending.{Ending}
-use Rattle.run_endings.specs.declared.endings.Ending.TheVariants.{Words}
+use Rattle.run_endings.specs.declared.endings.Ending.TheVariants.{Memory, Words}
 use Rattle.command_words.specs.Commands.{uses_net}
 use Rattle.command_words.specs.declared.commands.Command.{Command}
 use Rattle.command_words.specs.declared.commands.Command.TheVariants.{Local, Serve, Watch, Check, Simple, Admin, Agent, SmackAccess, SmackLoad, Sample}
@@ -47,6 +47,14 @@ abbrev pub CountsDisk : Option Command → Ending → ℕ → ℕ → Type 0
 CountsDisk (Some (Serve workers)) ending before after = Unit {0}
 CountsDisk (Some (Watch workers)) ending before after = Unit {0}
 CountsDisk command ending before after = after ≡ disk_faults_after ending before
+
+-- ---- a run without a command
+
+-- the words name none, or no memory is found to read them
+abbrev pub IsWordless : Ending → Type 0
+IsWordless Words = Unit {0}
+IsWordless Memory = Unit {0}
+IsWordless ending = ⊥
 
 -- ---- a run that no failing call stops
 
@@ -82,7 +90,7 @@ module _ {N L H E A J : Type 0} (dial : DialTells N L H) (link : LinkTells L H) 
   module _ (said : Said) (ending : Ending) (source source_after : SourceSeen) (disk disk_after : DiskSeen) (net net_after : N) where
     -- what the command that words name says, and how it ends, over a source, a disk and a net before and after
     abbrev pub RunsCommand : Option Command → Type 0
-    RunsCommand None = (ending ≡ Words) × (said ≡ silence)
+    RunsCommand None = IsWordless ending × (said ≡ silence)
     RunsCommand (Some Local) = RunsLocal said ending source source_after disk disk_after
     RunsCommand (Some SmackLoad) = RunsLoad said ending disk disk_after
     RunsCommand (Some (SmackAccess subject object asked)) = RunsAccess subject object asked said ending source source_after

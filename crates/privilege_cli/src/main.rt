@@ -5,7 +5,7 @@ mod program;
 
 use door_workers::Notes;
 use folder_disk::FolderDisk;
-use host_notes::{explain, explain_streams, greet};
+use host_notes::{explain, explain_streams};
 use host_ports::{
     InputSource, OutputSink, directory_path, folder_path, sockets_path, take_descriptors,
 };
@@ -50,13 +50,12 @@ fn run_on_host<T: Threads + Wait + Sync>(rt: &HostRuntime, threads: &T) -> Resul
     let mut net = SocketNet::new(rt.clone()?, sockets_path(&directory))?;
     let mut source = InputSource::over(rt.stdin());
     let mut sink = OutputSink::over(rt.stdout(), rt.stderr());
-    if rt.stdin().is_terminal() {
-        greet(rt)?;
-    }
+    let is_typed = rt.stdin().is_terminal();
     let status = run_on(
         rt,
         threads,
         rt.alloc(),
+        is_typed,
         &mut source,
         &mut sink,
         &mut disk,

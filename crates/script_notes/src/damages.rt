@@ -14,7 +14,7 @@ pub fn note_damage<K: Sink>(alloc: Global, ending: &Ending, sink: &mut K)
     if let Ending::Damaged { file, line } = ending {
         note_text(damage_words(alloc, file, *line), sink);
         sink.note(
-            "privilege: copy the folder away; then put that right, or a backup in the folder's place (docs/GUIDE.md, \"Status 8\")",
+            "privilege: copy the folder away; then put that right, or a backup in the folder's place (docs/use/GUIDE.md, \"Status 8\")",
         );
     }
 }

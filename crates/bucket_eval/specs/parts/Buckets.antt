@@ -1,6 +1,8 @@
 -- An outcome in a list of buckets, found by places.
 use Rattle.std.specs.Prelude.{◌≡◌, ℕ, Bool, List, Option, Some, None, slice_get, option_and_then, if◌then◌else◌}
+use Rattle.std.specs.declared.cmp.Ordering.{Ordering}
 use Rattle.std.specs.Ordering.{is_gt, ordering_then}
+use Rattle.cynara_keys.specs.Minimum.{lesser}
 use Rattle.cynara_keys.specs.Key.{key_cmp}
 use Rattle.cynara_keys.specs.PolicyResult.{result_cmp}
 use Rattle.std.specs.Option.{option_map}
@@ -67,3 +69,8 @@ comes_after offer other =
 abbrev pub chosen : Offer → Option Offer → Offer
 chosen offer None = offer
 chosen offer (Some other) = if comes_after offer other then other else offer
+
+-- the lesser of two, where both are there, and the first where they tie
+abbrev pub combined : {X : Type 0} → (X → X → Ordering) → Option X → Option X → Option X
+combined cmp None rest = rest
+combined cmp (Some x) rest = Some (lesser cmp x rest)

@@ -16,6 +16,10 @@ if_small number = if nat_lt number 262144 then Some number else None
 abbrev pub number_of : List (List ℕ) → List ℕ → Option ℕ
 number_of names text = option_and_then if_small (position (same_text text) names)
 
+-- what has a number keeps it
+abbrev pub KeepsNumbers : List (List ℕ) → List (List ℕ) → Type 0
+KeepsNumbers old new = (text : List ℕ) (number : ℕ) → number_of old text ≡ Some number → number_of new text ≡ Some number
+
 -- three numbers as one
 abbrev pub joined : ℕ → ℕ → ℕ → ℕ
 joined client user privilege = client * 68719476736 + (user * 262144 + privilege)

@@ -75,14 +75,11 @@ settle-requires t c =
             omega (arith, room),
             (
               c.loop-held.invariant.0,
-              (
-                if-at (λ (b : Bucket). EndsWithin (database_of buckets).policies (c.args.left - 1) b.name) buckets
-                    c.in-Err.below waits.bucket waits.there
-                    (subst (λ name. EndsWithin (database_of buckets).policies (c.args.left - 1) name) waits.target
-                    (ends-below (database_of buckets).policies (c.args.left - 1) bucket.name waits.step
-                    (subst (λ n. EndsWithin (database_of buckets).policies n bucket.name) above ends) waits.is)),
-                c.requires.right,
-              ),
+              if-at (λ (b : Bucket). EndsWithin (database_of buckets).policies (c.args.left - 1) b.name) buckets
+                  c.in-Err.below waits.bucket waits.there
+                  (subst (λ name. EndsWithin (database_of buckets).policies (c.args.left - 1) name) waits.target
+                  (ends-below (database_of buckets).policies (c.args.left - 1) bucket.name waits.step
+                  (subst (λ n. EndsWithin (database_of buckets).policies n bucket.name) above ends) waits.is)),
             ),
           ),
         ),

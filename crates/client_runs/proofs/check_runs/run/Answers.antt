@@ -1,5 +1,5 @@
 use Rattle.client_runs.specs.CheckRun.{question_of}
-use Rattle.cynara_client.specs.Single.{first_frame}
+use Rattle.client_runs.specs.AskedOnce.{first_frame}
 use Rattle.client_runs.proofs.Counting.{counts}
 use Rattle.client_runs.proofs.Ends.{ends}
 use Rattle.client_runs.proofs.check_runs.run.Goals as goal

@@ -1,4 +1,5 @@
-use Rattle.std.proofs.Common.{ap}
+use Rattle.std.proofs.Common.{ap, ◌∙◌}
+use Rattle.run_endings.specs.Ending.{status_of}
 use Rattle.command_words.specs.Commands.{command_of}
 use Rattle.privilege_cli.specs.Program.{seen_of}
 use Rattle.privilege_cli.proofs.Completing.{completes}
@@ -28,3 +29,6 @@ returns-clause-run g c =
           c.args.net.now c.run_words-ending.new.net run.0 c.run_words-ending.result c.status.ensures
           c.run_words-ending.ensures.source_count none (command_of c.args.words.now) run.1 writes c.run_words-ending.ensures.disk_count;
     }
+
+pub returns-clause-option : goal.returns-clause-option
+returns-clause-option g c = λ dashed. c.status.ensures ∙ ap status_of (c.run_words-ending.ensures.option dashed)

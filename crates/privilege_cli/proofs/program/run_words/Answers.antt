@@ -10,8 +10,7 @@ pub returns-in-Err-Memory-clause-run : goal.returns-in-Err-Memory-clause-run
 returns-in-Err-Memory-clause-run g c =
     without_memory g.N.Dial g.N.Link.Link g.N.Net.closed g.N.Door.Door g.N.Door.Link.Link c.args.words.now
     (seen_of g.S.Source g.K.Sink g.D.Disk g.N.Dial c.args.source.now c.args.sink.now c.args.disk.now c.args.net.now) c.args.net.now
-    c.in-Err-Memory.field-0-0
-    (subst (λ refusal. ReadsCommand (Err refusal) (command_of c.args.words.now)) c.in-Err-Memory.field-0-is c.in-Err-Memory.ensures.command)
+    (g.met.D.Disk.only_now c.args.disk.now)
 
 pub returns-in-Err-Unknown-clause-run : goal.returns-in-Err-Unknown-clause-run
 returns-in-Err-Unknown-clause-run g c =

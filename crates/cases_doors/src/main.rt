@@ -1,0 +1,61 @@
+//! Conversations at the doors of a service, over links, halls and disks in memory. Each line of standard input is a case, and
+//! each line of the output that case with its answer behind ` => `. A blank line, and one that begins with `#`, is printed as
+//! it is.
+//!
+//!     client POLICIES | ANSWERS | LINK | BYTES
+//!     agent ANSWERS | LINK | BYTES
+//!
+//! `POLICIES` are words `CUP=KIND:METADATA`, each of which sets a policy of the root bucket by one command: a letter for the
+//! client, the user and the privilege, or `*`. `ANSWERS` are those of the hall, in turn: to `ask` `aN+CUP` and `aN-CUP` (the
+//! question CUP was found under the number N, allowed or denied), `n` (no agent), `f` (full), `p` (spent), `m` (memory), `gN`
+//! (gone), `lN` (lost), `x` (stopped); to `join` `j`, `jt` (taken), `jx` (stopped), `jm`; to `next` `qN:CUP:METADATA`, `qx`,
+//! `qm`; to `answer` `k` and `ku` (unknown number). `LINK` is after how many calls the link reads as closed, which calls fail,
+//! and into which sizes the bytes are cut, each with commas, or `-` for none. `BYTES` are those of frames.
+//!
+//! The answer is how the connection ended, the frames that were sent, and what the hall counts.
+#![tactic(auto)]
+
+mod agents;
+mod answers;
+mod clients;
+mod desks;
+mod shown;
+
+use cases_words::{Failure, first_word};
+use std::alloc::{AllocError, Global};
+use std::io;
+use std::sync::Wait;
+
+fn answer<R: Wait>(rt: &R, alloc: Global, line: &str) -> Result<String, Failure> {
+    let (word, rest) = first_word(line);
+    let parts: Vec<&str> = rest.split('|').collect(alloc)?;
+    match (word, parts.as_slice()) {
+        ("client", [policies, answers, link, bytes]) => {
+            clients::conversation(rt, alloc, policies, answers, link, bytes)
+        }
+        ("agent", [answers, link, bytes]) => agents::conversation(rt, alloc, answers, link, bytes),
+        _ => Err(Failure::Words),
+    }
+}
+
+// What stands in place of an answer where there is none.
+fn text_of(alloc: Global, answer: Result<String, Failure>) -> Result<String, AllocError> {
+    match answer {
+        Ok(text) => Ok(text),
+        Err(Failure::Memory(error)) => Err(error),
+        Err(_) => String::from_str(alloc, "no case"),
+    }
+}
+
+fn main(rt: HostRuntime) -> io::Result<()> {
+    for line in rt.lines(rt.alloc()) {
+        let line = line?;
+        if line.is_empty() || line.as_str().starts_with('#') {
+            println!(rt; "{line}")?;
+            continue;
+        }
+        let text = text_of(rt.alloc(), answer(&rt, rt.alloc(), line.as_str()))?;
+        println!(rt; "{line} => {text}")?;
+    }
+    Ok(())
+}

@@ -1,0 +1,88 @@
+// How connections ended, and what stands then, as texts.
+use cases_words::Failure;
+use cynara_keys::Question;
+use door_frames::Ended;
+use link_ports::MemEnd;
+use server_hall::ListHall;
+use std::alloc::{AllocError, Global};
+
+const DIGITS: &[u8; 16] = b"0123456789abcdef";
+
+fn put_byte(text: &mut String, byte: u8) -> Result<(), AllocError> {
+    text.push(char::from(DIGITS[(byte >> 4) as usize]))?;
+    text.push(char::from(DIGITS[(byte & 15) as usize]))
+}
+
+/// Adds bytes, two digits each.
+pub fn put_hex(text: &mut String, bytes: &[u8]) -> Result<(), AllocError> {
+    for byte in bytes {
+        put_byte(text, *byte)?;
+    }
+    Ok(())
+}
+
+fn put_question(text: &mut String, found: &Option<Question>) -> Result<(), AllocError> {
+    match found {
+        Some(question) => {
+            for byte in question.client() {
+                text.push(char::from(*byte))?;
+            }
+            for byte in question.user() {
+                text.push(char::from(*byte))?;
+            }
+            for byte in question.privilege() {
+                text.push(char::from(*byte))?;
+            }
+            Ok(())
+        }
+        None => text.push('-'),
+    }
+}
+
+/// How a connection ended.
+pub fn ended_text(alloc: Global, ended: &Ended) -> Result<String, AllocError> {
+    match ended {
+        Ended::Closed => String::from_str(alloc, "closed"),
+        Ended::Cut(count) => format!(in alloc; "cut {}", *count),
+        Ended::Hung { entered, now } => format!(in alloc; "hung {} {}", *entered, *now),
+        Ended::LinkFault => String::from_str(alloc, "link"),
+        Ended::BadFrame(refusal) => format!(in alloc; "bad {:?}", *refusal),
+        Ended::Stopped => String::from_str(alloc, "stopped"),
+        Ended::Memory => String::from_str(alloc, "memory"),
+        Ended::Strayed { number, found } => {
+            let mut text = format!(in alloc; "strayed {} ", *number)?;
+            put_question(&mut text, found)?;
+            Ok(text)
+        }
+    }
+}
+
+/// The answer of a case: how the connection ended, what was sent, and what the hall counts.
+pub fn shown(
+    alloc: Global,
+    ended: &Ended,
+    sent: &[u8],
+    hall: &ListHall<MemEnd>,
+) -> Result<String, Failure> {
+    let mut text = ended_text(alloc, ended)?;
+    text.push_str(" | ")?;
+    put_hex(&mut text, sent)?;
+    let tally = hall.tally();
+    let counts = format!(in alloc;
+        " | asks {} joins {} nexts {} answers {} parts {} stops {} hangs {} losses {} left {}",
+        tally.asks(),
+        tally.joins(),
+        tally.nexts(),
+        tally.answers(),
+        tally.parts(),
+        tally.stops(),
+        tally.hangs(),
+        tally.losses(),
+        hall.left()
+    )?;
+    text.push_str(counts.as_str())?;
+    if hall.is_used_up() {
+        text.push_str(" used up")?;
+    }
+    Ok(text)
+}

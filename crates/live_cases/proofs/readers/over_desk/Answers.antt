@@ -1,6 +1,0 @@
-use denote.Param.Send.{sendable}
-use Rattle.live_desk.proofs.Sent.{seat_row_send}
-use Rattle.live_cases.proofs.readers.over_desk.Goals as goal
-
-pub by_four-told-requires-send-W : goal.by_four-told-requires-send-W
-by_four-told-requires-send-W g c κs within = search (sendable, seat_row_send) depth 20
