@@ -66,7 +66,8 @@ impl<R: HostNet + AllocGlobal + Clock + Copy + Drop> Stay<R> {
         ensures within { IfOk result (λ count. count ≤ length into.old) }
     {
         let start = self.start()?;
-        if self.is_heard && self.waited(start)? >= limits::MOST_OF_FRAME {
+        // Bytes that come one by one are no reason to wait for more of them.
+        if self.is_heard && self.is_over(start)? {
             return let_go(stream, into);
         }
         for _ in 0..steps::MOST_TRIES {
