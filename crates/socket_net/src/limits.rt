@@ -27,7 +27,7 @@ pub const ACCEPT_PAUSE: u64 = 100;
 
 /// How long an `accept` or a read waits before it looks around again. Each look of each worker takes the processor a few
 /// microseconds, so that all workers of an idle service together take less than a thousandth of one.
-pub const TICK: u64 = 1_000;
+pub const TICK: u64 = 1_250;
 
 /// The same for a write, which waits only where a peer doesn't read.
 pub const SENDING_TICK: u64 = 100;
