@@ -59,8 +59,9 @@ class Hour(service_hour.Hour):
 
     def command_of(self, commit):
         """The commit that the library gives for the command of this commit, and how many policies it erased."""
-        if not self.admin or self.draw.random() < 0.1:
-            self.admin = self.privilege.Admin(self.folder / "admin.socket", 60)
+        if self.draw.random() < 0.1:
+            self.leave()
+        self.admin = self.admin or self.privilege.Admin(self.folder / "admin.socket", 60)
         match step_of(line(commit)):
             case ("bucket", bucket, (kind, metadata)):
                 return self.admin.set_bucket(bucket.decode(), kind, metadata.decode()), 0
@@ -87,7 +88,22 @@ class Hour(service_hour.Hour):
         self.counts["commits"] += 1
         return True
 
+    def leave(self):
+        """Lets other administrators in, since the service serves one at a time."""
+        if self.admin:
+            self.admin.close()
+        self.admin = None
+
+    def found(self):
+        self.leave()
+        return super().found()
+
+    def finish(self):
+        self.leave()
+        super().finish()
+
     def rows(self, bucket):
+        self.leave()
         with self.privilege.Admin(self.folder / "admin.socket", 60) as admin:
             found = admin.list(bucket.decode())
         return [
