@@ -31,7 +31,7 @@ FoundMemory LacksMemory = ⊥
 FoundMemory end = Unit {0}
 
 -- How a run ends that has served, by how its worker of administrators ended and by the counts of the disk and of the net: as
--- done only where a stop was answered, and no call of the two failed.
+-- done only where a stop was made, and no call of the two failed.
 abbrev pub EndsService : Ending → WorkerEnd → ℕ → ℕ → ℕ → ℕ → Type 0
 EndsService Done end disk disk_now net net_now = (end ≡ Stopped) × HasNotRisen disk disk_now × HasNotRisen net net_now
 EndsService Memory end disk disk_now net net_now = Unit {0}
