@@ -12,6 +12,7 @@ asked nothing or never answers, threads that cannot be made, and lines of `watch
 import argparse
 import os
 import pathlib
+import random
 import resource
 import socket
 import subprocess
@@ -33,6 +34,7 @@ from service import (
     Service,
     check,
     frame,
+    number,
     room,
     setting,
     texts,
@@ -252,6 +254,58 @@ def clients_that_come_and_go(service):
         time.sleep(2.5)
         link.send(data[5:])
         wanted("and in two pieces", link.read()[1] == JUDGED)
+
+
+class Kept:
+    """A client that keeps its link between questions, dials anew where it is hung up, and notes how long it waits."""
+
+    def __init__(self, service, acknowledged, until):
+        self.service, self.acknowledged, self.until = service, acknowledged, until
+        self.link, self.longest, self.answers, self.stale, self.lost = None, 0, 0, 0, 0
+        self.thread = threading.Thread(target=self.run)
+        self.thread.start()
+
+    def run(self):
+        draw = random.Random(id(self))
+        while time.monotonic() < self.until:
+            start, least = time.monotonic(), self.acknowledged[0]
+            commit = self.ask()
+            self.longest = max(self.longest, time.monotonic() - start)
+            if commit is None:
+                self.lost += 1
+            else:
+                self.answers += 1
+                self.stale += commit < least
+            time.sleep(draw.random())
+        if self.link:
+            self.link.close()
+
+    def ask(self):
+        # Commits may hang up any number of links in a row; the shipped client gives up behind three.
+        for _ in range(10):
+            try:
+                self.link = self.link or Link(self.service.folder, "client", 20)
+                return number(self.link.ask(check(ASKED))[2], 0, 8)
+            except (HungUp, TimeoutError):
+                if self.link:
+                    self.link.close()
+                self.link = None
+        return None
+
+
+def a_hundred_clients_that_keep_their_links(service):
+    acknowledged, until = [0], time.monotonic() + 12
+    clients = [Kept(service, acknowledged, until) for _ in range(100)]
+    while time.monotonic() < until:
+        acknowledged[0] = service.command(setting(b"", (b"d", b"*", b"p"), ALLOW))
+        time.sleep(1.5)
+    for client in clients:
+        client.thread.join()
+    longest = max(client.longest for client in clients)
+    print(f"  {sum(client.answers for client in clients)} answers, the longest wait {longest:.3f} s")
+    wanted("none waits over four seconds", longest <= 4, f"{longest:.3f} s")
+    wanted("none is stale", not sum(client.stale for client in clients))
+    wanted("none is lost", not sum(client.lost for client in clients), sum(client.lost for client in clients))
 
 
 def a_thousand_clients_that_stay(service):
@@ -535,6 +589,7 @@ CASES = [
     client_that_drips_alone,
     clients_that_do_not_read,
     clients_that_come_and_go,
+    a_hundred_clients_that_keep_their_links,
     administrator_that_says_nothing,
     administrator_that_asked_and_stays,
     administrator_within_a_frame,

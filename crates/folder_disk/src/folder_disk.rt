@@ -233,46 +233,11 @@ impl<R: Files<File = File> + Clock + AllocGlobal + Clone + Drop> FolderDisk<R> {
         ensures kept { OnErr result (self.new ≡ record self.old { path = self.new.path }) }
     {
         if !self.is_settled {
-            self.sync_found()?;
+            sync_found(&self.rt, self.folder.as_str(), &self.held, &mut self.path)?;
             self.sync_parent()?;
         }
         self.sync_folder()?;
         self.is_settled = true;
-        Ok(())
-    }
-
-    fn sync_found(&mut self) -> Result<(), Failure>
-        requires { IsHeld self.old.held }
-        ensures kept { self.new ≡ record self.old { path = self.new.path } }
-    {
-        let mut dir = folders::open_names(&self.rt, self.folder.as_str())?;
-        let mut room = [0; folders::NAMES_BYTES];
-        for _ in 0..u64::MAX {
-            let names = folders::next_names(
-                self.rt.alloc(),
-                self.folder.as_str(),
-                &mut dir,
-                &mut room,
-            )?;
-            if names.is_empty() {
-                break;
-            }
-            self.sync_each(names)?;
-        }
-        Ok(())
-    }
-
-    // Makes sure of the plain files of these names, each of which has a NUL behind it.
-    fn sync_each(&mut self, names: &[u8]) -> Result<(), Failure>
-        requires { IsHeld self.old.held }
-        ensures kept { self.new ≡ record self.old { path = self.new.path } }
-    {
-        for name in names.split(|byte| *byte == 0) {
-            if is_file_name(name) {
-                self.set_path(name, FolderStep::Sync)?;
-                files::sync_if_plain(&self.rt, self.path.as_str())?;
-            }
-        }
         Ok(())
     }
 
@@ -381,5 +346,61 @@ impl<R: Files<File = File> + Clock + AllocGlobal + Clone + Drop> Disk for Folder
 
     fn faults(&self) -> u64 {
         self.faults
+    }
+}
+
+// Makes sure of each plain file of the folder.
+fn sync_found<R: Files + AllocGlobal + Drop>(
+    rt: &R,
+    folder: &str,
+    held: &Option<File>,
+    path: &mut PathRoom,
+) -> Result<(), Failure>
+    requires { IsHeld held.now }
+{
+    let mut dir = folders::open_names(rt, folder)?;
+    let mut room = [0; folders::NAMES_BYTES];
+    for _ in 0..u64::MAX {
+        let names = folders::next_names(rt.alloc(), folder, &mut dir, &mut room)?;
+        if names.is_empty() {
+            break;
+        }
+        sync_each(rt, folder, held, path, names)?;
+    }
+    Ok(())
+}
+
+// Makes sure of the plain files of these names, each of which has a NUL behind it.
+fn sync_each<R: Files + AllocGlobal + Drop>(
+    rt: &R,
+    folder: &str,
+    held: &Option<File>,
+    path: &mut PathRoom,
+    names: &[u8],
+) -> Result<(), Failure>
+    requires { IsHeld held.now }
+{
+    for name in names.split(|byte| *byte == 0) {
+        if is_file_name(name) {
+            sync_named(rt, folder, held, path, name)?;
+        }
+    }
+    Ok(())
+}
+
+fn sync_named<R: Files + AllocGlobal + Drop>(
+    rt: &R,
+    folder: &str,
+    _held: &Option<File>,
+    path: &mut PathRoom,
+    name: &[u8],
+) -> Result<(), Failure>
+    requires held { IsHeld _held.now }
+    requires name { IsFileName name.now }
+{
+    if path.set_file(folder, name) {
+        files::sync_if_plain(rt, path.as_str())
+    } else {
+        Err(Failure::long_path(rt.alloc(), FolderStep::Sync, folder))
     }
 }

@@ -1,4 +1,3 @@
-use Rattle.std.proofs.Common.{absurd}
 use Rattle.folder_disk.proofs.NameBytes.{name_is_text}
 use Rattle.folder_disk.proofs.paths.name_text.Goals as goal
 
