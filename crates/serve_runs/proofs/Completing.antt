@@ -1,5 +1,5 @@
 -- A service that no failing call stops.
-use Rattle.std.proofs.Common.{◌≡◌, ◌≤◌, ◌<◌, ◌⊎◌, inl, inr, ℕ, List, Option, refl, sym, subst, arith}
+use Rattle.std.proofs.Common.{◌≡◌, ◌≤◌, ◌⊎◌, inl, inr, ℕ, List, Option, refl, sym, subst, arith}
 use Rattle.desk_ports.specs.Faults.{next_count}
 use Rattle.link_ports.specs.Traffic.{Traffic}
 use Rattle.link_ports.specs.LinkMarks.{LinkMarks}

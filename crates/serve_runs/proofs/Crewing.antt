@@ -1,5 +1,5 @@
 -- The workers of a service, from their stations to their ends.
-use Rattle.std.proofs.Common.{◌≡◌, ◌∙◌, ◌<◌, ◌+◌, ℕ, zero, suc, Bool, ◌||◌, List, [], ◌∷◌, ◌++◌, length, map, slice_index_or, replicate, Option, Some}
+use Rattle.std.proofs.Common.{◌≡◌, ◌∙◌, ◌<◌, ◌+◌, ℕ, zero, suc, ◌||◌, List, [], ◌∷◌, ◌++◌, length, map, slice_index_or, replicate, Option, Some}
 use Rattle.std.proofs.Common.{None, refl, sym, ap, subst, arith, append_assoc}
 use Rattle.std.proofs.lemmas.List.{length-append, map-append, replicate_more}
 use Rattle.std.specs.List.{AllZip, AllByRecursion, list_any}
@@ -14,7 +14,7 @@ use Rattle.door_workers.specs.Clients.{VisitsClients}
 use Rattle.door_workers.specs.Agents.{VisitsAgents}
 use Rattle.door_workers.specs.declared.workers.WorkerEnd.{WorkerEnd}
 use Rattle.door_workers.specs.declared.workers.WorkerEnd.TheVariants.{DoorFailed}
-use Rattle.serve_runs.specs.Crew.{EndedWorker, ends_of, doors_of, is_lacking, lacks_memory, posts_with, WorksFor, Serves}
+use Rattle.serve_runs.specs.Crew.{EndedWorker, ends_of, doors_of, lacks_memory, posts_with, WorksFor, Serves}
 use Rattle.serve_runs.specs.Serving.{HasRisen}
 use Rattle.serve_runs.specs.declared.crews.Station.{Station}
 use Rattle.serve_runs.specs.declared.crews.Station.TheVariants.{Clients, Agents}

@@ -1,7 +1,7 @@
 -- The workers of clients and of agents: at their stations, at doors that were opened for them, and once they have ended.
 use denote.Ref.{MutBor}
 use denote.Param.Members.{Shared}
-use Rattle.std.specs.Prelude.{◌≡◌, ℕ, Bool, true, false, List, [], ◌∷◌, ◌++◌, map, replicate, Option, Some, None}
+use Rattle.std.specs.Prelude.{◌≡◌, ℕ, Bool, false, List, [], ◌∷◌, ◌++◌, map, replicate, Option, Some, None}
 use Rattle.std.specs.Fork.{ChangesEach}
 use Rattle.desk_ports.specs.Faults.{next_count}
 use Rattle.link_ports.specs.Told.{IfTold}
