@@ -256,4 +256,4 @@ pub serves-some : (start now : AdminTalk) (ended : Ended) (Keeps : List Exchange
     → AddsSome start.side now.side
 serves-some start now ended Keeps serves =
     some-then start.side serves.between now.side (answered-some start.side serves.answered serves.between serves.in_turn)
-    (ending-some ended serves.between now.side serves.last serves.last_bytes serves.ending)
+    (ending-some serves.cause serves.between now.side serves.last serves.last_bytes serves.ending)

@@ -15,12 +15,14 @@ use Rattle.wire_messages.proofs.Hearings.{heard_once}
 use Rattle.live_desk.specs.History.{last_commit}
 use Rattle.door_frames.proofs.WholeFrames.{nothing_open, right_whole, same_whole, partial_not_whole, carried_so}
 use Rattle.door_frames.specs.Carried.{Carried}
+use Rattle.door_frames.specs.Ending.{EndsBytes, faults_after}
 use Rattle.door_frames.specs.declared.endings.Ended.{Ended}
 use Rattle.door_frames.specs.declared.endings.Ended.TheVariants.{Closed, Cut, Hung, LinkFault, BadFrame, Stopped, Memory, Strayed}
 use Rattle.admin_door.specs.Side.{AdminSide, with_shown}
 use Rattle.admin_door.specs.Settling.{Settles, Unsettles}
 use Rattle.admin_door.specs.Answering.{AnswersBy, Answers, Obeys, AnswersUnsettled}
-use Rattle.admin_door.specs.Serving.{AdminTalk, Exchange, AreAnswered, EndsAnswering, Serves, frames_of, exchanges_bytes}
+use Rattle.admin_door.specs.Serving.{AdminTalk, Exchange, AreAnswered, StopsAt, IsUnsent, EndsAnswering, EndsFor, Serves}
+use Rattle.admin_door.specs.Serving.{frames_of, exchanges_bytes}
 use Rattle.admin_door.specs.Complete.{Stays, Receives, AnswersEach, AnswersFront, IsDecided, FindsDamage}
 use Rattle.admin_door.specs.declared.settling.Unsettled.{Unsettled}
 use Rattle.admin_door.specs.declared.settling.Unsettled.TheVariants as why
@@ -70,16 +72,17 @@ module _ (start now : AdminTalk) (Keeps : List Exchange → Type 0) (frames : Li
       (sym (append_cancel_left r.before.received received r.bytes (sym (ap (λ (x : Traffic). x.received) at) ∙ r.received))) r.heard
 
   -- the frames that were answered whole are these
-  each_so : (ended : Ended) (some : List Framed) (s : Serves start now ended Keeps) → IsAlone s.between now.side s.last s.last_bytes
-      → frames_of s.answered ≡ some → AnswersEach ended some start now
-  each_so ended some s alone are =
+  each_so : (result ended : Ended) (some : List Framed) (s : Serves start now result Keeps)
+      → IsAlone s.between now.side s.last s.last_bytes → frames_of s.answered ≡ some → StopsAt ended s.answered
+      → AnswersEach ended some start now
+  each_so result ended some s alone are stopping =
       let at = carried_so start.traffic now.traffic s.received (exchanges_bytes s.answered ++ s.last_bytes) r.before r.after s.carried
       r.told r.told_now in
       record {
         exchanges = s.answered;
         frames_are = are;
         in_turn = subst (λ (side : AdminSide). AreAnswered start.side s.answered side) (sym alone.side) s.in_turn;
-        stopping = s.stopping;
+        stopping = stopping;
         before = r.before;
         after = r.after;
         told = r.told;
@@ -94,50 +97,89 @@ module _ (start now : AdminTalk) (Keeps : List Exchange → Type 0) (frames : Li
   frames_alone answered last none =
       ap (λ (list : List Exchange). frames_of answered ++ frames_of list) none ∙ append-nil (frames_of answered)
 
-  by_end : (result : Ended) (s : Serves start now result Keeps) → Stays start.faults now.faults
-      → ((result ≡ Closed) × AnswersEach Closed frames start now)
-      ⊎ (((result ≡ Stopped) × AnswersFront Stopped frames start now) ⊎ (result ≡ Memory))
-  by_end Closed s quiet =
-      let alone = alone_closed s.between now.side s.last s.last_bytes s.ending in
-      let heard = heard_so s.received (exchanges_bytes s.answered ++ s.last_bytes) s.carried in
-      let all = heard_once AtAdmin s.received (frames_of s.answered ++ frames_of s.last) frames [] [] s.bytes (nothing_open AtAdmin) heard
-      (nothing_open AtAdmin) in
-      inl (refl, each_so Closed frames s alone (sym (frames_alone s.answered s.last alone.frames) ∙ all.0))
-  by_end (Cut count) s quiet =
-      let (rest, some, unfinished, length_is, many) = s.bytes in
-      let heard = heard_so s.received (exchanges_bytes s.answered ++ s.last_bytes) s.carried in
-      let same = heard_once AtAdmin s.received (frames_of s.answered ++ frames_of s.last) frames rest [] some unfinished heard
-      (nothing_open AtAdmin) in
-      absurd (omega (arith, sym (ap length same.1) ∙ length_is, many))
-  by_end (BadFrame refusal) s quiet =
-      let (rest, some, wrong, of_bytes) = s.bytes in
-      let heard = heard_so s.received (exchanges_bytes s.answered ++ s.last_bytes) s.carried in
-      absurd (right_whole AtAdmin s.received frames (frames_of s.answered ++ frames_of s.last) rest refusal heard some wrong of_bytes)
-  by_end LinkFault s quiet = absurd (moves start.faults start.faults now.faults quiet refl s.faults)
-  by_end Stopped s quiet =
-      let (more, rest, some) = s.bytes in
-      let alone = alone_stopped s.between now.side s.last s.last_bytes s.ending in
-      let heard = heard_so s.received (exchanges_bytes s.answered ++ s.last_bytes) s.carried in
-      let front = front_of s.received ((frames_of s.answered ++ frames_of s.last) ++ more) frames rest some heard in
-      inr (inl (
-        refl,
-        record {
-          front = frames_of s.answered;
-          more = more ++ front.0;
-          frames_are = front.1 ∙ (ap (λ list. (list ++ more) ++ front.0) (frames_alone s.answered s.last alone.frames)
-              ∙ append_assoc (frames_of s.answered) more front.0);
-          each = each_so Stopped (frames_of s.answered) s alone refl;
-        },
-      ))
-  by_end (Hung entered later) s quiet = absurd s.stopping
-  by_end (Strayed number found) s quiet = absurd s.stopping
-  by_end Memory s quiet = inr (inr refl)
+  -- what comes of a connection for what caused its end
+  abbrev Comes : Ended → Type 0
+  Comes cause = ((cause ≡ Closed) × AnswersEach Closed frames start now)
+      ⊎ (((cause ≡ Stopped) × AnswersFront Stopped frames start now) ⊎ (cause ≡ Memory))
+
+  module _ (result : Ended) (s : Serves start now result Keeps) (quiet : Stays start.faults now.faults) where
+    bytes_for : (cause : Ended) → s.cause ≡ cause → EndsBytes AtAdmin s.received (frames_of s.answered ++ frames_of s.last) cause
+    bytes_for cause is =
+        subst (λ (e : Ended). EndsBytes AtAdmin s.received (frames_of s.answered ++ frames_of s.last) e) is s.bytes
+
+    ending_for : (cause : Ended) → s.cause ≡ cause → EndsAnswering cause s.between now.side s.last s.last_bytes
+    ending_for cause is = subst (λ (e : Ended). EndsAnswering e s.between now.side s.last s.last_bytes) is s.ending
+
+    faults_for : (cause : Ended) → s.cause ≡ cause → now.faults ≡ faults_after cause start.faults
+    faults_for cause is = subst (λ (e : Ended). now.faults ≡ faults_after e start.faults) is s.faults
+
+    heard_all : Hears AtAdmin s.received frames []
+    heard_all = heard_so s.received (exchanges_bytes s.answered ++ s.last_bytes) s.carried
+
+    by_cause : (cause : Ended) → s.cause ≡ cause → StopsAt cause s.answered → Comes cause
+    by_cause Closed is stopping =
+        let alone = alone_closed s.between now.side s.last s.last_bytes (ending_for Closed is) in
+        let all = heard_once AtAdmin s.received (frames_of s.answered ++ frames_of s.last) frames [] [] (bytes_for Closed is)
+        (nothing_open AtAdmin) heard_all (nothing_open AtAdmin) in
+        inl (refl, each_so result Closed frames s alone (sym (frames_alone s.answered s.last alone.frames) ∙ all.0) stopping)
+    by_cause (Cut count) is stopping =
+        let (rest, some, unfinished, length_is, many) = bytes_for (Cut count) is in
+        let same = heard_once AtAdmin s.received (frames_of s.answered ++ frames_of s.last) frames rest [] some unfinished heard_all
+        (nothing_open AtAdmin) in
+        absurd (omega (arith, sym (ap length same.1) ∙ length_is, many))
+    by_cause (BadFrame refusal) is stopping =
+        let (rest, some, wrong, of_bytes) = bytes_for (BadFrame refusal) is in
+        absurd (right_whole AtAdmin s.received frames (frames_of s.answered ++ frames_of s.last) rest refusal heard_all some wrong of_bytes)
+    by_cause LinkFault is stopping = absurd (moves start.faults start.faults now.faults quiet refl (faults_for LinkFault is))
+    by_cause Stopped is stopping =
+        let (more, rest, some) = bytes_for Stopped is in
+        let alone = alone_stopped s.between now.side s.last s.last_bytes (ending_for Stopped is) in
+        let front = front_of s.received ((frames_of s.answered ++ frames_of s.last) ++ more) frames rest some heard_all in
+        inr (inl (
+          refl,
+          record {
+            front = frames_of s.answered;
+            more = more ++ front.0;
+            frames_are = front.1 ∙ (ap (λ list. (list ++ more) ++ front.0) (frames_alone s.answered s.last alone.frames)
+                ∙ append_assoc (frames_of s.answered) more front.0);
+            each = each_so result Stopped (frames_of s.answered) s alone refl stopping;
+          },
+        ))
+    by_cause (Hung entered later) is stopping = absurd stopping
+    by_cause (Strayed number found) is stopping = absurd stopping
+    by_cause Memory is stopping = inr (inr refl)
+
+    -- no call of the link failed, so that a reply was not sent for want of memory
+    for_memory : (cause : Ended) → s.cause ≡ cause → IsUnsent cause → cause ≡ Memory
+    for_memory Memory is unsent = refl
+    for_memory LinkFault is unsent = absurd (moves start.faults start.faults now.faults quiet refl (faults_for LinkFault is))
+    for_memory Closed is unsent = absurd unsent
+    for_memory (Cut count) is unsent = absurd unsent
+    for_memory (BadFrame refusal) is unsent = absurd unsent
+    for_memory Stopped is unsent = absurd unsent
+    for_memory (Hung entered later) is unsent = absurd unsent
+    for_memory (Strayed number found) is unsent = absurd unsent
+
+    -- it ended for its cause
+    by_itself : result ≡ s.cause → Comes s.cause
+        → ((result ≡ Closed) × AnswersEach Closed frames start now)
+        ⊎ (((result ≡ Stopped) × AnswersFront Stopped frames start now) ⊎ (s.cause ≡ Memory))
+    by_itself is (inl (closed, each)) = inl (is ∙ closed, each)
+    by_itself is (inr (inl (stopped, front))) = inr (inl (is ∙ stopped, front))
+    by_itself is (inr (inr memory)) = inr (inr memory)
+
+    by_end : EndsFor result s.cause s.answered s.last
+        → ((result ≡ Closed) × AnswersEach Closed frames start now)
+        ⊎ (((result ≡ Stopped) × AnswersFront Stopped frames start now) ⊎ (s.cause ≡ Memory))
+    by_end (inl (is, stopping, none)) =
+        by_itself is (by_cause s.cause refl (subst (λ (e : Ended). StopsAt e s.answered) is stopping))
+    by_end (inr (is, unsent)) = inr (inr (for_memory s.cause refl unsent.reason))
 
 pub complete : (result : Ended) (start now : AdminTalk) (Keeps : List Exchange → Type 0) (frames : List Framed)
-    → Serves start now result Keeps → Stays start.faults now.faults → Receives frames start now
+    (s : Serves start now result Keeps) → Stays start.faults now.faults → Receives frames start now
     → ((result ≡ Closed) × AnswersEach Closed frames start now)
-    ⊎ (((result ≡ Stopped) × AnswersFront Stopped frames start now) ⊎ (result ≡ Memory))
-complete result start now Keeps frames s quiet r = by_end start now Keeps frames r result s quiet
+    ⊎ (((result ≡ Stopped) × AnswersFront Stopped frames start now) ⊎ (s.cause ≡ Memory))
+complete result start now Keeps frames s quiet r = by_end start now Keeps frames r result s quiet s.stopping
 
 -- ---- a command
 

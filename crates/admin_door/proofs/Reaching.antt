@@ -251,7 +251,7 @@ module _ (before : DiskState) (last : DeskState) (first : List DeskState) (all :
         let cut_turn : all ≡ done ++ (s.answered ++ (s.last ++ rest)) =
         cut ∙ ap (λ (frames : List Exchange). done ++ frames) (append_assoc s.answered s.last rest) in
         subst (λ (frames : List Exchange). Holds before last first all frames now.side) (append_assoc done s.answered s.last)
-        (end-holds (done ++ s.answered) rest ended s.between now.side s.last s.last_bytes s.ending
+        (end-holds (done ++ s.answered) rest s.cause s.between now.side s.last s.last_bytes s.ending
         (cut_turn ∙ sym (append_assoc done s.answered (s.last ++ rest)))
         (turn-holds done start.side s.answered (s.last ++ rest) s.between s.in_turn cut_turn h))
 

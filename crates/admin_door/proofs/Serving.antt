@@ -21,7 +21,7 @@ use Rattle.door_frames.proofs.Hearing.{unfed_heard}
 use Rattle.admin_door.specs.Side.{AdminSide}
 use Rattle.admin_door.specs.Answering.{Answers, Refuses}
 use Rattle.admin_door.specs.Serving.{AdminTalk, talk_of, Exchange, exchange_of, exchange_bytes, exchanges_bytes, frames_of, replies_bytes}
-use Rattle.admin_door.specs.Serving.{IsAnswered, AreAnswered, IsNoStop, AreNoStops, StopsAt, IsUnsent, Serves}
+use Rattle.admin_door.specs.Serving.{IsAnswered, AreAnswered, IsNoStop, AreNoStops, StopsAt, IsUnsent, EndsFor, ended_behind, Serves}
 use Rattle.admin_door.specs.parts.Talk.{Stands, IsWhole, IsUnheeded, IsHalfSent, EndsAt}
 
 -- ---- lists of frames
@@ -138,9 +138,10 @@ module _ (start old : AdminTalk) (feeder fed : Feeding) (bytes : List ℕ) (fram
           between = old.side;
           last = asked [] ∷ [];
           last_bytes = [];
+          cause = ended;
           in_turn = s.in_turn;
           ending = inr (inl (asked [], refl, refl, refl, unheeded.refuses));
-          stopping = subst (λ (e : Ended). StopsAt e s.answered) (sym is) s.no_stops;
+          stopping = inl (refl, subst (λ (e : Ended). StopsAt e s.answered) (sym is) s.no_stops, (inl refl, tt));
           bytes = subst (λ (e : Ended). EndsBytes AtAdmin (s.received ++ bytes) (frames_of s.answered ++ framed ∷ []) e) (sym is)
               (fed.waiting, heard.0, heard.1);
           carried = carried-turn s.received bytes (exchanges_bytes s.answered) [] start.traffic old.traffic traffic now.traffic
@@ -152,10 +153,11 @@ module _ (start old : AdminTalk) (feeder fed : Feeding) (bytes : List ℕ) (fram
         }
 
     -- its answer is not sent whole
-    half-sent : (ended : Ended) (half : IsHalfSent told framed between now ended) → IsUnsent ended → StopsAt ended s.answered
-        → EndsBytes AtAdmin (s.received ++ bytes) (frames_of s.answered ++ framed ∷ []) ended
-        → now.faults ≡ faults_after ended faults → IsAtEnd ended now.marks → AnsweredMore → Serves start now ended Is
-    half-sent ended half unsent stopping heard counted at_end more =
+    half-sent : (ended cause : Ended) (half : IsHalfSent told framed between now cause) → IsUnsent cause
+        → EndsFor ended cause s.answered (asked half.replies ∷ [])
+        → EndsBytes AtAdmin (s.received ++ bytes) (frames_of s.answered ++ framed ∷ []) cause
+        → now.faults ≡ faults_after cause faults → IsAtEnd cause now.marks → AnsweredMore → Serves start now ended Is
+    half-sent ended cause half unsent stopping heard counted at_end more =
         let exchange : Exchange = asked half.replies in
         record {
           received = s.received ++ bytes;
@@ -163,6 +165,7 @@ module _ (start old : AdminTalk) (feeder fed : Feeding) (bytes : List ℕ) (fram
           between = old.side;
           last = exchange ∷ [];
           last_bytes = replies_bytes framed.sequence half.cut_off.sent;
+          cause = cause;
           in_turn = s.in_turn;
           ending = inr (inr (
             exchange,
@@ -176,23 +179,38 @@ module _ (start old : AdminTalk) (feeder fed : Feeding) (bytes : List ℕ) (fram
           bytes = heard;
           carried = carried-turn s.received bytes (exchanges_bytes s.answered) (replies_bytes framed.sequence half.cut_off.sent)
               start.traffic old.traffic traffic now.traffic s.carried hears half.cut_off.carried;
-          faults = counted ∙ ap (faults_after ended) (same_faults ∙ s.faults);
+          faults = counted ∙ ap (faults_after cause) (same_faults ∙ s.faults);
           at_end = at_end;
           ends = ap (λ (m : LinkMarks). m.ends) half.marks ∙ (same_ends ∙ s.ends);
           keeps = more half.replies half.answers s.answered s.keeps;
         }
 
-    ends-half : (ended : Ended) → IsHalfSent told framed between now ended → AnsweredMore → Serves start now ended Is
-    ends-half Memory half more =
-        half-sent Memory half tt s.no_stops (fed.waiting, hears-framed.0, hears-framed.1) half.cut_off.faults tt more
-    ends-half LinkFault half more =
-        half-sent LinkFault half tt s.no_stops (fed.waiting, hears-framed.0, hears-framed.1) half.cut_off.faults tt more
-    ends-half Closed half more = absurd half.cut_off.faults
-    ends-half (Cut count) half more = absurd half.cut_off.faults
-    ends-half (Hung entered later) half more = absurd half.cut_off.faults
-    ends-half (BadFrame refusal) half more = absurd half.cut_off.faults
-    ends-half Stopped half more = absurd half.cut_off.faults
-    ends-half (Strayed number found) half more = absurd half.cut_off.faults
+    -- whether it is a stop, which is made, or not
+    ends-unsent : (ended cause : Ended) (message : Message) (replies : List Message) → framed.message ≡ message → IsUnsent cause
+        → StopsAt cause s.answered → ended ≡ ended_behind message cause → EndsFor ended cause s.answered (asked replies ∷ [])
+    ends-unsent ended cause Stop replies stop unsent none is =
+        inr (is, record { stop = asked replies; last_is = refl; message = stop; no_stops = s.no_stops; reason = unsent })
+    ends-unsent ended cause message replies other unsent none is =
+        inl (
+          is,
+          subst (λ (e : Ended). StopsAt e s.answered) (sym is) none,
+          (inr (subst (λ (m : Message). IsNoStop m) (sym other) tt), tt),
+        )
+
+    ends-half : (ended cause : Ended) → IsHalfSent told framed between now cause → ended ≡ ended_behind framed.message cause
+        → AnsweredMore → Serves start now ended Is
+    ends-half ended Memory half is more =
+        half-sent ended Memory half tt (ends-unsent ended Memory framed.message half.replies refl tt s.no_stops is)
+        (fed.waiting, hears-framed.0, hears-framed.1) half.cut_off.faults tt more
+    ends-half ended LinkFault half is more =
+        half-sent ended LinkFault half tt (ends-unsent ended LinkFault framed.message half.replies refl tt s.no_stops is)
+        (fed.waiting, hears-framed.0, hears-framed.1) half.cut_off.faults tt more
+    ends-half ended Closed half is more = absurd half.cut_off.faults
+    ends-half ended (Cut count) half is more = absurd half.cut_off.faults
+    ends-half ended (Hung entered later) half is more = absurd half.cut_off.faults
+    ends-half ended (BadFrame refusal) half is more = absurd half.cut_off.faults
+    ends-half ended Stopped half is more = absurd half.cut_off.faults
+    ends-half ended (Strayed number found) half is more = absurd half.cut_off.faults
 
     -- it is a stop
     ends-stopped : (ended : Ended) → IsWhole told framed between now → framed.message ≡ Stop → ended ≡ Stopped → AnsweredMore
@@ -208,9 +226,14 @@ module _ (start old : AdminTalk) (feeder fed : Feeding) (bytes : List ℕ) (fram
           between = now.side;
           last = [];
           last_bytes = [];
+          cause = ended;
           in_turn = answered-more start.side s.answered old.side exchange now.side s.in_turn whole.answers;
           ending = inl (refl, refl, refl);
-          stopping = subst (λ (e : Ended). StopsAt e (s.answered ++ exchange ∷ [])) (sym is) (s.answered, exchange, refl, s.no_stops, stop);
+          stopping = inl (
+            refl,
+            subst (λ (e : Ended). StopsAt e (s.answered ++ exchange ∷ [])) (sym is) (s.answered, exchange, refl, s.no_stops, stop),
+            tt,
+          );
           bytes = subst
               (λ (e : Ended). EndsBytes AtAdmin (s.received ++ bytes) (frames_of (s.answered ++ exchange ∷ []) ++ []) e) (sym is) (
                 fed.waiting,
@@ -229,7 +252,7 @@ module _ (start old : AdminTalk) (feeder fed : Feeding) (bytes : List ℕ) (fram
 
     pub ends-at : (ended : Ended) → EndsAt told framed between now ended → AnsweredMore → RefusedMore ended → Serves start now ended Is
     ends-at ended (inl unheeded) answered refused = ends-unheeded ended unheeded unheeded.refuses.0 refused
-    ends-at ended (inr (inl half)) answered refused = ends-half ended half answered
+    ends-at ended (inr (inl (cause, half, is))) answered refused = ends-half ended cause half is answered
     ends-at ended (inr (inr (whole, stop, is))) answered refused = ends-stopped ended whole stop is answered
 
 -- ---- no frame more
@@ -262,9 +285,10 @@ module _ (start old : AdminTalk) (feeder fed : Feeding) (bytes : List ℕ) (traf
     between = old.side;
     last = [];
     last_bytes = [];
+    cause = ended;
     in_turn = s.in_turn;
     ending = inl (refl, refl, refl);
-    stopping = stopping;
+    stopping = inl (refl, stopping, tt);
     bytes = heard;
     carried = carried-heard s.received bytes (exchanges_bytes s.answered) start.traffic old.traffic traffic s.carried hears;
     faults = counted ∙ ap (faults_after ended) s.faults;

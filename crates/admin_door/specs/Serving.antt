@@ -61,7 +61,8 @@ IsNoStop other = Unit {0}
 abbrev pub AreNoStops : List Exchange → Type 0
 AreNoStops exchanges = AllByRecursion (λ (exchange : Exchange). IsNoStop exchange.framed.message) exchanges
 
--- A connection ends as stopped exactly behind a stop that was answered, and no stop was answered before.
+-- The frames that were answered are such where a connection ended so: a stop is the last of them where it ended as stopped, and
+-- else there is none.
 abbrev pub StopsAt : Ended → List Exchange → Type 0
 StopsAt Stopped answered = (front : List Exchange) × (last : Exchange)
     × (answered ≡ front ++ last ∷ []) × AreNoStops front × (last.framed.message ≡ Stop)
@@ -85,12 +86,36 @@ pub record IsBrokenOff (ended : Ended) (exchange : Exchange) (sent : List Messag
 -- What came behind the frames whose replies were all sent, and which bytes were sent for it: nothing; a frame that had no
 -- answer; or a frame whose answer was not sent whole.
 abbrev pub EndsAnswering : Ended → AdminSide → AdminSide → List Exchange → List ℕ → Type 0
-EndsAnswering ended between now last bytes =
+EndsAnswering cause between now last bytes =
     ((last ≡ []) × (bytes ≡ []) × (now ≡ between))
     ⊎ (((exchange : Exchange) × (last ≡ exchange ∷ []) × (bytes ≡ []) × (exchange.replies ≡ [])
-    × Refuses exchange.told exchange.framed.message between now ended)
+    × Refuses exchange.told exchange.framed.message between now cause)
     ⊎ ((exchange : Exchange) × (sent : List Message) × (last ≡ exchange ∷ [])
-    × (bytes ≡ replies_bytes exchange.framed.sequence sent) × IsAnswered exchange between now × IsBrokenOff ended exchange sent))
+    × (bytes ≡ replies_bytes exchange.framed.sequence sent) × IsAnswered exchange between now × IsBrokenOff cause exchange sent))
+
+-- how a connection ends at a frame that is answered, where its answer is not sent whole for this: a stop is made by then
+abbrev pub ended_behind : Message → Ended → Ended
+ended_behind Stop cause = Stopped
+ended_behind other cause = cause
+
+-- none of these is a stop that was made: it has no answer, or is no stop
+abbrev pub MakesNoStop : List Exchange → Type 0
+MakesNoStop exchanges =
+    AllByRecursion (λ (exchange : Exchange). (exchange.replies ≡ []) ⊎ IsNoStop exchange.framed.message) exchanges
+
+-- the frame whose answer was not sent whole is a stop
+pub record StopsUnsent (cause : Ended) (answered last : List Exchange) : Type 0 where
+  pub stop : Exchange
+  pub last_is : last ≡ stop ∷ []
+  pub message : stop.framed.message ≡ Stop
+  pub no_stops : AreNoStops answered
+  pub reason : IsUnsent cause
+
+-- A connection ends for what caused it, or as stopped: exactly where a stop was made, whether or not its reply was sent, and no
+-- stop was made before.
+abbrev pub EndsFor : Ended → Ended → List Exchange → List Exchange → Type 0
+EndsFor ended cause answered last =
+    ((ended ≡ cause) × StopsAt ended answered × MakesNoStop last) ⊎ ((ended ≡ Stopped) × StopsUnsent cause answered last)
 
 -- ---- a whole connection
 
@@ -104,7 +129,7 @@ pub record AdminTalk : Type 0 where
 abbrev pub talk_of : AdminSide → Option Traffic → LinkMarks → ℕ → AdminTalk
 talk_of side traffic marks faults = record { side = side; traffic = traffic; marks = marks; faults = faults }
 
--- The frames received were answered in turn, with the replies in order, up to how it ended. What these frames, the last one
+-- The frames received were answered in turn, with the replies in order, up to what caused its end. What these frames, the last one
 -- with them, left elsewhere is as `Keeps` says.
 pub record Serves (start now : AdminTalk) (ended : Ended) (Keeps : List Exchange → Type 0) : Type 0 where
   pub received : List ℕ
@@ -112,12 +137,13 @@ pub record Serves (start now : AdminTalk) (ended : Ended) (Keeps : List Exchange
   pub between : AdminSide
   pub last : List Exchange
   pub last_bytes : List ℕ
+  pub cause : Ended
   pub in_turn : AreAnswered start.side answered between
-  pub ending : EndsAnswering ended between now.side last last_bytes
-  pub stopping : StopsAt ended answered
-  pub bytes : EndsBytes AtAdmin received (frames_of answered ++ frames_of last) ended
+  pub ending : EndsAnswering cause between now.side last last_bytes
+  pub stopping : EndsFor ended cause answered last
+  pub bytes : EndsBytes AtAdmin received (frames_of answered ++ frames_of last) cause
   pub carried : Carried start.traffic now.traffic received (exchanges_bytes answered ++ last_bytes)
-  pub faults : now.faults ≡ faults_after ended start.faults
-  pub at_end : IsAtEnd ended now.marks
+  pub faults : now.faults ≡ faults_after cause start.faults
+  pub at_end : IsAtEnd cause now.marks
   pub ends : now.marks.ends ≡ start.marks.ends
   pub keeps : Keeps (answered ++ last)

@@ -18,6 +18,7 @@ ghost use Rattle.admin_door.specs.Stops.{KeepsKnown, StandsBy};
 ghost use Rattle.admin_door.specs.Running.{RunsOver};
 ghost use Rattle.admin_door.specs.Adding.{AddsSome};
 ghost use Rattle.admin_door.specs.Due.{AreDue};
+ghost use Rattle.admin_door.specs.Serving as words;
 ghost use Rattle.admin_door.specs.Serving.{talk_of, Serves, replies_bytes, IsNoStop};
 ghost use Rattle.admin_door.specs.parts.Talk.{Goes, Ends, IsWhole, EndsAt, IsCutOff};
 
@@ -32,9 +33,9 @@ use std::alloc::Global;
 use std::sync::Wait;
 use wire_messages::{Feeder, Framed, Heard, Message};
 
-/// Serves one connection of an administrator: each message is answered in turn, and `Stop` is the last. What a stop at any
-/// moment may leave in the folder, and what the folder keeps behind the connection, is told of its frames (`RunsOver`). It may
-/// wait.
+/// Serves one connection of an administrator: each message is answered in turn, and `Stop` is the last: it ends the connection as
+/// stopped, whether or not its reply can be sent. What a stop at any moment may leave in the folder, and what the folder keeps
+/// behind the connection, is told of its frames (`RunsOver`). It may wait.
 pub fn admin_loop<R: Wait, D: Disk, A: Hall, L: Link>(
     rt: &R,
     alloc: Global,
@@ -181,10 +182,21 @@ fn answer_frame<R: Wait, D: Disk, A: Hall, L: Link>(
         Ok(replies) => replies,
         Err(ended) => return Err(ended),
     };
-    if let Err(ended) = send_due(keeper, publisher, hall, link, frame, framed, &replies) {
-        return Err(ended);
+    if let Err(cause) = send_due(keeper, publisher, hall, link, frame, framed, &replies) {
+        return Err(ended_behind(&framed.message, cause));
     }
     go_on(&framed.message)
+}
+
+// How the connection ends where the replies to a message are not all sent. A stop is made by then, so that one whose sender has
+// left still ends the service.
+fn ended_behind(message: &Message, cause: Ended) -> Ended
+    ensures { result ≡ words.ended_behind message.now cause }
+{
+    match message {
+        Message::Stop => Ended::Stopped,
+        _ => cause,
+    }
 }
 
 // A stop ends the connection.

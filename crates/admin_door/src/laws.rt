@@ -29,9 +29,9 @@ use desk_ports::Disk;
 /// connection ends `Closed`, or those up to a stop, and it ends `Stopped`; or memory was wanting.
 pub fn each_frame_of_an_administrator_is_answered<D: Disk>()
     ensures { (result : ended.Ended) (start now : AdminTalk) (first last : keeper.Keeper D) (frames : List framed.Framed)
-        → Serves start now result (RunsOver D.state D.moment D.left_since first last) → Stays start.faults now.faults
+        (served : Serves start now result (RunsOver D.state D.moment D.left_since first last)) → Stays start.faults now.faults
         → Receives frames start now → ((result ≡ Closed) × AnswersEach Closed frames start now)
-        ⊎ (((result ≡ Stopped) × AnswersFront Stopped frames start now) ⊎ (result ≡ Memory)) }
+        ⊎ (((result ≡ Stopped) × AnswersFront Stopped frames start now) ⊎ (served.cause ≡ Memory)) }
 {}
 
 /// A command that is answered while no call of the disk fails is done, or refused by a rule, behind what an earlier one left

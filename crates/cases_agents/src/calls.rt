@@ -132,6 +132,11 @@ fn take(table: &mut Questions, alloc: Global, number: u32) -> Result<String, Fai
     }
 }
 
+fn yes_or_no(alloc: Global, is_so: bool) -> Result<String, Failure> {
+    let word = if is_so { "yes" } else { "no" };
+    Ok(String::from_str(alloc, word)?)
+}
+
 fn numbered(
     table: &mut Questions,
     alloc: Global,
@@ -157,6 +162,12 @@ fn numbered(
     if word == "take" {
         return take(table, alloc, number);
     }
+    if word == "awaits" {
+        return yes_or_no(alloc, table.awaits(number));
+    }
+    if word == "withdraw" {
+        return yes_or_no(alloc, table.withdraw(number));
+    }
     if word == "leave" {
         table.drop_agent(agent(number)?);
         return Ok(String::from_str(alloc, "left")?);
@@ -170,7 +181,7 @@ fn numbered(
 
 /// What the table answers to a call: `new`, `from NUMBER`, `register KIND`, `register-all`,
 /// `put KIND CLIENT USER PRIVILEGE METADATA`, `put-many KIND COUNT ..`, `next KIND`, `answer KIND NUMBER allow` or `deny`,
-/// `take NUMBER`, `leave KIND`, `stop`, `stopped`.
+/// `take NUMBER`, `awaits NUMBER`, `withdraw NUMBER`, `leave KIND`, `stop`, `stopped`.
 pub fn call(table: &mut Questions, alloc: Global, words: &str) -> Result<String, Failure> {
     let (word, rest) = first_word(words);
     if word == "new" {
@@ -182,8 +193,7 @@ pub fn call(table: &mut Questions, alloc: Global, words: &str) -> Result<String,
         return Ok(String::from_str(alloc, "ok")?);
     }
     if word == "stopped" {
-        let stopped = if table.is_stopped() { "yes" } else { "no" };
-        return Ok(String::from_str(alloc, stopped)?);
+        return yes_or_no(alloc, table.is_stopped());
     }
     if word == "register-all" {
         return register_all(table, alloc);

@@ -57,6 +57,7 @@ visit_frames start now ended Keeps served = (
     between = served.between;
     last = served.last;
     last_bytes = served.last_bytes;
+    cause = served.cause;
     in_turn = served.in_turn;
     ending = served.ending;
     stopping = served.stopping;
@@ -113,7 +114,7 @@ pub goes_office : {L : Type 0} (visit : Visit L) → GoesOn visit.ended → (vis
     → AllGoOn (visits ++ visit ∷ [])
 goes_office {L} visit on visits all = all_more (λ (v : Visit L). GoesOn v.ended) visits visit all on
 
--- the stop was answered
+-- the stop was made
 pub stops_office : {L : Type 0} (visit : Visit L) → visit.ended ≡ EndedByStop → (visits : List (Visit L)) → AllGoOn visits
     → EndsOffice Stopped (visits ++ visit ∷ [])
 stops_office visit by_stop visits all = (visits, visit, refl, all, by_stop)

@@ -58,13 +58,13 @@ abbrev pub VisitsOffice : {L : Type 0} → (L → Option Traffic) → (L → Lin
 VisitsOffice traffic marks faults office visit office_now =
     IsSilent (traffic visit.accepted) × ServesAdmin traffic marks faults visit.ended office visit.accepted office_now visit.returned
 
--- A worker of administrators ends as stopped exactly behind a connection whose stop was answered.
+-- A worker of administrators ends as stopped exactly behind a connection that made a stop.
 abbrev pub EndsOffice : {L : Type 0} → WorkerEnd → List (Visit L) → Type 0
 EndsOffice {L} Stopped visits = (front : List (Visit L)) × (last : Visit L)
     × (visits ≡ front ++ last ∷ []) × AllGoOn front × (last.ended ≡ EndedByStop)
 EndsOffice end visits = AllGoOn visits
 
--- what its own hall counts behind a worker of administrators: it stopped the service itself, unless a stop was answered
+-- what its own hall counts behind a worker of administrators: it stopped the service itself, unless a connection had
 abbrev pub tally_behind : WorkerEnd → Tally → Tally
 tally_behind Stopped tally = tally
 tally_behind end tally = after_stop tally

@@ -63,7 +63,7 @@ pub fn work_for_administrators<
     end
 }
 
-// Stops the service behind a worker of administrators, where no stop was answered.
+// Stops the service behind a worker of administrators, where none of its connections made a stop.
 fn stop_behind<A: Hall>(hall: &mut A, end: WorkerEnd)
     ensures { A.tally hall.new ≡ tally_behind end (A.tally hall.old) }
 {

@@ -14,7 +14,8 @@ use Rattle.door_frames.specs.Hearing.{HasHeard}
 use Rattle.door_frames.specs.declared.endings.Ended.{Ended}
 use Rattle.door_frames.specs.declared.endings.Ended.TheVariants.{Stopped}
 use Rattle.admin_door.specs.Answering.{Answers, Refuses}
-use Rattle.admin_door.specs.Serving.{AdminTalk, Exchange, AreAnswered, AreNoStops, exchanges_bytes, frames_of, replies_bytes, Serves}
+use Rattle.admin_door.specs.Serving.{AdminTalk, Exchange, AreAnswered, AreNoStops, exchanges_bytes, frames_of}
+use Rattle.admin_door.specs.Serving.{ended_behind, replies_bytes, Serves}
 use Rattle.admin_door.specs.Running.{RunsOver}
 
 -- since the start these frames were answered, and their replies are all sent
@@ -82,5 +83,5 @@ pub record IsHalfSent (told : Option DiskState) (framed : Framed) (old now : Adm
 -- the connection ends at this frame
 abbrev pub EndsAt : Option DiskState → Framed → AdminTalk → AdminTalk → Ended → Type 0
 EndsAt told framed old now ended = IsUnheeded told framed old now ended
-    ⊎ (IsHalfSent told framed old now ended
+    ⊎ (((cause : Ended) × IsHalfSent told framed old now cause × (ended ≡ ended_behind framed.message cause))
     ⊎ (IsWhole told framed old now × (framed.message ≡ Stop) × (ended ≡ Stopped)))
