@@ -242,6 +242,49 @@ def clients_that_do_not_read(service):
         thread.join()
 
 
+class Busy:
+    """Clients that ask without a pause, and dial anew where they are hung up."""
+
+    def __init__(self, service, count):
+        self.service, self.is_over, self.lost = service, False, 0
+        self.threads = [threading.Thread(target=self.ask) for _ in range(count)]
+        for thread in self.threads:
+            thread.start()
+
+    def ask(self):
+        link, failed = None, 0
+        while not self.is_over:
+            try:
+                link = link or Link(self.service.folder, "client", 20)
+                link.ask(check(ASKED))
+                failed = 0
+            except (HungUp, TimeoutError):
+                if link:
+                    link.close()
+                link, failed = None, failed + 1
+                self.lost += failed == 3
+
+    def end(self):
+        self.is_over = True
+        for thread in self.threads:
+            thread.join()
+        wanted("each of them is answered within three dials", not self.lost, self.lost)
+
+
+def clients_that_ask_without_a_pause(service):
+    busy = Busy(service, WORKERS)
+    time.sleep(0.5)
+    honest(service, "client")
+    busy.end()
+
+
+def a_line_of_clients_that_ask_without_a_pause(service):
+    busy = Busy(service, WORKERS + 40)
+    time.sleep(0.5)
+    honest(service, "client")
+    busy.end()
+
+
 def clients_that_come_and_go(service):
     """A client that is slow to ask is not cut off where nobody waits, nor one that asks again behind a pause."""
     with Link(service.folder, "client") as link:
@@ -360,6 +403,30 @@ def administrator_that_does_not_read(service):
     time.sleep(1)
     honest(service, "admin")
     thread.join()
+
+
+def administrator_with_a_long_script(service):
+    """The shipped client: its script goes on behind the other's command, and each line of it is obeyed."""
+    lines = 20_000
+    script = "".join(f"set . c{at % 7} * p {'allow' if at % 2 else 'deny'}\n" for at in range(lines))
+    kept = {**os.environ, "PRIVILEGE_DIR": str(service.folder)}
+    program = subprocess.Popen([service.path, "admin"], env=kept, stdin=subprocess.PIPE, stdout=subprocess.PIPE, text=True)
+    writer = threading.Thread(target=lambda: (program.stdin.write(script), program.stdin.close()))
+    writer.start()
+    said = []
+    reader = threading.Thread(target=lambda: said.append(program.stdout.read()))
+    reader.start()
+    time.sleep(0.3)
+    commands = 0
+    while program.poll() is None and commands < 3:
+        wanted("administrator is answered", timed("honest administrator", HELD, lambda: obeyed(service.folder)))
+        commands += 1
+    status = program.wait()
+    writer.join()
+    reader.join()
+    wanted("the script was under way", commands > 1, commands)
+    wanted("it ends with 0", status == 0, status)
+    wanted("each line was obeyed", said[0].count("ok ") == lines, said[0].count("ok "))
 
 
 def administrator_for_a_minute(service):
@@ -588,6 +655,8 @@ CASES = [
     clients_that_drip,
     client_that_drips_alone,
     clients_that_do_not_read,
+    clients_that_ask_without_a_pause,
+    a_line_of_clients_that_ask_without_a_pause,
     clients_that_come_and_go,
     a_hundred_clients_that_keep_their_links,
     administrator_that_says_nothing,
@@ -595,6 +664,7 @@ CASES = [
     administrator_within_a_frame,
     administrator_that_drips,
     administrator_that_does_not_read,
+    administrator_with_a_long_script,
     agents_that_say_nothing,
     agents_within_a_frame,
     agent_whose_dialog_stays_open,
