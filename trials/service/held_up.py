@@ -2,8 +2,8 @@
 """held_up.py [--long] [--program PATH] [NAME..]: peers that hold the service up, over real sockets, and how long an honest one waits.
 Each case has a service of its own with 4 workers of clients, in which peers hold all workers of a door in one way; meanwhile an honest
 client, agent or administrator comes and is to be answered within two seconds (and a quarter, for what the machine takes), or within a
-tenth of one where no worker is held. A limit that lets an honest peer go too early fails, too. NAME is a part of a case's name. A minute
-and a half; with --long also the sixty seconds of an administrator who says nothing, and a minute of a thousand peers. It shows what each
+tenth of one where no worker is held. A limit that lets an honest peer go too early fails, too. NAME is a part of a case's name. Two
+minutes; with --long also the sixty seconds of an administrator who says nothing, and a minute of a thousand peers. It shows what each
 case took, and ends with status 1 where one is not as wanted. Linux alone.
 
 Not tried here, since no limit of the sockets ends them: a question to an agent whose asker has left, an agent that leaves while it is
