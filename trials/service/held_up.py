@@ -354,7 +354,8 @@ def idle_cost(service):
 
 def spent(service):
     """The processor time of all its threads, in seconds."""
-    return sum(int((task / "schedstat").read_text().split()[0]) for task in pathlib.Path(f"/proc/{service.process.pid}/task").iterdir()) / 1e9
+    tasks = pathlib.Path(f"/proc/{service.process.pid}/task").iterdir()
+    return sum(int((task / "schedstat").read_text().split()[0]) for task in tasks) / 1e9
 
 
 # Sockets of others
