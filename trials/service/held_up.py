@@ -2,8 +2,8 @@
 """held_up.py [--long] [--program PATH] [NAME..]: peers that hold the service up, over real sockets, and how long an honest one waits.
 Each case has a service of its own with 4 workers of clients, in which peers hold all workers of a door in one way; meanwhile an honest
 client, agent or administrator comes and is to be answered within two seconds (and a quarter, for what the machine takes), or within a
-tenth of one where no worker is held. A limit that lets an honest peer go too early fails, too. NAME is a part of a case's name. A minute
-and a half; with --long also the sixty seconds of an administrator who says nothing, and a minute of a thousand peers. It shows what each
+tenth of one where no worker is held. A limit that lets an honest peer go too early fails, too. NAME is a part of a case's name. Two
+minutes; with --long also the sixty seconds of an administrator who says nothing, and a minute of a thousand peers. It shows what each
 case took, and ends with status 1 where one is not as wanted. Linux alone.
 
 Not tried here, since no limit of the sockets ends them: a question to an agent whose asker has left, an agent that leaves while it is
@@ -12,7 +12,6 @@ asked nothing or never answers, threads that cannot be made, and lines of `watch
 import argparse
 import os
 import pathlib
-import random
 import resource
 import socket
 import subprocess
@@ -20,9 +19,28 @@ import sys
 import threading
 import time
 
+from held_up_peers import (
+    AGENT_WORKERS,
+    ASKED,
+    FREE,
+    HELD,
+    LIMIT,
+    WORKERS,
+    Busy,
+    Dripping,
+    Kept,
+    answered,
+    asked_once,
+    fill,
+    honest,
+    is_ended,
+    obeyed,
+    timed,
+    wanted,
+    wrong,
+)
 from service import (
     ALLOW,
-    DONE,
     JUDGED,
     LISTING,
     QUESTION,
@@ -34,130 +52,10 @@ from service import (
     Service,
     check,
     frame,
-    number,
     room,
     setting,
     texts,
 )
-
-WORKERS = 4
-AGENT_WORKERS = 8
-ASKED = (b"c", b"u", b"p")
-HELD, FREE = 2.25, 0.1
-# How long a peer that is to be let go by a limit of five seconds is waited for.
-LIMIT = 5.5
-wrong = []
-
-
-def wanted(what, holds, found=""):
-    if not holds:
-        wrong.append(what)
-        print(f"  {what}: {found}", flush=True)
-
-
-def timed(what, most, call):
-    """The call's answer, which is wanted in so many seconds."""
-    start = time.monotonic()
-    answer = call()
-    took = time.monotonic() - start
-    print(f"  {what}: {took:.3f} s", flush=True)
-    wanted(what, took <= most, f"took {took:.3f} s, {most} s are wanted")
-    return answer
-
-
-def answered(folder, sequence=1):
-    """A check by a client of its own, which dials anew where it is hung up, as the shipped one does: three times."""
-    for _ in range(3):
-        try:
-            with Link(folder, "client", 20) as link:
-                return link.ask(check(ASKED, sequence))[1] == JUDGED
-        except HungUp:
-            pass
-        except TimeoutError:
-            return False
-    return False
-
-
-def obeyed(folder):
-    try:
-        with Link(folder, "admin", 20) as link:
-            return link.ask(setting(b"", (b"d", b"*", b"p"), ALLOW))[1] == DONE
-    except (HungUp, TimeoutError):
-        return False
-
-
-def registered(folder, kind=99):
-    try:
-        with Link(folder, "agent", 20) as link:
-            return link.ask(frame(1, REGISTER, kind.to_bytes(2, "big")))[1] == REGISTERED
-    except (HungUp, TimeoutError):
-        return False
-
-
-def honest(service, door, most=HELD):
-    """Each honest peer is answered, that of the held door within so much."""
-    for name, call in ("client", answered), ("admin", obeyed), ("agent", registered):
-        limit = most if name == door else FREE
-        wanted(f"{name} is answered", timed(f"honest {name}", limit, lambda: call(service.folder)))
-
-
-def is_ended(link, seconds):
-    """Whether the service ends the link in so many seconds."""
-    link.socket.settimeout(seconds)
-    until = time.monotonic() + seconds
-    try:
-        while time.monotonic() < until:
-            link.more()
-    except HungUp:
-        return True
-    except TimeoutError:
-        pass
-    return False
-
-
-class Dripping:
-    """Peers that send a byte of a frame each tenth of a second."""
-
-    def __init__(self, links, data):
-        self.links, self.data, self.is_over = links, data, False
-        self.thread = threading.Thread(target=self.drip)
-        self.thread.start()
-
-    def drip(self):
-        for byte in self.data:
-            for link in self.links:
-                try:
-                    link.socket.send(bytes([byte]))
-                except OSError:
-                    pass
-            time.sleep(0.1)
-            if self.is_over:
-                return
-
-    def end(self):
-        self.is_over = True
-        self.thread.join()
-
-
-def asked_once(service, count):
-    links = []
-    for _ in range(count):
-        link = Link(service.folder, "client")
-        link.ask(check(ASKED))
-        links.append(link)
-    return links
-
-
-def fill(link, data, seconds=3):
-    """Sends so often that the answers, which nobody reads, fill what the machine keeps of them."""
-    link.socket.settimeout(0.2)
-    until = time.monotonic() + seconds
-    try:
-        while time.monotonic() < until:
-            link.socket.sendall(data * 100)
-    except OSError:
-        pass
-
 
 # Clients
 
@@ -242,6 +140,20 @@ def clients_that_do_not_read(service):
         thread.join()
 
 
+def clients_that_ask_without_a_pause(service):
+    busy = Busy(service, WORKERS)
+    time.sleep(0.5)
+    honest(service, "client")
+    busy.end()
+
+
+def a_line_of_clients_that_ask_without_a_pause(service):
+    busy = Busy(service, WORKERS + 40)
+    time.sleep(0.5)
+    honest(service, "client")
+    busy.end()
+
+
 def clients_that_come_and_go(service):
     """A client that is slow to ask is not cut off where nobody waits, nor one that asks again behind a pause."""
     with Link(service.folder, "client") as link:
@@ -254,43 +166,6 @@ def clients_that_come_and_go(service):
         time.sleep(2.5)
         link.send(data[5:])
         wanted("and in two pieces", link.read()[1] == JUDGED)
-
-
-class Kept:
-    """A client that keeps its link between questions, dials anew where it is hung up, and notes how long it waits."""
-
-    def __init__(self, service, acknowledged, until):
-        self.service, self.acknowledged, self.until = service, acknowledged, until
-        self.link, self.longest, self.answers, self.stale, self.lost = None, 0, 0, 0, 0
-        self.thread = threading.Thread(target=self.run)
-        self.thread.start()
-
-    def run(self):
-        draw = random.Random(id(self))
-        while time.monotonic() < self.until:
-            start, least = time.monotonic(), self.acknowledged[0]
-            commit = self.ask()
-            self.longest = max(self.longest, time.monotonic() - start)
-            if commit is None:
-                self.lost += 1
-            else:
-                self.answers += 1
-                self.stale += commit < least
-            time.sleep(draw.random())
-        if self.link:
-            self.link.close()
-
-    def ask(self):
-        # Commits may hang up any number of links in a row; the shipped client gives up behind three.
-        for _ in range(10):
-            try:
-                self.link = self.link or Link(self.service.folder, "client", 20)
-                return number(self.link.ask(check(ASKED))[2], 0, 8)
-            except (HungUp, TimeoutError):
-                if self.link:
-                    self.link.close()
-                self.link = None
-        return None
 
 
 def a_hundred_clients_that_keep_their_links(service):
@@ -360,6 +235,30 @@ def administrator_that_does_not_read(service):
     time.sleep(1)
     honest(service, "admin")
     thread.join()
+
+
+def administrator_with_a_long_script(service):
+    """The shipped client: its script goes on behind the other's command, and each line of it is obeyed."""
+    lines = 20_000
+    script = "".join(f"set . c{at % 7} * p {'allow' if at % 2 else 'deny'}\n" for at in range(lines))
+    kept = {**os.environ, "PRIVILEGE_DIR": str(service.folder)}
+    program = subprocess.Popen([service.path, "admin"], env=kept, stdin=subprocess.PIPE, stdout=subprocess.PIPE, text=True)
+    writer = threading.Thread(target=lambda: (program.stdin.write(script), program.stdin.close()))
+    writer.start()
+    said = []
+    reader = threading.Thread(target=lambda: said.append(program.stdout.read()))
+    reader.start()
+    time.sleep(0.3)
+    commands = 0
+    while program.poll() is None and commands < 3:
+        wanted("administrator is answered", timed("honest administrator", HELD, lambda: obeyed(service.folder)))
+        commands += 1
+    status = program.wait()
+    writer.join()
+    reader.join()
+    wanted("the script was under way", commands > 1, commands)
+    wanted("it ends with 0", status == 0, status)
+    wanted("each line was obeyed", said[0].count("ok ") == lines, said[0].count("ok "))
 
 
 def administrator_for_a_minute(service):
@@ -455,7 +354,8 @@ def idle_cost(service):
 
 def spent(service):
     """The processor time of all its threads, in seconds."""
-    return sum(int((task / "schedstat").read_text().split()[0]) for task in pathlib.Path(f"/proc/{service.process.pid}/task").iterdir()) / 1e9
+    tasks = pathlib.Path(f"/proc/{service.process.pid}/task").iterdir()
+    return sum(int((task / "schedstat").read_text().split()[0]) for task in tasks) / 1e9
 
 
 # Sockets of others
@@ -588,6 +488,8 @@ CASES = [
     clients_that_drip,
     client_that_drips_alone,
     clients_that_do_not_read,
+    clients_that_ask_without_a_pause,
+    a_line_of_clients_that_ask_without_a_pause,
     clients_that_come_and_go,
     a_hundred_clients_that_keep_their_links,
     administrator_that_says_nothing,
@@ -595,6 +497,7 @@ CASES = [
     administrator_within_a_frame,
     administrator_that_drips,
     administrator_that_does_not_read,
+    administrator_with_a_long_script,
     agents_that_say_nothing,
     agents_within_a_frame,
     agent_whose_dialog_stays_open,

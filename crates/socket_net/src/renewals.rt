@@ -2,6 +2,7 @@
 use crate::paths::Path;
 use crate::steps;
 use std::io;
+use std::io::ErrorKind;
 use std::net::Net as HostNet;
 use std::os::unix::net::UnixStream;
 
@@ -20,12 +21,16 @@ impl<R: HostNet + Copy + Drop> Renewal<R> {
         Renewal { rt, path }
     }
 
-    /// Makes the connection anew where the other end has closed it. It may wait for room in the queue of connections.
-    pub fn renew(&self, stream: &mut UnixStream) -> io::Result<()> {
-        if steps::is_up(stream)? {
-            return Ok(());
+    /// Sends all bytes. Where the other end has closed the connection, so that none of them was taken, the connection is made
+    /// anew, and they are sent on it. It may wait for room in the queue of connections.
+    pub fn send(&self, stream: &mut UnixStream, from: &[u8]) -> io::Result<()> {
+        match steps::send_part(stream, from) {
+            Ok(count) => steps::send(stream, &from[count..]),
+            Err(e) if e.kind() == ErrorKind::BrokenPipe => {
+                *stream = steps::connect(&self.rt, self.path.as_str())?;
+                steps::send(stream, from)
+            }
+            Err(e) => Err(e),
         }
-        *stream = steps::connect(&self.rt, self.path.as_str())?;
-        Ok(())
     }
 }

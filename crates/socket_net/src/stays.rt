@@ -1,5 +1,5 @@
 // How long a link that came in at a door may keep its worker.
-ghost use Rattle.std.specs.Prelude.{◌≤◌, length, take, IfOk, OnOk};
+ghost use Rattle.std.specs.Prelude.{◌<◌, ◌≤◌, length, take, IfOk, OnOk};
 ghost use Rattle.desk_ports.specs.Content.{Appended};
 
 use crate::commons::Commons;
@@ -23,6 +23,8 @@ pub struct Stay<R: HostNet + AllocGlobal + Clock + Copy + Drop> {
     rt: R,
     commons: Arc<Commons, Global>,
     stood_in_line: bool,
+    // When the peer was accepted, or when it was last looked whether another waits.
+    served_since: Instant,
     // Whether a piece was sent to the peer.
     is_answered: bool,
     // Whether bytes came since a piece was last sent: the peer is within a frame, if nothing is sent for them.
@@ -53,6 +55,7 @@ impl<R: HostNet + AllocGlobal + Clock + Copy + Drop> Stay<R> {
             rt,
             commons,
             stood_in_line,
+            served_since: Instant::now(&rt)?,
             is_answered: false,
             is_heard: false,
             frame_began: None,
@@ -66,8 +69,7 @@ impl<R: HostNet + AllocGlobal + Clock + Copy + Drop> Stay<R> {
         ensures within { IfOk result (λ count. count ≤ length into.old) }
     {
         let start = self.start()?;
-        // Bytes that come one by one are no reason to wait for more of them.
-        if self.is_heard && self.is_over(start)? {
+        if self.is_over_before(start)? {
             return let_go(stream, into);
         }
         for _ in 0..steps::MOST_TRIES {
@@ -81,6 +83,21 @@ impl<R: HostNet + AllocGlobal + Clock + Copy + Drop> Stay<R> {
             self.set_tick(stream, start)?;
         }
         Err(Error::from(ErrorKind::Interrupted))
+    }
+
+    // Whether a wait that is about to begin or to go on, and began then, is to end. Within a frame, since bytes that come one
+    // by one are no reason to wait for more of them; and between two, since a peer that asks without a pause holds its worker
+    // as one that is silent does.
+    fn is_over_before(&mut self, start: Instant) -> io::Result<bool> {
+        if self.is_heard {
+            return self.is_over(start);
+        }
+        let served = millis(start.duration_since(self.served_since));
+        if !is_reached(self.patience(), served) {
+            return Ok(false);
+        }
+        self.served_since = start;
+        Ok(self.commons.has_line(&self.rt))
     }
 
     // When the wait that begins or goes on now began: within a frame, at the first call that found it so.
@@ -98,8 +115,7 @@ impl<R: HostNet + AllocGlobal + Clock + Copy + Drop> Stay<R> {
 
     // For how long a wait goes on that began then, in milliseconds.
     fn waited(&self, start: Instant) -> io::Result<u64> {
-        let waited = start.elapsed(&self.rt)?.as_millis();
-        Ok(waited.min(MOST_MILLIS) as u64)
+        Ok(millis(start.elapsed(&self.rt)?))
     }
 
     // Whether a wait that began then is to end.
@@ -212,6 +228,11 @@ fn let_go(stream: &mut UnixStream, into: &mut [u8]) -> io::Result<usize>
     Ok(count)
 }
 
+// The time in milliseconds.
+fn millis(time: Duration) -> u64 {
+    time.as_millis().min(MOST_MILLIS) as u64
+}
+
 fn is_reached(limit: Option<u64>, waited: u64) -> bool {
     match limit {
         Some(limit) => waited >= limit,
@@ -219,8 +240,11 @@ fn is_reached(limit: Option<u64>, waited: u64) -> bool {
     }
 }
 
-// This tick, or what is left of the limit, where that is less and not over.
-fn sooner(tick: u64, limit: Option<u64>, waited: u64) -> u64 {
+// This tick, or what is left of the limit, where that is less and not over. The machine takes no tick of nothing.
+fn sooner(tick: u64, limit: Option<u64>, waited: u64) -> u64
+    ensures most { result ≤ tick }
+    ensures some { 0 < tick → 0 < result }
+{
     match limit {
         Some(limit) if waited < limit => tick.min(limit - waited),
         Some(_) | None => tick,
