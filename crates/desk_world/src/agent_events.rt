@@ -20,7 +20,7 @@ fn has_agent(agents: &[u16], kind: Kind) -> bool
     agents.iter().any(|other| *other == kind.0)
 }
 
-// An agent registers.
+/// An agent registers. Says whether that event is enabled.
 pub fn join(world: &mut Parts, kind: Kind) -> Result<bool, AllocError>
     ensures { IfOk result (λ enabled. Becomes (join kind (world_of world.old)) enabled (world_of world.new)) }
 {
@@ -65,7 +65,7 @@ fn fits(world: &Parts, full: Option<u32>) -> bool
     }
 }
 
-// The worker puts its question to the agent.
+/// The worker puts its question to the agent. Says whether that event is enabled.
 pub fn put(world: &mut Parts, link: u32, full: Option<u32>) -> Result<bool, AllocError>
     ensures { IfOk result (λ enabled. Becomes (put link full (world_of world.old)) enabled (world_of world.new)) }
 {
@@ -208,7 +208,7 @@ fn is_open(state: EntryState) -> bool
     matches!(state, EntryState::Open)
 }
 
-// An agent answers.
+/// An agent answers. Says whether that event is enabled.
 pub fn answer(world: &mut Parts, number: u32, allowed: bool) -> bool
     ensures { Becomes (answer number allowed (world_of world.old)) result (world_of world.new) }
 {
@@ -248,7 +248,7 @@ fn gone_if_open(state: EntryState) -> EntryState
     }
 }
 
-// The agent of the kind leaves.
+/// The agent of the kind leaves. Says whether that event is enabled.
 pub fn leave(world: &mut Parts, kind: Kind) -> Result<bool, AllocError>
     ensures { IfOk result (λ enabled. Becomes (leave kind (world_of world.old)) enabled (world_of world.new)) }
 {
@@ -288,7 +288,7 @@ fn leave_one(entry: &mut AgentEntry, kind: Kind)
     }
 }
 
-// The service has stopped: what is open is gone.
+/// The service has stopped: what is open is gone.
 pub fn stop_all(entries: &mut [AgentEntry])
     ensures { entries.new ≡ map once_stopped entries.old }
 {

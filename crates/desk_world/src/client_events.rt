@@ -26,7 +26,7 @@ fn new_link(client: u32, run: u32) -> Link
     }
 }
 
-// The client dials a link, if it has none.
+/// The client dials a link, if it has none. Says whether that event is enabled.
 pub fn dial(world: &mut Parts, client: u32) -> Result<bool, AllocError>
     requires { length world.old.links.items < 2 ^ 32 }
     ensures { IfOk result (λ enabled. Becomes (dial client (world_of world.old)) enabled (world_of world.new)) }
@@ -43,7 +43,7 @@ pub fn dial(world: &mut Parts, client: u32) -> Result<bool, AllocError>
     Ok(true)
 }
 
-// The client asks.
+/// The client asks.
 pub fn ask(
     world: &mut Parts,
     client: u32,
@@ -68,7 +68,7 @@ pub fn ask(
     Ok(())
 }
 
-// The client sends its question.
+/// The client sends its question. Says whether that event is enabled.
 pub fn send(world: &mut Parts, client: u32) -> bool
     ensures { Becomes (send client (world_of world.old)) result (world_of world.new) }
 {
@@ -99,7 +99,7 @@ fn give(world: &mut Parts, client: u32, new: Given) -> Result<(), AllocError>
     Ok(())
 }
 
-// The client takes an entry of its cache.
+/// The client takes an entry of its cache. Says whether that event is enabled.
 pub fn hit(world: &mut Parts, client: u32, entry: u32) -> Result<bool, AllocError>
     ensures { IfOk result (λ enabled. Becomes (hit client entry (world_of world.old)) enabled (world_of world.new)) }
 {
@@ -130,7 +130,7 @@ pub fn hit(world: &mut Parts, client: u32, entry: u32) -> Result<bool, AllocErro
     Ok(true)
 }
 
-// The client receives the reply to its ask.
+/// The client receives the reply to its ask. Says whether that event is enabled.
 pub fn deliver(world: &mut Parts, client: u32) -> Result<bool, AllocError>
     ensures { IfOk result (λ enabled. Becomes (deliver client (world_of world.old)) enabled (world_of world.new)) }
 {
@@ -176,7 +176,7 @@ fn receive(world: &mut Parts, client: u32, question: Question, new: Given) -> Re
     Ok(())
 }
 
-// The client gives its closed link back.
+/// The client gives its closed link back. Says whether that event is enabled.
 pub fn notice(world: &mut Parts, client: u32) -> Result<bool, AllocError>
     ensures { IfOk result (λ enabled. Becomes (notice client (world_of world.old)) enabled (world_of world.new)) }
 {
@@ -194,7 +194,7 @@ pub fn notice(world: &mut Parts, client: u32) -> Result<bool, AllocError>
     Ok(true)
 }
 
-// The client is told of an acknowledged commit.
+/// The client is told of an acknowledged commit. Says whether that event is enabled.
 pub fn tell(world: &mut Parts, client: u32, commit: u64) -> Result<bool, AllocError>
     ensures { IfOk result (λ enabled. Becomes (tell client commit (world_of world.old)) enabled (world_of world.new)) }
 {

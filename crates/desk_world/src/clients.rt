@@ -38,7 +38,7 @@ pub struct Slot {
 }
 
 impl Client {
-    // A client that no event has named.
+    /// A client that no event has named.
     pub fn unnamed(alloc: Global) -> Client
         ensures { result ≡ unnamed }
     {
@@ -50,7 +50,7 @@ impl Client {
         }
     }
 
-    // The verdict of this entry in the cache.
+    /// The verdict of this entry in the cache.
     pub fn known(&self, entry: u32) -> Option<&Known>
         ensures { MatchOption result (slice_get self.now.log entry ≡ None)
             (λ known. slice_get self.now.log entry ≡ Some known.now) }
@@ -58,7 +58,7 @@ impl Client {
         self.log.get(entry as usize)
     }
 
-    // With another link, or none, and an empty cache.
+    /// With another link, or none, and an empty cache.
     pub fn linked(mut self, link: Option<u32>) -> Client
         ensures { result ≡ record { told = self.told; link = link; log = []; asking = self.asking } }
     {
@@ -67,7 +67,7 @@ impl Client {
         self
     }
 
-    // With this open ask, or none.
+    /// With this open ask, or none.
     pub fn asking(mut self, asking: Option<u32>) -> Client
         ensures { result ≡ record { told = self.told; link = self.link; log = self.log; asking = asking } }
     {
@@ -75,7 +75,7 @@ impl Client {
         self
     }
 
-    // With this told number, if it is the greater one.
+    /// With this told number, if it is the greater one.
     pub fn told(mut self, commit: u64) -> Client
         ensures { result ≡ record { told = max self.told commit; link = self.link; log = self.log; asking = self.asking } }
     {
@@ -83,7 +83,7 @@ impl Client {
         self
     }
 
-    // With one more verdict in its cache.
+    /// With one more verdict in its cache.
     pub fn keeping(mut self, known: Known) -> Result<Client, AllocError>
         ensures { IfOk result (λ client. client ≡ record {
           told = self.told;
@@ -96,7 +96,7 @@ impl Client {
         Ok(self)
     }
 
-    // With the reply in its cache, if it is a verdict.
+    /// With the reply in its cache, if it is a verdict.
     pub fn receiving(self, question: Question, reply: &Reply) -> Result<Client, AllocError>
         ensures { IfOk result (λ client. client ≡ record {
           told = self.told;

@@ -62,7 +62,7 @@ fn proposed(world: &Parts, command: &Command) -> Result<Option<State>, AllocErro
     }
 }
 
-// The command's state is stored.
+/// The command's state is stored. Says whether that event is enabled.
 pub fn stored(world: &mut Parts, command: &Command) -> Result<bool, AllocError>
     ensures { IfOk result (λ enabled. Becomes (stored command.now (world_of world.old)) enabled (world_of world.new)) }
 {
@@ -73,7 +73,7 @@ pub fn stored(world: &mut Parts, command: &Command) -> Result<bool, AllocError>
     Ok(true)
 }
 
-// It is not known whether the command's state is stored.
+/// It is not known whether the command's state is stored. Says whether that event is enabled.
 pub fn undecided(world: &mut Parts, command: &Command) -> Result<bool, AllocError>
     ensures { IfOk result (λ enabled. Becomes (undecided command.now (world_of world.old)) enabled (world_of world.new)) }
 {
@@ -84,7 +84,7 @@ pub fn undecided(world: &mut Parts, command: &Command) -> Result<bool, AllocErro
     Ok(true)
 }
 
-// The candidate is committed or given up.
+/// The candidate is committed or given up. Says whether that event is enabled.
 pub fn decide(world: &mut Parts, kept: bool) -> Result<bool, AllocError>
     ensures { IfOk result (λ enabled. Becomes (decide kept (world_of world.old)) enabled (world_of world.new)) }
 {
@@ -97,7 +97,7 @@ pub fn decide(world: &mut Parts, kept: bool) -> Result<bool, AllocError>
     Ok(true)
 }
 
-// The last state is published.
+/// The last state is published. Says whether that event is enabled.
 pub fn publish(world: &mut Parts) -> bool
     ensures { Becomes (publish (world_of world.old)) result (world_of world.new) }
 {
@@ -109,7 +109,7 @@ pub fn publish(world: &mut Parts) -> bool
     true
 }
 
-// Links that entered before the published commit are hung up.
+/// Links that entered before the published commit are hung up.
 pub fn hang(world: &mut Parts)
     ensures { world_of world.new ≡ hang (world_of world.old) }
 {
@@ -118,7 +118,7 @@ pub fn hang(world: &mut Parts)
     hang_up(&mut world.links, published);
 }
 
-// What was hung up for is acknowledged.
+/// What was hung up for is acknowledged. Says whether that event is enabled.
 pub fn acknowledge(world: &mut Parts) -> bool
     ensures { Becomes (acknowledge (world_of world.old)) result (world_of world.new) }
 {
@@ -160,7 +160,7 @@ fn restart_with(world: &mut Parts, state: State, kept: bool) -> Result<(), Alloc
     Ok(())
 }
 
-// The service stops, and the candidate, if there is one, is kept or not.
+/// The service stops, and the candidate, if there is one, is kept or not.
 pub fn stop_alone(world: &mut Parts, kept: bool) -> Result<(), AllocError>
     requires { world.old.run + 1 < 2 ^ 32 }
     ensures { IfOk result (λ done. world_of world.new
@@ -179,7 +179,7 @@ pub fn stop_alone(world: &mut Parts, kept: bool) -> Result<(), AllocError>
     Ok(())
 }
 
-// The service stops while it stores the command's state, which is kept or not.
+/// The service stops while it stores the command's state, which is kept or not. Says whether that event is enabled.
 pub fn stop_storing(world: &mut Parts, command: &Command, kept: bool) -> Result<bool, AllocError>
     requires { world.old.run + 1 < 2 ^ 32 }
     ensures { IfOk result (λ enabled.

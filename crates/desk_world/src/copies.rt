@@ -131,7 +131,7 @@ fn slots_copy(alloc: Global, slots: &[Slot]) -> Result<Vec<Slot>, AllocError>
     Ok(copies)
 }
 
-// The same world once more.
+/// The same world once more.
 pub fn world_copy(world: &Parts) -> Result<Parts, AllocError>
     ensures { IfOk result (λ copy. world_of copy ≡ world_of world.now) }
 {

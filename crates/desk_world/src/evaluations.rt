@@ -14,7 +14,7 @@ use cynara_keys::{BucketName, Question};
 use desk_state::Desk;
 use std::alloc::Global;
 
-// Nested evaluation from the root bucket.
+/// Nested evaluation from the root bucket.
 pub fn root_answer(alloc: Global, desk: &Desk, question: &Question) -> Answer
     ensures { result ≡ answer_of (root_outcome desk.now question.now) }
 {
@@ -37,7 +37,7 @@ fn root_place(alloc: Global, database: &Database) -> usize
     }
 }
 
-// What is read at a state: a verdict, or that an agent decides.
+/// What is read at a state: a verdict, or that an agent decides.
 pub fn reading_at(
     alloc: Global,
     desk: &Desk,
@@ -62,13 +62,14 @@ pub fn reading_at(
     }
 }
 
+/// Whether nothing was read.
 pub fn is_nothing(reading: &Reading) -> bool
     ensures { result ≡ is_nothing reading.now }
 {
     matches!(reading, Reading::Nothing)
 }
 
-// The committed state with this number.
+/// The committed state with this number.
 pub fn state_at<'a>(first: &'a State, later: &'a [State], commit: u64) -> Option<&'a State>
     ensures { MatchOption result (desk_at commit (first.now ∷ later.now) ≡ None)
         (λ state. desk_at commit (first.now ∷ later.now) ≡ Some state.now) }

@@ -11,7 +11,7 @@ use crate::links::{Asked, Link, Reading, Transit};
 use crate::parts::Parts;
 use crate::replies::Reply;
 
-// The worker enters the link in the roll.
+/// The worker enters the link in the roll. Says whether that event is enabled.
 pub fn enter(world: &mut Parts, link: u32) -> bool
     ensures { Becomes (enter link (world_of world.old)) result (world_of world.new) }
 {
@@ -28,7 +28,7 @@ pub fn enter(world: &mut Parts, link: u32) -> bool
     true
 }
 
-// The worker reads the policies of this commit.
+/// The worker reads the policies of this commit. Says whether that event is enabled.
 pub fn read(world: &mut Parts, link: u32, commit: u64) -> bool
     ensures { Becomes (read link commit (world_of world.old)) result (world_of world.new) }
 {
@@ -69,7 +69,7 @@ fn may_read(found: &Link, commit: u64, published: u64) -> bool
         && commit <= published
 }
 
-// The link of the number.
+/// The link of the number.
 pub fn link_at(links: &[Link], link: u32) -> Option<&Link>
     ensures { MatchOption result (slice_get links.now link ≡ None)
         (λ found. slice_get links.now link ≡ Some found.now) }
@@ -77,7 +77,7 @@ pub fn link_at(links: &[Link], link: u32) -> Option<&Link>
     links.get(link as usize)
 }
 
-// The ask of the number.
+/// The ask of the number.
 pub fn ask_at(asks: &[Asked], ask: u32) -> Option<&Asked>
     ensures { MatchOption result (slice_get asks.now ask ≡ None)
         (λ asked. slice_get asks.now ask ≡ Some asked.now) }
@@ -85,7 +85,7 @@ pub fn ask_at(asks: &[Asked], ask: u32) -> Option<&Asked>
     asks.get(ask as usize)
 }
 
-// The link is this one from now on.
+/// The link is this one from now on.
 pub fn set_link(world: &mut Parts, link: u32, changed: Link)
     requires { link < length world.old.links.items }
     ensures { world_of world.new ≡ with_link link changed (world_of world.old) }
@@ -93,7 +93,7 @@ pub fn set_link(world: &mut Parts, link: u32, changed: Link)
     world.links[link as usize] = changed;
 }
 
-// The worker sends its reply.
+/// The worker sends its reply. Says whether that event is enabled.
 pub fn write(world: &mut Parts, link: u32) -> bool
     ensures { Becomes (write link (world_of world.old)) result (world_of world.new) }
 {
@@ -143,7 +143,7 @@ fn outgoing(run: u32, entries: &[AgentEntry], reading: &Reading) -> Option<Reply
     }
 }
 
-// The entry of this number in this run.
+/// The entry of this number in this run.
 pub fn entry_at(entries: &[AgentEntry], run: u32, number: u32) -> Option<&AgentEntry>
     ensures { MatchOption result (entry_at run number entries.now ≡ None)
         (λ entry. entry_at run number entries.now ≡ Some entry.now) }
@@ -156,7 +156,7 @@ pub fn entry_at(entries: &[AgentEntry], run: u32, number: u32) -> Option<&AgentE
     None
 }
 
-// The link is closed.
+/// The link is closed. Says whether that event is enabled.
 pub fn lose(world: &mut Parts, link: u32) -> bool
     ensures { Becomes (lose link (world_of world.old)) result (world_of world.new) }
 {
@@ -170,7 +170,7 @@ pub fn lose(world: &mut Parts, link: u32) -> bool
     true
 }
 
-// Every link that entered before the published commit is closed.
+/// Every link that entered before the published commit is closed.
 pub fn hang_up(links: &mut [Link], published: u64)
     ensures { links.new ≡ map (hung_up published) links.old }
 {
@@ -194,7 +194,7 @@ fn entered_before(entered: Option<u64>, published: u64) -> bool
     }
 }
 
-// Every link is closed.
+/// Every link is closed.
 pub fn close_all(links: &mut [Link])
     ensures { links.new ≡ map closed links.old }
 {

@@ -17,7 +17,7 @@ fn fits(count: usize, events: usize) -> bool
     count < NUMBERS && events < NUMBERS - count
 }
 
-// Whether links, asks and stops still have numbers after so many events more.
+/// Whether links, asks and stops still have numbers after so many events more.
 pub fn has_room(world: &Parts, events: usize) -> bool
     ensures { IsTrue result ↔ HasRoom events (world_of world.now) }
 {
@@ -27,7 +27,7 @@ pub fn has_room(world: &Parts, events: usize) -> bool
     links && asks && run
 }
 
-// The world after the events; or the place of the first that is not enabled, or want of memory.
+/// The world after the events; or the place of the first that is not enabled, or want of memory.
 pub fn run_all(world: &mut Parts, events: &[Event]) -> Result<(), WorldRefusal>
     requires { HasRoom (length events.now) (world_of world.old) }
     ensures done { IfOk result (λ done. run (world_of world.old) events.now ≡ Ok (world_of world.new)) }

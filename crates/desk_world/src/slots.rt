@@ -9,7 +9,7 @@ use crate::clients::{Client, Slot};
 use crate::known::Known;
 use std::alloc::{AllocError, Global};
 
-// The client of the number, if an event has named it.
+/// The client of the number, if an event has named it.
 pub fn named(slots: &[Slot], number: u32) -> Option<&Client>
     ensures { MatchOption result (client_in number slots.now ≡ unnamed)
         (λ client. client.now ≡ client_in number slots.now) }
@@ -20,6 +20,7 @@ pub fn named(slots: &[Slot], number: u32) -> Option<&Client>
     }
 }
 
+/// The commit that the client of the number was told of last.
 pub fn told(slots: &[Slot], number: u32) -> u64
     ensures { result ≡ (client_in number slots.now).told }
 {
@@ -29,6 +30,7 @@ pub fn told(slots: &[Slot], number: u32) -> u64
     }
 }
 
+/// The link of the client of the number, if it has one.
 pub fn link(slots: &[Slot], number: u32) -> Option<u32>
     ensures { result ≡ (client_in number slots.now).link }
 {
@@ -38,6 +40,7 @@ pub fn link(slots: &[Slot], number: u32) -> Option<u32>
     }
 }
 
+/// The open ask of the client of the number, if it has one.
 pub fn asking(slots: &[Slot], number: u32) -> Option<u32>
     ensures { result ≡ (client_in number slots.now).asking }
 {
@@ -57,7 +60,7 @@ fn take(slots: &mut [Slot], alloc: Global, number: u32) -> Client
     }
 }
 
-// Takes the client of the number out, to be put back changed.
+/// Takes the client of the number out, to be put back changed.
 pub fn take_out(slots: &mut Vec<Slot>, number: u32) -> Client
     ensures client { result ≡ client_in number slots.old.items }
     ensures left { (client : Content)
@@ -67,7 +70,7 @@ pub fn take_out(slots: &mut Vec<Slot>, number: u32) -> Client
     take(slots, alloc, number)
 }
 
-// The verdict of this entry in the cache of the client.
+/// The verdict of this entry in the cache of the client.
 pub fn known(slots: &[Slot], number: u32, entry: u32) -> Option<&Known>
     ensures { MatchOption result (slice_get (client_in number slots.now).log entry ≡ None)
         (λ known. slice_get (client_in number slots.now).log entry ≡ Some known.now) }
@@ -78,7 +81,7 @@ pub fn known(slots: &[Slot], number: u32, entry: u32) -> Option<&Known>
     }
 }
 
-// The client of the number is this one from now on.
+/// The client of the number is this one from now on.
 pub fn put(slots: &mut Vec<Slot>, number: u32, client: Client) -> Result<(), AllocError>
     ensures { IfOk result (λ done. slots.new.items ≡ put_client number client slots.old.items) }
 {

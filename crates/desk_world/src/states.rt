@@ -21,6 +21,7 @@ impl Model for State {
 }
 
 impl State {
+    /// A committed state, to be shared.
     pub fn of(alloc: Global, desk: Desk) -> Result<State, AllocError>
         ensures { IfOk result (λ state. state ≡ desk) }
     {
@@ -28,13 +29,14 @@ impl State {
         Ok(State { desk })
     }
 
+    /// The policy state.
     pub fn desk(&self) -> &Desk
         ensures { result.now ≡ self.now }
     {
         &self.desk
     }
 
-    // The same state for one more owner.
+    /// The same state for one more owner.
     pub fn share(&self) -> Result<State, AllocError>
         ensures { IfOk result (λ state. state ≡ self.now) }
     {

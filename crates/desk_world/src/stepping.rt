@@ -36,7 +36,7 @@ fn stop(world: &mut Parts, command: &Option<Command>, kept: bool) -> Result<bool
     }
 }
 
-// Whether the event is enabled; the world is then the one after it. After want of memory it is not used again.
+/// Whether the event is enabled; the world is then the one after it. After want of memory it is not used again.
 pub fn step(world: &mut Parts, event: &Event) -> Result<bool, AllocError>
     requires links { length world.old.links.items < 2 ^ 32 }
     requires asks { length world.old.asks.items < 2 ^ 32 }

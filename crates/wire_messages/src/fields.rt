@@ -66,6 +66,7 @@ impl<'a> Fields<'a> {
         self.end - self.rest.len() as u32
     }
 
+    /// The next byte, as a number. Refused where no byte is left.
     pub fn number1(&mut self) -> Result<u8, WireRefusal>
         ensures read { Gives result self.new ((number w8).read self.old) }
         ensures memory { OnMemory result ⊥ }
@@ -77,6 +78,7 @@ impl<'a> Fields<'a> {
         Ok(*first)
     }
 
+    /// The next two bytes, most significant first. Refused where fewer are left.
     pub fn number2(&mut self) -> Result<u16, WireRefusal>
         ensures read { Gives result self.new ((number w16).read self.old) }
         ensures memory { OnMemory result ⊥ }
@@ -89,6 +91,7 @@ impl<'a> Fields<'a> {
         Ok(u16::from_be_bytes([front[0], front[1]]))
     }
 
+    /// The next four bytes, most significant first. Refused where fewer are left.
     pub fn number4(&mut self) -> Result<u32, WireRefusal>
         ensures { Gives result self.new ((number w32).read self.old) }
     {
@@ -100,6 +103,7 @@ impl<'a> Fields<'a> {
         Ok(u32::from_be_bytes([front[0], front[1], front[2], front[3]]))
     }
 
+    /// The next eight bytes, most significant first. Refused where fewer are left.
     pub fn number8(&mut self) -> Result<u64, WireRefusal>
         ensures { Gives result self.new ((number w64).read self.old) }
     {

@@ -25,7 +25,8 @@ impl Model for FiveTexts {
 }
 
 impl FiveTexts {
-    // Texts whose bytes are copied. Takes memory once, and none where all are empty.
+    /// Copies of these texts, which have fewer than 65,536 bytes together. Asks for memory once, and not at all where
+    /// each is empty.
     pub fn of(
         alloc: Global,
         first: &[u8],
@@ -61,30 +62,35 @@ impl FiveTexts {
         })
     }
 
+    /// The first text.
     pub fn first(&self) -> &[u8]
         ensures { result.now ≡ self.now.first }
     {
         &self.bytes[..usize::from(self.second)]
     }
 
+    /// The second text.
     pub fn second(&self) -> &[u8]
         ensures { result.now ≡ self.now.second }
     {
         &self.bytes[usize::from(self.second)..usize::from(self.third)]
     }
 
+    /// The third text.
     pub fn third(&self) -> &[u8]
         ensures { result.now ≡ self.now.third }
     {
         &self.bytes[usize::from(self.third)..usize::from(self.fourth)]
     }
 
+    /// The fourth text.
     pub fn fourth(&self) -> &[u8]
         ensures { result.now ≡ self.now.fourth }
     {
         &self.bytes[usize::from(self.fourth)..usize::from(self.fifth)]
     }
 
+    /// The fifth text.
     pub fn fifth(&self) -> &[u8]
         ensures { result.now ≡ self.now.fifth }
     {

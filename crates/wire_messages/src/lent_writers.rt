@@ -21,6 +21,7 @@ use cynara_keys::{Key, Policy, Question};
 use desk_ports::Bytes;
 use std::alloc::AllocError;
 
+/// Puts the frame of a check, or of a simple check, into the empty buffer, behind four bytes of room for its length.
 pub fn put_check_frame(
     out: &mut Bytes,
     sequence: u16,
@@ -40,6 +41,7 @@ pub fn put_check_frame(
     }
 }
 
+/// Puts the frame of a verdict on a lent answer into the empty buffer, behind four bytes of room for its length.
 pub fn put_judged_frame(
     out: &mut Bytes,
     sequence: u16,
@@ -57,6 +59,7 @@ pub fn put_judged_frame(
     put_optional_key(out, answer.key)
 }
 
+/// Puts the frame of a verdict into the empty buffer, behind four bytes of room for its length.
 pub fn put_verdict_frame(
     out: &mut Bytes,
     sequence: u16,
@@ -74,6 +77,7 @@ pub fn put_verdict_frame(
     put_optional_row(out, &lent_row(&answer.cause.row))
 }
 
+/// Puts the frame of one row of a listing into the empty buffer, behind four bytes of room for its length.
 pub fn put_row_frame(out: &mut Bytes, sequence: u16, policy: &Policy) -> Result<(), AllocError>
     requires { out.old ≡ [] }
     ensures { OnOk result (out.new ≡

@@ -16,6 +16,7 @@ use bucket_store::{Change, Changes};
 use cynara_keys::Name;
 use std::alloc::Global;
 
+/// Reads one change of a batch: a policy that is set in a bucket, or the key of one that is deleted there.
 pub fn change(alloc: Global, fields: &mut Fields) -> Result<Change, WireRefusal>
     ensures { Gives result fields.new (field.change.read fields.old) }
 {
@@ -91,6 +92,7 @@ pub fn install(alloc: Global, hybrid: bool, fields: &mut Fields) -> Result<Insta
     })
 }
 
+/// Reads a verdict: the commit, the result, the bucket, and the key of the policy that decided, where one did.
 pub fn verdict(alloc: Global, fields: &mut Fields) -> Result<PackedVerdict, WireRefusal>
     ensures { Gives result fields.new (field.verdict.read fields.old) }
 {

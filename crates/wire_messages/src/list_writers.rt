@@ -17,6 +17,7 @@ use desk_ports::Bytes;
 use desk_state::Refusal;
 use std::alloc::AllocError;
 
+/// Puts one change of a batch.
 pub fn put_change(out: &mut Bytes, change: &Change) -> Result<(), AllocError>
     ensures { Appended result out.old out.new (field.change.spelled change.now) }
 {
@@ -37,6 +38,7 @@ pub fn put_change(out: &mut Bytes, change: &Change) -> Result<(), AllocError>
     }
 }
 
+/// Puts the changes of a batch behind their count, which has four bytes.
 pub fn put_changes(out: &mut Bytes, changes: &[Change]) -> Result<(), AllocError>
     ensures { Appended result out.old out.new ((format.counted field.change).spelled changes.now) }
 {
@@ -47,6 +49,7 @@ pub fn put_changes(out: &mut Bytes, changes: &[Change]) -> Result<(), AllocError
     Ok(())
 }
 
+/// Puts the names of privileges behind their count, which has four bytes.
 pub fn put_names(out: &mut Bytes, names: &[Name]) -> Result<(), AllocError>
     ensures { Appended result out.old out.new (field.privileges.spelled names.now) }
 {
@@ -68,6 +71,7 @@ pub fn put_install(out: &mut Bytes, install: &Install) -> Result<(), AllocError>
     put_names(out, install.privileges.as_slice())
 }
 
+/// Puts a verdict: the commit, the result, the bucket, and the key of the policy that decided, where one did.
 pub fn put_verdict(out: &mut Bytes, verdict: &PackedVerdict) -> Result<(), AllocError>
     ensures { Appended result out.old out.new (field.verdict.spelled verdict.now) }
 {
@@ -77,6 +81,7 @@ pub fn put_verdict(out: &mut Bytes, verdict: &PackedVerdict) -> Result<(), Alloc
     put_optional_row(out, &verdict.row())
 }
 
+/// Puts a flag and, where there is a key, the key behind it.
 pub fn put_optional_row(out: &mut Bytes, row: &Option<BorrowedRow<'_>>) -> Result<(), AllocError>
     ensures { Appended result out.old out.new ((field.optional field.row).spelled row.now) }
 {

@@ -20,6 +20,7 @@ use desk_ports::{FileName, FileNameRefusal};
 use rule_templates::{Template, TemplateRefusal};
 use std::alloc::Global;
 
+/// Reads the name of a client, a user or a privilege.
 pub fn name(alloc: Global, fields: &mut Fields) -> Result<Name, WireRefusal>
     ensures { Gives result fields.new (field.name.read fields.old) }
 {
@@ -32,6 +33,7 @@ pub fn name(alloc: Global, fields: &mut Fields) -> Result<Name, WireRefusal>
     }
 }
 
+/// Reads the name of a bucket; that of the root is empty.
 pub fn bucket(alloc: Global, fields: &mut Fields) -> Result<BucketName, WireRefusal>
     ensures { Gives result fields.new (field.bucket.read fields.old) }
 {
@@ -44,7 +46,7 @@ pub fn bucket(alloc: Global, fields: &mut Fields) -> Result<BucketName, WireRefu
     }
 }
 
-// the bytes of a bucket's name, which are not copied
+/// Reads the bytes of a bucket's name, which are lent and not copied.
 pub fn bucket_text<'a>(fields: &mut Fields<'a>) -> Result<&'a [u8], WireRefusal>
     ensures text { GivesText result fields.new (field.bucket.read fields.old) }
     ensures short { IfOk result (λ text. length text.now ≤ most_short_bytes) }
@@ -70,7 +72,7 @@ fn name_text<'a>(fields: &mut Fields<'a>) -> Result<&'a [u8], WireRefusal>
     Ok(text)
 }
 
-// the same of `*` or a name
+/// Reads the bytes of `*` or a name, which are lent and not copied.
 pub fn key_field_text<'a>(fields: &mut Fields<'a>) -> Result<&'a [u8], WireRefusal>
     ensures text { GivesText result fields.new (field.field_text.read fields.old) }
     ensures field { IfOk result (λ text. field_fault text.now ≡ None) }
@@ -83,7 +85,7 @@ pub fn key_field_text<'a>(fields: &mut Fields<'a>) -> Result<&'a [u8], WireRefus
     Ok(text)
 }
 
-// `#`, `*` or a name
+/// Reads `#` for any field, `*`, or a name.
 pub fn filter_field(alloc: Global, fields: &mut Fields) -> Result<FilterField, WireRefusal>
     ensures { Gives result fields.new (field.filter_field.read fields.old) }
 {
@@ -96,6 +98,7 @@ pub fn filter_field(alloc: Global, fields: &mut Fields) -> Result<FilterField, W
     }
 }
 
+/// Reads a question: the names of the client, the user and the privilege.
 pub fn question(alloc: Global, fields: &mut Fields) -> Result<Question, WireRefusal>
     ensures { Gives result fields.new (field.question.read fields.old) }
 {
@@ -105,6 +108,7 @@ pub fn question(alloc: Global, fields: &mut Fields) -> Result<Question, WireRefu
     Question::of(alloc, client, user, privilege).map_err(WireRefusal::Memory)
 }
 
+/// Reads the key of a policy: client, user and privilege, each a name or `*`.
 pub fn key(alloc: Global, fields: &mut Fields) -> Result<Key, WireRefusal>
     ensures { Gives result fields.new (field.key.read fields.old) }
 {
@@ -116,6 +120,7 @@ pub fn key(alloc: Global, fields: &mut Fields) -> Result<Key, WireRefusal>
     Key::of_packed(alloc, packed, client, user, privilege).map_err(WireRefusal::Memory)
 }
 
+/// Reads a filter of keys: client, user and privilege, each a name, `*`, or `#` for any.
 pub fn filter(alloc: Global, fields: &mut Fields) -> Result<Filter, WireRefusal>
     ensures { Gives result fields.new (field.filter.read fields.old) }
 {
@@ -129,6 +134,7 @@ pub fn filter(alloc: Global, fields: &mut Fields) -> Result<Filter, WireRefusal>
     })
 }
 
+/// Reads a byte that is 0 or 1.
 pub fn flag(fields: &mut Fields) -> Result<bool, WireRefusal>
     ensures { Gives result fields.new (format.flag.read fields.old) }
 {
@@ -140,12 +146,14 @@ pub fn flag(fields: &mut Fields) -> Result<bool, WireRefusal>
     }
 }
 
+/// Reads the number of a kind of result, of two bytes.
 pub fn kind(fields: &mut Fields) -> Result<Kind, WireRefusal>
     ensures { Gives result fields.new (field.kind.read fields.old) }
 {
     Ok(Kind(fields.number2()?))
 }
 
+/// Reads the number of a kind of agent, of two bytes.
 pub fn agent_kind(fields: &mut Fields) -> Result<Kind, WireRefusal>
     ensures { Gives result fields.new (field.agent_kind.read fields.old) }
 {
@@ -157,7 +165,7 @@ pub fn agent_kind(fields: &mut Fields) -> Result<Kind, WireRefusal>
     Ok(kind)
 }
 
-// how many open questions there may be, or how many numbers of questions
+/// Reads how many open questions there may be, or how many numbers of questions.
 pub fn most(fields: &mut Fields) -> Result<u32, WireRefusal>
     ensures { Gives result fields.new (field.most.read fields.old) }
 {
@@ -169,7 +177,7 @@ pub fn most(fields: &mut Fields) -> Result<u32, WireRefusal>
     Ok(most)
 }
 
-// a kind and the metadata that it may have, which is not copied
+/// Reads a kind and the metadata that it may have, which is lent and not copied.
 pub fn ruling_text<'a>(fields: &mut Fields<'a>) -> Result<BorrowedRuling<'a>, WireRefusal>
     ensures { Gives result fields.new (field.ruling.read fields.old) }
 {
@@ -201,6 +209,7 @@ fn ruling_of(alloc: Global, kind: Kind, fields: &mut Fields) -> Result<PolicyRes
     }
 }
 
+/// Reads a kind and the metadata that it may have.
 pub fn ruling(alloc: Global, fields: &mut Fields) -> Result<PolicyResult, WireRefusal>
     ensures { Gives result fields.new (field.ruling.read fields.old) }
 {
@@ -208,6 +217,7 @@ pub fn ruling(alloc: Global, fields: &mut Fields) -> Result<PolicyResult, WireRe
     ruling_of(alloc, kind, fields)
 }
 
+/// Reads a policy: its key, and its result behind that.
 pub fn policy(alloc: Global, fields: &mut Fields) -> Result<Policy, WireRefusal>
     ensures { Gives result fields.new (field.policy.read fields.old) }
 {
@@ -216,6 +226,7 @@ pub fn policy(alloc: Global, fields: &mut Fields) -> Result<Policy, WireRefusal>
     Ok(Policy { key, result })
 }
 
+/// Reads the byte of a type of user.
 pub fn user_type(fields: &mut Fields) -> Result<UserType, WireRefusal>
     ensures { Gives result fields.new (field.user_type.read fields.old) }
 {
@@ -229,6 +240,7 @@ pub fn user_type(fields: &mut Fields) -> Result<UserType, WireRefusal>
     }
 }
 
+/// Reads the identifier of a package or an application.
 pub fn ident(alloc: Global, fields: &mut Fields) -> Result<Ident, WireRefusal>
     ensures { Gives result fields.new (field.ident.read fields.old) }
 {
@@ -241,7 +253,7 @@ pub fn ident(alloc: Global, fields: &mut Fields) -> Result<Ident, WireRefusal>
     }
 }
 
-// an author, and no bytes for none
+/// Reads the identifier of an author; no bytes stand for none.
 pub fn author(alloc: Global, fields: &mut Fields) -> Result<Option<Ident>, WireRefusal>
     ensures { Gives result fields.new (field.author.read fields.old) }
 {
@@ -257,6 +269,7 @@ pub fn author(alloc: Global, fields: &mut Fields) -> Result<Option<Ident>, WireR
     }
 }
 
+/// Reads for whom an install is: everyone, or one user.
 pub fn scope(fields: &mut Fields) -> Result<Scope, WireRefusal>
     ensures { Gives result fields.new (field.scope.read fields.old) }
 {
@@ -267,6 +280,7 @@ pub fn scope(fields: &mut Fields) -> Result<Scope, WireRefusal>
     }
 }
 
+/// Reads the name of a file of rules.
 pub fn file_name(alloc: Global, fields: &mut Fields) -> Result<FileName, WireRefusal>
     ensures { Gives result fields.new (field.file_name.read fields.old) }
 {
@@ -279,7 +293,7 @@ pub fn file_name(alloc: Global, fields: &mut Fields) -> Result<FileName, WireRef
     }
 }
 
-// a template in its one spelling
+/// Reads a template of rules in its one spelling.
 pub fn template(alloc: Global, fields: &mut Fields) -> Result<Template, WireRefusal>
     ensures { Gives result fields.new (field.template.read fields.old) }
 {

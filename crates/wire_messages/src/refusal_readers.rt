@@ -13,6 +13,7 @@ use cynara_keys::{Counted, Kind};
 use desk_state::Refusal;
 use std::alloc::Global;
 
+/// Reads the rule that a command broke: its number, and what that rule speaks of.
 pub fn refusal(alloc: Global, fields: &mut Fields) -> Result<Refusal, WireRefusal>
     ensures { Gives result fields.new (refused.read fields.old) }
 {

@@ -14,12 +14,14 @@ use desk_ports::{Bytes, FileName};
 use rule_templates::Template;
 use std::alloc::AllocError;
 
+/// Puts one byte.
 pub fn put1(out: &mut Bytes, n: u8) -> Result<(), AllocError>
     ensures { Appended result out.old out.new (n ∷ []) }
 {
     out.append(&[n])
 }
 
+/// Puts two bytes, most significant first.
 pub fn put2(out: &mut Bytes, n: u16) -> Result<(), AllocError>
     ensures { Appended result out.old out.new (to_be_bytes w16 n) }
 {
@@ -28,6 +30,7 @@ pub fn put2(out: &mut Bytes, n: u16) -> Result<(), AllocError>
     out.append(&bytes)
 }
 
+/// Puts four bytes, most significant first.
 pub fn put4(out: &mut Bytes, n: u32) -> Result<(), AllocError>
     ensures { Appended result out.old out.new (to_be_bytes w32 n) }
 {
@@ -36,6 +39,7 @@ pub fn put4(out: &mut Bytes, n: u32) -> Result<(), AllocError>
     out.append(&bytes)
 }
 
+/// Puts eight bytes, most significant first.
 pub fn put8(out: &mut Bytes, n: u64) -> Result<(), AllocError>
     ensures { Appended result out.old out.new (to_be_bytes w64 n) }
 {
@@ -44,19 +48,21 @@ pub fn put8(out: &mut Bytes, n: u64) -> Result<(), AllocError>
     out.append(&bytes)
 }
 
+/// Puts 1 for true and 0 for false.
 pub fn put_flag(out: &mut Bytes, flag: bool) -> Result<(), AllocError>
     ensures { Appended result out.old out.new (format.flag.spelled flag) }
 {
     if flag { put1(out, 1) } else { put1(out, 0) }
 }
 
+/// Puts the number of a kind of result, in two bytes.
 pub fn put_kind(out: &mut Bytes, kind: Kind) -> Result<(), AllocError>
     ensures { Appended result out.old out.new (field.kind.spelled kind) }
 {
     put2(out, kind.0)
 }
 
-// how many there are, in four bytes
+/// Puts how many there are, in four bytes.
 pub fn put_count(out: &mut Bytes, count: usize) -> Result<(), AllocError>
     ensures { Appended result out.old out.new (to_be_bytes w32 count) }
 {
@@ -65,7 +71,7 @@ pub fn put_count(out: &mut Bytes, count: usize) -> Result<(), AllocError>
     out.append(&bytes[4..])
 }
 
-// behind the number of its bytes, which has two bytes
+/// Puts a text behind the number of its bytes, which has two bytes.
 pub fn put_text(out: &mut Bytes, text: &[u8]) -> Result<(), AllocError>
     ensures { Appended result out.old out.new (format.text.spelled text.now) }
 {
@@ -74,7 +80,7 @@ pub fn put_text(out: &mut Bytes, text: &[u8]) -> Result<(), AllocError>
     out.append_both(&count[6..], text)
 }
 
-// a byte, and then a text
+/// Puts a byte, and a text as `put_text` does.
 pub fn put1_and_text(out: &mut Bytes, n: u8, text: &[u8]) -> Result<(), AllocError>
     ensures { Appended result out.old out.new (n ∷ format.text.spelled text.now) }
 {
@@ -83,30 +89,35 @@ pub fn put1_and_text(out: &mut Bytes, n: u8, text: &[u8]) -> Result<(), AllocErr
     out.append_both(&[n, count[6], count[7]], text)
 }
 
+/// Puts the name of a client, a user or a privilege.
 pub fn put_name(out: &mut Bytes, name: &Name) -> Result<(), AllocError>
     ensures { Appended result out.old out.new (field.name.spelled name.now) }
 {
     put_text(out, name.as_slice())
 }
 
+/// Puts the name of a bucket; that of the root is empty.
 pub fn put_bucket(out: &mut Bytes, name: &BucketName) -> Result<(), AllocError>
     ensures { Appended result out.old out.new (field.bucket.spelled name.now) }
 {
     put_text(out, name.as_slice())
 }
 
+/// Puts the identifier of a package or an application.
 pub fn put_ident(out: &mut Bytes, name: &Ident) -> Result<(), AllocError>
     ensures { Appended result out.old out.new (field.ident.spelled name.now) }
 {
     put_text(out, name.as_slice())
 }
 
+/// Puts the name of a file of rules.
 pub fn put_file_name(out: &mut Bytes, name: &FileName) -> Result<(), AllocError>
     ensures { Appended result out.old out.new (field.file_name.spelled name.now) }
 {
     put_text(out, name.as_slice())
 }
 
+/// Puts `#` for any field, `*`, or a name.
 pub fn put_filter_field(out: &mut Bytes, part: &FilterField) -> Result<(), AllocError>
     ensures { Appended result out.old out.new (field.filter_field.spelled part.now) }
 {
@@ -117,7 +128,7 @@ pub fn put_filter_field(out: &mut Bytes, part: &FilterField) -> Result<(), Alloc
     }
 }
 
-// In place, since a check is little more than its question.
+/// Puts the names of the client, the user and the privilege: in place, since a check is little more than its question.
 #[inline(always)]
 pub fn put_question(out: &mut Bytes, question: &Question) -> Result<(), AllocError>
     ensures { Appended result out.old out.new (field.question.spelled question.now) }
@@ -127,12 +138,14 @@ pub fn put_question(out: &mut Bytes, question: &Question) -> Result<(), AllocErr
     put_text(out, question.privilege())
 }
 
+/// Puts the key of a policy: client, user and privilege.
 pub fn put_key(out: &mut Bytes, key: &Key) -> Result<(), AllocError>
     ensures { Appended result out.old out.new (field.key.spelled key.now) }
 {
     out.append(key.packed())
 }
 
+/// Puts a filter of keys: client, user and privilege.
 pub fn put_filter(out: &mut Bytes, filter: &Filter) -> Result<(), AllocError>
     ensures { Appended result out.old out.new (field.filter.spelled filter.now) }
 {
@@ -141,12 +154,14 @@ pub fn put_filter(out: &mut Bytes, filter: &Filter) -> Result<(), AllocError>
     put_filter_field(out, &filter.privilege)
 }
 
+/// Puts a kind and the metadata that it may have.
 pub fn put_ruling(out: &mut Bytes, ruling: &PolicyResult) -> Result<(), AllocError>
     ensures { Appended result out.old out.new (field.ruling.spelled ruling.now) }
 {
     put_kind_and_metadata(out, ruling.kind(), ruling.metadata().as_slice())
 }
 
+/// Puts a kind and this metadata behind it.
 pub fn put_kind_and_metadata(out: &mut Bytes, kind: Kind, metadata: &[u8]) -> Result<(), AllocError>
     ensures { Appended result out.old out.new
         (field.ruling.spelled (record { kind = kind.0; metadata = metadata.now })) }
@@ -158,6 +173,7 @@ pub fn put_kind_and_metadata(out: &mut Bytes, kind: Kind, metadata: &[u8]) -> Re
     out.append_both(&[at_kind[0], at_kind[1], count[6], count[7]], metadata)
 }
 
+/// Puts a policy: its key, and its result behind that.
 pub fn put_policy(out: &mut Bytes, policy: &Policy) -> Result<(), AllocError>
     ensures { Appended result out.old out.new (field.policy.spelled policy.now) }
 {
@@ -165,6 +181,7 @@ pub fn put_policy(out: &mut Bytes, policy: &Policy) -> Result<(), AllocError>
     put_ruling(out, &policy.result)
 }
 
+/// Puts a template of rules in its one spelling.
 pub fn put_template(out: &mut Bytes, template: &Template) -> Result<(), AllocError>
     ensures { Appended result out.old out.new (field.template.spelled template.now) }
 {
@@ -172,6 +189,7 @@ pub fn put_template(out: &mut Bytes, template: &Template) -> Result<(), AllocErr
     put_text(out, &text)
 }
 
+/// Puts the byte of a type of user.
 pub fn put_user_type(out: &mut Bytes, kind: UserType) -> Result<(), AllocError>
     ensures { Appended result out.old out.new (field.user_type.spelled kind) }
 {
@@ -183,6 +201,7 @@ pub fn put_user_type(out: &mut Bytes, kind: UserType) -> Result<(), AllocError>
     }
 }
 
+/// Puts the identifier of an author; no bytes stand for none.
 pub fn put_author(out: &mut Bytes, author: &Option<Ident>) -> Result<(), AllocError>
     ensures { Appended result out.old out.new (field.author.spelled author.now) }
 {
@@ -192,6 +211,7 @@ pub fn put_author(out: &mut Bytes, author: &Option<Ident>) -> Result<(), AllocEr
     }
 }
 
+/// Puts for whom an install is: everyone, or one user.
 pub fn put_scope(out: &mut Bytes, scope: Scope) -> Result<(), AllocError>
     ensures { Appended result out.old out.new (field.scope.spelled scope) }
 {
