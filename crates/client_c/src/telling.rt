@@ -175,8 +175,8 @@ pub(crate) fn said_by(message: &Message) -> Said {
         Message::AgentQuestion {
             number,
             question,
-            result,
-        } => said_by_question(*number, question, result),
+            result: outcome,
+        } => said_by_question(*number, question, outcome),
         other => {
             let mut said = Said::nothing();
             said.operation = other.operation();
@@ -246,11 +246,11 @@ fn said_by_policy(policy: &Policy) -> Said {
     said
 }
 
-fn said_by_question(number: u32, question: &Question, result: &PolicyResult) -> Said {
+fn said_by_question(number: u32, question: &Question, outcome: &PolicyResult) -> Said {
     let mut said = Said::nothing();
     said.operation = 0xa2;
     said.number = number;
-    put_result(&mut said, result);
+    put_result(&mut said, outcome);
     put_names(
         &mut said,
         question.client(),
@@ -260,9 +260,9 @@ fn said_by_question(number: u32, question: &Question, result: &PolicyResult) -> 
     said
 }
 
-fn put_result(said: &mut Said, result: &PolicyResult) {
-    said.kind = result.kind().0;
-    said.metadata = Text::of(result.metadata().as_slice());
+fn put_result(said: &mut Said, outcome: &PolicyResult) {
+    said.kind = outcome.kind().0;
+    said.metadata = Text::of(outcome.metadata().as_slice());
 }
 
 // A refusal by a rule: the rule's number, its text and its value.

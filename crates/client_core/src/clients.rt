@@ -1,3 +1,13 @@
+ghost use Rattle.std.specs.Prelude.{◌≡◌, ◌<◌, ◌≤◌, [], max, IfOk, length};
+ghost use Rattle.std.specs.Prelude.{OnOk, OnErr, true};
+ghost use Rattle.answer_cache.specs.Limits.{most_entries};
+ghost use Rattle.wire_messages.specs.Stream.{wanted as wanted_of};
+ghost use Rattle.client_core.specs.Hearing as hearing;
+ghost use Rattle.client_core.specs.Client.{fresh, forgotten, raised, asked_by, frame_of, waiting};
+ghost use Rattle.client_core.specs.Asking as does;
+ghost use Rattle.client_core.specs.declared.steps.Step.TheVariants as step;
+ghost use Rattle.client_core.specs.declared.stages.Stage.TheVariants as stage_is;
+
 use crate::ears::{Ear, Piece};
 use crate::stages::{Asking, Stage};
 use crate::steps::{Fault, Step};
@@ -5,6 +15,7 @@ use answer_cache::AnswerCache;
 use cynara_keys::{Name, Question};
 use desk_ports::Bytes;
 use std::alloc::{AllocError, Global};
+use std::marker::Model;
 use std::mem;
 use wire_messages::{Framed, Heard, Message, WireRefusal, encode_check_into};
 
@@ -22,9 +33,27 @@ pub struct ClientMachine {
     stage: Stage,
 }
 
+impl Model for ClientMachine {
+    ghost use Rattle.client_core.specs.Client.{Client};
+
+    ghost Value = { Client };
+
+    ghost view = { λ client. record {
+      cache = client.cache;
+      sequence = client.sequence;
+      frame = client.frame;
+      is_linked = client.is_linked;
+      stage = client.stage;
+    } };
+}
+
 impl ClientMachine {
     /// A client without a connection that keeps at most so many answers, 1 to 4,096, and was told of nothing.
-    pub fn new(alloc: Global, entries: u32) -> Result<ClientMachine, AllocError> {
+    pub fn new(alloc: Global, entries: u32) -> Result<ClientMachine, AllocError>
+        requires some { 0 < entries }
+        requires most { entries ≤ most_entries }
+        ensures { IfOk result (λ client. client ≡ fresh entries) }
+    {
         let cache = AnswerCache::new(alloc, entries)?;
         Ok(ClientMachine {
             alloc,
@@ -37,22 +66,30 @@ impl ClientMachine {
     }
 
     /// The commit was acknowledged: no answer is below it from now on.
-    pub fn tell(&mut self, commit: u64) {
+    pub fn tell(&mut self, commit: u64)
+        ensures { self.new ≡ does.told_of commit self.old }
+    {
         self.cache.tell(commit);
     }
 
     /// The greatest commit that the client was told of, 0 before any.
-    pub fn told(&self) -> u64 {
+    pub fn told(&self) -> u64
+        ensures { result ≡ self.now.cache.told }
+    {
         self.cache.told()
     }
 
     /// The frame of the question that was asked last.
-    pub fn frame(&self) -> &[u8] {
+    pub fn frame(&self) -> &[u8]
+        ensures { result.now ≡ self.now.frame }
+    {
         self.frame.as_slice()
     }
 
     /// How many bytes may come next, at most; 0 where none is waited for.
-    pub fn wanted(&self) -> usize {
+    pub fn wanted(&self) -> usize
+        ensures { result ≡ does.wanted_at self.now.stage }
+    {
         match &self.stage {
             Stage::Waiting(_, ear) => ear.wanted(),
             _ => 0,
@@ -61,7 +98,9 @@ impl ClientMachine {
 
     /// Asks whether the use of a privilege is granted; with `simple` no agent is asked. `Look` where a connection is there,
     /// and else `Dial`.
-    pub fn ask(&mut self, session: Name, question: Question, simple: bool) -> Step {
+    pub fn ask(&mut self, session: Name, question: Question, simple: bool) -> Step
+        ensures { does.Asks session question simple result self.old self.new }
+    {
         if !matches!(self.stage, Stage::Idle) {
             return Step::NotNow;
         }
@@ -81,7 +120,9 @@ impl ClientMachine {
 
     /// The caller looked whether the connection is up. Where it is, a kept answer is `Kept`, and else the frame is to be
     /// sent: `Send`. Where it is down, no entry is kept, and it counts as one that failed: `Dial`.
-    pub fn looked(&mut self, is_up: bool) -> Step {
+    pub fn looked(&mut self, is_up: bool) -> Step
+        ensures { does.Looks is_up result self.old self.new }
+    {
         match mem::replace(&mut self.stage, Stage::Idle) {
             Stage::Looking(asking) => {
                 if is_up {
@@ -95,7 +136,9 @@ impl ClientMachine {
     }
 
     /// The service was dialled: the frame is to be sent.
-    pub fn dialled(&mut self) -> Step {
+    pub fn dialled(&mut self) -> Step
+        ensures { does.Dialled result self.old self.new }
+    {
         match mem::replace(&mut self.stage, Stage::Idle) {
             Stage::Dialling(asking) => {
                 self.is_linked = true;
@@ -107,7 +150,9 @@ impl ClientMachine {
 
     /// The connection ended, or could not be made. No entry is kept. A question that is under way goes on by `Dial`, until
     /// three dials or connections have failed: `Over` with `Unavailable`.
-    pub fn down(&mut self) -> Step {
+    pub fn down(&mut self) -> Step
+        ensures { does.Falls result self.old self.new }
+    {
         match mem::replace(&mut self.stage, Stage::Idle) {
             Stage::Idle => {
                 self.forget();
@@ -120,7 +165,9 @@ impl ClientMachine {
     }
 
     /// The caller gave the connection up. No entry is kept, and a question that was under way is over.
-    pub fn leave(&mut self) {
+    pub fn leave(&mut self)
+        ensures { self.new ≡ does.left self.old }
+    {
         let stage = mem::replace(&mut self.stage, Stage::Idle);
         if is_tried(&stage) {
             self.raise();
@@ -130,7 +177,9 @@ impl ClientMachine {
 
     /// These bytes came: some, and no more than are wanted. `Wait` where the reply is not whole with them, and else `Reply`
     /// with the answer or the refusal of the service, or `Over`.
-    pub fn came(&mut self, piece: &[u8]) -> Step {
+    pub fn came(&mut self, piece: &[u8]) -> Step
+        ensures { does.Comes piece.now result self.old self.new }
+    {
         match mem::replace(&mut self.stage, Stage::Idle) {
             Stage::Waiting(asking, ear) => {
                 if piece.is_empty() || piece.len() > ear.wanted() {
@@ -143,24 +192,34 @@ impl ClientMachine {
         }
     }
 
-    fn not_now(&mut self, stage: Stage) -> Step {
+    fn not_now(&mut self, stage: Stage) -> Step
+        ensures answer { result ≡ step.NotNow }
+        ensures back { self.new ≡ record self.old { stage = stage } }
+    {
         self.stage = stage;
         Step::NotNow
     }
 
     // No connection is there.
-    fn forget(&mut self) {
+    fn forget(&mut self)
+        ensures { self.new ≡ record (forgotten self.old) { stage = self.old.stage } }
+    {
         self.cache.clear();
         self.is_linked = false;
     }
 
     // The next frame has another number.
-    fn raise(&mut self) {
+    fn raise(&mut self)
+        ensures { self.new ≡ raised true self.old }
+    {
         self.sequence = self.sequence.wrapping_add(1);
     }
 
     // Spells the question.
-    fn spell(&mut self, asking: &Asking) -> Result<(), AllocError> {
+    fn spell(&mut self, asking: &Asking) -> Result<(), AllocError>
+        ensures spelled { OnOk result (self.new ≡ record self.old { frame = frame_of self.old.sequence asking.now }) }
+        ensures emptied { OnErr result (self.new ≡ record self.old { frame = [] }) }
+    {
         encode_check_into(
             &mut self.frame,
             self.sequence,
@@ -170,7 +229,10 @@ impl ClientMachine {
     }
 
     // There is no connection.
-    fn dial_first(&mut self, asking: Asking) -> Step {
+    fn dial_first(&mut self, asking: Asking) -> Step
+        requires { self.old.stage ≡ stage_is.Idle }
+        ensures { does.Dials asking result self.old self.new }
+    {
         self.forget();
         match self.spell(&asking) {
             Ok(()) => {
@@ -182,14 +244,20 @@ impl ClientMachine {
     }
 
     // The connection was found to be down, which costs one try.
-    fn dial_anew(&mut self, asking: Asking) -> Step {
+    fn dial_anew(&mut self, asking: Asking) -> Step
+        requires { self.old.stage ≡ stage_is.Idle }
+        ensures { does.Redials asking result self.old self.new }
+    {
         let mut asking = asking;
         asking.tries = MOST_TRIES - 1;
         self.dial_first(asking)
     }
 
     // A dial or a connection failed.
-    fn try_again(&mut self, asking: Asking) -> Step {
+    fn try_again(&mut self, asking: Asking) -> Step
+        requires { self.old.stage ≡ stage_is.Idle }
+        ensures { does.Retries asking result self.old self.new }
+    {
         self.forget();
         if asking.tries <= 1 {
             if asking.is_tried {
@@ -204,7 +272,10 @@ impl ClientMachine {
     }
 
     // The connection is up: a kept answer is at hand, or the frame is to be sent.
-    fn find(&mut self, asking: Asking) -> Step {
+    fn find(&mut self, asking: Asking) -> Step
+        requires { self.old.stage ≡ stage_is.Idle }
+        ensures { does.Finds asking result self.old self.new }
+    {
         match self.cache.answer(&asking.session, &asking.question) {
             Some(verdict) => Step::Kept(verdict),
             None => match self.spell(&asking) {
@@ -217,14 +288,21 @@ impl ClientMachine {
         }
     }
 
-    fn send(&mut self, asking: Asking) -> Step {
+    fn send(&mut self, asking: Asking) -> Step
+        ensures answer { result ≡ step.Send }
+        ensures waits { self.new ≡ record self.old { stage = waiting asking } }
+    {
         let mut asking = asking;
         asking.is_tried = true;
         self.stage = Stage::Waiting(asking, Ear::new(self.alloc, Heard::Replies));
         Step::Send
     }
 
-    fn hear(&mut self, asking: Asking, ear: Ear, piece: &[u8]) -> Step {
+    fn hear(&mut self, asking: Asking, ear: Ear, piece: &[u8]) -> Step
+        requires idle { self.old.stage ≡ stage_is.Idle }
+        requires most { length piece.now ≤ wanted_of ear.bytes }
+        ensures { does.HearsReply asking ear piece.now result self.old self.new }
+    {
         match ear.hear(piece) {
             Piece::More(ear) => {
                 self.stage = Stage::Waiting(asking, ear);
@@ -240,7 +318,10 @@ impl ClientMachine {
     }
 
     // The reply is whole.
-    fn conclude(&mut self, asking: Asking, framed: Framed) -> Step {
+    fn conclude(&mut self, asking: Asking, framed: Framed) -> Step
+        requires { self.old.stage ≡ stage_is.Idle }
+        ensures { does.Concludes asking framed result self.old self.new }
+    {
         let fault = fault_in(self.sequence, self.cache.told(), &framed);
         self.raise();
         match fault {
@@ -257,7 +338,10 @@ impl ClientMachine {
     }
 
     // Keeps a verdict of the policies. One that an agent has to give is not kept.
-    fn keep(&mut self, asking: &Asking, message: &Message) {
+    fn keep(&mut self, asking: &Asking, message: &Message)
+        ensures rest { self.new ≡ record self.old { cache = self.new.cache } }
+        ensures kept { does.IsKept (asked_by asking.now) message.now self.old.cache self.new.cache }
+    {
         match message {
             Message::Judged { verdict } => {
                 if verdict.kind().is_agent() {
@@ -271,7 +355,9 @@ impl ClientMachine {
     }
 }
 
-fn is_tried(stage: &Stage) -> bool {
+fn is_tried(stage: &Stage) -> bool
+    ensures { result ≡ does.was_tried stage.now }
+{
     match stage {
         Stage::Dialling(asking) => asking.is_tried,
         Stage::Waiting(_, _) => true,
@@ -280,7 +366,9 @@ fn is_tried(stage: &Stage) -> bool {
 }
 
 // What bytes that are no frame come to.
-pub(crate) fn fault_by(refusal: WireRefusal) -> Fault {
+pub(crate) fn fault_by(refusal: WireRefusal) -> Fault
+    ensures { result ≡ hearing.fault_by refusal }
+{
     match refusal {
         WireRefusal::Memory(error) => Fault::Memory(error),
         fault => Fault::Frame(fault),
@@ -288,7 +376,9 @@ pub(crate) fn fault_by(refusal: WireRefusal) -> Fault {
 }
 
 // The commit that a reply to a check tells; none of another message.
-fn commit_of(message: &Message) -> Option<u64> {
+fn commit_of(message: &Message) -> Option<u64>
+    ensures { result ≡ does.commit_of message.now }
+{
     match message {
         Message::Judged { verdict } => Some(verdict.commit()),
         Message::FromAgent { commit, .. } => Some(*commit),
@@ -301,7 +391,9 @@ fn commit_of(message: &Message) -> Option<u64> {
 }
 
 // What is wrong with a reply to the check of this sequence number, by a client that was told of this commit.
-fn fault_in(sequence: u16, told: u64, framed: &Framed) -> Option<Fault> {
+fn fault_in(sequence: u16, told: u64, framed: &Framed) -> Option<Fault>
+    ensures { result ≡ does.fault_in sequence told framed.now }
+{
     if framed.sequence != sequence {
         return Some(Fault::Sequence {
             sent: sequence,

@@ -1,11 +1,23 @@
 // The bytes of one frame, as they come.
+use crate::feeding::{Fed, feed};
 use std::alloc::Global;
-use wire_messages::{Feeder, Framed, Heard, WireRefusal, no_byte_past_a_frame};
+use std::marker::Model;
+use wire_messages::{Feeder, Framed, Heard, WireRefusal};
 
 /// The frame under way, as far as its bytes came. It takes no byte past that frame.
 #[derive(Drop)]
 pub(crate) struct Ear {
     feeder: Feeder,
+}
+
+impl Model for Ear {
+    ghost use Rattle.client_core.specs.Listening.{Listening, IsQuiet};
+
+    ghost Value = { Listening };
+
+    ghost view = { λ ear. record { side = ear.feeder.heard; bytes = ear.feeder.partial } };
+
+    ghost invariant = { λ ear. IsQuiet ear.feeder };
 }
 
 /// What became of the next bytes.
@@ -20,29 +32,39 @@ pub(crate) enum Piece {
 }
 
 impl Ear {
+    ghost use Rattle.std.specs.Prelude.{◌≡◌, ◌<◌, ◌≤◌, length};
+    ghost use Rattle.wire_messages.specs.Stream.{wanted};
+    ghost use Rattle.client_core.specs.Listening.{unheard};
+    ghost use Rattle.client_core.specs.Hearing.{HearsPiece};
+
     /// Before the first byte. Takes no memory.
-    pub(crate) fn new(alloc: Global, side: Heard) -> Ear {
+    pub(crate) fn new(alloc: Global, side: Heard) -> Ear
+        ensures { result ≡ unheard side }
+    {
         Ear {
             feeder: Feeder::new(alloc, side),
         }
     }
 
     /// How many bytes may come next, at most: never past the frame, and one at least.
-    pub(crate) fn wanted(&self) -> usize {
+    pub(crate) fn wanted(&self) -> usize
+        ensures count { result ≡ wanted self.now.bytes }
+        ensures some { 0 < result }
+    {
         self.feeder.wanted()
     }
 
     /// Hears bytes, some and no more than are wanted.
-    pub(crate) fn hear(self, piece: &[u8]) -> Piece {
+    pub(crate) fn hear(self, piece: &[u8]) -> Piece
+        requires { length piece.now ≤ wanted self.bytes }
+        ensures { HearsPiece result self piece.now }
+    {
         let Ear { feeder } = self;
         let mut feeder = feeder;
-        no_byte_past_a_frame();
-        match feeder.feed(piece) {
-            Ok(()) => match feeder.take() {
-                Some(framed) => Piece::Whole(framed),
-                None => Piece::More(Ear { feeder }),
-            },
-            Err(refusal) => Piece::Wrong(refusal),
+        match feed(&mut feeder, piece) {
+            Fed::More => Piece::More(Ear { feeder }),
+            Fed::Whole(framed) => Piece::Whole(framed),
+            Fed::Wrong(refusal) => Piece::Wrong(refusal),
         }
     }
 }

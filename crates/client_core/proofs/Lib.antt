@@ -1,0 +1,2 @@
+mod ClientLaw
+mod Hearing

@@ -1,0 +1,5 @@
+pub mod Listening
+pub mod Hearing
+pub mod Client
+pub mod Asking
+pub mod ClientCalls
