@@ -3,3 +3,6 @@ pub mod Hearing
 pub mod Client
 pub mod Asking
 pub mod ClientCalls
+pub mod AdminReplies
+pub mod Admin
+pub mod Agent

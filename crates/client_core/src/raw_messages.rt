@@ -1,4 +1,10 @@
 // Messages of an administrator, by the bytes of their fields.
+ghost use Rattle.std.specs.Prelude.{◌≡◌, ◌≤◌, length, Ok, IfOk, OnOk};
+ghost use Rattle.wire_messages.specs.Frame.{Answers, spelling, frame_of};
+ghost use Rattle.wire_messages.specs.Hearing.{IsHeard};
+ghost use Rattle.wire_messages.specs.declared.operations.Heard.TheVariants.{AtAdmin};
+ghost use Rattle.client_core.specs.Admin.{raw_frame};
+
 use desk_ports::Bytes;
 use std::alloc::Global;
 use wire_messages::{Framed, Heard, WireRefusal, decode};
@@ -14,7 +20,12 @@ pub(crate) fn read_raw(
     sequence: u16,
     operation: u8,
     fields: &[u8],
-) -> Result<Framed, WireRefusal> {
+) -> Result<Framed, WireRefusal>
+    requires { length fields.now ≤ 1048573 }
+    ensures raw { OnOk result (frame.new ≡ raw_frame sequence operation fields.now) }
+    ensures message { IfOk result (λ framed. IsHeard AtAdmin framed × (frame.new ≡ spelling framed)) }
+    ensures read { Answers result (frame_of AtAdmin (raw_frame sequence operation fields.now)) }
+{
     frame.clear();
     let length = ((fields.len() + 3) as u32).to_be_bytes();
     let number = sequence.to_be_bytes();
@@ -24,5 +35,6 @@ pub(crate) fn read_raw(
     if let Err(error) = frame.append_both(&front, fields) {
         return Err(WireRefusal::Memory(error));
     }
+    // The length in front is the number of the bytes behind it.
     decode(alloc, Heard::AtAdmin, frame.as_slice())
 }

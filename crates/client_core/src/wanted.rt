@@ -1,4 +1,6 @@
 // Which replies a message of an administrator is to have.
+ghost use Rattle.std.specs.Prelude.{◌≡◌};
+ghost use Rattle.client_core.specs.AdminReplies as words;
 
 use crate::steps::Fault;
 use wire_messages::{Framed, Message};
@@ -28,7 +30,9 @@ pub(crate) enum Next {
 }
 
 /// What answer the message is to have.
-pub(crate) fn wanted_of(message: &Message) -> Wanted {
+pub(crate) fn wanted_of(message: &Message) -> Wanted
+    ensures { result ≡ words.wanted_of message.now }
+{
     match message {
         Message::Listing { .. } => Wanted::Rows,
         Message::AdminCheck { .. } => Wanted::Verdict,
@@ -38,7 +42,9 @@ pub(crate) fn wanted_of(message: &Message) -> Wanted {
 }
 
 /// What follows from a reply behind so many rows, to a frame of this sequence number.
-pub(crate) fn next_of(wanted: Wanted, sequence: u16, rows: u32, framed: &Framed) -> Next {
+pub(crate) fn next_of(wanted: Wanted, sequence: u16, rows: u32, framed: &Framed) -> Next
+    ensures { result ≡ words.next_of wanted sequence rows framed.now }
+{
     if framed.sequence != sequence {
         return Next::Wrong(Fault::Sequence {
             sent: sequence,
@@ -55,7 +61,9 @@ pub(crate) fn next_of(wanted: Wanted, sequence: u16, rows: u32, framed: &Framed)
 }
 
 // Whether the reply is a further row.
-fn is_row(wanted: Wanted, rows: u32, reply: &Message) -> bool {
+fn is_row(wanted: Wanted, rows: u32, reply: &Message) -> bool
+    ensures { result ≡ words.is_row wanted rows reply.now }
+{
     match wanted {
         Wanted::Rows => match reply {
             Message::ListRow { .. } => rows < MOST_ROWS,
@@ -66,7 +74,9 @@ fn is_row(wanted: Wanted, rows: u32, reply: &Message) -> bool {
 }
 
 // Whether the reply ends the answer.
-fn is_last(wanted: Wanted, rows: u32, reply: &Message) -> bool {
+fn is_last(wanted: Wanted, rows: u32, reply: &Message) -> bool
+    ensures { result ≡ words.is_last wanted rows reply.now }
+{
     match wanted {
         Wanted::Rows => match reply {
             Message::ListEnd { count } => *count == rows,
