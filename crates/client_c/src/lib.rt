@@ -4,6 +4,7 @@
 //! a code, and changes nothing. There is no state but what the handles hold.
 #![tactic(auto)]
 
+mod calls;
 mod codes;
 mod handles;
 mod held;
@@ -11,13 +12,20 @@ mod questions;
 mod said;
 mod telling;
 
+ghost use Rattle.std.specs.Prelude.{◌≡◌, None, Some};
+ghost use Rattle.client_core.specs.Machine as machine;
+ghost use Rattle.client_core.specs.Admin.{fresh};
+ghost use Rattle.client_core.specs.declared.machines.Machine.TheVariants.{Admin};
+ghost use Rattle.client_c.specs.Exports as exports;
+ghost use Rattle.client_c.specs.Exports.{Drives, Opens, OpensClient, OpensAgent, Copies};
+
+use calls::{answer, ask, copy_from, look, open, send, tell, told_by};
 use client_core::{AdminMachine, AgentMachine, ClientMachine, Machine};
 use codes::*;
 use cynara_keys::Kind;
 pub use handles::Handle;
 use handles::{put, taken};
 pub use held::Held;
-use questions::asking_of;
 pub use said::{Said, Text};
 use std::alloc::Global;
 use telling::told;
@@ -28,7 +36,9 @@ pub extern "C" fn privilege_core_open_client(
     alloc: Global,
     handle: &mut Handle,
     entries: u32,
-) -> u8 {
+) -> u8
+    ensures { OpensClient entries result handle.new.held.value }
+{
     let _ = taken(alloc, handle);
     if entries == 0 || entries > 4096 {
         return BAD_COUNT;
@@ -41,14 +51,18 @@ pub extern "C" fn privilege_core_open_client(
 
 /// Opens an administrator.
 #[unsafe(no_mangle)]
-pub extern "C" fn privilege_core_open_admin(alloc: Global, handle: &mut Handle) -> u8 {
+pub extern "C" fn privilege_core_open_admin(alloc: Global, handle: &mut Handle) -> u8
+    ensures { Opens (Admin fresh) result handle.new.held.value }
+{
     let _ = taken(alloc, handle);
     open(alloc, handle, Machine::Admin(AdminMachine::new(alloc)))
 }
 
 /// Opens an agent of a kind, 2 to 65533.
 #[unsafe(no_mangle)]
-pub extern "C" fn privilege_core_open_agent(alloc: Global, handle: &mut Handle, kind: u16) -> u8 {
+pub extern "C" fn privilege_core_open_agent(alloc: Global, handle: &mut Handle, kind: u16) -> u8
+    ensures { OpensAgent kind result handle.new.held.value }
+{
     let _ = taken(alloc, handle);
     if !Kind(kind).is_agent() {
         return BAD_KIND;
@@ -62,7 +76,9 @@ pub extern "C" fn privilege_core_open_agent(alloc: Global, handle: &mut Handle, 
 
 /// Lets the handle's machine go. The handle holds none then.
 #[unsafe(no_mangle)]
-pub extern "C" fn privilege_core_close(alloc: Global, handle: &mut Handle) {
+pub extern "C" fn privilege_core_close(alloc: Global, handle: &mut Handle)
+    ensures { handle.new.held.value ≡ None }
+{
     let _ = taken(alloc, handle);
 }
 
@@ -72,7 +88,9 @@ pub extern "C" fn privilege_core_dialled(
     alloc: Global,
     handle: &mut Handle,
     said: &mut Said,
-) -> u8 {
+) -> u8
+    ensures { Drives machine.Dialled handle.old.held.value handle.new.held.value result said.old said.new }
+{
     let Some(mut boxed) = taken(alloc, handle) else {
         return NO_CORE;
     };
@@ -83,7 +101,9 @@ pub extern "C" fn privilege_core_dialled(
 
 /// The connection ended, or could not be made.
 #[unsafe(no_mangle)]
-pub extern "C" fn privilege_core_down(alloc: Global, handle: &mut Handle, said: &mut Said) -> u8 {
+pub extern "C" fn privilege_core_down(alloc: Global, handle: &mut Handle, said: &mut Said) -> u8
+    ensures { Drives machine.Falls handle.old.held.value handle.new.held.value result said.old said.new }
+{
     let Some(mut boxed) = taken(alloc, handle) else {
         return NO_CORE;
     };
@@ -99,7 +119,9 @@ pub extern "C" fn privilege_core_came(
     handle: &mut Handle,
     piece: &[u8],
     said: &mut Said,
-) -> u8 {
+) -> u8
+    ensures { Drives (machine.Comes piece.now) handle.old.held.value handle.new.held.value result said.old said.new }
+{
     let Some(mut boxed) = taken(alloc, handle) else {
         return NO_CORE;
     };
@@ -110,7 +132,9 @@ pub extern "C" fn privilege_core_came(
 
 /// The caller gave the connection up: what was under way is over.
 #[unsafe(no_mangle)]
-pub extern "C" fn privilege_core_leave(alloc: Global, handle: &mut Handle) -> u8 {
+pub extern "C" fn privilege_core_leave(alloc: Global, handle: &mut Handle) -> u8
+    ensures { exports.Leaves handle.old.held.value result handle.new.held.value }
+{
     let Some(mut boxed) = taken(alloc, handle) else {
         return NO_CORE;
     };
@@ -127,7 +151,10 @@ pub extern "C" fn privilege_core_frame(
     handle: &mut Handle,
     from: usize,
     out: &mut [u8],
-) -> usize {
+) -> usize
+    ensures copied { Copies (exports.frame_of handle.old.held.value) from result out.old out.new }
+    ensures same { handle.new.held.value ≡ handle.old.held.value }
+{
     let Some(boxed) = taken(alloc, handle) else {
         return 0;
     };
@@ -138,7 +165,10 @@ pub extern "C" fn privilege_core_frame(
 
 /// How many bytes may come next, at most. 0 where none is waited for, or the handle holds none.
 #[unsafe(no_mangle)]
-pub extern "C" fn privilege_core_wanted(alloc: Global, handle: &mut Handle) -> usize {
+pub extern "C" fn privilege_core_wanted(alloc: Global, handle: &mut Handle) -> usize
+    ensures count { result ≡ exports.wanted_of handle.old.held.value }
+    ensures same { handle.new.held.value ≡ handle.old.held.value }
+{
     let Some(boxed) = taken(alloc, handle) else {
         return 0;
     };
@@ -158,7 +188,10 @@ pub extern "C" fn privilege_core_client_ask(
     privilege: &[u8],
     simple: bool,
     said: &mut Said,
-) -> u8 {
+) -> u8
+    ensures { exports.Asks session.now (record { client = client.now; user = user.now; privilege = privilege.now }) simple
+        handle.old.held.value handle.new.held.value result said.old said.new }
+{
     let Some(mut boxed) = taken(alloc, handle) else {
         return NO_CORE;
     };
@@ -174,14 +207,13 @@ pub extern "C" fn privilege_core_client_looked(
     handle: &mut Handle,
     is_up: bool,
     said: &mut Said,
-) -> u8 {
+) -> u8
+    ensures { exports.Looks is_up handle.old.held.value handle.new.held.value result said.old said.new }
+{
     let Some(mut boxed) = taken(alloc, handle) else {
         return NO_CORE;
     };
-    let code = match &mut *boxed {
-        Machine::Client(client) => told(client.looked(is_up), said),
-        _ => WRONG_ROLE,
-    };
+    let code = look(&mut boxed, is_up, said);
     put(handle, boxed);
     code
 }
@@ -192,31 +224,27 @@ pub extern "C" fn privilege_core_client_tell(
     alloc: Global,
     handle: &mut Handle,
     commit: u64,
-) -> u8 {
+) -> u8
+    ensures { exports.Hears commit handle.old.held.value result handle.new.held.value }
+{
     let Some(mut boxed) = taken(alloc, handle) else {
         return NO_CORE;
     };
-    let code = match &mut *boxed {
-        Machine::Client(client) => {
-            client.tell(commit);
-            IDLE
-        }
-        _ => WRONG_ROLE,
-    };
+    let code = tell(&mut boxed, commit);
     put(handle, boxed);
     code
 }
 
 /// The greatest commit that a client was told of. 0 before any, and where the handle holds no client.
 #[unsafe(no_mangle)]
-pub extern "C" fn privilege_core_client_told(alloc: Global, handle: &mut Handle) -> u64 {
+pub extern "C" fn privilege_core_client_told(alloc: Global, handle: &mut Handle) -> u64
+    ensures commit { result ≡ exports.told_of handle.old.held.value }
+    ensures same { handle.new.held.value ≡ handle.old.held.value }
+{
     let Some(boxed) = taken(alloc, handle) else {
         return 0;
     };
-    let commit = match &*boxed {
-        Machine::Client(client) => client.told(),
-        _ => 0,
-    };
+    let commit = told_by(&boxed);
     put(handle, boxed);
     commit
 }
@@ -229,14 +257,13 @@ pub extern "C" fn privilege_core_admin_send(
     operation: u8,
     fields: &[u8],
     said: &mut Said,
-) -> u8 {
+) -> u8
+    ensures { exports.Sends operation fields.now handle.old.held.value handle.new.held.value result said.old said.new }
+{
     let Some(mut boxed) = taken(alloc, handle) else {
         return NO_CORE;
     };
-    let code = match &mut *boxed {
-        Machine::Admin(admin) => told(admin.send(operation, fields), said),
-        _ => WRONG_ROLE,
-    };
+    let code = send(&mut boxed, operation, fields, said);
     put(handle, boxed);
     code
 }
@@ -248,58 +275,13 @@ pub extern "C" fn privilege_core_agent_answer(
     handle: &mut Handle,
     number: u32,
     allowed: bool,
-) -> u8 {
+) -> u8
+    ensures { exports.Answers number allowed handle.old.held.value result handle.new.held.value }
+{
     let Some(mut boxed) = taken(alloc, handle) else {
         return NO_CORE;
     };
-    let mut said = Said::nothing();
-    let code = match &mut *boxed {
-        Machine::Agent(agent) => told(agent.answer(number, allowed), &mut said),
-        _ => WRONG_ROLE,
-    };
+    let code = answer(&mut boxed, number, allowed);
     put(handle, boxed);
     code
-}
-
-fn open(alloc: Global, handle: &mut Handle, machine: Machine) -> u8 {
-    match Box::new(alloc, machine) {
-        Ok(boxed) => {
-            put(handle, boxed);
-            IDLE
-        }
-        Err(_) => NO_MEMORY,
-    }
-}
-
-fn ask(
-    alloc: Global,
-    machine: &mut Machine,
-    session: &[u8],
-    client: &[u8],
-    user: &[u8],
-    privilege: &[u8],
-    simple: bool,
-    said: &mut Said,
-) -> u8 {
-    let Machine::Client(asker) = machine else {
-        return WRONG_ROLE;
-    };
-    match asking_of(alloc, session, client, user, privilege) {
-        Ok(asking) => told(asker.ask(asking.session, asking.question, simple), said),
-        Err(NO_MEMORY) => {
-            asker.leave();
-            NO_MEMORY
-        }
-        Err(code) => code,
-    }
-}
-
-// Copies bytes from this place on, as many as there are and the room has.
-fn copy_from(bytes: &[u8], from: usize, out: &mut [u8]) -> usize {
-    if from >= bytes.len() {
-        return 0;
-    }
-    let count = (bytes.len() - from).min(out.len());
-    out[..count].copy_from_slice(&bytes[from..from + count]);
-    count
 }

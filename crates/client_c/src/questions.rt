@@ -1,4 +1,6 @@
 // A question of four texts.
+ghost use Rattle.std.specs.Prelude.{◌≡◌, Ok, Err, Some, None, IfOk, IfErr};
+ghost use Rattle.client_c.specs.Asked.{Reads};
 
 use crate::codes::{BAD_CLIENT, BAD_PRIVILEGE, BAD_SESSION, BAD_USER, NO_MEMORY};
 use cynara_keys::{Name, NameRefusal, Question, name_fault};
@@ -18,7 +20,9 @@ pub(crate) fn asking_of(
     client: &[u8],
     user: &[u8],
     privilege: &[u8],
-) -> Result<Asking, u8> {
+) -> Result<Asking, u8>
+    ensures { Reads result session.now client.now user.now privilege.now }
+{
     if name_fault(session).is_some() {
         return Err(BAD_SESSION);
     }

@@ -28,8 +28,13 @@ pub struct Said {
 }
 
 impl Text {
+    ghost use Rattle.std.specs.Prelude.{◌≡◌, [], take};
+    ghost use Rattle.client_c.specs.Seen.{held};
+
     /// No bytes.
-    pub(crate) fn empty() -> Text {
+    pub(crate) fn empty() -> Text
+        ensures { held result ≡ [] }
+    {
         Text {
             count: 0,
             bytes: [0; 255],
@@ -37,7 +42,9 @@ impl Text {
     }
 
     /// A copy of the bytes, or of the first 255 where there are more.
-    pub(crate) fn of(bytes: &[u8]) -> Text {
+    pub(crate) fn of(bytes: &[u8]) -> Text
+        ensures { held result ≡ take 255 bytes.now }
+    {
         let count = bytes.len().min(255);
         let mut text = Text::empty();
         text.bytes[..count].copy_from_slice(&bytes[..count]);
@@ -47,8 +54,13 @@ impl Text {
 }
 
 impl Said {
+    ghost use Rattle.std.specs.Prelude.{◌≡◌};
+    ghost use Rattle.client_c.specs.Seen.{seen, nothing};
+
     /// Nothing is said.
-    pub(crate) fn nothing() -> Said {
+    pub(crate) fn nothing() -> Said
+        ensures { seen result ≡ nothing }
+    {
         Said {
             commit: 0,
             value: 0,

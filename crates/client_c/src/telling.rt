@@ -1,5 +1,10 @@
 // What a message says, by its fields.
 
+ghost use Rattle.std.specs.Prelude.{◌≡◌};
+ghost use Rattle.client_c.specs.Codes as codes;
+ghost use Rattle.client_c.specs.Seen as words;
+ghost use Rattle.client_c.specs.Seen.{seen};
+
 use crate::codes::*;
 use crate::{Said, Text};
 use bucket_eval::Verdict;
@@ -9,7 +14,10 @@ use desk_state::Refusal;
 use wire_messages::{BorrowedRow, Message, PackedVerdict, WireRefusal};
 
 /// What a step comes to: its code, and what is said. What a step says nothing of is left as it was.
-pub(crate) fn told(step: Step, said: &mut Said) -> u8 {
+pub(crate) fn told(step: Step, said: &mut Said) -> u8
+    ensures code { result ≡ codes.code_of step }
+    ensures says { words.Says step said.old said.new }
+{
     match step {
         Step::Idle => IDLE,
         Step::Dial => DIAL,
@@ -46,8 +54,18 @@ pub(crate) fn told(step: Step, said: &mut Said) -> u8 {
     }
 }
 
+/// The code of a step that says nothing more.
+pub(crate) fn code_of_step(step: Step) -> u8
+    ensures { result ≡ codes.code_of step }
+{
+    let mut said = Said::nothing();
+    told(step, &mut said)
+}
+
 // What it comes to that this was said.
-fn code_of(message: &Message) -> u8 {
+fn code_of(message: &Message) -> u8
+    ensures { result ≡ codes.message_code message.now }
+{
     match message {
         Message::NotResolved { .. } => NOT_RESOLVED,
         Message::NoAgent { .. } => NO_AGENT,
@@ -61,7 +79,9 @@ fn code_of(message: &Message) -> u8 {
     }
 }
 
-fn code_of_fault(fault: Fault) -> u8 {
+fn code_of_fault(fault: Fault) -> u8
+    ensures { result ≡ codes.fault_code fault }
+{
     match fault {
         Fault::Unavailable => UNAVAILABLE,
         Fault::Older { .. } => OLDER,
@@ -73,7 +93,9 @@ fn code_of_fault(fault: Fault) -> u8 {
 }
 
 // The numbers behind a fault.
-fn said_by_fault(fault: Fault) -> Said {
+fn said_by_fault(fault: Fault) -> Said
+    ensures { seen result ≡ words.fault_seen fault }
+{
     let mut said = Said::nothing();
     match fault {
         Fault::Unavailable => {}
@@ -87,7 +109,9 @@ fn said_by_fault(fault: Fault) -> Said {
 }
 
 // Why bytes are no frame, and the number behind it.
-fn said_by_refusal(refusal: WireRefusal) -> Said {
+fn said_by_refusal(refusal: WireRefusal) -> Said
+    ensures { seen result ≡ words.refusal_seen refusal }
+{
     let mut said = Said::nothing();
     match refusal {
         WireRefusal::TooShort(length) => {
@@ -116,7 +140,9 @@ fn said_by_refusal(refusal: WireRefusal) -> Said {
 }
 
 // A verdict by value, as a client keeps it.
-fn said_by_verdict(verdict: &Verdict) -> Said {
+fn said_by_verdict(verdict: &Verdict) -> Said
+    ensures { seen result ≡ words.verdict_seen verdict.now }
+{
     let mut said = Said::nothing();
     said.operation = 0x81;
     said.commit = verdict.commit;
@@ -136,7 +162,9 @@ fn said_by_verdict(verdict: &Verdict) -> Said {
     said
 }
 
-fn said_by_packed(verdict: &PackedVerdict) -> Said {
+fn said_by_packed(verdict: &PackedVerdict) -> Said
+    ensures { seen result ≡ words.verdict_seen verdict.now }
+{
     let mut said = Said::nothing();
     said.operation = 0x81;
     said.commit = verdict.commit();
@@ -151,23 +179,31 @@ fn said_by_packed(verdict: &PackedVerdict) -> Said {
     said
 }
 
-fn put_row(said: &mut Said, row: &BorrowedRow<'_>) {
+fn put_row(said: &mut Said, row: &BorrowedRow<'_>)
+    ensures { seen said.new ≡ words.with_key row.now.client row.now.user row.now.privilege (seen said.old) }
+{
     put_key(said, row.client(), row.user(), row.privilege());
 }
 
-fn put_key(said: &mut Said, client: &[u8], user: &[u8], privilege: &[u8]) {
+fn put_key(said: &mut Said, client: &[u8], user: &[u8], privilege: &[u8])
+    ensures { seen said.new ≡ words.with_key client.now user.now privilege.now (seen said.old) }
+{
     said.has_key = true;
     put_names(said, client, user, privilege);
 }
 
-fn put_names(said: &mut Said, client: &[u8], user: &[u8], privilege: &[u8]) {
+fn put_names(said: &mut Said, client: &[u8], user: &[u8], privilege: &[u8])
+    ensures { seen said.new ≡ words.with_names client.now user.now privilege.now (seen said.old) }
+{
     said.client = Text::of(client);
     said.user = Text::of(user);
     said.privilege = Text::of(privilege);
 }
 
 // What the message says.
-pub(crate) fn said_by(message: &Message) -> Said {
+pub(crate) fn said_by(message: &Message) -> Said
+    ensures { seen result ≡ words.message_seen message.now }
+{
     match message {
         Message::Judged { verdict } => said_by_packed(verdict),
         Message::Refused { refusal } => said_by_rule(refusal),
@@ -178,8 +214,7 @@ pub(crate) fn said_by(message: &Message) -> Said {
             result: outcome,
         } => said_by_question(*number, question, outcome),
         other => {
-            let mut said = Said::nothing();
-            said.operation = other.operation();
+            let mut said = operation_said(other.operation());
             put_numbers(&mut said, other);
             said
         }
@@ -187,7 +222,9 @@ pub(crate) fn said_by(message: &Message) -> Said {
 }
 
 // The fields of a message that are numbers, of one that has no other but a file's name.
-fn put_numbers(said: &mut Said, message: &Message) {
+fn put_numbers(said: &mut Said, message: &Message)
+    ensures { seen said.new ≡ words.numbers message.now (seen said.old) }
+{
     match message {
         Message::FromAgent {
             commit,
@@ -233,7 +270,9 @@ fn put_numbers(said: &mut Said, message: &Message) {
     }
 }
 
-fn said_by_policy(policy: &Policy) -> Said {
+fn said_by_policy(policy: &Policy) -> Said
+    ensures { seen result ≡ words.policy_seen policy.now }
+{
     let mut said = Said::nothing();
     said.operation = 0x92;
     put_result(&mut said, &policy.result);
@@ -246,7 +285,9 @@ fn said_by_policy(policy: &Policy) -> Said {
     said
 }
 
-fn said_by_question(number: u32, question: &Question, outcome: &PolicyResult) -> Said {
+fn said_by_question(number: u32, question: &Question, outcome: &PolicyResult) -> Said
+    ensures { seen result ≡ words.question_seen number question.now outcome.now }
+{
     let mut said = Said::nothing();
     said.operation = 0xa2;
     said.number = number;
@@ -260,43 +301,59 @@ fn said_by_question(number: u32, question: &Question, outcome: &PolicyResult) ->
     said
 }
 
-fn put_result(said: &mut Said, outcome: &PolicyResult) {
+fn put_result(said: &mut Said, outcome: &PolicyResult)
+    ensures { seen said.new ≡ words.with_result outcome.now (seen said.old) }
+{
     said.kind = outcome.kind().0;
     said.metadata = Text::of(outcome.metadata().as_slice());
 }
 
 // A refusal by a rule: the rule's number, its text and its value.
-fn said_by_rule(refusal: &Refusal) -> Said {
-    let mut said = Said::nothing();
-    said.operation = 0x91;
+fn said_by_rule(refusal: &Refusal) -> Said
+    ensures { seen result ≡ words.refused_seen refusal.now }
+{
     match refusal {
-        Refusal::Reserved(bucket) => put_rule(&mut said, 1, bucket.as_slice(), 0),
-        Refusal::LayoutThere => put_rule(&mut said, 2, b"", 0),
-        Refusal::NoLayout => put_rule(&mut said, 3, b"", 0),
-        Refusal::NoBucket(bucket) => put_rule(&mut said, 4, bucket.as_slice(), 0),
-        Refusal::RootBucket => put_rule(&mut said, 5, b"", 0),
-        Refusal::BadKind(kind) => put_rule(&mut said, 6, b"", u64::from(kind.0)),
-        Refusal::UnknownUser(uid) => put_rule(&mut said, 7, b"", u64::from(*uid)),
-        Refusal::OtherPackage(name) => put_rule(&mut said, 8, name.as_slice(), 0),
-        Refusal::OtherAuthor(Some(author)) => put_rule(&mut said, 9, author.as_slice(), 0),
-        Refusal::OtherAuthor(None) => put_rule(&mut said, 9, b"", 0),
-        Refusal::NotInstalled => put_rule(&mut said, 10, b"", 0),
-        Refusal::Limit(counted, limit) => put_rule(&mut said, 11, counted_text(*counted), *limit),
-        Refusal::Cycle(bucket) => put_rule(&mut said, 12, bucket.as_slice(), 0),
-        Refusal::OtherHybrid(hybrid) => put_rule(&mut said, 14, b"", u64::from(*hybrid)),
-        Refusal::Memory(_) => {}
+        Refusal::Reserved(bucket) => rule_said(1, bucket.as_slice(), 0),
+        Refusal::LayoutThere => rule_said(2, b"", 0),
+        Refusal::NoLayout => rule_said(3, b"", 0),
+        Refusal::NoBucket(bucket) => rule_said(4, bucket.as_slice(), 0),
+        Refusal::RootBucket => rule_said(5, b"", 0),
+        Refusal::BadKind(kind) => rule_said(6, b"", u64::from(kind.0)),
+        Refusal::UnknownUser(uid) => rule_said(7, b"", u64::from(*uid)),
+        Refusal::OtherPackage(name) => rule_said(8, name.as_slice(), 0),
+        Refusal::OtherAuthor(Some(author)) => rule_said(9, author.as_slice(), 0),
+        Refusal::OtherAuthor(None) => rule_said(9, b"", 0),
+        Refusal::NotInstalled => rule_said(10, b"", 0),
+        Refusal::Limit(counted, limit) => rule_said(11, counted_text(*counted), *limit),
+        Refusal::Cycle(bucket) => rule_said(12, bucket.as_slice(), 0),
+        Refusal::OtherHybrid(hybrid) => rule_said(14, b"", u64::from(*hybrid)),
+        // No frame tells it.
+        Refusal::Memory(_) => operation_said(0x91),
     }
+}
+
+fn operation_said(operation: u8) -> Said
+    ensures { seen result ≡ record words.nothing { operation = operation } }
+{
+    let mut said = Said::nothing();
+    said.operation = operation;
     said
 }
 
-fn put_rule(said: &mut Said, rule: u8, text: &[u8], value: u64) {
+fn rule_said(rule: u8, text: &[u8], value: u64) -> Said
+    ensures { seen result ≡ words.rule_seen rule text.now value }
+{
+    let mut said = operation_said(0x91);
     said.rule = rule;
     said.text = Text::of(text);
     said.value = value;
+    said
 }
 
 // What a limit counts, as a frame spells it.
-fn counted_text(counted: Counted) -> &'static [u8] {
+fn counted_text(counted: Counted) -> &'static [u8]
+    ensures { result.now ≡ words.counted_text counted }
+{
     match counted {
         Counted::Commits => b"commits",
         Counted::Users => b"users",

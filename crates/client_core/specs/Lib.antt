@@ -6,3 +6,4 @@ pub mod ClientCalls
 pub mod AdminReplies
 pub mod Admin
 pub mod Agent
+pub mod Machine

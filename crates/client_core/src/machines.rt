@@ -1,3 +1,6 @@
+ghost use Rattle.std.specs.Prelude.{◌≡◌};
+ghost use Rattle.client_core.specs.Machine as does;
+
 use crate::{AdminMachine, AgentMachine, ClientMachine, Step};
 
 /// A machine of any of the three kinds, for whoever holds one and learns its kind at run time.
@@ -10,7 +13,9 @@ pub enum Machine {
 
 impl Machine {
     /// The service was dialled.
-    pub fn dialled(&mut self) -> Step {
+    pub fn dialled(&mut self) -> Step
+        ensures { does.Dialled result self.old self.new }
+    {
         match self {
             Machine::Client(client) => client.dialled(),
             Machine::Admin(admin) => admin.dialled(),
@@ -19,7 +24,9 @@ impl Machine {
     }
 
     /// The connection ended, or could not be made.
-    pub fn down(&mut self) -> Step {
+    pub fn down(&mut self) -> Step
+        ensures { does.Falls result self.old self.new }
+    {
         match self {
             Machine::Client(client) => client.down(),
             Machine::Admin(admin) => admin.down(),
@@ -28,7 +35,9 @@ impl Machine {
     }
 
     /// The caller gave the connection up.
-    pub fn leave(&mut self) {
+    pub fn leave(&mut self)
+        ensures { self.new ≡ does.left self.old }
+    {
         match self {
             Machine::Client(client) => client.leave(),
             Machine::Admin(admin) => admin.leave(),
@@ -37,7 +46,9 @@ impl Machine {
     }
 
     /// These bytes came.
-    pub fn came(&mut self, piece: &[u8]) -> Step {
+    pub fn came(&mut self, piece: &[u8]) -> Step
+        ensures { does.Comes piece.now result self.old self.new }
+    {
         match self {
             Machine::Client(client) => client.came(piece),
             Machine::Admin(admin) => admin.came(piece),
@@ -46,7 +57,9 @@ impl Machine {
     }
 
     /// The frame that was to be sent last.
-    pub fn frame(&self) -> &[u8] {
+    pub fn frame(&self) -> &[u8]
+        ensures { result.now ≡ does.frame_in self.now }
+    {
         match self {
             Machine::Client(client) => client.frame(),
             Machine::Admin(admin) => admin.frame(),
@@ -55,7 +68,9 @@ impl Machine {
     }
 
     /// How many bytes may come next, at most; 0 where none is waited for.
-    pub fn wanted(&self) -> usize {
+    pub fn wanted(&self) -> usize
+        ensures { result ≡ does.wanted_in self.now }
+    {
         match self {
             Machine::Client(client) => client.wanted(),
             Machine::Admin(admin) => admin.wanted(),
