@@ -1,2 +1,3 @@
+mod AdminLaw
 mod ClientLaw
 mod Hearing

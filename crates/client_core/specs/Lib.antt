@@ -7,3 +7,4 @@ pub mod AdminReplies
 pub mod Admin
 pub mod Agent
 pub mod Machine
+pub mod AdminCalls
