@@ -8,9 +8,8 @@ use Rattle.wire_messages.specs.declared.messages.Framed.{Framed}
 use Rattle.wire_messages.specs.declared.messages.Message.{Message}
 use Rattle.wire_messages.specs.declared.operations.Heard.{Heard}
 use Rattle.wire_messages.specs.declared.operations.Heard.TheVariants.{Replies}
-use Rattle.client_core.specs.Listening.{Listening, unheard}
+use Rattle.client_core.specs.Listening.{Listening, unheard, is_fit}
 use Rattle.client_core.specs.Hearing.{HearsPiece, fault_by}
-use Rattle.client_core.specs.Asking.{is_fit}
 use Rattle.client_core.specs.Admin.{Admin, fresh, cut, sent, exchange_of, with_row}
 use Rattle.client_core.specs.Admin as does
 use Rattle.client_core.specs.AdminReplies.{wanted_of, next_of}

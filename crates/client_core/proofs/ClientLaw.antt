@@ -14,7 +14,7 @@ use Rattle.wire_messages.specs.Stream.{Hears}
 use Rattle.wire_messages.specs.declared.messages.Framed.{Framed}
 use Rattle.wire_messages.specs.declared.messages.Message.{Message}
 use Rattle.wire_messages.specs.declared.operations.Heard.TheVariants.{Replies}
-use Rattle.client_core.specs.Listening.{Listening}
+use Rattle.client_core.specs.Listening.{Listening, is_fit}
 use Rattle.client_core.specs.Hearing.{HearsPiece, fault_by}
 use Rattle.client_core.specs.Client.{Client, fresh, forgotten, raised, asked_by, frame_of, waiting, with_tries}
 use Rattle.client_core.specs.Asking as does
@@ -401,7 +401,7 @@ module _ (calls : List Call) (before : Client) (holds : Holds calls before) wher
     comes_at : (s : Stage) → before.stage ≡ s → (answer : Step) (after : Client)
         → does.comes_at s bytes answer before after → Both comes calls before answer after
     comes_at (stage.Waiting asking ear) is answer after d =
-        comes_if asking ear (at (stage.Waiting asking ear) is) (does.is_fit ear.bytes bytes) answer after d
+        comes_if asking ear (at (stage.Waiting asking ear) is) (is_fit ear.bytes bytes) answer after d
     comes_at stage.Idle is answer after d = comes_no answer after d
     comes_at (stage.Looking asking) is answer after d = comes_no answer after d
     comes_at (stage.Dialling asking) is answer after d = comes_no answer after d

@@ -1,3 +1,4 @@
 mod AdminLaw
 mod ClientLaw
 mod Hearing
+mod Staging

@@ -10,10 +10,9 @@ use Rattle.wire_messages.specs.declared.operations.Heard.TheVariants.{AtAdmin, R
 use Rattle.wire_messages.specs.declared.refusals.WireRefusal.{WireRefusal}
 use Rattle.wire_messages.specs.declared.refusals.WireRefusal.TheVariants.{Memory as NoMemory}
 use Rattle.std.specs.Prelude.{Err}
-use Rattle.client_core.specs.Listening.{Listening, unheard}
+use Rattle.client_core.specs.Listening.{Listening, unheard, is_fit}
 use Rattle.client_core.specs.Hearing.{HearsPiece, fault_by}
 use Rattle.client_core.specs.Client.{next_number}
-use Rattle.client_core.specs.Asking.{is_fit}
 use Rattle.client_core.specs.AdminReplies.{wanted_of, next_of}
 use Rattle.client_core.specs.declared.ears.Piece.{Piece}
 use Rattle.client_core.specs.declared.ears.Piece.TheVariants as piece

@@ -10,9 +10,8 @@ use Rattle.wire_messages.specs.declared.messages.Framed.{Framed}
 use Rattle.wire_messages.specs.declared.messages.Message.{Message}
 use Rattle.wire_messages.specs.declared.messages.Message.TheVariants.{Register, AgentAnswer, Registered, KindTaken, AgentQuestion, UnknownNumber}
 use Rattle.wire_messages.specs.declared.operations.Heard.TheVariants.{AgentReplies}
-use Rattle.client_core.specs.Listening.{Listening, unheard}
+use Rattle.client_core.specs.Listening.{Listening, unheard, is_fit}
 use Rattle.client_core.specs.Hearing.{HearsPiece, fault_by}
-use Rattle.client_core.specs.Asking.{is_fit}
 use Rattle.client_core.specs.declared.ears.Piece.{Piece}
 use Rattle.client_core.specs.declared.ears.Piece.TheVariants as piece
 use Rattle.client_core.specs.declared.stages.Open.{Open}

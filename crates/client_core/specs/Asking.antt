@@ -13,7 +13,7 @@ use Rattle.wire_messages.specs.declared.messages.Framed.{Framed}
 use Rattle.wire_messages.specs.declared.messages.Message.{Message}
 use Rattle.wire_messages.specs.declared.messages.Message.TheVariants.{Judged, FromAgent, NotResolved, NoAgent, AgentGone, AgentFull}
 use Rattle.wire_messages.specs.declared.operations.Heard.TheVariants.{Replies}
-use Rattle.client_core.specs.Listening.{Listening}
+use Rattle.client_core.specs.Listening.{Listening, is_fit}
 use Rattle.client_core.specs.Hearing.{HearsPiece, fault_by}
 use Rattle.client_core.specs.Client.{Client, forgotten, raised, asked_by, frame_of, waiting, with_tries}
 use Rattle.client_core.specs.declared.ears.Piece.{Piece}
@@ -196,10 +196,6 @@ HearsReply asking ear bytes answer old new =
 abbrev pub wanted_at : Stage → ℕ
 wanted_at (stage.Waiting asking ear) = wanted ear.bytes
 wanted_at other = 0
-
--- some bytes, and no more than are wanted
-abbrev pub is_fit : List ℕ → List ℕ → Bool
-is_fit there bytes = if nat_lt 0 (length bytes) then nat_le (length bytes) (wanted there) else false
 
 abbrev pub comes : Bool → Asking → Listening → List ℕ → Step → Client → Client → Type 0
 comes true asking ear bytes answer old new = HearsReply asking ear bytes answer old new

@@ -1,6 +1,5 @@
-ghost use Rattle.std.specs.Prelude.{◌≡◌, ◌<◌, ◌≤◌, length};
-ghost use Rattle.wire_messages.specs.Frame.{spelling};
-ghost use Rattle.wire_messages.specs.Stream.{wanted as wanted_behind};
+ghost use Rattle.std.specs.Prelude.{◌≡◌, true};
+ghost use Rattle.client_core.specs.Listening.{is_fit};
 ghost use Rattle.client_core.specs.Admin as does;
 ghost use Rattle.client_core.specs.Admin.{fresh, cut, sent, exchange_of};
 ghost use Rattle.client_core.specs.declared.steps.Step.TheVariants as step;
@@ -139,7 +138,7 @@ impl AdminMachine {
     {
         match mem::replace(&mut self.stage, AdminStage::Idle) {
             AdminStage::Waiting(exchange, ear) => {
-                if piece.is_empty() || piece.len() > ear.wanted() {
+                if !ear.takes(piece) {
                     self.stage = AdminStage::Waiting(exchange, ear);
                     return Step::BadCount;
                 }
@@ -185,7 +184,7 @@ impl AdminMachine {
 
     fn hear(&mut self, exchange: Exchange, ear: Ear, piece: &[u8]) -> Step
         requires idle { self.old.stage ≡ stage_is.Idle }
-        requires most { length piece.now ≤ wanted_behind ear.bytes }
+        requires fits { is_fit ear.bytes piece.now ≡ true }
         ensures { does.HearsReply exchange ear piece.now result self.old self.new }
     {
         match ear.hear(piece) {

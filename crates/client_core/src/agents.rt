@@ -1,6 +1,6 @@
-ghost use Rattle.std.specs.Prelude.{◌≡◌, ◌≤◌, [], None, length, OnOk, OnErr};
+ghost use Rattle.std.specs.Prelude.{◌≡◌, ◌≤◌, [], true, None, length, OnOk, OnErr};
 ghost use Rattle.wire_messages.specs.Frame.{spelling, body, with_sequence};
-ghost use Rattle.wire_messages.specs.Stream.{wanted as wanted_behind};
+ghost use Rattle.client_core.specs.Listening.{is_fit};
 ghost use Rattle.client_core.specs.Agent as does;
 ghost use Rattle.client_core.specs.Agent.{fresh, cut, listening};
 ghost use Rattle.wire_messages.specs.Operation.{number_of};
@@ -122,14 +122,14 @@ impl AgentMachine {
     {
         match mem::replace(&mut self.stage, AgentStage::Dialling) {
             AgentStage::Registering(ear) => {
-                if piece.is_empty() || piece.len() > ear.wanted() {
+                if !ear.takes(piece) {
                     self.stage = AgentStage::Registering(ear);
                     return Step::BadCount;
                 }
                 self.hear_first(ear, piece)
             }
             AgentStage::Listening(asked, ear) => {
-                if piece.is_empty() || piece.len() > ear.wanted() {
+                if !ear.takes(piece) {
                     self.stage = AgentStage::Listening(asked, ear);
                     return Step::BadCount;
                 }
@@ -184,7 +184,7 @@ impl AgentMachine {
 
     fn hear_first(&mut self, ear: Ear, piece: &[u8]) -> Step
         requires cut { self.old.stage ≡ stage_is.Dialling }
-        requires most { length piece.now ≤ wanted_behind ear.bytes }
+        requires fits { is_fit ear.bytes piece.now ≡ true }
         ensures { does.HearsFirst ear piece.now result self.old self.new }
     {
         match ear.hear(piece) {
@@ -199,7 +199,7 @@ impl AgentMachine {
 
     fn hear_next(&mut self, asked: Option<Open>, ear: Ear, piece: &[u8]) -> Step
         requires cut { self.old.stage ≡ stage_is.Dialling }
-        requires most { length piece.now ≤ wanted_behind ear.bytes }
+        requires fits { is_fit ear.bytes piece.now ≡ true }
         ensures { does.HearsNext asked ear piece.now result self.old self.new }
     {
         match ear.hear(piece) {

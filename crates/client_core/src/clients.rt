@@ -1,7 +1,7 @@
-ghost use Rattle.std.specs.Prelude.{◌≡◌, ◌<◌, ◌≤◌, [], max, IfOk, length};
+ghost use Rattle.std.specs.Prelude.{◌≡◌, ◌<◌, ◌≤◌, [], IfOk};
 ghost use Rattle.std.specs.Prelude.{OnOk, OnErr, true};
 ghost use Rattle.answer_cache.specs.Limits.{most_entries};
-ghost use Rattle.wire_messages.specs.Stream.{wanted as wanted_of};
+ghost use Rattle.client_core.specs.Listening.{is_fit};
 ghost use Rattle.client_core.specs.Hearing as hearing;
 ghost use Rattle.client_core.specs.Client.{fresh, forgotten, raised, asked_by, frame_of, waiting};
 ghost use Rattle.client_core.specs.Asking as does;
@@ -182,7 +182,7 @@ impl ClientMachine {
     {
         match mem::replace(&mut self.stage, Stage::Idle) {
             Stage::Waiting(asking, ear) => {
-                if piece.is_empty() || piece.len() > ear.wanted() {
+                if !ear.takes(piece) {
                     self.stage = Stage::Waiting(asking, ear);
                     return Step::BadCount;
                 }
@@ -300,7 +300,7 @@ impl ClientMachine {
 
     fn hear(&mut self, asking: Asking, ear: Ear, piece: &[u8]) -> Step
         requires idle { self.old.stage ≡ stage_is.Idle }
-        requires most { length piece.now ≤ wanted_of ear.bytes }
+        requires fits { is_fit ear.bytes piece.now ≡ true }
         ensures { does.HearsReply asking ear piece.now result self.old self.new }
     {
         match ear.hear(piece) {

@@ -32,9 +32,9 @@ pub(crate) enum Piece {
 }
 
 impl Ear {
-    ghost use Rattle.std.specs.Prelude.{◌≡◌, ◌<◌, ◌≤◌, length};
+    ghost use Rattle.std.specs.Prelude.{◌≡◌, ◌<◌, true};
     ghost use Rattle.wire_messages.specs.Stream.{wanted};
-    ghost use Rattle.client_core.specs.Listening.{unheard};
+    ghost use Rattle.client_core.specs.Listening.{unheard, is_fit};
     ghost use Rattle.client_core.specs.Hearing.{HearsPiece};
 
     /// Before the first byte. Takes no memory.
@@ -54,9 +54,19 @@ impl Ear {
         self.feeder.wanted()
     }
 
+    /// Whether these are some bytes, and no more than are wanted.
+    pub(crate) fn takes(&self, piece: &[u8]) -> bool
+        ensures { result ≡ is_fit self.now.bytes piece.now }
+    {
+        if piece.is_empty() {
+            return false;
+        }
+        piece.len() <= self.feeder.wanted()
+    }
+
     /// Hears bytes, some and no more than are wanted.
     pub(crate) fn hear(self, piece: &[u8]) -> Piece
-        requires { length piece.now ≤ wanted self.bytes }
+        requires { is_fit self.bytes piece.now ≡ true }
         ensures { HearsPiece result self piece.now }
     {
         let Ear { feeder } = self;

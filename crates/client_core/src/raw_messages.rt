@@ -1,12 +1,12 @@
 // Messages of an administrator, by the bytes of their fields.
-ghost use Rattle.std.specs.Prelude.{◌≡◌, ◌≤◌, length, Ok, IfOk, OnOk};
-ghost use Rattle.wire_messages.specs.Frame.{Answers, spelling, frame_of};
+ghost use Rattle.std.specs.Prelude.{◌≡◌, ◌≤◌, ◌+◌, [], length, IfOk, OnOk};
+ghost use Rattle.wire_messages.specs.Frame.{Answers, spelling, frame_of, length_of};
 ghost use Rattle.wire_messages.specs.Hearing.{IsHeard};
 ghost use Rattle.wire_messages.specs.declared.operations.Heard.TheVariants.{AtAdmin};
 ghost use Rattle.client_core.specs.Admin.{raw_frame};
 
 use desk_ports::Bytes;
-use std::alloc::Global;
+use std::alloc::{AllocError, Global};
 use wire_messages::{Framed, Heard, WireRefusal, decode};
 
 /// The most bytes that the fields of a message may have.
@@ -27,14 +27,31 @@ pub(crate) fn read_raw(
     ensures read { Answers result (frame_of AtAdmin (raw_frame sequence operation fields.now)) }
 {
     frame.clear();
-    let length = ((fields.len() + 3) as u32).to_be_bytes();
-    let number = sequence.to_be_bytes();
-    let front = [
-        length[0], length[1], length[2], length[3], number[0], number[1], operation,
-    ];
-    if let Err(error) = frame.append_both(&front, fields) {
+    if let Err(error) = put_raw(frame, sequence, operation, fields) {
         return Err(WireRefusal::Memory(error));
     }
-    // The length in front is the number of the bytes behind it.
+    length_is_that_of_the_rest(sequence, operation, fields);
     decode(alloc, Heard::AtAdmin, frame.as_slice())
 }
+
+fn put_raw(
+    frame: &mut Bytes,
+    sequence: u16,
+    operation: u8,
+    fields: &[u8],
+) -> Result<(), AllocError>
+    requires empty { frame.old ≡ [] }
+    requires most { length fields.now ≤ 1048573 }
+    ensures { OnOk result (frame.new ≡ raw_frame sequence operation fields.now) }
+{
+    let length = (fields.len() + 3) as u32;
+    frame.append(&length.to_be_bytes())?;
+    frame.append(&sequence.to_be_bytes())?;
+    frame.append_both(&[operation], fields)
+}
+
+// Does nothing; its clause is what `decode` asks of a frame.
+fn length_is_that_of_the_rest(sequence: u16, operation: u8, fields: &[u8])
+    requires { length fields.now ≤ 1048573 }
+    ensures { length (raw_frame sequence operation fields.now) ≡ length_of (raw_frame sequence operation fields.now) + 4 }
+{}
