@@ -61,8 +61,19 @@ seen said = record {
 
 abbrev pub nothing : Seen
 nothing = record {
-  commit = 0; value = 0; number = 0; kind = 0; operation = 0; rule = 0; allowed = false; has_key = false;
-  metadata = []; text = []; client = []; user = []; privilege = [];
+  commit = 0;
+  value = 0;
+  number = 0;
+  kind = 0;
+  operation = 0;
+  rule = 0;
+  allowed = false;
+  has_key = false;
+  metadata = [];
+  text = [];
+  client = [];
+  user = [];
+  privilege = [];
 }
 
 -- no text of a message has more than 255 bytes

@@ -32,11 +32,7 @@ use telling::told;
 
 /// Opens a client that keeps at most so many answers, 1 to 4,096.
 #[unsafe(no_mangle)]
-pub extern "C" fn privilege_core_open_client(
-    alloc: Global,
-    handle: &mut Handle,
-    entries: u32,
-) -> u8
+pub extern "C" fn privilege_core_open_client(alloc: Global, handle: &mut Handle, entries: u32) -> u8
     ensures { OpensClient entries result handle.new.held.value }
 {
     let _ = taken(alloc, handle);
@@ -84,11 +80,7 @@ pub extern "C" fn privilege_core_close(alloc: Global, handle: &mut Handle)
 
 /// The service was dialled.
 #[unsafe(no_mangle)]
-pub extern "C" fn privilege_core_dialled(
-    alloc: Global,
-    handle: &mut Handle,
-    said: &mut Said,
-) -> u8
+pub extern "C" fn privilege_core_dialled(alloc: Global, handle: &mut Handle, said: &mut Said) -> u8
     ensures { Drives machine.Dialled handle.old.held.value handle.new.held.value result said.old said.new }
 {
     let Some(mut boxed) = taken(alloc, handle) else {
@@ -195,7 +187,9 @@ pub extern "C" fn privilege_core_client_ask(
     let Some(mut boxed) = taken(alloc, handle) else {
         return NO_CORE;
     };
-    let code = ask(alloc, &mut boxed, session, client, user, privilege, simple, said);
+    let code = ask(
+        alloc, &mut boxed, session, client, user, privilege, simple, said,
+    );
     put(handle, boxed);
     code
 }
@@ -220,11 +214,7 @@ pub extern "C" fn privilege_core_client_looked(
 
 /// A client is told of a commit that was acknowledged.
 #[unsafe(no_mangle)]
-pub extern "C" fn privilege_core_client_tell(
-    alloc: Global,
-    handle: &mut Handle,
-    commit: u64,
-) -> u8
+pub extern "C" fn privilege_core_client_tell(alloc: Global, handle: &mut Handle, commit: u64) -> u8
     ensures { exports.Hears commit handle.old.held.value result handle.new.held.value }
 {
     let Some(mut boxed) = taken(alloc, handle) else {

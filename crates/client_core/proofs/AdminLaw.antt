@@ -114,7 +114,7 @@ module _ (pieces : Pieces) (calls : List Call) (before : Admin) (holds : Holds c
         let under : IsUnder (exchange_of framed) (Some put) (spelling framed) =
         record { request = framed; is = request; wanted_is = refl; sequence_is = refl } in
         reach sends calls before answer step.Send after _ d.0 d.1
-          (unheard_yet (exchange_of framed) (Some put) (spelling framed) under refl, record { request = framed; is = request })
+        (unheard_yet (exchange_of framed) (Some put) (spelling framed) under refl, record { request = framed; is = request })
     begins framed request false answer after d =
         let under : IsUnder (exchange_of framed) (Some put) (spelling framed) =
         record { request = framed; is = request; wanted_is = refl; sequence_is = refl } in
@@ -138,7 +138,7 @@ module _ (pieces : Pieces) (calls : List Call) (before : Admin) (holds : Holds c
     reads idle false answer after (inl d) = takes answer after d
     reads idle false answer after (inr (inl d)) =
         reach sends calls before answer (step.Unfit d.refusal) after _ d.is d.same
-          (subst (λ (s : AdminStage). IsAt s (message_in calls) (heard_in calls) (given_in calls) after.frame) (sym idle) tt, tt)
+        (subst (λ (s : AdminStage). IsAt s (message_in calls) (heard_in calls) (given_in calls) after.frame) (sym idle) tt, tt)
     reads idle false answer after (inr (inr d)) =
         reach sends calls before answer (step.Over (fault.Memory d.error)) after _ d.is d.same (tt, tt)
 
@@ -160,11 +160,10 @@ module _ (pieces : Pieces) (calls : List Call) (before : Admin) (holds : Holds c
       → Both Call.Dials calls before answer after
   dialled_at (stage.Dialling exchange) is answer after d =
       let was : IsDialling exchange (message_in calls) before.frame = at (stage.Dialling exchange) is in
-      reach Call.Dials calls before answer step.Send after _ d.0 d.1
-        (
-          unheard_yet exchange (message_in calls) before.frame was.under was.none,
-          record { request = was.under.request; is = was.under.is },
-        )
+      reach Call.Dials calls before answer step.Send after _ d.0 d.1 (
+        unheard_yet exchange (message_in calls) before.frame was.under was.none,
+        record { request = was.under.request; is = was.under.is },
+      )
   dialled_at stage.Idle is answer after d = dials_no answer after d
   dialled_at (stage.Waiting exchange ear) is answer after d = dials_no answer after d
 
@@ -197,7 +196,7 @@ module _ (pieces : Pieces) (calls : List Call) (before : Admin) (holds : Holds c
       behind : (framed : Framed) → Hears ear.side (ear.bytes ++ bytes) (framed ∷ []) []
           → Hears Replies (heard_in calls ++ bytes) (was.rows ++ framed ∷ []) []
       behind framed heard = pieces Replies (heard_in calls) bytes was.rows (framed ∷ []) ear.bytes [] was.hears
-        (subst (λ (s : Heard). Hears s (ear.bytes ++ bytes) (framed ∷ []) []) was.side_is heard)
+          (subst (λ (s : Heard). Hears s (ear.bytes ++ bytes) (framed ∷ []) []) was.side_is heard)
 
       reply : (framed : Framed) → Hears ear.side (ear.bytes ++ bytes) (framed ∷ []) [] → (follows : Next)
           → next_of exchange.wanted exchange.sequence exchange.rows framed ≡ follows → (answer : Step)
@@ -216,32 +215,31 @@ module _ (pieces : Pieces) (calls : List Call) (before : Admin) (holds : Holds c
             (subst (λ (w : Wanted). AreRows w exchange.sequence 0 was.rows) was.under.wanted_is was.are_rows);
         last_follows = subst (λ (n : ℕ). next_of (wanted_of was.under.request.message) n (length was.rows) framed ≡ follows) was.under.sequence_is
             (subst (λ (w : Wanted). next_of w exchange.sequence (length was.rows) framed ≡ follows) was.under.wanted_is
-              (subst (λ (n : ℕ). next_of exchange.wanted exchange.sequence n framed ≡ follows) was.count is));
+            (subst (λ (n : ℕ). next_of exchange.wanted exchange.sequence n framed ≡ follows) was.count is));
       }
 
       concludes : (framed : Framed) → Hears ear.side (ear.bytes ++ bytes) (framed ∷ []) [] → (follows : Next)
           → next_of exchange.wanted exchange.sequence exchange.rows framed ≡ follows → (answer : Step) (after : Admin)
           → does.concludes follows exchange framed answer before after → Both comes calls before answer after
-      concludes framed heard next.More is answer after d = reach comes calls before answer (step.Row framed.message) after _ d.0 d.1
-        (
-          record {
-            under = record {
-              request = was.under.request;
-              is = was.under.is;
-              wanted_is = was.under.wanted_is;
-              sequence_is = was.under.sequence_is;
-            };
-            rows = was.rows ++ framed ∷ [];
-            count = ap (λ (n : ℕ). n + 1) was.count ∙ sym (length_push framed was.rows);
-            side_is = refl;
-            hears = behind framed heard;
-            given = ap (λ (ms : List Message). ms ++ framed.message ∷ []) was.given ∙ sym (messages_push framed was.rows);
-            are_rows = rows_push exchange.wanted exchange.sequence framed 0 exchange.rows was.rows (omega (arith, was.count)) was.are_rows is;
-          },
-          reply framed heard next.More is (step.Row framed.message) refl refl,
-        )
+      concludes framed heard next.More is answer after d = reach comes calls before answer (step.Row framed.message) after _ d.0 d.1 (
+        record {
+          under = record {
+            request = was.under.request;
+            is = was.under.is;
+            wanted_is = was.under.wanted_is;
+            sequence_is = was.under.sequence_is;
+          };
+          rows = was.rows ++ framed ∷ [];
+          count = ap (λ (n : ℕ). n + 1) was.count ∙ sym (length_push framed was.rows);
+          side_is = refl;
+          hears = behind framed heard;
+          given = ap (λ (ms : List Message). ms ++ framed.message ∷ []) was.given ∙ sym (messages_push framed was.rows);
+          are_rows = rows_push exchange.wanted exchange.sequence framed 0 exchange.rows was.rows (omega (arith, was.count)) was.are_rows is;
+        },
+        reply framed heard next.More is (step.Row framed.message) refl refl,
+      )
       concludes framed heard next.Whole is answer after d = reach comes calls before answer (step.Reply framed.message) after _ d.0 d.1
-        (tt, reply framed heard next.Whole is (step.Reply framed.message) refl refl)
+          (tt, reply framed heard next.Whole is (step.Reply framed.message) refl refl)
       concludes framed heard (next.Wrong found) is answer after d = over found answer after d
 
       goes_on : (next : Listening) → HearsPiece (piece.More next) ear bytes
@@ -253,7 +251,7 @@ module _ (pieces : Pieces) (calls : List Call) (before : Admin) (holds : Holds c
         side_is = ap (λ (l : Listening). l.side) heard.0 ∙ was.side_is;
         hears = subst (λ (b : List ℕ). Hears Replies (heard_in calls ++ bytes) was.rows b) (sym (ap (λ (l : Listening). l.bytes) heard.0))
             (subst (λ (ms : List Framed). Hears Replies (heard_in calls ++ bytes) ms (ear.bytes ++ bytes)) (append-nil was.rows)
-              (pieces Replies (heard_in calls) bytes was.rows [] ear.bytes (ear.bytes ++ bytes) was.hears refl));
+            (pieces Replies (heard_in calls) bytes was.rows [] ear.bytes (ear.bytes ++ bytes) was.hears refl));
         given = was.given;
         are_rows = was.are_rows;
       }

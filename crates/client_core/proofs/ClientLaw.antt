@@ -162,20 +162,18 @@ module _ (calls : List Call) (before : Client) (holds : Holds calls before) wher
   finds : (asking : Asking) → question_in calls ≡ Some (put_of asking) → (found : Option Verdict)
       → answer_in (asked_by asking) before.cache ≡ found → (answer : Step) (after : Client)
       → does.finds found asking answer before after → Both (Call.Looks true) calls before answer after
-  finds asking asked (Some verdict) is answer after d = reach (Call.Looks true) calls before answer (step.Kept verdict) after _ d.0 d.1
-      (
-        record {
-          told = holds.told;
-          entries = λ e has. holds.entries e (Contains-promoted (same_asked (asked_by asking)) before.cache.entries e has);
-          stage = tt;
-        },
-        kept_answer asking verdict asked is,
-      )
-  finds asking asked None is answer after (inl d) = reach (Call.Looks true) calls before answer step.Send after _ d.0 d.1
-      (
-        record { told = holds.told; entries = holds.entries; stage = record { asked = asked; frame = refl; heard = refl } },
-        record { put = put_of asking; asked = asked; frame = refl },
-      )
+  finds asking asked (Some verdict) is answer after d = reach (Call.Looks true) calls before answer (step.Kept verdict) after _ d.0 d.1 (
+    record {
+      told = holds.told;
+      entries = λ e has. holds.entries e (Contains-promoted (same_asked (asked_by asking)) before.cache.entries e has);
+      stage = tt;
+    },
+    kept_answer asking verdict asked is,
+  )
+  finds asking asked None is answer after (inl d) = reach (Call.Looks true) calls before answer step.Send after _ d.0 d.1 (
+    record { told = holds.told; entries = holds.entries; stage = record { asked = asked; frame = refl; heard = refl } },
+    record { put = put_of asking; asked = asked; frame = refl },
+  )
   finds asking asked None is answer after (inr d) = reach (Call.Looks true) calls before answer (step.Over (fault.Memory d.0)) after _ d.1 d.2
       (record { told = holds.told; entries = λ e has. none e has; stage = tt }, tt)
 
@@ -203,15 +201,14 @@ module _ (calls : List Call) (before : Client) (holds : Holds calls before) wher
       → does.dialled_at s answer before after → Both Call.Dials calls before answer after
   dialled_at (stage.Dialling asking) is answer after d =
       let was : IsDialling asking (question_in calls) before.cache.entries before.frame before.sequence = at (stage.Dialling asking) is in
-      reach Call.Dials calls before answer step.Send after _ d.0 d.1
-          (
-            record {
-              told = holds.told;
-              entries = λ e has. none_in before.cache.entries was.none e has;
-              stage = record { asked = was.asked; frame = was.frame; heard = refl };
-            },
-            record { put = put_of asking; asked = was.asked; frame = was.frame },
-          )
+      reach Call.Dials calls before answer step.Send after _ d.0 d.1 (
+        record {
+          told = holds.told;
+          entries = λ e has. none_in before.cache.entries was.none e has;
+          stage = record { asked = was.asked; frame = was.frame; heard = refl };
+        },
+        record { put = put_of asking; asked = was.asked; frame = was.frame },
+      )
   dialled_at stage.Idle is answer after d = dials_no answer after d
   dialled_at (stage.Looking asking) is answer after d = dials_no answer after d
   dialled_at (stage.Waiting asking ear) is answer after d = dials_no answer after d
@@ -233,8 +230,8 @@ module _ (calls : List Call) (before : Client) (holds : Holds calls before) wher
   falls_at (stage.Looking asking) is answer after d =
       let asked : question_in calls ≡ Some (put_of asking) = at (stage.Looking asking) is in
       dials Call.Falls (with_tries 2 asking) answer after
-          (record { told = holds.told; entries = λ e has. none e has; stage = record { asked = asked; frame = refl; none = refl } }, tt)
-          (λ error. (record { told = holds.told; entries = λ e has. none e has; stage = tt }, tt)) d
+      (record { told = holds.told; entries = λ e has. none e has; stage = record { asked = asked; frame = refl; none = refl } }, tt)
+      (λ error. (record { told = holds.told; entries = λ e has. none e has; stage = tt }, tt)) d
   falls_at (stage.Dialling asking) is answer after d =
       let was : IsDialling asking (question_in calls) before.cache.entries before.frame before.sequence = at (stage.Dialling asking) is in
       retries asking was.asked was.frame (nat_le asking.tries 1) answer after d
@@ -307,7 +304,7 @@ module _ (calls : List Call) (before : Client) (holds : Holds calls before) wher
       elim (Contains-cons (put.asked, verdict) (take (before.cache.most - 1) (without put.asked before.cache).entries) entry has) [
         | inl same ↦ inl same
         | inr rest ↦ inr (other_stays put.asked entry
-              (Contains-take (before.cache.most - 1) (without put.asked before.cache).entries entry rest))
+            (Contains-take (before.cache.most - 1) (without put.asked before.cache).entries entry rest))
       ]
 
   kept_if : (agent : Bool) (put : Put) (verdict : Verdict) (new : Cache) → is_agent verdict.answer.kind.0 ≡ agent
@@ -350,44 +347,42 @@ module _ (calls : List Call) (before : Client) (holds : Holds calls before) wher
           let put = put_of asking in
           let whole : Hears Replies (heard_in calls ++ bytes) (framed ∷ []) [] =
           subst (λ (l : Listening). Hears l.side (l.bytes ++ bytes) (framed ∷ []) []) was.heard heard in
-          reach comes calls before answer (step.Reply framed.message) after _ d.0 d.2
-              (
-                record {
-                  told = same_told (does.verdict_of framed.message) (asked_by asking) after.cache d.1 ∙ holds.told;
-                  entries = λ e has. subst (λ (p : Option Put). IsSaid (and_verdict (does.verdict_of framed.message) p (said_in calls)) e) (sym was.asked)
+          reach comes calls before answer (step.Reply framed.message) after _ d.0 d.2 (
+            record {
+              told = same_told (does.verdict_of framed.message) (asked_by asking) after.cache d.1 ∙ holds.told;
+              entries = λ e has. subst (λ (p : Option Put). IsSaid (and_verdict (does.verdict_of framed.message) p (said_in calls)) e) (sym was.asked)
                   (kept_said (does.verdict_of framed.message) put after.cache d.1 e has);
-                  stage = tt;
-                },
-                record {
-                  bytes = bytes;
-                  came = refl;
-                  put = put;
-                  asked = was.asked;
-                  framed = framed;
-                  sent = was.frame ∙ ap (λ (n : ℕ). frame_of n asking) (sym r.number);
-                  is = refl;
-                  heard = whole;
-                  commit = r.commit;
-                  tells = r.tells;
-                  fresh = subst (λ (n : ℕ). n ≤ r.commit) holds.told r.fresh;
-                },
-              )
+              stage = tt;
+            },
+            record {
+              bytes = bytes;
+              came = refl;
+              put = put;
+              asked = was.asked;
+              framed = framed;
+              sent = was.frame ∙ ap (λ (n : ℕ). frame_of n asking) (sym r.number);
+              is = refl;
+              heard = whole;
+              commit = r.commit;
+              tells = r.tells;
+              fresh = subst (λ (n : ℕ). n ≤ r.commit) holds.told r.fresh;
+            },
+          )
 
       hears : (came : Piece) → HearsPiece came ear bytes → (answer : Step) (after : Client) → does.hears came asking answer before after
           → Both comes calls before answer after
-      hears (piece.More next) heard answer after d = reach comes calls before answer step.Wait after _ d.0 d.1
-          (
-            record {
-              told = holds.told;
-              entries = holds.entries;
-              stage = record {
-                asked = was.asked;
-                frame = was.frame;
-                heard = heard.0 ∙ ap (λ (l : Listening). record l { bytes = l.bytes ++ bytes }) was.heard;
-              };
-            },
-            tt,
-          )
+      hears (piece.More next) heard answer after d = reach comes calls before answer step.Wait after _ d.0 d.1 (
+        record {
+          told = holds.told;
+          entries = holds.entries;
+          stage = record {
+            asked = was.asked;
+            frame = was.frame;
+            heard = heard.0 ∙ ap (λ (l : Listening). record l { bytes = l.bytes ++ bytes }) was.heard;
+          };
+        },
+        tt,
+      )
       hears (piece.Whole framed) heard answer after d =
           concludes framed heard (does.fault_in before.sequence before.cache.told framed) refl answer after d
       hears (piece.Wrong refusal) heard answer after d = over (fault_by refusal) answer after d

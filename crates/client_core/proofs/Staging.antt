@@ -10,6 +10,11 @@ use Rattle.client_core.specs.Listening.{Listening, is_fit}
 use Rattle.client_core.specs.Client.{Client}
 use Rattle.client_core.specs.Asking as asking_does
 use Rattle.client_core.specs.Admin.{Admin}
+use Rattle.client_core.specs.Agent.{Agent, First, Turn}
+use Rattle.client_core.specs.Agent as agent_does
+use Rattle.cynara_keys.specs.declared.results.Kind.{Kind}
+use Rattle.client_core.specs.declared.stages.Open.{Open}
+use Rattle.client_core.specs.declared.stages.AgentStage.{AgentStage}
 use Rattle.client_core.specs.Admin as admin_does
 use Rattle.client_core.specs.AdminReplies.{next_of, is_row, is_last, is_list_row}
 use Rattle.client_core.specs.declared.ears.Piece.{Piece}
@@ -86,6 +91,44 @@ module _ (sequence : ℕ) (frame : List ℕ) (is_linked : Bool) (s t : AdminStag
       → admin_does.HearsReply exchange ear bytes answer (admin sequence frame is_linked s) new
       → admin_does.HearsReply exchange ear bytes answer (admin sequence frame is_linked t) new
   admin_reply ear bytes d = (d.0, d.1, admin_hears d.0 d.2)
+
+abbrev pub agent : Kind → List ℕ → AgentStage → Agent
+agent kind frame stage = record { kind = kind; frame = frame; stage = stage }
+
+module _ (kind : Kind) (frame : List ℕ) (s t : AgentStage) (answer : Step) (new : Agent) where
+  same_begins : (message : Message) (first : First) → agent_does.begins first message answer (agent kind frame s) new
+      → agent_does.begins first message answer (agent kind frame t) new
+  same_begins message First.Registers d = d
+  same_begins message First.IsTaken d = d
+  same_begins message First.Strays d = d
+
+  first_hears : (came : Piece) → agent_does.hears_first came answer (agent kind frame s) new
+      → agent_does.hears_first came answer (agent kind frame t) new
+  first_hears (piece.More ear) d = d
+  first_hears (piece.Whole framed) d = same_begins framed.message (agent_does.first_of framed.message) d
+  first_hears (piece.Wrong refusal) d = d
+
+  pub same_first : (ear : Listening) (bytes : List ℕ) → agent_does.HearsFirst ear bytes answer (agent kind frame s) new
+      → agent_does.HearsFirst ear bytes answer (agent kind frame t) new
+  same_first ear bytes d = (d.0, d.1, first_hears d.0 d.2)
+
+  module _ (asked : Option Open) where
+    same_turns : (framed : Framed) (turn : Turn)
+        → agent_does.turns turn framed.sequence framed.message asked answer (agent kind frame s) new
+        → agent_does.turns turn framed.sequence framed.message asked answer (agent kind frame t) new
+    same_turns framed (Turn.Asks number) d = d
+    same_turns framed Turn.Passes d = d
+    same_turns framed Turn.HasNoPlace d = d
+
+    next_hears : (came : Piece) → agent_does.hears_next came asked answer (agent kind frame s) new
+        → agent_does.hears_next came asked answer (agent kind frame t) new
+    next_hears (piece.More ear) d = d
+    next_hears (piece.Whole framed) d = same_turns framed (agent_does.turn_of framed.message) d
+    next_hears (piece.Wrong refusal) d = d
+
+    pub same_next : (ear : Listening) (bytes : List ℕ) → agent_does.HearsNext asked ear bytes answer (agent kind frame s) new
+        → agent_does.HearsNext asked ear bytes answer (agent kind frame t) new
+    same_next ear bytes d = (d.0, d.1, next_hears d.0 d.2)
 
 -- ---- rows
 

@@ -93,32 +93,57 @@ abbrev pub IsMisplaced : Message → Step → Agent → Agent → Type 0
 IsMisplaced message answer old new =
     (answer ≡ step.Over (fault.Operation (number_of (operation message)))) × (new ≡ cut old)
 
--- the first message: it says that the agent is registered, or that the kind is taken
-abbrev pub begins : Message → Step → Agent → Agent → Type 0
-begins (Registered kind) answer old new =
-    (answer ≡ step.Reply (Registered kind)) × (new ≡ record old { stage = listening None })
-begins (KindTaken kind) answer old new = (answer ≡ step.Reply (KindTaken kind)) × (new ≡ cut old)
-begins message answer old new = IsMisplaced message answer old new
+-- What the first message says: that the agent is registered, or that the kind is taken. Another has no place there.
+pub data First : Type 0 where
+  Registers : First
+  IsTaken : First
+  Strays : First
 
--- a further message: it asks, or says that nobody waits for the answer to a number
-abbrev pub turns : ℕ → Message → Option Open → Step → Agent → Agent → Type 0
-turns sequence (AgentQuestion number question result) asked answer old new =
-    (answer ≡ step.Reply (AgentQuestion number question result))
+abbrev pub first_of : Message → First
+first_of (Registered kind) = Registers
+first_of (KindTaken kind) = IsTaken
+first_of other = Strays
+
+abbrev pub begins : First → Message → Step → Agent → Agent → Type 0
+begins Registers message answer old new = (answer ≡ step.Reply message) × (new ≡ record old { stage = listening None })
+begins IsTaken message answer old new = (answer ≡ step.Reply message) × (new ≡ cut old)
+begins Strays message answer old new = IsMisplaced message answer old new
+
+abbrev pub Begins : Message → Step → Agent → Agent → Type 0
+Begins message answer old new = begins (first_of message) message answer old new
+
+-- What a further message says: it asks the question of a number, or it says that nobody waits for the answer to one.
+pub data Turn : Type 0 where
+  Asks : ℕ → Turn
+  Passes : Turn
+  HasNoPlace : Turn
+
+abbrev pub turn_of : Message → Turn
+turn_of (AgentQuestion number question result) = Asks number
+turn_of (UnknownNumber number) = Passes
+turn_of other = HasNoPlace
+
+abbrev pub turns : Turn → ℕ → Message → Option Open → Step → Agent → Agent → Type 0
+turns (Asks number) sequence message asked answer old new =
+    (answer ≡ step.Reply message)
     × (new ≡ record old { stage = listening (Some (record { number = number; sequence = sequence })) })
-turns sequence (UnknownNumber number) asked answer old new =
-    (answer ≡ step.Reply (UnknownNumber number)) × (new ≡ record old { stage = listening asked })
-turns sequence message asked answer old new = IsMisplaced message answer old new
+turns Passes sequence message asked answer old new =
+    (answer ≡ step.Reply message) × (new ≡ record old { stage = listening asked })
+turns HasNoPlace sequence message asked answer old new = IsMisplaced message answer old new
+
+abbrev pub Turns : Framed → Option Open → Step → Agent → Agent → Type 0
+Turns framed asked answer old new = turns (turn_of framed.message) framed.sequence framed.message asked answer old new
 
 abbrev pub hears_first : Piece → Step → Agent → Agent → Type 0
 hears_first (piece.More ear) answer old new =
     (answer ≡ step.Wait) × (new ≡ record old { stage = stage.Registering ear })
-hears_first (piece.Whole framed) answer old new = begins framed.message answer old new
+hears_first (piece.Whole framed) answer old new = Begins framed.message answer old new
 hears_first (piece.Wrong refusal) answer old new = (answer ≡ step.Over (fault_by refusal)) × (new ≡ cut old)
 
 abbrev pub hears_next : Piece → Option Open → Step → Agent → Agent → Type 0
 hears_next (piece.More ear) asked answer old new =
     (answer ≡ step.Wait) × (new ≡ record old { stage = stage.Listening asked ear })
-hears_next (piece.Whole framed) asked answer old new = turns framed.sequence framed.message asked answer old new
+hears_next (piece.Whole framed) asked answer old new = Turns framed asked answer old new
 hears_next (piece.Wrong refusal) asked answer old new = (answer ≡ step.Over (fault_by refusal)) × (new ≡ cut old)
 
 abbrev pub HearsFirst : Listening → List ℕ → Step → Agent → Agent → Type 0

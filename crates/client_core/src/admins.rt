@@ -205,12 +205,7 @@ impl AdminMachine {
         requires { self.old.stage ≡ stage_is.Idle }
         ensures { does.Concludes exchange framed result self.old self.new }
     {
-        match next_of(
-            exchange.wanted,
-            exchange.sequence,
-            exchange.rows,
-            &framed,
-        ) {
+        match next_of(exchange.wanted, exchange.sequence, exchange.rows, &framed) {
             Next::More => {
                 let further = Exchange {
                     wanted: exchange.wanted,

@@ -215,7 +215,7 @@ impl AgentMachine {
     // The first message is whole.
     fn begin(&mut self, framed: Framed) -> Step
         requires { self.old.stage ≡ stage_is.Dialling }
-        ensures { does.begins framed.message result self.old self.new }
+        ensures { does.Begins framed.message result self.old self.new }
     {
         match &framed.message {
             Message::Registered { .. } => {
@@ -230,7 +230,7 @@ impl AgentMachine {
     // A further message is whole.
     fn turn(&mut self, asked: Option<Open>, framed: Framed) -> Step
         requires { self.old.stage ≡ stage_is.Dialling }
-        ensures { does.turns framed.sequence framed.message asked result self.old self.new }
+        ensures { does.Turns framed asked result self.old self.new }
     {
         match &framed.message {
             Message::AgentQuestion { number, .. } => {

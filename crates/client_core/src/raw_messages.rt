@@ -34,12 +34,7 @@ pub(crate) fn read_raw(
     decode(alloc, Heard::AtAdmin, frame.as_slice())
 }
 
-fn put_raw(
-    frame: &mut Bytes,
-    sequence: u16,
-    operation: u8,
-    fields: &[u8],
-) -> Result<(), AllocError>
+fn put_raw(frame: &mut Bytes, sequence: u16, operation: u8, fields: &[u8]) -> Result<(), AllocError>
     requires empty { frame.old ≡ [] }
     requires most { length fields.now ≤ 1048573 }
     ensures { OnOk result (frame.new ≡ raw_frame sequence operation fields.now) }

@@ -18,7 +18,7 @@ returns-else-not-takes c =
     let fits : is_fit ear.bytes bytes ≡ true = search rules in
     let heard : does.comes (is_fit ear.bytes bytes) exchange ear bytes c.hear.result (of (stage.Waiting exchange ear)) c.hear.new.self =
     subst (λ (fit : Bool). does.comes fit exchange ear bytes c.hear.result (of (stage.Waiting exchange ear)) c.hear.new.self) (sym fits)
-      (admin_reply c.self.inside.sequence c.self.inside.frame c.self.inside.is_linked c.replace.new.dest
-        (stage.Waiting exchange ear) exchange c.hear.result c.hear.new.self ear bytes c.hear.ensures) in
+    (admin_reply c.self.inside.sequence c.self.inside.frame c.self.inside.is_linked c.replace.new.dest
+    (stage.Waiting exchange ear) exchange c.hear.result c.hear.new.self ear bytes c.hear.ensures) in
     subst (λ (old : Admin). does.Comes bytes c.hear.result old c.hear.new.self) c.self.view_is
-      (subst (λ (s : AdminStage). does.Comes bytes c.hear.result (of s) c.hear.new.self) (sym was) heard)
+    (subst (λ (s : AdminStage). does.Comes bytes c.hear.result (of s) c.hear.new.self) (sym was) heard)

@@ -18,7 +18,7 @@ returns-else-not-takes c =
     let fits : is_fit ear.bytes bytes ≡ true = search rules in
     let heard : does.comes (is_fit ear.bytes bytes) asking ear bytes c.hear.result (of (stage.Waiting asking ear)) c.hear.new.self =
     subst (λ (fit : Bool). does.comes fit asking ear bytes c.hear.result (of (stage.Waiting asking ear)) c.hear.new.self) (sym fits)
-      (same_reply c.self.inside.cache c.self.inside.sequence c.self.inside.frame c.self.inside.is_linked c.replace.new.dest
-        (stage.Waiting asking ear) asking c.hear.result c.hear.new.self ear bytes c.hear.ensures) in
+    (same_reply c.self.inside.cache c.self.inside.sequence c.self.inside.frame c.self.inside.is_linked c.replace.new.dest
+    (stage.Waiting asking ear) asking c.hear.result c.hear.new.self ear bytes c.hear.ensures) in
     subst (λ (old : Client). does.Comes bytes c.hear.result old c.hear.new.self) c.self.view_is
-      (subst (λ (s : Stage). does.Comes bytes c.hear.result (of s) c.hear.new.self) (sym was) heard)
+    (subst (λ (s : Stage). does.Comes bytes c.hear.result (of s) c.hear.new.self) (sym was) heard)
