@@ -1,3 +1,4 @@
+mod AgentLaw
 mod AdminLaw
 mod ClientLaw
 mod Hearing

@@ -8,3 +8,4 @@ pub mod Admin
 pub mod Agent
 pub mod Machine
 pub mod AdminCalls
+pub mod AgentCalls

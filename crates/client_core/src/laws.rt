@@ -6,6 +6,10 @@ ghost use Rattle.client_core.specs.ClientCalls.{Call, Ran, Does, Means, answer_o
 ghost use Rattle.client_core.specs.Admin.{Admin};
 ghost use Rattle.client_core.specs.AdminCalls.{Call as AdminCall, Ran as AdminRan, Does as AdminDoes};
 ghost use Rattle.client_core.specs.AdminCalls as admins;
+ghost use Rattle.cynara_keys.specs.declared.results.Kind as kind_type;
+ghost use Rattle.client_core.specs.Agent.{Agent};
+ghost use Rattle.client_core.specs.AgentCalls.{Call as AgentCall, Ran as AgentRan, Does as AgentDoes};
+ghost use Rattle.client_core.specs.AgentCalls as agents;
 
 use wire_messages::pieces_do_not_matter;
 
@@ -28,3 +32,10 @@ pub fn what_an_administrators_answer_means()
 {
     pieces_do_not_matter();
 }
+
+/// What an agent sends, whatever calls were made before: behind a dial its registration; and else the answer that is given, to
+/// the number of the question that was asked last on this connection, and that was not answered since.
+pub fn what_an_agent_sends()
+    ensures { (kind : kind_type.Kind) (calls : List AgentCall) (call : AgentCall) (before after : Agent)
+        → AgentRan kind calls before → AgentDoes call before after → agents.Means kind call calls after }
+{}

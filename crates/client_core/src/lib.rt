@@ -22,6 +22,6 @@ mod wanted;
 pub use admins::AdminMachine;
 pub use agents::AgentMachine;
 pub use clients::ClientMachine;
-pub use laws::{what_an_administrators_answer_means, what_an_answer_means};
+pub use laws::{what_an_administrators_answer_means, what_an_agent_sends, what_an_answer_means};
 pub use machines::Machine;
 pub use steps::{Fault, Step};
