@@ -1,0 +1,72 @@
+-- A piece that is no longer than what is wanted of the frame under way: it ends the frame, or goes on with it.
+use Rattle.std.proofs.Common.{◌≡◌, ◌≤◌, ℕ, List, [], ◌∷◌, ◌++◌, length, None, refl, sym, ap, ◌∙◌, subst}
+use Rattle.wire_messages.specs.Stream.{Feeding, Hears, HearsOne, BeginsWrong, IsOpen, Fed, Failed, wanted, first_of}
+use Rattle.wire_messages.specs.declared.messages.Framed.{Framed}
+use Rattle.wire_messages.specs.declared.operations.Heard.{Heard}
+use Rattle.wire_messages.specs.declared.refusals.WireRefusal.{WireRefusal}
+use Rattle.wire_messages.specs.declared.refusals.WireRefusal.TheVariants.{TooShort, TooLong, BadOperation, BadField, Trailing, Memory}
+use Rattle.client_core.specs.Hearing.{HearsFeeding}
+use Rattle.client_core.specs.declared.feeding.Fed.TheVariants as fed
+
+-- what is known of pieces: one message at most
+abbrev pub Law : Type 0
+Law = (heard : Heard) (partial bytes : List ℕ) (messages : List Framed) (behind : List ℕ)
+    → IsOpen heard partial → length bytes ≤ wanted partial → Hears heard (partial ++ bytes) messages behind
+    → HearsOne (partial ++ bytes) messages behind
+
+-- the frame of the message ends with the piece
+pub whole : Law → (old after new : Feeding) (bytes : List ℕ) (framed : Framed)
+    → old.waiting ≡ [] → old.failed ≡ None → IsOpen old.heard old.partial → length bytes ≤ wanted old.partial
+    → Fed old after bytes → after.waiting ≡ framed ∷ new.waiting → new ≡ record after { waiting = new.waiting }
+    → HearsFeeding (fed.Whole framed) old new bytes
+whole law old after new bytes framed empty sound open_frame up h taken rest =
+    let waits : after.waiting ≡ h.messages = h.waiting ∙ ap (λ ms. ms ++ h.messages) empty in
+    elim (law old.heard old.partial bytes h.messages after.partial open_frame up h.heard) [
+      | HearsOne.none messages behind ↦ cc
+      | HearsOne.one other messages behind ↦
+          let same : framed ∷ new.waiting ≡ other ∷ [] = sym taken ∙ (waits ∙ messages) in
+          let left : new.waiting ≡ [] = cc in
+          let is : h.messages ≡ framed ∷ [] = cc in
+          let heard : Hears old.heard (old.partial ++ bytes) (framed ∷ []) [] =
+          subst (λ ms. Hears old.heard (old.partial ++ bytes) ms []) is
+          (subst (λ rest. Hears old.heard (old.partial ++ bytes) h.messages rest) behind h.heard) in
+          heard
+    ]
+
+-- the frame goes on behind the piece
+pub more : Law → (old after new : Feeding) (bytes : List ℕ)
+    → old.waiting ≡ [] → old.failed ≡ None → IsOpen old.heard old.partial → length bytes ≤ wanted old.partial
+    → Fed old after bytes → after.waiting ≡ [] → new ≡ after
+    → HearsFeeding fed.More old new bytes
+more law old after new bytes empty sound open_frame up h none same =
+    let waits : after.waiting ≡ h.messages = h.waiting ∙ ap (λ ms. ms ++ h.messages) empty in
+    elim (law old.heard old.partial bytes h.messages after.partial open_frame up h.heard) [
+      | HearsOne.none messages behind ↦
+          let side = h.side in
+          let failed = h.failed in
+          let parts : after ≡ record after { waiting = after.waiting } = refl in
+          let goes : new ≡ record old { partial = old.partial ++ bytes } = cc in
+          (goes, subst (λ (rest : List ℕ). IsOpen old.heard rest) behind h.unfinished)
+      | HearsOne.one other messages behind ↦ cc
+    ]
+
+-- nothing is wrong with no bytes
+nothing_wrong : (heard : Heard) (bytes : List ℕ) (refusal : WireRefusal) → BeginsWrong heard [] refusal → BeginsWrong heard bytes refusal
+unfolding first_of
+nothing_wrong heard bytes (TooShort n) wrong = cc
+nothing_wrong heard bytes (TooLong n) wrong = cc
+nothing_wrong heard bytes (BadOperation n) wrong = cc
+nothing_wrong heard bytes (BadField n) wrong = cc
+nothing_wrong heard bytes (Trailing n) wrong = cc
+nothing_wrong heard bytes (Memory error) wrong = tt
+
+-- the frame is wrong with the piece, which does not pass its end
+pub wrong : Law → (old new : Feeding) (bytes : List ℕ) (refusal : WireRefusal)
+    → IsOpen old.heard old.partial → length bytes ≤ wanted old.partial
+    → Failed old new bytes refusal → HearsFeeding (fed.Wrong refusal) old new bytes
+wrong law old new bytes refusal open_frame up h =
+    elim (law old.heard old.partial bytes h.messages h.behind open_frame up h.heard) [
+      | HearsOne.none messages behind ↦ subst (λ rest. BeginsWrong old.heard rest refusal) behind h.wrong
+      | HearsOne.one other messages behind ↦
+          nothing_wrong old.heard (old.partial ++ bytes) refusal (subst (λ rest. BeginsWrong old.heard rest refusal) behind h.wrong)
+    ]

@@ -1,0 +1,5 @@
+mod AgentLaw
+mod AdminLaw
+mod ClientLaw
+mod Hearing
+mod Staging

@@ -1,0 +1,11 @@
+pub mod Listening
+pub mod Hearing
+pub mod Client
+pub mod Asking
+pub mod ClientCalls
+pub mod AdminReplies
+pub mod Admin
+pub mod Agent
+pub mod Machine
+pub mod AdminCalls
+pub mod AgentCalls
