@@ -41,7 +41,8 @@ static int ask_in_loop(char **words) {
     cynara_async *client = NULL;
     int found = cynara_async_initialize(&client, NULL, watch, &one);
     for (int at = 0; at < 2 && found == CYNARA_API_SUCCESS; at++) {
-        found = cynara_async_create_request(client, words[0], words[1], words[2], words[3], NULL, answered, &answers[at]);
+        found =
+            cynara_async_create_request(client, words[0], words[1], words[2], words[3], NULL, answered, &answers[at]);
         while (found == CYNARA_API_SUCCESS && answers[at] == CYNARA_API_CACHE_MISS) {
             if (poll(&one, 1, -1) > 0) found = cynara_async_process(client);
         }

@@ -1,4 +1,4 @@
-/* What `library_doors.py` drives libprivilege by: driver SOCKET MILLISECONDS, at the door of administrators or at that of agents. Each line of
+/* What `library_doors.py` drives libprivilege by: driver ROLE SOCKET MILLISECONDS, at the door of administrators or of agents. Each line of
  * standard input is a call, and each line of standard output is what came of it. `library_calls.c` is linked with it. */
 #include <privilege.h>
 #include <stdio.h>

@@ -24,7 +24,8 @@ from library_cost import echo_at
 
 HERE = pathlib.Path(__file__).resolve().parent
 LIMIT, SLACK = 0.3, 1.5
-CALLS = b"".join(b"%s c%d s u p\n" % (word, at % 3) for at, word in enumerate((b"check", b"ask", b"simple") * 4)) + b"leave\ncheck c0 s u p\n"
+CALLS = b"".join(b"%s c%d s u p\n" % (word, at % 3) for at, word in enumerate((b"check", b"ask", b"simple") * 4))
+CALLS += b"leave\ncheck c0 s u p\n"
 RIGHT, NO_MEMORY = "0 65535 7 0 0 . MANIFESTS User::Pkg::org.tizen.example1 * http://tizen.org/privilege/camera", "2 0 0 0 0 . ."
 
 

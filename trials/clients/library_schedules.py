@@ -1,6 +1,6 @@
 #!/usr/bin/env python3
 """library_schedules.py [--count N] [--seed N] [--valgrind] [--core FILE]: random schedules of connections that fail, close and answer, for
-libprivilege over real sockets, against a model of what PROTOCOL allows a client. A driver in C makes the calls one by one; this trial is the
+libprivilege over real sockets, against a model of what PROTOCOL allows a client. A driver in C makes the calls one by one; this is the
 service, which answers rightly, wrongly, in pieces, late, or not at all, hangs up between questions, and goes away. Wanted are
 - of each call the answer of the model, whole: error, result, commit, agent, bucket, key;
 - a frame on the connection exactly where the model has one, the same each time that it is sent, with the next number;
