@@ -74,7 +74,7 @@ class NotNow(PrivilegeError):
 
 
 class Refused(PrivilegeError):
-    """A command that breaks a rule, or a damaged store: the rule, its text and value, as privilege-protocol(7) has them."""
+    """A command that breaks a rule, or a damaged store: rule, text and value, as privilege-protocol(7) has them."""
 
     def __init__(self, error, rule, text, value):
         super().__init__(error, f"rule {rule} {text} {value}")

@@ -1,5 +1,6 @@
 #!/usr/bin/env python3
-"""library_doors.py [--count N] [--seed N] [--valgrind] [--core FILE]: as `library_schedules.py`, for administrators and agents: a service that answers rightly, wrongly, in pieces, late, or not at all, hangs up, and goes away. Wanted are
+"""library_doors.py [--count N] [--seed N] [--valgrind] [--core FILE]: as `library_schedules.py`, for administrators and agents:
+a service that answers rightly, wrongly, in pieces, late, or not at all, hangs up, and goes away. Wanted are
 - of each command the answer that the service gave, each sent once, over a connection that stood when it began; UNKNOWN where the connection
   ended behind its frame, and UNAVAILABLE where none could be made;
 - of an agent its questions in order, its answers as frames, and withdrawn exactly what nobody waits for any more;
