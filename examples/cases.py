@@ -7,6 +7,8 @@ import re
 HERE = pathlib.Path(__file__).resolve().parent
 ESCAPE = re.compile(rb"\\(?:x([0-9a-f]{2})|\{(?:(\d+)\.\.)?(\d+)\*([^}]+)\}|\{([a-z_]+)\}|(.))")
 SIMPLE = {b"n": b"\n", b"t": b"\t", b"r": b"\r", b"s": b" ", b"e": b"", b"c": b"", b"\\": b"\\", b"|": b"|"}
+# The files whose text stands for an escape.
+FILES = {b"help": HERE / "help", b"version": HERE.parent / "VERSION"}
 COLUMNS = (b"name", b"words", b"input", b"output", b"status", b"errors")
 
 
@@ -44,10 +46,10 @@ def plain(cell):
             return bytes.fromhex(digits.decode())
         if last:
             return numbered(plain(again), int(first or 1), int(last))
-        if file:
-            return (HERE / file.decode()).read_bytes().removesuffix(b"\n")
+        if file in FILES:
+            return plain(FILES[file].read_bytes().removesuffix(b"\n"))
         if simple not in SIMPLE:
-            raise Wrong(f"no escape: \\{simple.decode()}")
+            raise Wrong(f"no escape: {found.group().decode()}")
         return SIMPLE[simple]
 
     return ESCAPE.sub(of, cell)

@@ -98,7 +98,7 @@ module _ (start now : AdminTalk) (Keeps : List Exchange → Type 0) (frames : Li
       ap (λ (list : List Exchange). frames_of answered ++ frames_of list) none ∙ append-nil (frames_of answered)
 
   -- what comes of a connection for what caused its end
-  Comes : Ended → Type 0
+  abbrev Comes : Ended → Type 0
   Comes cause = ((cause ≡ Closed) × AnswersEach Closed frames start now)
       ⊎ (((cause ≡ Stopped) × AnswersFront Stopped frames start now) ⊎ (cause ≡ Memory))
 

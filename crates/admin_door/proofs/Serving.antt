@@ -191,8 +191,11 @@ module _ (start old : AdminTalk) (feeder fed : Feeding) (bytes : List ℕ) (fram
     ends-unsent ended cause Stop replies stop unsent none is =
         inr (is, record { stop = asked replies; last_is = refl; message = stop; no_stops = s.no_stops; reason = unsent })
     ends-unsent ended cause message replies other unsent none is =
-        inl (is, subst (λ (e : Ended). StopsAt e s.answered) (sym is) none,
-        (inr (subst (λ (m : Message). IsNoStop m) (sym other) tt), tt))
+        inl (
+          is,
+          subst (λ (e : Ended). StopsAt e s.answered) (sym is) none,
+          (inr (subst (λ (m : Message). IsNoStop m) (sym other) tt), tt),
+        )
 
     ends-half : (ended cause : Ended) → IsHalfSent told framed between now cause → ended ≡ ended_behind framed.message cause
         → AnsweredMore → Serves start now ended Is

@@ -68,6 +68,19 @@ fn made(alloc: Global, dial: &mut MemDial, entries: u32) -> Result<Client<&mut M
     Ok(Client::new(alloc, dial, entries)?)
 }
 
+// What each of the calls answers.
+fn each_answer(
+    alloc: Global,
+    client: &mut Client<&mut MemDial>,
+    calls: &str,
+) -> Result<String, Failure> {
+    let mut text = String::new(alloc);
+    for word in calls.split(',') {
+        call(alloc, client, &mut text, word)?;
+    }
+    Ok(text)
+}
+
 /// What the calls answer.
 pub fn answers(
     alloc: Global,
@@ -75,10 +88,9 @@ pub fn answers(
     entries: u32,
     calls: &str,
 ) -> Result<String, Failure> {
-    let mut text = String::new(alloc);
     let mut client = made(alloc, dial, entries)?;
-    for word in calls.split(',') {
-        call(alloc, &mut client, &mut text, word)?;
-    }
-    Ok(text)
+    let text = each_answer(alloc, &mut client, calls);
+    // proof: handed on to be dropped; dropped in place its parts, which hold a borrow, would be taken one by one
+    drop(client);
+    text
 }

@@ -1,6 +1,6 @@
 // Calls of the machine's files.
 use crate::words::{Words, number};
-use std::os::unix::fs::PermissionsExt;
+use std::os::unix::fs::{PermissionsExt, symlink};
 use std::time::Duration;
 use std::{fs, io, thread};
 
@@ -12,6 +12,7 @@ pub fn obey(rt: &HostRuntime, words: &Words<'_>) -> io::Result<bool> {
         "folder" => fs::create_dir(rt, words.first)?,
         "unfolder" => fs::remove_dir(rt, words.first)?,
         "write" => fs::write(rt, words.first, words.second)?,
+        "link" => symlink(rt, words.first, words.second)?,
         "remove" => fs::remove_file(rt, words.first)?,
         "mode" => show_mode(rt, words.first)?,
         _ => return Ok(false),

@@ -10,8 +10,8 @@ use std::io;
 #[derive(Drop)]
 pub struct Places {
     nets: Vec<Option<SocketNet<HostRuntime>>>,
-    doors: Vec<Option<SocketDoor>>,
-    links: Vec<Option<SocketLink>>,
+    doors: Vec<Option<SocketDoor<HostRuntime>>>,
+    links: Vec<Option<SocketLink<HostRuntime>>>,
     ends: Vec<Option<SocketEnd>>,
 }
 
@@ -34,15 +34,15 @@ impl Places {
         self.nets.get_mut(number(word))?.as_mut()
     }
 
-    pub fn link(&mut self, word: &str) -> Option<&mut SocketLink> {
+    pub fn link(&mut self, word: &str) -> Option<&mut SocketLink<HostRuntime>> {
         self.links.get_mut(number(word))?.as_mut()
     }
 
-    pub fn take_door(&mut self, word: &str) -> Option<SocketDoor> {
+    pub fn take_door(&mut self, word: &str) -> Option<SocketDoor<HostRuntime>> {
         self.doors.get_mut(number(word))?.take()
     }
 
-    pub fn take_link(&mut self, word: &str) -> Option<SocketLink> {
+    pub fn take_link(&mut self, word: &str) -> Option<SocketLink<HostRuntime>> {
         self.links.get_mut(number(word))?.take()
     }
 
@@ -50,7 +50,7 @@ impl Places {
         self.ends.get_mut(number(word))?.take()
     }
 
-    pub fn put_door(&mut self, word: &str, door: SocketDoor) {
+    pub fn put_door(&mut self, word: &str, door: SocketDoor<HostRuntime>) {
         put(&mut self.doors, word, Some(door));
     }
 
@@ -277,7 +277,7 @@ fn refused(rt: &HostRuntime, fault: &PortFault) -> io::Result<()> {
     println!(rt; "refused: {fault}")
 }
 
-fn failed(rt: &HostRuntime, link: &SocketLink) -> io::Result<()> {
+fn failed(rt: &HostRuntime, link: &SocketLink<HostRuntime>) -> io::Result<()> {
     match link.failure() {
         Some(failure) => println!(rt; "failed: {}", failure.error),
         None => println!(rt; "failed"),

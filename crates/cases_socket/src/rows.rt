@@ -55,7 +55,7 @@ fn is_answered(net: &mut SocketNet<HostRuntime>) -> bool {
 }
 
 // Whether the link gives the frame, which was sent at once.
-fn echoes(link: &mut SocketLink) -> bool {
+fn echoes(link: &mut SocketLink<HostRuntime>) -> bool {
     let mut room = [0; 8];
     link.receive(&mut room).is_ok() && room == *b"question"
 }
@@ -79,7 +79,7 @@ fn serve(rt: &HostRuntime, places: &mut Places, words: &Words<'_>) -> io::Result
 }
 
 // Sends back what the link gives. Whether it ended after a whole frame.
-fn echo(link: &mut SocketLink) -> bool {
+fn echo(link: &mut SocketLink<HostRuntime>) -> bool {
     let mut room = [0; 8];
     let mut whole = false;
     for _ in 0..u64::MAX {
@@ -113,7 +113,10 @@ fn fill(rt: &HostRuntime, places: &mut Places, words: &Words<'_>) -> io::Result<
 }
 
 // What a thread has when its accept returned.
-type Woken = (SocketDoor, Result<SocketLink, PortFault>);
+type Woken = (
+    SocketDoor<HostRuntime>,
+    Result<SocketLink<HostRuntime>, PortFault>,
+);
 
 // wake NET DOOR DOOR: two threads wait at the doors, and are woken one by one.
 fn wake<T: Threads>(

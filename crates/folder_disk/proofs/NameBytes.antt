@@ -1,9 +1,12 @@
--- The bytes of a file name are ASCII.
+-- The bytes of a file name are ASCII, and so its name is a text.
 use Rattle.std.proofs.Common.{◌≡◌, ◌≤◌, ◌<◌, ℕ, Bool, true, false, not, ◌==◌, List, length, get_or, Option, Some, None, cond, refl, arith}
 use Rattle.std.specs.Prelude.{nat_lt}
+use Rattle.std.specs.Str.{IsUtf8}
 use Rattle.std.specs.List.{position, position_or_len}
-use Rattle.std.proofs.lemmas.Bool.{ltb-false, not-false}
+use Rattle.std.proofs.lemmas.Bool.{ltb-false, ltb-true, not-false}
+use Rattle.std.proofs.lemmas.List.{get_or_past}
 use Rattle.std.proofs.lemmas.List.Sums.{fails_before_first}
+use Rattle.std.proofs.lemmas.Str.{IsUtf8-from_ascii}
 use Rattle.std.proofs.lemmas.Bool.Decides.{nat_tests}
 use Rattle.desk_ports.specs.declared.file_names.FileNameRefusal.{FileNameRefusal}
 use Rattle.desk_ports.specs.declared.file_names.FileNameRefusal.TheVariants.{Empty, TooLong}
@@ -32,3 +35,12 @@ name_byte name is k within =
     let none : length name ≤ place = ltb-false place (length name) good in
     let byte = get_or name k 0 in
     small_byte byte (not-false (is_file_name_byte byte) (fails_before_first bad name k 0 (omega arith)))
+
+ascii_at : (name : List ℕ) → IsFileName name → (k : ℕ) (test : Bool) → nat_lt k (length name) ≡ test → get_or name k 0 < 128
+ascii_at name is k true within = name_byte name is k (ltb-true k (length name) within)
+ascii_at name is k false past =
+    let none : get_or name k 0 ≡ 0 = get_or_past name k 0 (ltb-false k (length name) past) in
+    omega (arith, none)
+
+pub name_is_text : (name : List ℕ) → IsFileName name → IsUtf8 name
+name_is_text name is = IsUtf8-from_ascii name (λ k. ascii_at name is k (nat_lt k (length name)) refl)

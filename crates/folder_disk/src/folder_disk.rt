@@ -10,11 +10,12 @@ ghost use Rattle.folder_disk.specs.Holding.{IsHeld};
 ghost use Rattle.folder_disk.specs.LastFailure.{last_failure, failure_after_refusal};
 ghost use Rattle.folder_disk.specs.Untold.{untold};
 
+use crate::byte_digests::ByteDigests;
 use crate::failures::{Failure, FolderStep};
 use crate::file_marks::FileMark;
 use crate::file_name_bytes::is_file_name;
 use crate::known_files::KnownFiles;
-use crate::paths::Path;
+use crate::paths::PathRoom;
 use crate::{files, folders, paths};
 use desk_ports::{Bytes, Disk, Failed, FileName, PortFault};
 use std::alloc::AllocError;
@@ -42,6 +43,9 @@ mod settled_writes;
 pub struct FolderDisk<R: Files<File = File> + Clock + AllocGlobal + Clone + Drop> {
     rt: R,
     folder: String,
+    // The path of the file that is asked for, and that of its backup, or of the file that it is a backup of.
+    path: PathRoom,
+    partner: PathRoom,
     // Why the folder could not be made.
     unmade: Option<io::Error>,
     // The open folder, with the lock on it.
@@ -50,6 +54,7 @@ pub struct FolderDisk<R: Files<File = File> + Clock + AllocGlobal + Clone + Drop
     is_settled: bool,
     // What the bytes of some files come to. Of use only while each file is made sure of.
     known: KnownFiles,
+    digests: ByteDigests,
     faults: u64,
     failure: Option<Failure>,
 }
@@ -62,16 +67,22 @@ impl<R: Files<File = File> + Clock + AllocGlobal + Clone + Drop> FolderDisk<R> {
         ensures told { IfOk result (λ disk. disk.faults ≡ (if is_some disk.failure then 1 else 0)) }
     {
         let folder = String::from_str(rt.alloc(), folder)?;
+        let path = PathRoom::new(rt.alloc())?;
+        let partner = PathRoom::new(rt.alloc())?;
         let known = KnownFiles::new(rt.alloc())?;
+        let digests = ByteDigests::new(&rt);
         let unmade = folders::make_folder(&rt, folder.as_str()).err();
         let failure = Failure::unmade(rt.alloc(), folder.as_str(), &unmade);
         Ok(FolderDisk {
             held: None,
             rt,
             folder,
+            path,
+            partner,
             unmade,
             is_settled: false,
             known,
+            digests,
             faults: u64::from(failure.is_some()),
             failure,
         })
@@ -113,14 +124,16 @@ impl<R: Files<File = File> + Clock + AllocGlobal + Clone + Drop> FolderDisk<R> {
         Ok(opened)
     }
 
-    // The path of a file, for a step that is asked for next.
-    fn path_of(&self, name: &[u8], step: FolderStep) -> Result<Path, Failure>
+    // Sets the path of a file, for a step that is asked for next.
+    fn set_path(&mut self, name: &[u8], step: FolderStep) -> Result<(), Failure>
         requires { IsFileName name.now }
-        ensures { IfOk result (λ path. path.bytes ≡ file_path (string_bytes self.now.folder) name.now) }
+        ensures path { OnOk result (self.new.path ≡ file_path (string_bytes self.old.folder) name.now) }
+        ensures kept { self.new ≡ record self.old { path = self.new.path } }
     {
-        match paths::file_path(self.folder.as_str(), name) {
-            Some(path) => Ok(path),
-            None => Err(self.long_path(step)),
+        if self.path.set_file(self.folder.as_str(), name) {
+            Ok(())
+        } else {
+            Err(self.long_path(step))
         }
     }
 
@@ -154,12 +167,12 @@ impl<R: Files<File = File> + Clock + AllocGlobal + Clone + Drop> FolderDisk<R> {
         requires { IsHeld self.old.held }
         ensures count { self.new.faults ≡ self.old.faults }
     {
-        let path = self.path_of(name.as_slice(), FolderStep::OpenFile)?;
-        let Some(read) = files::read(&self.rt, path.as_str())? else {
+        self.set_path(name.as_slice(), FolderStep::OpenFile)?;
+        let Some(read) = files::read(&self.rt, self.path.as_str())? else {
             return Ok(None);
         };
         if self.is_settled && self.faults == 0 {
-            self.note_read(path.as_str(), &read);
+            self.note_read(name, &read);
         }
         Ok(Some(Bytes::of(read.bytes)))
     }
@@ -169,19 +182,19 @@ impl<R: Files<File = File> + Clock + AllocGlobal + Clone + Drop> FolderDisk<R> {
         ensures settled { self.new.is_settled ≡ self.old.is_settled }
     {
         self.hold()?;
-        let path = self.path_of(name.as_slice(), FolderStep::WriteFile)?;
+        self.set_path(name.as_slice(), FolderStep::WriteFile)?;
         if self.is_settled {
-            return self.write_settled(name, path.as_str(), bytes);
+            return self.write_settled(name, bytes);
         }
-        self.write_anew(path.as_str(), bytes)?;
+        self.write_anew(bytes)?;
         Ok(())
     }
 
-    // Writes the bytes, whatever the file holds, and makes sure of it.
-    fn write_anew(&self, path: &str, bytes: &[u8]) -> Result<Option<FileMark>, Failure>
+    // Writes the bytes to the file whose path is set, whatever it holds, and makes sure of it.
+    fn write_anew(&self, bytes: &[u8]) -> Result<Option<FileMark>, Failure>
         requires { IsHeld self.now.held }
     {
-        files::write(&self.rt, path, bytes)
+        files::write(&self.rt, self.path.as_str(), bytes)
     }
 
     fn remove_file(&mut self, name: &FileName) -> Result<(), Failure>
@@ -197,9 +210,9 @@ impl<R: Files<File = File> + Clock + AllocGlobal + Clone + Drop> FolderDisk<R> {
         ensures count { self.new.faults ≡ self.old.faults }
         ensures settled { self.new.is_settled ≡ self.old.is_settled }
     {
-        let path = self.path_of(name.as_slice(), FolderStep::RemoveFile)?;
-        self.known.forget(path.as_str());
-        files::remove(&self.rt, path.as_str())
+        self.set_path(name.as_slice(), FolderStep::RemoveFile)?;
+        self.known.forget(name.as_slice());
+        files::remove(&self.rt, self.path.as_str())
     }
 
     fn sync_all(&mut self) -> Result<(), Failure>
@@ -217,47 +230,14 @@ impl<R: Files<File = File> + Clock + AllocGlobal + Clone + Drop> FolderDisk<R> {
         requires { IsHeld self.old.held }
         ensures count { self.new.faults ≡ self.old.faults }
         ensures settled { OnOk result (self.new.is_settled ≡ true) }
-        ensures kept { OnErr result (self.new ≡ self.old) }
+        ensures kept { OnErr result (self.new ≡ record self.old { path = self.new.path }) }
     {
         if !self.is_settled {
-            self.sync_found()?;
+            sync_found(&self.rt, self.folder.as_str(), &self.held, &mut self.path)?;
             self.sync_parent()?;
         }
         self.sync_folder()?;
         self.is_settled = true;
-        Ok(())
-    }
-
-    fn sync_found(&self) -> Result<(), Failure>
-        requires { IsHeld self.now.held }
-    {
-        let mut dir = folders::open_names(&self.rt, self.folder.as_str())?;
-        let mut room = [0; folders::NAMES_BYTES];
-        for _ in 0..u64::MAX {
-            let names = folders::next_names(
-                self.rt.alloc(),
-                self.folder.as_str(),
-                &mut dir,
-                &mut room,
-            )?;
-            if names.is_empty() {
-                break;
-            }
-            self.sync_each(names)?;
-        }
-        Ok(())
-    }
-
-    // Makes sure of the plain files of these names, each of which has a NUL behind it.
-    fn sync_each(&self, names: &[u8]) -> Result<(), Failure>
-        requires { IsHeld self.now.held }
-    {
-        for name in names.split(|byte| *byte == 0) {
-            if is_file_name(name) {
-                let path = self.path_of(name, FolderStep::Sync)?;
-                files::sync_if_plain(&self.rt, path.as_str())?;
-            }
-        }
         Ok(())
     }
 
@@ -366,5 +346,61 @@ impl<R: Files<File = File> + Clock + AllocGlobal + Clone + Drop> Disk for Folder
 
     fn faults(&self) -> u64 {
         self.faults
+    }
+}
+
+// Makes sure of each plain file of the folder.
+fn sync_found<R: Files + AllocGlobal + Drop>(
+    rt: &R,
+    folder: &str,
+    held: &Option<File>,
+    path: &mut PathRoom,
+) -> Result<(), Failure>
+    requires { IsHeld held.now }
+{
+    let mut dir = folders::open_names(rt, folder)?;
+    let mut room = [0; folders::NAMES_BYTES];
+    for _ in 0..u64::MAX {
+        let names = folders::next_names(rt.alloc(), folder, &mut dir, &mut room)?;
+        if names.is_empty() {
+            break;
+        }
+        sync_each(rt, folder, held, path, names)?;
+    }
+    Ok(())
+}
+
+// Makes sure of the plain files of these names, each of which has a NUL behind it.
+fn sync_each<R: Files + AllocGlobal + Drop>(
+    rt: &R,
+    folder: &str,
+    held: &Option<File>,
+    path: &mut PathRoom,
+    names: &[u8],
+) -> Result<(), Failure>
+    requires { IsHeld held.now }
+{
+    for name in names.split(|byte| *byte == 0) {
+        if is_file_name(name) {
+            sync_named(rt, folder, held, path, name)?;
+        }
+    }
+    Ok(())
+}
+
+fn sync_named<R: Files + AllocGlobal + Drop>(
+    rt: &R,
+    folder: &str,
+    _held: &Option<File>,
+    path: &mut PathRoom,
+    name: &[u8],
+) -> Result<(), Failure>
+    requires held { IsHeld _held.now }
+    requires name { IsFileName name.now }
+{
+    if path.set_file(folder, name) {
+        files::sync_if_plain(rt, path.as_str())
+    } else {
+        Err(Failure::long_path(rt.alloc(), FolderStep::Sync, folder))
     }
 }

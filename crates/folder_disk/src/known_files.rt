@@ -3,8 +3,8 @@
 ghost use Rattle.std.specs.Prelude.{◌≡◌, ◌<◌, None, vec_len};
 ghost use Rattle.std.specs.Prelude.{replicate};
 
+use crate::byte_digests::BytesDigest;
 use crate::file_marks::FileMark;
-use sha2::{Digest, Sha256};
 use std::alloc::{AllocError, Global};
 
 /// How many files are known at most.
@@ -12,13 +12,6 @@ const PLACES: usize = 4_096;
 
 /// At how many places, one behind the other, a file may be known.
 const TRIED: usize = 16;
-
-/// What the bytes of a file come to: their digest by SHA-256, which no two texts are known to share.
-pub type BytesDigest = [u8; 32];
-
-pub fn digest_of(bytes: &[u8]) -> BytesDigest {
-    Sha256::digest(bytes)
-}
 
 /// What is known of a file that is made sure of: by what the machine shows it, and what its bytes come to, where that was
 /// reckoned.
@@ -28,14 +21,14 @@ pub struct Known {
     pub digest: Option<BytesDigest>,
 }
 
-/// What is known of the file of a path, with its path as a number.
+/// What is known of the file of a name, with its name as a number.
 #[derive(Clone, Copy, Debug)]
 struct KnownFile {
     key: u64,
     known: Known,
 }
 
-/// Files that are known, each at one of some places that follow from its path. Where two paths give one number, or all
+/// Files that are known, each at one of some places that follow from its name. Where two names give one number, or all
 /// places of a file are taken, one of the files is no longer known.
 #[derive(Drop)]
 pub struct KnownFiles {
@@ -51,23 +44,23 @@ impl KnownFiles {
         Ok(KnownFiles { places })
     }
 
-    /// What is known of the file of this path.
-    pub fn of(&self, path: &str) -> Option<Known> {
-        Some(self.at(self.place_of(key_of(path))?)?.known)
+    /// What is known of the file of this name.
+    pub fn of(&self, name: &[u8]) -> Option<Known> {
+        Some(self.at(self.place_of(key_of(name))?)?.known)
     }
 
-    /// From now on this is known of the file of this path.
-    pub fn note(&mut self, path: &str, known: Known) {
-        let key = key_of(path);
+    /// From now on this is known of the file of this name.
+    pub fn note(&mut self, name: &[u8], known: Known) {
+        let key = key_of(name);
         let place = self.place_for(key);
         if let Some(noted) = self.places.get_mut(place) {
             *noted = Some(KnownFile { key, known });
         }
     }
 
-    /// From now on nothing is known of the file of this path.
-    pub fn forget(&mut self, path: &str) {
-        let Some(place) = self.place_of(key_of(path)) else {
+    /// From now on nothing is known of the file of this name.
+    pub fn forget(&mut self, name: &[u8]) {
+        let Some(place) = self.place_of(key_of(name)) else {
             return;
         };
         if let Some(known) = self.places.get_mut(place) {
@@ -90,10 +83,14 @@ impl KnownFiles {
     }
 
     fn has_key(&self, place: usize, key: u64) -> bool {
-        match self.at(place) {
-            Some(known) => known.key == key,
-            None => false,
+        match self.places.get(place) {
+            Some(Some(known)) => known.key == key,
+            _ => false,
         }
+    }
+
+    fn is_free(&self, place: usize) -> bool {
+        matches!(self.places.get(place), Some(None))
     }
 
     // The place at which this key is known.
@@ -111,7 +108,7 @@ impl KnownFiles {
     fn free_place(&self, key: u64) -> Option<usize> {
         for turn in 0..TRIED {
             let place = tried_place(key, turn);
-            if self.at(place).is_none() {
+            if self.is_free(place) {
                 return Some(place);
             }
         }
@@ -136,10 +133,10 @@ fn tried_place(key: u64, turn: usize) -> usize
     ((key % PLACES as u64) as usize + turn) % PLACES
 }
 
-// A path as a number, by the hash of Fowler, Noll and Vo. Two paths may give one number.
-fn key_of(path: &str) -> u64 {
+// A name as a number, by the hash of Fowler, Noll and Vo. Two names may give one number.
+fn key_of(name: &[u8]) -> u64 {
     let mut key = 0xcbf2_9ce4_8422_2325u64;
-    for byte in path.as_bytes() {
+    for byte in name {
         key = (key ^ u64::from(*byte)).wrapping_mul(0x0000_0100_0000_01b3);
     }
     key

@@ -4,6 +4,7 @@
 //! of what its files hold; proved of it are the counts of failures, and that names come in order.
 #![tactic(auto)]
 
+mod byte_digests;
 mod failures;
 mod file_marks;
 mod file_name_bytes;

@@ -30,8 +30,8 @@ module _ {N L H E A J : Type 0} (dial : DialTells N L H) (link : LinkTells L H) 
     met,
     writing,
     is,
-    (λ (is_sink : met ≡ Sink). never-sink dial link closed door accepted disk disk_after net net_after
-        (subst (Serves dial link closed door accepted disk disk_after net net_after) is_sink serves)),
+    (λ (is_sink : met ≡ Sink). never-sink dial link closed door accepted workers disk disk_after net net_after
+        (subst (Serves dial link closed door accepted workers disk disk_after net net_after) is_sink serves)),
     journal,
   )
 

@@ -68,8 +68,8 @@ module _ {N L H E A J : Type 0} (dial : DialTells N L H) (link : LinkTells L H) 
       moments = λ entry told left was. let may = only_now left entry told was in (left, may, refl, λ name foreign free. may name free);
     }
 
-    unserved : Serves dial link closed door accepted before.disk before.disk net net Memory
-    unserved = refused unmounted refl refl refl
+    unserved : (workers : ℕ) → Serves dial link closed door accepted workers before.disk before.disk net net Memory
+    unserved workers = refused unmounted refl refl refl
 
     unread : (command : Option Command) → Says Memory before.sink before.disk net command
     unread None = ((tt, refl), unwritten)
@@ -79,8 +79,8 @@ module _ {N L H E A J : Type 0} (dial : DialTells N L H) (link : LinkTells L H) 
         let had = Took-Had before.source.left before.source.left [] (Took-nothing before.source.left) in
         (record { input = [] ++ had.0; rest = had.0; had = had.1; answered = refl }, unwritten)
     unread (Some (Sample count)) = (refl, unwritten)
-    unread (Some (Serve workers)) = ((refl, unserved), unwritten)
-    unread (Some (Watch workers)) = (refl, (Memory, GoesOn, refl, unserved, unserved_lines tt refl refl))
+    unread (Some (Serve workers)) = ((refl, unserved workers), unwritten)
+    unread (Some (Watch workers)) = (refl, (Memory, GoesOn, refl, unserved workers, unserved_lines tt refl refl))
     unread (Some (Check asked)) =
         ((Err (refusal.Memory alloc_error), inr (record { error = alloc_error; answer_is = refl; same = refl }), (refl, refl)), unwritten)
     unread (Some (Simple asked)) =
@@ -126,29 +126,29 @@ module _ {N L H E A J : Type 0} (dial : DialTells N L H) (link : LinkTells L H) 
 
   -- ---- a service: it is given no source and no sink, and so no call of them ends it
 
-  module _ (disk : DiskSeen) (net_after : N) where
+  module _ (workers : ℕ) (disk : DiskSeen) (net_after : N) where
     abbrev IsServed : Ending → Type 0
-    IsServed = Serves dial link closed door accepted before.disk disk net net_after
+    IsServed = Serves dial link closed door accepted workers before.disk disk net net_after
 
     says-nothing : (ending : Ending) → IsServed ending → WritesAnswers ending silence before.sink before.sink
-    says-nothing Sink serves = absurd (never-sink dial link closed door accepted before.disk disk net net_after serves)
+    says-nothing Sink serves = absurd (never-sink dial link closed door accepted workers before.disk disk net net_after serves)
     says-nothing Memory serves = unwritten
     says-nothing ending serves = record { taken = Appended-none before.sink.taken; are_written = (refl, refl) }
 
     pub reads-nothing : (ending : Ending) → IsServed ending → before.source.faults ≡ source_faults_after ending before.source.faults
-    reads-nothing Source serves = absurd (never-source dial link closed door accepted before.disk disk net net_after serves)
+    reads-nothing Source serves = absurd (never-source dial link closed door accepted workers before.disk disk net net_after serves)
     reads-nothing ending serves = refl
 
     -- the words' command is that service
-    pub serves-as : (workers : ℕ) (ending : Ending) → command_of words ≡ Some (Serve workers) → IsServed ending
+    pub serves-as : (ending : Ending) → command_of words ≡ Some (Serve workers) → IsServed ending
         → Stops ending before.sink disk net_after
-    serves-as workers ending is serves =
+    serves-as ending is serves =
         let says = subst (Says ending before.sink disk net_after) (sym is) ((refl, serves), says-nothing ending serves) in
         (silence, says.0, says.1)
 
     -- ---- a service that writes lines
 
-    module _ (workers : ℕ) (ending : Ending) (sink : SinkSeen) where
+    module _ (ending : Ending) (sink : SinkSeen) where
       abbrev Watches : Type 0
       Watches = (met : Ending) × (writing : Writing) × IsServed met × Journaled workers met writing before.sink sink
           × (ending ≡ ending_with met writing)
@@ -161,4 +161,4 @@ module _ {N L H E A J : Type 0} (dial : DialTells N L H) (link : LinkTells L H) 
       pub watches-unread : Watches → before.source.faults ≡ source_faults_after ending before.source.faults
       watches-unread (met, writing, serves, journal, ends) =
           subst (λ e. before.source.faults ≡ source_faults_after e before.source.faults) (sym ends)
-          (lines.reads_nothing met writing before.source.faults (λ is. never-source dial link closed door accepted before.disk disk net net_after (subst IsServed is serves)))
+          (lines.reads_nothing met writing before.source.faults (λ is. never-source dial link closed door accepted workers before.disk disk net net_after (subst IsServed is serves)))

@@ -11,7 +11,7 @@ use Rattle.smack_rules.specs.declared.rule.Rule.{Rule}
 use Rattle.smack_rules.specs.Effective.{effective}
 use Rattle.smack_rules.specs.Decision.{decision}
 use Rattle.desk_state.specs.DeskState.{DeskState}
-use Rattle.run_endings.specs.Ending.{status_of, source_faults_after, disk_faults_after, NoCallFails}
+use Rattle.run_endings.specs.Ending.{status_of, source_faults_after, disk_faults_after, Unraised, NoCallFails}
 use Rattle.run_endings.specs.Outside.{Outside, SourceSeen, SinkSeen, DiskSeen, source_seen, sink_seen, disk_seen, seen}
 use Rattle.run_endings.specs.Saying.{Said, silence, WritesAnswers, Writes}
 use Rattle.run_endings.specs.declared.endings.Ending.{Ending}
@@ -74,6 +74,11 @@ Completes (Some (SmackAccess subject object asked)) status before after =
     → Gives status before after (decided_text (decision subject object asked (effective rules subject object)))
 Completes (Some (Sample count)) status before after =
     (found : Outcome) → outcome count ≡ Some found → Gives status before after (sample_text count found)
+-- a service gives no answers there; where its net did not fail either, it goes on until it is stopped
+Completes (Some (Serve workers)) status before after =
+    (start : DeskState) → StandsFor before.disk start → Unraised before.net.faults after.net.faults → Gives status before after []
+Completes (Some (Watch workers)) status before after =
+    (start : DeskState) → StandsFor before.disk start → Unraised before.net.faults after.net.faults → (status ≡ 0) ⊎ (status ≡ 1)
 Completes command status before after = Unit {0}
 
 -- ---- the whole
@@ -81,10 +86,10 @@ Completes command status before after = Unit {0}
 -- By what a net tells, and the links that it dials, and what it tells of its doors, with the links that these accept.
 module _ {N L H E A J : Type 0} (dial : DialTells N L H) (link : LinkTells L H) (closed : N → Option (List E)) (door : DoorTells E A J)
     (accepted : LinkTells A J) where
-  -- a service that ended so
-  abbrev pub Serves : DiskSeen → DiskSeen → N → N → Ending → Type 0
-  Serves disk disk_after net net_after met =
-      RunsServe accepted.traffic accepted.marks accepted.faults door.given_back door.faults door.kind met disk disk_after
+  -- a service by so many workers of clients that ended so
+  abbrev pub Serves : ℕ → DiskSeen → DiskSeen → N → N → Ending → Type 0
+  Serves workers disk disk_after net net_after met =
+      RunsServe accepted.traffic accepted.marks accepted.faults door.given_back door.faults door.kind workers met disk disk_after
       (dial.faults net) (dial.faults net_after) (closed net) (closed net_after)
 
   module _ (said : Said) (ending : Ending) (source source_after : SourceSeen) (disk disk_after : DiskSeen) (net net_after : N) where
@@ -95,7 +100,7 @@ module _ {N L H E A J : Type 0} (dial : DialTells N L H) (link : LinkTells L H) 
     RunsCommand (Some SmackLoad) = RunsLoad said ending disk disk_after
     RunsCommand (Some (SmackAccess subject object asked)) = RunsAccess subject object asked said ending source source_after
     RunsCommand (Some (Sample count)) = RunsSample count said ending
-    RunsCommand (Some (Serve workers)) = (said ≡ silence) × Serves disk disk_after net net_after ending
+    RunsCommand (Some (Serve workers)) = (said ≡ silence) × Serves workers disk disk_after net net_after ending
     -- how it serves is told with what it writes
     RunsCommand (Some (Watch workers)) = said ≡ silence
     RunsCommand (Some (Check asked)) = RunsCheck dial link asked false said ending net net_after
@@ -110,7 +115,7 @@ module _ {N L H E A J : Type 0} (dial : DialTells N L H) (link : LinkTells L H) 
     -- a service that ended in its own way, and how the writing of its lines stood then
     abbrev pub Watches : ℕ → SinkSeen → SinkSeen → Type 0
     Watches workers before after = (met : Ending) × (writing : Writing) × (ending ≡ ending_with met writing)
-        × Serves disk disk_after net net_after met × Journaled workers met writing before after
+        × Serves workers disk disk_after net net_after met × Journaled workers met writing before after
 
     -- what a command wrote before the last line
     abbrev pub AnswersBy : Said → Option Command → SinkSeen → SinkSeen → Type 0

@@ -2,6 +2,7 @@
 //! person is told of a line that is none.
 #![tactic(auto)]
 
+mod check_index;
 mod deciding;
 mod folded_rules;
 mod levels;

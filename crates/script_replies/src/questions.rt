@@ -6,6 +6,7 @@ ghost use Rattle.bucket_store.specs.Database.{root};
 ghost use Rattle.bucket_store.specs.Change.{listed};
 ghost use Rattle.bucket_eval.specs.Evaluation.{answer};
 ghost use Rattle.bucket_eval.specs.Found.{outcome_at};
+ghost use Rattle.bucket_eval.specs.Lent.{outcome_lent};
 ghost use Rattle.line_script.specs.Answers.{refusal_text};
 ghost use Rattle.line_script.specs.Refusals.{names_a_rule};
 ghost use Rattle.line_script.specs.parts.Appending.{Lengthens};
@@ -14,9 +15,9 @@ ghost use Rattle.desk_state.specs.declared.refusals.Refusal.TheVariants.{NoBucke
 ghost use Rattle.script_replies.specs.Reply.{about, verdict_text, policy_text, list_text, done_text, decided_text};
 ghost use Rattle.script_replies.specs.parts.Questions.{WantsMemory};
 
-use bucket_eval::{Found, plain_borrowed};
-use bucket_store::{Bucket, Database, StoreRefusal};
-use cynara_keys::{BorrowedQuestion, BucketName, Filter, Policy};
+use bucket_eval::{BorrowedAnswer, Found, lend, plain_borrowed};
+use bucket_store::{Database, StoreRefusal};
+use cynara_keys::{BorrowedQuestion, BucketName, Filter, Key, Policy, PolicyResult};
 use desk_ports::Bytes;
 use desk_state::{Command, Desk, Refusal};
 use line_script::{LineAnswer, RuleBroken, print};
@@ -99,61 +100,68 @@ fn print_found(
         (λ outcome. out.new ≡ out.old ++ verdict_text commit outcome)) }
     ensures err { OnErr result (out.new ≡ out.old) }
 {
-    let bucket = &database.buckets()[found.bucket];
-    match found.policy {
-        Some(place) => {
-            let policy = policy_at(bucket, place);
-            print_decided(commit, bucket, policy, out)
-        }
-        None => print_fallback(commit, bucket, out),
+    print_verdict(commit, &lend(database, found), out)
+}
+
+/// Prints a verdict whose texts are lent.
+pub fn print_verdict(
+    commit: u64,
+    answer: &BorrowedAnswer<'_>,
+    out: &mut Bytes,
+) -> Result<(), AllocError>
+    ensures ok { OnOk result (out.new ≡ out.old ++ verdict_text commit (outcome_lent answer.now)) }
+    ensures err { OnErr result (out.new ≡ out.old) }
+{
+    match answer.key {
+        Some(key) => print_decided(commit, answer.bucket, answer.result, key, out),
+        None => print_fallback(commit, answer.bucket, answer.result, out),
     }
 }
 
-fn policy_at(bucket: &Bucket, place: usize) -> &Policy
-    requires { place < length bucket.now.policies }
-    ensures { slice_get bucket.now.policies place ≡ Some result.now }
-{
-    &bucket.policies()[place]
-}
-
-// Prints that a policy of the bucket decided.
+// Prints that the policy of the bucket with this key decided.
 fn print_decided(
     commit: u64,
-    bucket: &Bucket,
-    policy: &Policy,
+    bucket: &BucketName,
+    decided: &PolicyResult,
+    key: &Key,
     out: &mut Bytes,
 ) -> Result<(), AllocError>
     ensures ok { OnOk result (out.new ≡ out.old ++ verdict_text commit (record {
-      result = policy.now.result;
-      cause = record { bucket = bucket.now.name; key = Some policy.now.key };
+      result = decided.now;
+      cause = record { bucket = bucket.now; key = Some key.now };
     })) }
     ensures err { OnErr result (out.new ≡ out.old) }
 {
     let answer = LineAnswer::ByPolicy {
         commit,
-        bucket: bucket.name().as_slice(),
-        kind: policy.result.kind(),
-        metadata: policy.result.metadata().as_slice(),
-        client: policy.key.client(),
-        user: policy.key.user(),
-        privilege: policy.key.privilege(),
+        bucket: bucket.as_slice(),
+        kind: decided.kind(),
+        metadata: decided.metadata().as_slice(),
+        client: key.client(),
+        user: key.user(),
+        privilege: key.privilege(),
     };
     print(&answer, out)
 }
 
 // Prints that the bucket's fallback decided.
-fn print_fallback(commit: u64, bucket: &Bucket, out: &mut Bytes) -> Result<(), AllocError>
+fn print_fallback(
+    commit: u64,
+    bucket: &BucketName,
+    decided: &PolicyResult,
+    out: &mut Bytes,
+) -> Result<(), AllocError>
     ensures ok { OnOk result (out.new ≡ out.old ++ verdict_text commit (record {
-      result = bucket.now.fallback;
-      cause = record { bucket = bucket.now.name; key = None };
+      result = decided.now;
+      cause = record { bucket = bucket.now; key = None };
     })) }
     ensures err { OnErr result (out.new ≡ out.old) }
 {
     let answer = LineAnswer::ByFallback {
         commit,
-        bucket: bucket.name().as_slice(),
-        kind: bucket.fallback().kind(),
-        metadata: bucket.fallback().metadata().as_slice(),
+        bucket: bucket.as_slice(),
+        kind: decided.kind(),
+        metadata: decided.metadata().as_slice(),
     };
     print(&answer, out)
 }

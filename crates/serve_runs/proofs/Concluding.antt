@@ -1,6 +1,6 @@
 -- How a run ends that has served.
-use Rattle.std.proofs.Common.{◌≡◌, ◌∙◌, ◌≤◌, ◌<◌, ℕ, Bool, true, false, List, Option, refl, sym, ap, subst, arith}
-use Rattle.std.specs.Bool.{OnFalse}
+use Rattle.std.proofs.Common.{◌≡◌, ◌∙◌, ◌≤◌, ◌<◌, ℕ, Bool, true, false, List, [], ◌∷◌, Option, refl, sym, arith}
+use Rattle.std.specs.List.{AllByRecursion}
 use Rattle.desk_ports.specs.Faults.{next_count}
 use Rattle.desk_keeper.specs.declared.refusals.KeeperRefusal.{KeeperRefusal}
 use Rattle.desk_keeper.specs.declared.refusals.KeeperRefusal.TheVariants.{StoreFault, Damaged as FolderDamaged, Memory as NoMemory}
@@ -10,37 +10,37 @@ use Rattle.door_workers.specs.declared.workers.WorkerEnd.TheVariants.{Stopped, D
 use Rattle.run_endings.specs.declared.endings.Ending.{Ending}
 use Rattle.run_endings.specs.declared.endings.Ending.TheVariants.{Done, Memory, Words, Line, Source, Sink, Disk, Net, Damaged, Reply}
 use Rattle.run_endings.specs.declared.endings.Ending.TheVariants.{TooLong}
-use Rattle.serve_runs.specs.Serving.{HasRisen, HasNotRisen, FoundMemory, EndsService, EndsUnopened, IsUndone}
+use Rattle.serve_runs.specs.Crew.{lacks_memory}
+use Rattle.serve_runs.specs.Serving.{HasRisen, HasNotRisen, EndsService, EndsUnopened, IsUndone}
 use Rattle.serve_runs.specs.parts.Officiating.{EndsBy}
 
 apart : {P : Type 0} (before after : ℕ) → HasRisen before after → HasNotRisen before after → P
 apart before after risen unrisen = absurd (omega (arith, risen, unrisen))
 
--- a worker that found memory, and whose door did not fail, was stopped
-is_stopped : (end : WorkerEnd) (net net_now : ℕ) → FoundMemory end → HasNotRisen net net_now
-    → (end ≡ DoorFailed → HasRisen net net_now) → end ≡ Stopped
-is_stopped Stopped net net_now found unrisen failed = refl
-is_stopped DoorFailed net net_now found unrisen failed = apart net net_now (failed refl) unrisen
-is_stopped LacksMemory net net_now found unrisen failed = absurd found
+-- workers that found memory, and whose doors did not fail, were stopped
+all_stopped : (ends : List WorkerEnd) (net net_now : ℕ) → lacks_memory ends ≡ false → HasNotRisen net net_now
+    → AllByRecursion (λ (end : WorkerEnd). end ≡ DoorFailed → HasRisen net net_now) ends
+    → AllByRecursion (λ (end : WorkerEnd). end ≡ Stopped) ends
+all_stopped [] net net_now found unrisen failed = tt
+all_stopped (Stopped ∷ ends) net net_now found unrisen (one, more) = (refl, all_stopped ends net net_now found unrisen more)
+all_stopped (DoorFailed ∷ ends) net net_now found unrisen (one, more) = apart net net_now (one refl) unrisen
+all_stopped (LacksMemory ∷ ends) net net_now found unrisen failed = let wrong : ⊥ = cc in absurd wrong
 
-found_memory : (lacked : Bool) (end : WorkerEnd) → lacked ≡ false → OnFalse lacked (FoundMemory end) → FoundMemory end
-found_memory lacked end is told = subst (λ (f : Bool). OnFalse f (FoundMemory end)) is told
-
-pub concludes : (ending : Ending) (lacked : Bool) (end : WorkerEnd) (disk disk_now net net_now : ℕ)
-    → OnFalse lacked (FoundMemory end) → (end ≡ DoorFailed → HasRisen net net_now)
-    → EndsBy lacked disk disk_now net net_now ending → EndsService ending end disk disk_now net net_now
-concludes Done lacked end disk disk_now net net_now found failed (m, d, n) =
-    (is_stopped end net net_now (found_memory lacked end m found) n failed, d, n)
-concludes Memory lacked end disk disk_now net net_now found failed m = tt
-concludes Disk lacked end disk disk_now net net_now found failed (m, d) = (found_memory lacked end m found, d)
-concludes Net lacked end disk disk_now net net_now found failed (m, d, n) = (found_memory lacked end m found, d, n)
-concludes Words lacked end disk disk_now net net_now found failed by = absurd by
-concludes (Line number) lacked end disk disk_now net net_now found failed by = absurd by
-concludes Source lacked end disk disk_now net net_now found failed by = absurd by
-concludes Sink lacked end disk disk_now net net_now found failed by = absurd by
-concludes (Damaged file line) lacked end disk disk_now net net_now found failed by = absurd by
-concludes Reply lacked end disk disk_now net net_now found failed by = absurd by
-concludes (TooLong size) lacked end disk disk_now net net_now found failed by = absurd by
+pub concludes : (ending : Ending) (lacked : Bool) (ends : List WorkerEnd) (disk disk_now net net_now : ℕ) → lacked ≡ lacks_memory ends
+    → AllByRecursion (λ (end : WorkerEnd). end ≡ DoorFailed → HasRisen net net_now) ends
+    → EndsBy lacked disk disk_now net net_now ending → EndsService ending ends disk disk_now net net_now
+concludes Done lacked ends disk disk_now net net_now is failed (m, d, n) =
+    (all_stopped ends net net_now (sym is ∙ m) n failed, d, n)
+concludes Memory lacked ends disk disk_now net net_now is failed m = sym is ∙ m
+concludes Disk lacked ends disk disk_now net net_now is failed (m, d) = (sym is ∙ m, d)
+concludes Net lacked ends disk disk_now net net_now is failed (m, d, n) = (sym is ∙ m, d, n)
+concludes Words lacked ends disk disk_now net net_now is failed by = absurd by
+concludes (Line number) lacked ends disk disk_now net net_now is failed by = absurd by
+concludes Source lacked ends disk disk_now net net_now is failed by = absurd by
+concludes Sink lacked ends disk disk_now net net_now is failed by = absurd by
+concludes (Damaged file line) lacked ends disk disk_now net net_now is failed by = absurd by
+concludes Reply lacked ends disk disk_now net net_now is failed by = absurd by
+concludes (TooLong size) lacked ends disk disk_now net net_now is failed by = absurd by
 
 -- ---- nobody was served
 

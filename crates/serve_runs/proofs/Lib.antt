@@ -1,5 +1,6 @@
 pub mod Closing
+pub mod Completing
 pub mod Concluding
-pub mod Duties
+pub mod Crewing
 pub mod Folder
 pub mod Sent

@@ -1,3 +1,4 @@
+pub mod Crew
 pub mod Serving
 pub mod Folder
 pub mod Run

@@ -1,5 +1,6 @@
 -- What a service does at the door for administrators, and how it ends.
-use Rattle.std.specs.Prelude.{◌≡◌, ◌≤◌, ◌<◌, ◌⊎◌, ℕ, true, List, [], ◌∷◌, ◌++◌, Option, Some}
+use Rattle.std.specs.Prelude.{◌≡◌, ◌≤◌, ◌<◌, ◌⊎◌, ℕ, true, false, List, [], ◌∷◌, ◌++◌, Option, Some}
+use Rattle.std.specs.List.{AllByRecursion, AllZip}
 use Rattle.desk_ports.specs.Faults.{next_count}
 use Rattle.link_ports.specs.Told.{IfTold}
 use Rattle.link_ports.specs.Traffic.{Traffic}
@@ -10,9 +11,10 @@ use Rattle.desk_state.specs.DeskState.{DeskState}
 use Rattle.door_workers.specs.Visit.{Works}
 use Rattle.door_workers.specs.Administrators.{Office, VisitsOffice, EndsOffice}
 use Rattle.door_workers.specs.declared.workers.WorkerEnd.{WorkerEnd}
-use Rattle.door_workers.specs.declared.workers.WorkerEnd.TheVariants.{Stopped, DoorFailed, Memory as LacksMemory}
+use Rattle.door_workers.specs.declared.workers.WorkerEnd.TheVariants.{Stopped}
 use Rattle.run_endings.specs.declared.endings.Ending.{Ending}
 use Rattle.run_endings.specs.declared.endings.Ending.TheVariants.{Done, Memory, Disk, Net}
+use Rattle.serve_runs.specs.Crew.{EndedWorker, ends_of, doors_of, lacks_memory, posts, Serves}
 
 -- ---- counts
 
@@ -25,19 +27,17 @@ HasNotRisen before after = after < next_count before
 
 -- ---- endings
 
--- the worker of administrators found memory at each `accept`
-abbrev pub FoundMemory : WorkerEnd → Type 0
-FoundMemory LacksMemory = ⊥
-FoundMemory end = Unit {0}
-
--- How a run ends that has served, by how its worker of administrators ended and by the counts of the disk and of the net: as
--- done only where a stop was made, and no call of the two failed.
-abbrev pub EndsService : Ending → WorkerEnd → ℕ → ℕ → ℕ → ℕ → Type 0
-EndsService Done end disk disk_now net net_now = (end ≡ Stopped) × HasNotRisen disk disk_now × HasNotRisen net net_now
-EndsService Memory end disk disk_now net net_now = Unit {0}
-EndsService Disk end disk disk_now net net_now = FoundMemory end × HasRisen disk disk_now
-EndsService Net end disk disk_now net net_now = FoundMemory end × HasNotRisen disk disk_now × HasRisen net net_now
-EndsService ending end disk disk_now net net_now = ⊥
+-- How a run ends that has served, by how its workers ended and by the counts of the disk and of the net: for want of memory where an
+-- `accept` of one of them found none; and as done only where each of them ended since the service was stopped, the one of
+-- administrators behind a `Stop` that was made, and no call of the two failed.
+abbrev pub EndsService : Ending → List WorkerEnd → ℕ → ℕ → ℕ → ℕ → Type 0
+EndsService Done ends disk disk_now net net_now =
+    AllByRecursion (λ (end : WorkerEnd). end ≡ Stopped) ends × HasNotRisen disk disk_now × HasNotRisen net net_now
+EndsService Memory ends disk disk_now net net_now = lacks_memory ends ≡ true
+EndsService Disk ends disk disk_now net net_now = (lacks_memory ends ≡ false) × HasRisen disk disk_now
+EndsService Net ends disk disk_now net net_now =
+    (lacks_memory ends ≡ false) × HasNotRisen disk disk_now × HasRisen net net_now
+EndsService ending ends disk disk_now net net_now = ⊥
 
 -- how a run ends that could not open its doors: memory was wanting, or a call of the net failed
 abbrev pub EndsUnopened : Ending → ℕ → ℕ → Type 0
@@ -50,7 +50,7 @@ abbrev pub IsUndone : Ending → Type 0
 IsUndone Done = ⊥
 IsUndone ending = Unit {0}
 
--- ---- administrators
+-- ---- all that are served
 
 -- what the first administrator meets: the state of the folder is kept, and published
 abbrev pub opening : DeskState → ℕ → Office
@@ -65,20 +65,22 @@ abbrev pub ClosesOpened : {E : Type 0} → (E → Option DoorKind) → Option (L
 ClosesOpened {E} kind closed closed_now = (closed_now ≡ closed)
     ⊎ ((door : E) × (others : List E) × (kind door ≡ Some Admin) × ClosesDoors closed (door ∷ others) closed_now)
 
--- A service served administrators, one connection after the other, each from the state that the one before it left; and it
--- closed all its doors, first that for administrators, which has their links back.
-pub record Administers {L E : Type 0} (traffic : L → Option Traffic) (marks : L → LinkMarks) (faults : L → ℕ)
-    (given_back : E → Option (List L)) (door_faults : E → ℕ) (kind : E → Option DoorKind)
+-- A service served administrators, one connection after the other, each from the state that the one before it left. Beside them so
+-- many workers of clients, and eight of agents, served at doors of their own, and all have ended. It closed all its doors: first
+-- that for administrators, and then those of the workers in their order. Each has its links back.
+pub record ServesAll {L E : Type 0} (traffic : L → Option Traffic) (marks : L → LinkMarks) (faults : L → ℕ)
+    (given_back : E → Option (List L)) (door_faults : E → ℕ) (kind : E → Option DoorKind) (workers : ℕ)
     (ending : Ending) (start : DeskState) (disk disk_now net net_now : ℕ) (closed closed_now : Option (List E)) : Type 0 where
   pub end : WorkerEnd
   pub last : Office
   pub given : Option (List L)
   pub door : E
-  pub others : List E
   pub is_theirs : kind door ≡ Some Admin
   pub unused : IfTold given (λ links. links ≡ [])
   pub works : Works (VisitsOffice traffic marks faults) EndsOffice marks faults end (opening start disk) last
       given (given_back door) 0 (door_faults door)
   pub counted : disk_now ≡ last.faults
-  pub doors : ClosesDoors closed (door ∷ others) closed_now
-  pub ends : EndsService ending end disk disk_now net net_now
+  pub crew : List (EndedWorker E)
+  pub serves : AllZip (Serves traffic marks faults given_back door_faults kind) (posts workers) crew
+  pub doors : ClosesDoors closed (door ∷ doors_of crew) closed_now
+  pub ends : EndsService ending (end ∷ ends_of crew) disk disk_now net net_now

@@ -1,7 +1,10 @@
-// The workers that run on threads of their own, each with its door.
-ghost use Rattle.std.specs.Prelude.{◌≡◌, ◌+◌, ◌<◌, ◌≤◌, ◌++◌, [], length, vec_len, vec_capacity, IfOk, OnOk};
+// The workers that run on threads of their own, each at its door.
+ghost use Rattle.std.specs.Prelude.{◌≡◌, ◌+◌, ◌<◌, ◌≤◌, ◌++◌, ◌∷◌, [], length, map, replicate, vec_len, vec_capacity, IfOk, OnOk};
+ghost use Rattle.std.specs.List.{list_any};
 ghost use Rattle.std.specs.Option.{option_to_list};
-ghost use Rattle.serve_runs.specs.parts.Crews.{duty_at, duty_of, duties_of, DutyGoes};
+ghost use Rattle.serve_runs.specs.Crew.{kind_for};
+ghost use Rattle.serve_runs.specs.parts.Crews.{duty_at, duty_of, post_at, stations_with, lacked, worker_lacked, WorksAt, HasWorked};
+ghost use Rattle.serve_runs.specs.declared.crews.Station.TheVariants.{Agents};
 
 use crate::telling::note_end;
 use door_workers::{ClientDuty, Notes, WorkerEnd, work_for_agents};
@@ -23,11 +26,11 @@ pub(crate) enum Station<X: Drop> {
     Agents,
 }
 
-/// A worker, its door, once it is opened, and how the worker ended, once it has.
+/// A worker at its door, and how it ended, once it has.
 #[derive(Drop)]
 pub(crate) struct Worker<D: Drop, X: Drop> {
     station: Station<X>,
-    door: Option<D>,
+    door: D,
     end: Option<WorkerEnd>,
 }
 
@@ -43,7 +46,9 @@ impl<X: ClientDuty> Station<X> {
         gate: &G,
         news: &mut StopNews,
     ) -> WorkerEnd
-        ensures { DutyGoes X.goes (duty_at self.old) (duty_at self.new) }
+        ensures works { WorksAt D.Link.traffic D.Link.marks D.Link.faults D.given_back D.faults X.goes
+            result self.old self.new door.old door.new news.old news.new }
+        ensures kind { D.kind door.new ≡ D.kind door.old }
     {
         match self {
             Station::Clients(seat, duty) => {
@@ -53,8 +58,10 @@ impl<X: ClientDuty> Station<X> {
         }
     }
 
-    // The kind of its door.
-    fn kind(&self) -> DoorKind {
+    /// The kind of its door.
+    pub fn kind(&self) -> DoorKind
+        ensures { result ≡ kind_for (post_at self.now) }
+    {
         match self {
             Station::Clients(_, _) => DoorKind::Client,
             Station::Agents => DoorKind::Agent,
@@ -73,36 +80,19 @@ impl<X: ClientDuty> Station<X> {
 }
 
 impl<D: Door, X: ClientDuty> Worker<D, X> {
-    fn at(station: Station<X>) -> Worker<D, X>
-        ensures { duty_of result ≡ duty_at station }
+    /// One of this station, at this door.
+    pub fn at(station: Station<X>, door: D) -> Worker<D, X>
+        ensures station { result.station ≡ station }
+        ensures door { result.door ≡ door }
     {
         Worker {
             station,
-            door: None,
+            door,
             end: None,
         }
     }
 
-    /// The kind of its door.
-    pub fn kind(&self) -> DoorKind {
-        self.station.kind()
-    }
-
-    /// From now on it stands at this door.
-    pub fn take_door(&mut self, door: D)
-        ensures { duty_of self.new ≡ duty_of self.old }
-    {
-        self.door = Some(door);
-    }
-
-    /// The door at which it stood, if any. It stands at none then.
-    pub fn leave_door(&mut self) -> Option<D>
-        ensures { duty_of self.new ≡ duty_of self.old }
-    {
-        self.door.take()
-    }
-
-    /// Serves one connection after the other, where it stands at a door.
+    /// Serves one connection after the other.
     pub fn work<R: Wait, G: Gate, T: Notes>(
         &mut self,
         rt: &R,
@@ -112,98 +102,81 @@ impl<D: Door, X: ClientDuty> Worker<D, X> {
         gate: &G,
         notes: &T,
     )
-        ensures { DutyGoes X.goes (duty_of self.old) (duty_of self.new) }
+        ensures { HasWorked D.Link.traffic D.Link.marks D.Link.faults D.given_back D.faults X.goes D.kind
+            self.old self.new }
     {
-        let Some(door) = &mut self.door else {
-            return;
-        };
         let mut news = StopNews::new();
-        let end = self
-            .station
-            .work(rt, alloc, door, roll, questions, gate, &mut news);
+        let end = self.station.work(rt, alloc, &mut self.door, roll, questions, gate, &mut news);
         self.end = Some(end);
-        note_end(notes, self.kind(), end);
+        note_end(notes, self.station.kind(), end);
     }
 
     /// Whether its door found no memory.
-    pub fn lacked_memory(&self) -> bool {
-        self.end == Some(WorkerEnd::Memory)
+    pub fn lacked_memory(&self) -> bool
+        ensures { result ≡ worker_lacked self.now }
+    {
+        matches!(self.end, Some(WorkerEnd::Memory))
     }
 
-    /// What it does beside serving clients, where it serves them.
-    pub fn into_duty(self) -> Option<X>
-        ensures { result ≡ duty_of self }
+    /// Its door, and what it does beside serving clients, where it serves them.
+    pub fn leave(self) -> (D, Option<X>)
+        ensures door { result.0 ≡ self.door }
+        ensures duty { result.1 ≡ duty_of self }
     {
-        let Worker { station, .. } = self;
-        station.into_duty()
+        let Worker { station, door, .. } = self;
+        (door, station.into_duty())
     }
 }
 
-/// A worker for each of these seats with the duty of the same place, and those for agents. No door of them is open.
-pub(crate) fn crew_of<D: Door, X: ClientDuty>(
+/// A station for each of these seats with the duty of the same place, and those for agents.
+pub(crate) fn stations_of<X: ClientDuty>(
     alloc: Global,
     seats: Vec<Seat>,
     duties: Vec<X>,
-) -> Result<Vec<Worker<D, X>>, AllocError>
+) -> Result<Vec<Station<X>>, AllocError>
     requires { length duties.items ≤ length seats.items }
-    ensures { IfOk result (λ crew. duties_of crew.items ≡ duties.items) }
+    ensures { IfOk result (λ stations. stations.items ≡ stations_with seats.items duties.items) }
 {
     let count = duties.len().saturating_add(AGENT_WORKERS as usize);
-    let mut crew = Vec::with_capacity(alloc, count)?;
-    let mut seats = seats;
-    seats.reverse();
+    let mut stations = Vec::with_capacity(alloc, count)?;
+    let mut seats = seats.into_iter();
     for duty in duties {
-        let Some(seat) = seats.pop() else {
+        let Some(seat) = seats.next() else {
             unreachable!()
         };
-        if let Err(error) = put_worker(&mut crew, Station::Clients(seat, duty)) {
-            return Err(error);
-        }
+        stations.push(Station::Clients(seat, duty))?;
     }
-    match put_agents(&mut crew) {
-        Ok(()) => Ok(crew),
+    match put_agents(&mut stations) {
+        Ok(()) => Ok(stations),
         Err(error) => Err(error),
     }
 }
 
-// Puts the workers of agents behind the others.
-fn put_agents<D: Door, X: ClientDuty>(crew: &mut Vec<Worker<D, X>>) -> Result<(), AllocError>
-    ensures { OnOk result (duties_of crew.new.items ≡ duties_of crew.old.items) }
+// Puts the stations for agents behind the others.
+fn put_agents<X: ClientDuty>(stations: &mut Vec<Station<X>>) -> Result<(), AllocError>
+    ensures { OnOk result (stations.new.items ≡ stations.old.items ++ replicate 8 Agents) }
 {
     for _ in 0..AGENT_WORKERS {
-        if let Err(error) = put_worker(crew, Station::Agents) {
-            return Err(error);
-        }
+        stations.push(Station::Agents)?;
     }
     Ok(())
 }
 
-// Puts a worker behind the others.
-fn put_worker<D: Door, X: ClientDuty>(
-    crew: &mut Vec<Worker<D, X>>,
-    station: Station<X>,
-) -> Result<(), AllocError>
-    ensures { OnOk result (duties_of crew.new.items ≡ duties_of crew.old.items ++ option_to_list (duty_at station)) }
+/// Puts this behind the others. The list has room for it.
+pub(crate) fn put<T: Drop>(list: &mut Vec<T>, value: T)
+    requires { vec_len list.old < vec_capacity list.old }
+    ensures items { list.new.items ≡ list.old.items ++ value ∷ [] }
+    ensures len { vec_len list.new ≡ vec_len list.old + 1 }
+    ensures capacity { vec_capacity list.old ≤ vec_capacity list.new }
 {
-    crew.push(Worker::at(station))?;
-    Ok(())
-}
-
-/// What the workers of clients do beside, once all have ended. The list has room for that of each worker.
-pub(crate) fn duties_back<D: Door, X: ClientDuty>(room: Vec<X>, crew: Vec<Worker<D, X>>) -> Vec<X>
-    requires empty { room.items ≡ [] }
-    requires room { vec_len room + length crew.items ≤ vec_capacity room }
-    ensures { result.items ≡ duties_of crew.items }
-{
-    let mut duties = room;
-    for worker in crew {
-        put_back(&mut duties, worker.into_duty());
+    match list.push(value) {
+        Ok(()) => {}
+        Err(_) => unreachable!(),
     }
-    duties
 }
 
-// Puts a duty behind the others, where there is one.
-fn put_back<X: Drop>(duties: &mut Vec<X>, duty: Option<X>)
+/// Puts a duty behind the others, where there is one. The list has room for it.
+pub(crate) fn put_back<X: Drop>(duties: &mut Vec<X>, duty: Option<X>)
     requires { vec_len duties.old < vec_capacity duties.old }
     ensures items { duties.new.items ≡ duties.old.items ++ option_to_list duty }
     ensures len { vec_len duties.new ≤ vec_len duties.old + 1 }
@@ -219,6 +192,8 @@ fn put_back<X: Drop>(duties: &mut Vec<X>, duty: Option<X>)
 }
 
 /// Whether one of the crew found no memory at its door.
-pub(crate) fn lacked_memory<D: Door, X: ClientDuty>(crew: &[Worker<D, X>]) -> bool {
+pub(crate) fn lacked_memory<D: Door, X: ClientDuty>(crew: &[Worker<D, X>]) -> bool
+    ensures { result ≡ list_any worker_lacked crew.now }
+{
     crew.iter().any(|worker| worker.lacked_memory())
 }

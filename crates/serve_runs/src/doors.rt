@@ -1,11 +1,14 @@
 // The doors of a service: opened, knocked at, and closed.
-ghost use Rattle.std.specs.Prelude.{◌≡◌, ◌≤◌, List, [], map, Some, IfOk, IfErr};
+ghost use Rattle.std.specs.Prelude.{◌≡◌, ◌+◌, ◌<◌, ◌≤◌, ◌++◌, ◌∷◌, [], length, map, vec_len, vec_capacity, Some, IfOk, IfErr, OnOk};
+ghost use Rattle.std.specs.List.{AllZip, AllByRecursion};
+ghost use Rattle.std.specs.Option.{option_to_list};
 ghost use Rattle.link_ports.specs.Told.{IfTold};
 ghost use Rattle.serve_runs.specs.Serving.{EndsUnopened, ClosesDoors};
-ghost use Rattle.serve_runs.specs.parts.Crews.{duty_of};
+ghost use Rattle.serve_runs.specs.parts.Crews.{duty_of, duties_of, door_of, StandsAt, CountsDoor};
 ghost use Rattle.serve_runs.specs.parts.Officiating.{Knocks};
+ghost use Rattle.serve_runs.specs.declared.crews.Worker.{Worker};
 
-use crate::crews::{AGENT_WORKERS, Worker};
+use crate::crews::{AGENT_WORKERS, Station, Worker, put, put_back};
 use desk_ports::PortFault;
 use door_workers::ClientDuty;
 use link_ports::{DoorKind, Net};
@@ -27,37 +30,47 @@ pub(crate) fn open<N: Net>(net: &mut N, kind: DoorKind) -> Result<N::Door, Endin
     }
 }
 
-/// Opens the doors of the crew, until one is refused.
+/// Puts a worker of each of these stations into the crew, in turn, at a door that it opens, until one is refused.
 #[tactic(auto, using(crate::proofs::Closing::unopened_since))]
 pub(crate) fn open_doors<N: Net, X: ClientDuty>(
     net: &mut N,
-    crew: &mut [Worker<N::Door, X>],
+    stations: Vec<Station<X>>,
+    crew: &mut Vec<Worker<N::Door, X>>,
 ) -> Result<(), Ending>
+    requires empty { crew.old.items ≡ [] }
+    requires room { length stations.items ≤ vec_capacity crew.old }
     ensures refused { IfErr result (λ ending. EndsUnopened ending (N.faults net.old) (N.faults net.new)) }
     ensures no_less { N.faults net.old ≤ N.faults net.new }
     ensures closed { N.closed net.new ≡ N.closed net.old }
-    ensures duties { map duty_of crew.new ≡ map duty_of crew.old }
+    ensures few { vec_len crew.new ≤ length stations.items }
+    ensures opened { OnOk result (AllZip (StandsAt N.Door.given_back N.Door.faults N.Door.kind) stations.items crew.new.items) }
 {
-    for worker in crew.iter_mut() {
-        if let Err(ending) = open_one(net, worker) {
+    for station in stations {
+        if let Err(ending) = open_one(net, station, crew) {
             return Err(ending);
         }
     }
     Ok(())
 }
 
+// Puts a worker of this station into the crew, at a door that it opens.
 fn open_one<N: Net, X: ClientDuty>(
     net: &mut N,
-    worker: &mut Worker<N::Door, X>,
+    station: Station<X>,
+    crew: &mut Vec<Worker<N::Door, X>>,
 ) -> Result<(), Ending>
+    requires { vec_len crew.old < vec_capacity crew.old }
     ensures refused { IfErr result (λ ending. EndsUnopened ending (N.faults net.old) (N.faults net.new)) }
     ensures no_less { N.faults net.old ≤ N.faults net.new }
     ensures closed { N.closed net.new ≡ N.closed net.old }
-    ensures duty { duty_of worker.new ≡ duty_of worker.old }
+    ensures opened { OnOk result ((worker : Worker _ _) × (crew.new.items ≡ crew.old.items ++ worker ∷ [])
+        × StandsAt N.Door.given_back N.Door.faults N.Door.kind station worker) }
+    ensures few { vec_len crew.new ≤ vec_len crew.old + 1 }
+    ensures capacity { vec_capacity crew.old ≤ vec_capacity crew.new }
 {
-    match open(net, worker.kind()) {
+    match open(net, station.kind()) {
         Ok(door) => {
-            worker.take_door(door);
+            put(crew, Worker::at(station, door));
             Ok(())
         }
         Err(ending) => Err(ending),
@@ -81,26 +94,39 @@ fn knock<N: Net>(net: &mut N, kind: DoorKind, times: u32)
     }
 }
 
-/// Closes the doors of the crew that are open.
+/// Closes the doors of the crew, in turn, and hands back what its workers of clients do beside. The list has room for that.
 #[tactic(auto, using(crate::proofs::Closing::closes_none))]
-pub(crate) fn close_doors<N: Net, X: ClientDuty>(net: &mut N, crew: &mut [Worker<N::Door, X>])
+pub(crate) fn close_doors<N: Net, X: ClientDuty>(
+    net: &mut N,
+    room: Vec<X>,
+    crew: Vec<Worker<N::Door, X>>,
+) -> Vec<X>
+    requires empty { room.items ≡ [] }
+    requires room { vec_len room + length crew.items ≤ vec_capacity room }
     ensures no_less { N.faults net.old ≤ N.faults net.new }
-    ensures closed { (doors : List N.Door) × ClosesDoors (N.closed net.old) doors (N.closed net.new) }
-    ensures duties { map duty_of crew.new ≡ map duty_of crew.old }
+    ensures closed { ClosesDoors (N.closed net.old) (map door_of crew.items) (N.closed net.new) }
+    ensures counted { AllByRecursion (λ door. CountsDoor (N.Door.faults door) (N.faults net.old) (N.faults net.new))
+        (map door_of crew.items) }
+    ensures duties { result.items ≡ duties_of crew.items }
 {
-    for worker in crew.iter_mut() {
-        close_one(net, worker);
+    let mut duties = room;
+    for worker in crew {
+        close_one(net, &mut duties, worker);
     }
+    duties
 }
 
-#[tactic(auto, using(crate::proofs::Closing::closes_none))]
-fn close_one<N: Net, X: ClientDuty>(net: &mut N, worker: &mut Worker<N::Door, X>)
+// Closes the door of this worker, and hands back what it does beside serving clients, where it serves them.
+fn close_one<N: Net, X: ClientDuty>(net: &mut N, duties: &mut Vec<X>, worker: Worker<N::Door, X>)
+    requires { vec_len duties.old < vec_capacity duties.old }
     ensures no_less { N.faults net.old ≤ N.faults net.new }
-    ensures closed { (doors : List N.Door) × ClosesDoors (N.closed net.old) doors (N.closed net.new) }
-    ensures duty { duty_of worker.new ≡ duty_of worker.old }
+    ensures closed { ClosesDoors (N.closed net.old) (door_of worker ∷ []) (N.closed net.new) }
+    ensures counted { CountsDoor (N.Door.faults (door_of worker)) (N.faults net.old) (N.faults net.new) }
+    ensures items { duties.new.items ≡ duties.old.items ++ option_to_list (duty_of worker) }
+    ensures len { vec_len duties.new ≤ vec_len duties.old + 1 }
+    ensures capacity { vec_capacity duties.old ≤ vec_capacity duties.new }
 {
-    let Some(door) = worker.leave_door() else {
-        return;
-    };
+    let (door, duty) = worker.leave();
     net.close(door);
+    put_back(duties, duty);
 }

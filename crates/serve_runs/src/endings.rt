@@ -1,6 +1,8 @@
 // How a run of `serve` ends that has served.
+ghost use Rattle.std.specs.Prelude.{◌≡◌, ◌||◌};
 ghost use Rattle.std.specs.Bool.{OnTrue, OnFalse};
-ghost use Rattle.serve_runs.specs.Serving.{HasRisen, HasNotRisen, FoundMemory};
+ghost use Rattle.serve_runs.specs.Serving.{HasRisen, HasNotRisen};
+ghost use Rattle.serve_runs.specs.Crew.{is_lacking};
 ghost use Rattle.serve_runs.specs.parts.Officiating.{EndsBy};
 
 use door_workers::WorkerEnd;
@@ -38,7 +40,7 @@ fn has_risen(before: u64, after: u64) -> bool
 
 /// Whether memory was wanting at a door: at one of the crew, or at that for administrators, whose worker ended so.
 pub(crate) fn lacks_memory(lacked: bool, end: WorkerEnd) -> bool
-    ensures { OnFalse result (FoundMemory end) }
+    ensures { result ≡ is_lacking end || lacked }
 {
     match end {
         WorkerEnd::Memory => true,

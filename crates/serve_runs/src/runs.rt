@@ -39,8 +39,8 @@ where
     <<N::Door as Door>::Link as Link>::End: Send,
     requires some { 0 < workers }
     requires most { workers ≤ 64 }
-    ensures { RunsServe N.Door.Link.traffic N.Door.Link.marks N.Door.Link.faults N.Door.given_back N.Door.faults N.Door.kind result
-        (disk_seen D.state D.moment D.left_since D.faults disk.old)
+    ensures { RunsServe N.Door.Link.traffic N.Door.Link.marks N.Door.Link.faults N.Door.given_back N.Door.faults N.Door.kind
+        workers result (disk_seen D.state D.moment D.left_since D.faults disk.old)
         (disk_seen D.state D.moment D.left_since D.faults disk.new)
         (N.faults net.old) (N.faults net.new) (N.closed net.old) (N.closed net.new) }
 {
@@ -108,7 +108,7 @@ where
     requires most { workers ≤ 64 }
     requires duties { length duties.items ≡ workers }
     ensures runs { RunsServe N.Door.Link.traffic N.Door.Link.marks N.Door.Link.faults
-        N.Door.given_back N.Door.faults N.Door.kind result.ending
+        N.Door.given_back N.Door.faults N.Door.kind workers result.ending
         (disk_seen D.state D.moment D.left_since D.faults disk.old)
         (disk_seen D.state D.moment D.left_since D.faults disk.new)
         (N.faults net.old) (N.faults net.new) (N.closed net.old) (N.closed net.new) }

@@ -1,14 +1,15 @@
 // The service, once the folder is mounted.
-ghost use Rattle.std.specs.Prelude.{◌≡◌, ◌<◌, ◌≤◌, ◌∷◌, [], length, map, MatchResult, OnErr, OnOk, IfOk};
+ghost use Rattle.std.specs.Prelude.{◌≡◌, ◌+◌, ◌<◌, ◌≤◌, ◌∷◌, [], length, map, vec_len, vec_capacity, MatchResult, OnErr, OnOk, IfOk};
 ghost use Rattle.std.specs.List.{AllZip};
 ghost use Rattle.desk_keeper.specs.Keeper.{IsSameDisk};
 ghost use Rattle.live_desk.specs.History.{last_commit};
+ghost use Rattle.serve_runs.specs.Crew.{posts, posts_with};
 ghost use Rattle.serve_runs.specs.Serving.{EndsUnopened, ClosesOpened};
-ghost use Rattle.serve_runs.specs.parts.Crews.{duty_of, DutyGoes};
+ghost use Rattle.serve_runs.specs.parts.Crews.{duty_at, duties_in, post_at, HasWorked};
 ghost use Rattle.serve_runs.specs.parts.Officiating.{Officiates, Staffs};
 
 use crate::beside::beside;
-use crate::crews::{Worker, crew_of, duties_back, lacked_memory};
+use crate::crews::{Station, Worker, lacked_memory, stations_of};
 use crate::doors::{close_doors, open, open_doors};
 use crate::endings::lacks_memory;
 use crate::telling::{note_end, note_ready};
@@ -61,7 +62,7 @@ where
     requires duties { length duties.items ≡ workers }
     ensures served { MatchResult result
         (λ met. Staffs D.faults D.state D.moment D.left_since N.Door.Link.traffic N.Door.Link.marks N.Door.Link.faults
-        N.Door.given_back N.Door.faults N.Door.kind met.lacked_memory
+        N.Door.given_back N.Door.faults N.Door.kind (posts workers) met.lacked_memory
         keeper.old keeper.new (N.faults net.old) (N.faults net.new) (N.closed net.old) (N.closed net.new))
         (λ ending. EndsUnopened ending (N.faults net.old) (N.faults net.new)) }
     ensures closed { OnErr result (ClosesOpened N.Door.kind (N.closed net.old) (N.closed net.new)) }
@@ -121,10 +122,10 @@ where
     <N::Door as Door>::Link: Send,
     <<N::Door as Door>::Link as Link>::End: Send,
     requires published { publisher.old ≡ keeper.old.desk ∷ [] }
-    requires seats { length duties.items ≤ length seats.items }
+    requires seats { length duties.items ≡ length seats.items }
     ensures served { MatchResult result
         (λ met. Staffs D.faults D.state D.moment D.left_since N.Door.Link.traffic N.Door.Link.marks N.Door.Link.faults
-        N.Door.given_back N.Door.faults N.Door.kind met.lacked_memory
+        N.Door.given_back N.Door.faults N.Door.kind (posts_with seats.items) met.lacked_memory
         keeper.old keeper.new (N.faults net.old) (N.faults net.new) (N.closed net.old) (N.closed net.new))
         (λ ending. EndsUnopened ending (N.faults net.old) (N.faults net.new)) }
     ensures closed { OnErr result (ClosesOpened N.Door.kind (N.closed net.old) (N.closed net.new)) }
@@ -134,26 +135,21 @@ where
     ensures chore { OnOk result (C.goes chore.old chore.new) }
     ensures untouched { OnErr result (chore.new ≡ chore.old) }
 {
-    let Ok(crew) = crew_of(alloc, seats, duties) else {
+    let Ok(stations) = stations_of(alloc, seats, duties) else {
         return Err(Ending::Memory);
     };
-    let mut crew = crew;
-    let Ok(room) = Vec::with_capacity(alloc, crew.len()) else {
+    let Ok(crew) = Vec::with_capacity(alloc, stations.len()) else {
         return Err(Ending::Memory);
     };
-    let lacked_memory = match open_and_serve(
-        rt, alloc, clients, keeper, publisher, &mut crew, roll, net, gate, notes, chore,
-    ) {
-        Ok(lacked) => lacked,
-        Err(ending) => return Err(ending),
+    let Ok(room) = Vec::with_capacity(alloc, stations.len()) else {
+        return Err(Ending::Memory);
     };
-    Ok(Met {
-        lacked_memory,
-        duties: duties_back(room, crew),
-    })
+    open_and_serve(
+        rt, alloc, clients, keeper, publisher, stations, crew, room, roll, net, gate, notes, chore,
+    )
 }
 
-// Opens the doors, serves, and closes them.
+// Opens the doors, serves, and closes them. The list of the crew, and that of what its workers of clients do beside, have room.
 fn open_and_serve<
     R: Threads + Wait + Sync,
     D: Disk,
@@ -168,45 +164,55 @@ fn open_and_serve<
     clients: u32,
     keeper: &mut Keeper<'_, D>,
     publisher: &mut Publisher,
-    crew: &mut [Worker<N::Door, X>],
+    stations: Vec<Station<X>>,
+    crew: Vec<Worker<N::Door, X>>,
+    room: Vec<X>,
     roll: Roll<<<N::Door as Door>::Link as Link>::End>,
     net: &mut N,
     gate: &G,
     notes: &T,
     chore: &mut C,
-) -> Result<bool, Ending>
+) -> Result<Met<X>, Ending>
 where
     N::Door: Send,
     <N::Door as Door>::Link: Send,
     <<N::Door as Door>::Link as Link>::End: Send,
     requires published { publisher.old ≡ keeper.old.desk ∷ [] }
+    requires nobody { crew.items ≡ [] }
+    requires places { length stations.items ≤ vec_capacity crew }
+    requires empty { room.items ≡ [] }
+    requires room { vec_len room + length stations.items ≤ vec_capacity room }
     ensures served { MatchResult result
-        (λ lacked. Staffs D.faults D.state D.moment D.left_since N.Door.Link.traffic N.Door.Link.marks N.Door.Link.faults
-        N.Door.given_back N.Door.faults N.Door.kind lacked
+        (λ met. Staffs D.faults D.state D.moment D.left_since N.Door.Link.traffic N.Door.Link.marks N.Door.Link.faults
+        N.Door.given_back N.Door.faults N.Door.kind (map post_at stations.items) met.lacked_memory
         keeper.old keeper.new (N.faults net.old) (N.faults net.new) (N.closed net.old) (N.closed net.new))
         (λ ending. EndsUnopened ending (N.faults net.old) (N.faults net.new)) }
     ensures closed { OnErr result (ClosesOpened N.Door.kind (N.closed net.old) (N.closed net.new)) }
     ensures kept { OnErr result (keeper.new ≡ keeper.old) }
     ensures same_disk { IsSameDisk keeper.old keeper.new }
-    ensures duties { OnOk result (AllZip (DutyGoes X.goes) (map duty_of crew.old) (map duty_of crew.new)) }
+    ensures duties { IfOk result (λ met. AllZip X.goes (duties_in (map duty_at stations.items)) met.duties.items) }
     ensures chore { OnOk result (C.goes chore.old chore.new) }
     ensures untouched { OnErr result (chore.new ≡ chore.old) }
 {
+    let mut crew = crew;
     let mut door = match open(net, DoorKind::Admin) {
         Ok(door) => door,
         Err(ending) => return Err(ending),
     };
-    if let Err(ending) = open_doors(net, crew) {
+    if let Err(ending) = open_doors(net, stations, &mut crew) {
         net.close(door);
-        close_doors(net, crew);
+        close_doors(net, room, crew);
         return Err(ending);
     }
     let end = serve(
-        rt, alloc, clients, keeper, publisher, crew, roll, net, &mut door, gate, notes, chore,
+        rt, alloc, clients, keeper, publisher, &mut crew, roll, net, &mut door, gate, notes, chore,
     );
     net.close(door);
-    close_doors(net, crew);
-    Ok(lacks_memory(lacked_memory(crew), end))
+    let lacked = lacked_memory(&crew);
+    Ok(Met {
+        lacked_memory: lacks_memory(lacked, end),
+        duties: close_doors(net, room, crew),
+    })
 }
 
 // Serves at open doors: the crew on threads, and the administrators on this one. How their worker ended.
@@ -241,12 +247,13 @@ where
         E.given_back E.faults E.kind N.faults N.closed result
         keeper.old keeper.new publisher.old publisher.new door.old door.new net.old net.new }
     ensures chore { C.goes chore.old chore.new }
-    ensures duties { AllZip (DutyGoes X.goes) (map duty_of crew.old) (map duty_of crew.new) }
+    ensures workers { AllZip (HasWorked E.Link.traffic E.Link.marks E.Link.faults E.given_back E.faults X.goes E.kind) crew.old crew.new }
 {
     let roll = Mutex::new(roll);
     let questions = QuestionDesk::new(alloc);
     let each = |_: usize, worker: &mut Worker<E, X>|
-        ensures { DutyGoes X.goes (duty_of worker.entry.now) (duty_of worker.exit.now) }
+        ensures { HasWorked E.Link.traffic E.Link.marks E.Link.faults E.given_back E.faults X.goes E.kind
+            worker.entry.now worker.exit.now }
     { worker.work(rt, alloc, &roll, &questions, gate, notes) };
     note_ready(notes);
     let end = beside(

@@ -66,28 +66,28 @@ last_of_failed before sink after risen last =
     (w.last, w.taken, inl (w.counts ∙ sym risen, w.is_written.1))
 
 -- a sink had failed where the run ends for that
-failed : (workers : ℕ) (met : Ending) (writing : Writing) (before sink : SinkSeen) → ending.Sink ≡ ending_with met writing
+pub sink_failed : (workers : ℕ) (met : Ending) (writing : Writing) (before sink : SinkSeen) → ending.Sink ≡ ending_with met writing
     → (met ≡ ending.Sink → ⊥)
     → Journaled workers met writing before sink → sink.faults ≡ next_count before.faults
-failed workers ending.Done SinkFailed before sink is other (unserved undone none same) = cc
-failed workers ending.Done SinkFailed before sink is other (journaled entries recorders recorded whole known (count, part)) = count
-failed workers ending.Done GoesOn before sink is other lines = cc
-failed workers ending.Done OutOfMemory before sink is other lines = cc
-failed workers ending.Sink writing before sink is other lines = absurd (other refl)
-failed workers ending.Memory writing before sink is other lines = cc
-failed workers ending.Words writing before sink is other lines = cc
-failed workers (ending.Line number) writing before sink is other lines = cc
-failed workers ending.Source writing before sink is other lines = cc
-failed workers ending.Disk writing before sink is other lines = cc
-failed workers ending.Net writing before sink is other lines = cc
-failed workers (ending.Damaged file line) writing before sink is other lines = cc
-failed workers ending.Reply writing before sink is other lines = cc
-failed workers (ending.TooLong size) writing before sink is other lines = cc
+sink_failed workers ending.Done SinkFailed before sink is other (unserved undone none same) = cc
+sink_failed workers ending.Done SinkFailed before sink is other (journaled entries recorders recorded whole known (count, part)) = count
+sink_failed workers ending.Done GoesOn before sink is other lines = cc
+sink_failed workers ending.Done OutOfMemory before sink is other lines = cc
+sink_failed workers ending.Sink writing before sink is other lines = absurd (other refl)
+sink_failed workers ending.Memory writing before sink is other lines = cc
+sink_failed workers ending.Words writing before sink is other lines = cc
+sink_failed workers (ending.Line number) writing before sink is other lines = cc
+sink_failed workers ending.Source writing before sink is other lines = cc
+sink_failed workers ending.Disk writing before sink is other lines = cc
+sink_failed workers ending.Net writing before sink is other lines = cc
+sink_failed workers (ending.Damaged file line) writing before sink is other lines = cc
+sink_failed workers ending.Reply writing before sink is other lines = cc
+sink_failed workers (ending.TooLong size) writing before sink is other lines = cc
 
 pub last_line_behind : (workers : ℕ) (e : Ending) (before sink after : SinkSeen) → WritesLines workers e before sink → LastLine e sink after
     → WritesLast e sink after
 last_line_behind workers ending.Sink before sink after (met, writing, is, other, lines) last =
-    last_of_failed before.faults sink after (failed workers met writing before sink is other lines) last
+    last_of_failed before.faults sink after (sink_failed workers met writing before sink is other lines) last
 last_line_behind workers ending.Done before sink after lines last = last_is ending.Done sink after (λ is. cc) last
 last_line_behind workers ending.Memory before sink after lines last = last_is ending.Memory sink after (λ is. cc) last
 last_line_behind workers ending.Words before sink after lines last = last_is ending.Words sink after (λ is. cc) last

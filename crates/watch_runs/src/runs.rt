@@ -52,7 +52,7 @@ where
     requires some { 0 < workers }
     requires most { workers ≤ 64 }
     ensures { (met : Ending) × (writing : Writing)
-        × RunsServe N.Door.Link.traffic N.Door.Link.marks N.Door.Link.faults N.Door.given_back N.Door.faults N.Door.kind met
+        × RunsServe N.Door.Link.traffic N.Door.Link.marks N.Door.Link.faults N.Door.given_back N.Door.faults N.Door.kind workers met
         (disk_seen D.state D.moment D.left_since D.faults disk.old)
         (disk_seen D.state D.moment D.left_since D.faults disk.new)
         (N.faults net.old) (N.faults net.new) (N.closed net.old) (N.closed net.new)
@@ -118,7 +118,8 @@ where
     requires most { workers ≤ 64 }
     requires recorders { length recorders.items ≡ workers }
     ensures runs { IfOk result (λ watched.
-        RunsServe N.Door.Link.traffic N.Door.Link.marks N.Door.Link.faults N.Door.given_back N.Door.faults N.Door.kind watched.ending
+        RunsServe N.Door.Link.traffic N.Door.Link.marks N.Door.Link.faults N.Door.given_back N.Door.faults N.Door.kind
+        workers watched.ending
         (disk_seen D.state D.moment D.left_since D.faults disk.old)
         (disk_seen D.state D.moment D.left_since D.faults disk.new)
         (N.faults net.old) (N.faults net.new) (N.closed net.old) (N.closed net.new)) }
@@ -126,7 +127,8 @@ where
     ensures journal { IfOk result (λ watched. Journals reader watched.reader GoesOn watched.writing
         (sink_seen K.taken K.faults sink.old) (sink_seen K.taken K.faults sink.new)) }
     ensures refuses { IfErr result (λ ending.
-        RunsServe N.Door.Link.traffic N.Door.Link.marks N.Door.Link.faults N.Door.given_back N.Door.faults N.Door.kind ending
+        RunsServe N.Door.Link.traffic N.Door.Link.marks N.Door.Link.faults N.Door.given_back N.Door.faults N.Door.kind
+        workers ending
         (disk_seen D.state D.moment D.left_since D.faults disk.old)
         (disk_seen D.state D.moment D.left_since D.faults disk.new)
         (N.faults net.old) (N.faults net.new) (N.closed net.old) (N.closed net.new)) }

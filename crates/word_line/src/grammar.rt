@@ -8,10 +8,11 @@ ghost use Rattle.word_line.specs.Grammar.{folder_commands, service_commands, cli
 use clap::{Arg, ArgAction, Command};
 use std::alloc::{AllocError, Global};
 
-/// What stands below the commands in the help.
+/// What stands below the commands in the help. Its version is that of the file `VERSION`; the examples fail at another.
 const AFTER_HELP: &str = "\
 The folder 'store' and the sockets are in the directory that PRIVILEGE_DIR names, or else in the working directory.
-Words that begin with - are outside the grammar: such a run ends with status 2. The page privilege(1) tells more.";
+Words that begin with - are outside the grammar: such a run ends with status 2. The page privilege(1) tells more.
+This is privilege 0.1.0.";
 
 // A place for one word.
 fn place<'a>(alloc: Global, name: &'a str) -> Arg<'a>

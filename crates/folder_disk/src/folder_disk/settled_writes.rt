@@ -4,9 +4,9 @@ ghost use Rattle.folder_disk.specs.Holding.{IsHeld};
 
 use super::FolderDisk;
 use crate::failures::Failure;
+use crate::files;
 use crate::files::FileRead;
-use crate::known_files::{Known, digest_of};
-use crate::{files, paths};
+use crate::known_files::Known;
 use desk_ports::FileName;
 use std::fs::File;
 use std::rt::{Clock, Files};
@@ -14,7 +14,7 @@ use std::rt::{Clock, Files};
 impl<R: Files<File = File> + Clock + AllocGlobal + Clone + Drop> FolderDisk<R> {
     // What a file is read to hold is durable where all files were made sure of. It is not relied on once a call failed:
     // the machine may have dropped what it could not write, and say so once alone.
-    pub(super) fn note_read(&mut self, path: &str, read: &FileRead)
+    pub(super) fn note_read(&mut self, name: &FileName, read: &FileRead)
         requires settled { self.old.is_settled ≡ true }
         requires unfailed { self.old.faults ≡ 0 }
         ensures count { self.new.faults ≡ self.old.faults }
@@ -22,42 +22,38 @@ impl<R: Files<File = File> + Clock + AllocGlobal + Clone + Drop> FolderDisk<R> {
     {
         let known = Known {
             mark: read.mark,
-            digest: Some(digest_of(&read.bytes)),
+            digest: Some(self.digests.of(&read.bytes)),
         };
-        self.known.note(path, known);
+        self.known.note(name.as_slice(), known);
     }
 
-    // Has the file of this path hold these bytes: by nothing where it holds them, by a link where its backup does, or the
-    // file that it is a backup of, and else by writing.
-    pub(super) fn write_settled(
-        &mut self,
-        name: &FileName,
-        path: &str,
-        bytes: &[u8],
-    ) -> Result<(), Failure>
+    // Has the file whose path is set hold these bytes: by nothing where it holds them, by a link where its backup does,
+    // or the file that it is a backup of, and else by writing.
+    pub(super) fn write_settled(&mut self, name: &FileName, bytes: &[u8]) -> Result<(), Failure>
         requires held { IsHeld self.old.held }
         requires settled { self.old.is_settled ≡ true }
         ensures count { self.new.faults ≡ self.old.faults }
         ensures settled { self.new.is_settled ≡ true }
     {
-        if let Some(known) = self.known_as(path, bytes) {
-            self.note_unchanged(path, known, bytes);
+        if let Some(known) = self.known_as(name.as_slice(), self.path.as_str(), bytes) {
+            self.note_unchanged(name, known, bytes);
             return Ok(());
         }
-        self.known.forget(path);
-        if let Some(known) = self.link_partner(name, path, bytes) {
-            self.known.note(path, known);
+        self.known.forget(name.as_slice());
+        if let Some(known) = self.link_partner(name, bytes) {
+            self.known.note(name.as_slice(), known);
             return Ok(());
         }
-        if let Some(mark) = self.write_anew(path, bytes)? {
-            self.known.note(path, Known { mark, digest: None });
+        if let Some(mark) = self.write_anew(bytes)? {
+            self.known
+                .note(name.as_slice(), Known { mark, digest: None });
         }
         Ok(())
     }
 
     // A file that stays as it is may stay so for long: what its bytes come to is reckoned once. Of one that changes each
     // time it never is.
-    fn note_unchanged(&mut self, path: &str, known: Known, bytes: &[u8])
+    fn note_unchanged(&mut self, name: &FileName, known: Known, bytes: &[u8])
         requires settled { self.old.is_settled ≡ true }
         ensures count { self.new.faults ≡ self.old.faults }
         ensures settled { self.new.is_settled ≡ true }
@@ -67,17 +63,17 @@ impl<R: Files<File = File> + Clock + AllocGlobal + Clone + Drop> FolderDisk<R> {
         }
         let known = Known {
             mark: known.mark,
-            digest: Some(digest_of(bytes)),
+            digest: Some(self.digests.of(bytes)),
         };
-        self.known.note(path, known);
+        self.known.note(name.as_slice(), known);
     }
 
-    // What is known of the file of this path, where it has these bytes, and stands there unchanged.
-    fn known_as(&self, path: &str, bytes: &[u8]) -> Option<Known>
+    // What is known of the file of this name and path, where it has these bytes, and stands there unchanged.
+    fn known_as(&self, name: &[u8], path: &str, bytes: &[u8]) -> Option<Known>
         requires held { IsHeld self.now.held }
         requires settled { self.now.is_settled ≡ true }
     {
-        let known = self.known.of(path)?;
+        let known = self.known.of(name)?;
         if known.mark.length() == bytes.len() as u64 && self.stands_as(path, &known, bytes) {
             Some(known)
         } else {
@@ -91,23 +87,44 @@ impl<R: Files<File = File> + Clock + AllocGlobal + Clone + Drop> FolderDisk<R> {
     {
         match &known.digest {
             Some(digest) => {
-                *digest == digest_of(bytes) && files::stands(&self.rt, path, &known.mark)
+                *digest == self.digests.of(bytes) && files::stands(&self.rt, path, &known.mark)
             }
             None => files::holds(&self.rt, path, &known.mark, bytes),
         }
     }
 
-    // Makes the path one more name of its partner, where that has these bytes. What is known of that, where it is done.
-    fn link_partner(&self, name: &FileName, path: &str, bytes: &[u8]) -> Option<Known>
-        requires held { IsHeld self.now.held }
-        requires settled { self.now.is_settled ≡ true }
+    // Makes the path that is set one more name of its partner, where that has these bytes. What is known of that, where it
+    // is done.
+    fn link_partner(&mut self, name: &FileName, bytes: &[u8]) -> Option<Known>
+        requires held { IsHeld self.old.held }
+        requires settled { self.old.is_settled ≡ true }
+        ensures kept { self.new ≡ record self.old { partner = self.new.partner } }
     {
-        let partner = paths::partner_path(self.folder.as_str(), name.as_slice())?;
-        let known = self.known_as(partner.as_str(), bytes)?;
-        if files::link(&self.rt, partner.as_str(), path) {
+        if !self
+            .partner
+            .set_partner(self.folder.as_str(), name.as_slice())
+        {
+            return None;
+        }
+        let known = self.known_partner(bytes)?;
+        if files::link(&self.rt, self.partner.as_str(), self.path.as_str()) {
             Some(known)
         } else {
             None
         }
+    }
+
+    // What is known of the partner whose path is set, where it has these bytes, and stands there unchanged.
+    fn known_partner(&self, bytes: &[u8]) -> Option<Known>
+        requires held { IsHeld self.now.held }
+        requires settled { self.now.is_settled ≡ true }
+    {
+        self.known_as(self.partner_name()?, self.partner.as_str(), bytes)
+    }
+
+    // The name behind the folder in the partner's path.
+    fn partner_name(&self) -> Option<&[u8]> {
+        let path = self.partner.as_str().as_bytes();
+        path.get(self.folder.len().saturating_add(1)..)
     }
 }

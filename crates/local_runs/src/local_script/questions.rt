@@ -7,7 +7,7 @@ ghost use Rattle.script_replies.specs.Reply.{reply};
 ghost use Rattle.local_runs.specs.parts.Local.{is_question};
 
 use crate::local_script::LocalScript;
-use cynara_keys::{BorrowedQuestion, BucketName};
+use cynara_keys::BorrowedQuestion;
 use desk_state::Desk;
 use line_script::{LineAnswer, Step, print};
 use script_replies::{
@@ -22,13 +22,15 @@ impl LocalScript {
         desk: &Desk,
         question: &BorrowedQuestion<'_>,
     ) -> Result<(), AllocError>
+        requires folded { AreFolded self.old.rules desk.now self.old.shares }
         ensures answer { OnOk result (self.new.answers ≡
             self.old.answers ++ reply desk.now self.old.shares (step.Check question.now)) }
-        ensures same { self.new ≡ record self.old { answers = self.new.answers } }
+        ensures same { self.new ≡ record self.old { answers = self.new.answers; rules = self.new.rules } }
         ensures err { OnErr result (self.new.answers ≡ self.old.answers) }
+        ensures folded { AreFolded self.new.rules desk.now self.new.shares }
     {
-        let root = BucketName::root(self.alloc);
-        print_from(desk, &root, true, question, &mut self.answers)
+        self.rules
+            .print_check(self.alloc, desk, question, &mut self.answers)
     }
 
     // Adds the answer to a question about the policy state to those that wait.

@@ -1,18 +1,47 @@
--- What the workers of clients do beside serving.
+-- The workers of clients and of agents: at their stations, at doors that were opened for them, and once they have ended.
 use denote.Ref.{MutBor}
 use denote.Param.Members.{Shared}
-use Rattle.std.specs.Prelude.{ℕ, List, [], ◌∷◌, map, Option, Some, None}
+use Rattle.std.specs.Prelude.{◌≡◌, ℕ, Bool, false, List, [], ◌∷◌, ◌++◌, map, replicate, Option, Some, None}
 use Rattle.std.specs.Fork.{ChangesEach}
+use Rattle.desk_ports.specs.Faults.{next_count}
+use Rattle.link_ports.specs.Told.{IfTold}
+use Rattle.link_ports.specs.Traffic.{Traffic}
+use Rattle.link_ports.specs.LinkMarks.{LinkMarks}
+use Rattle.link_ports.specs.declared.door_kinds.DoorKind.{DoorKind}
+use Rattle.live_desk.specs.Seat.{SeatState}
+use Rattle.server_hall.specs.StopNews.{StopsTold, unasked}
+use Rattle.door_workers.specs.Visit.{Works, EndsWorking}
+use Rattle.door_workers.specs.Clients.{VisitsClients}
+use Rattle.door_workers.specs.Agents.{VisitsAgents}
+use Rattle.door_workers.specs.declared.workers.WorkerEnd.{WorkerEnd}
+use Rattle.serve_runs.specs.Crew.{kind_for, is_lacking}
+use Rattle.serve_runs.specs.Serving.{HasRisen}
 use Rattle.serve_runs.specs.declared.crews.Station.{Station}
 use Rattle.serve_runs.specs.declared.crews.Station.TheVariants.{Clients, Agents}
 use Rattle.serve_runs.specs.declared.crews.Worker.{Worker}
 
+-- ---- stations
+
+-- what is done there beside serving
 abbrev pub duty_at : {X : Type 0} → Station X → Option X
 duty_at (Clients seat duty) = Some duty
 duty_at Agents = None
 
-abbrev pub duty_of : {D X : Type 0} → Worker D X → Option X
-duty_of worker = duty_at worker.station
+abbrev pub post_at : {X : Type 0} → Station X → Option SeatState
+post_at (Clients seat duty) = Some seat
+post_at Agents = None
+
+-- a station for each seat, with the duty of the same place
+abbrev pub manned : {X : Type 0} → List SeatState → List X → List (Station X)
+manned seats [] = []
+manned [] (duty ∷ duties) = []
+manned (seat ∷ seats) (duty ∷ duties) = Clients seat duty ∷ manned seats duties
+
+-- those, and then eight for agents
+abbrev pub stations_with : {X : Type 0} → List SeatState → List X → List (Station X)
+stations_with seats duties = manned seats duties ++ replicate 8 Agents
+
+-- ---- duties
 
 -- those that are there, in their order
 abbrev pub duties_in : {X : Type 0} → List (Option X) → List X
@@ -20,16 +49,59 @@ duties_in [] = []
 duties_in (None ∷ more) = duties_in more
 duties_in (Some duty ∷ more) = duty ∷ duties_in more
 
+abbrev pub duty_of : {E X : Type 0} → Worker E X → Option X
+duty_of worker = duty_at worker.station
+
 -- of the workers of clients, in their order
-abbrev pub duties_of : {D X : Type 0} → List (Worker D X) → List X
+abbrev pub duties_of : {E X : Type 0} → List (Worker E X) → List X
 duties_of crew = duties_in (map duty_of crew)
 
--- a duty has become what it may, and there is none where there was none
-abbrev pub DutyGoes : {X : Type 0} → (X → X → Type 0) → Option X → Option X → Type 0
-DutyGoes goes None None = Unit {0}
-DutyGoes goes (Some old) (Some new) = goes old new
-DutyGoes goes None (Some new) = ⊥
-DutyGoes goes (Some old) None = ⊥
+-- ---- workers
+
+abbrev pub door_of : {E X : Type 0} → Worker E X → E
+door_of worker = worker.door
+
+-- an `accept` of the worker found no memory
+abbrev pub lacked : Option WorkerEnd → Bool
+lacked (Some end) = is_lacking end
+lacked None = false
+
+abbrev pub worker_lacked : {E X : Type 0} → Worker E X → Bool
+worker_lacked worker = lacked worker.end
+
+-- A door whose `accept` has failed raises the count of its net when it is closed.
+abbrev pub CountsDoor : ℕ → ℕ → ℕ → Type 0
+CountsDoor door_faults before after = door_faults ≡ next_count 0 → HasRisen before after
+
+-- a worker of this station stands at a door that was just opened for it
+pub record StandsAt {L E X : Type 0} (given_back : E → Option (List L)) (door_faults : E → ℕ) (kind : E → Option DoorKind)
+    (station : Station X) (worker : Worker E X) : Type 0 where
+  pub station_is : worker.station ≡ station
+  pub fresh : door_faults worker.door ≡ 0
+  pub unused : IfTold (given_back worker.door) (λ links. links ≡ [])
+  pub is_theirs : kind worker.door ≡ Some (kind_for (post_at station))
+
+module _ {L E X : Type 0} (traffic : L → Option Traffic) (marks : L → LinkMarks) (faults : L → ℕ)
+    (given_back : E → Option (List L)) (door_faults : E → ℕ) (goes : X → X → Type 0) where
+  -- what a worker did at its station and its door, and what has become of its duty
+  abbrev pub WorksAt : WorkerEnd → Station X → Station X → E → E → StopsTold → StopsTold → Type 0
+  WorksAt end (Clients seat duty) (Clients seat_now duty_now) door door_now told told_now =
+      Works (VisitsClients traffic marks faults) (EndsWorking told told_now) marks faults end seat seat_now
+      (given_back door) (given_back door_now) (door_faults door) (door_faults door_now)
+      × goes duty duty_now
+  WorksAt end Agents Agents door door_now told told_now =
+      Works (VisitsAgents traffic marks faults) (EndsWorking told told_now) marks faults end tt tt
+      (given_back door) (given_back door_now) (door_faults door) (door_faults door_now)
+  WorksAt end (Clients seat duty) Agents door door_now told told_now = ⊥
+  WorksAt end Agents (Clients seat duty) door door_now told told_now = ⊥
+
+  -- a worker has ended: how, and what it did until then
+  pub record HasWorked (kind : E → Option DoorKind) (worker worker_now : Worker E X) : Type 0 where
+    pub end : WorkerEnd
+    pub ended : worker_now.end ≡ Some end
+    pub told : StopsTold
+    pub works : WorksAt end worker.station worker_now.station worker.door worker_now.door unasked told
+    pub same_kind : kind worker_now.door ≡ kind worker.door
 
 -- Each worker is what a call left of it.
 pub record HaveWorked {F K : Type 0} (calls : Shared F (ℕ × (MutBor K × Unit {0})) ((Unit {0}) × (MutBor K × Unit {0}))) (each : F)

@@ -1,6 +1,6 @@
 -- What the calling thread does while the others work.
 use Rattle.std.specs.Prelude.{◌≡◌, ◌≤◌, ℕ, Bool, true, false, List, [], ◌∷◌, Option, Some}
-use Rattle.std.specs.Bool.{OnFalse}
+use Rattle.std.specs.List.{AllByRecursion, AllZip}
 use Rattle.desk_ports.specs.FileMap.{FileMap}
 use Rattle.desk_ports.specs.Disk.{DiskState}
 use Rattle.link_ports.specs.Told.{IfTold}
@@ -19,7 +19,9 @@ use Rattle.door_workers.specs.declared.workers.WorkerEnd.{WorkerEnd}
 use Rattle.door_workers.specs.declared.workers.WorkerEnd.TheVariants.{DoorFailed}
 use Rattle.run_endings.specs.declared.endings.Ending.{Ending}
 use Rattle.run_endings.specs.declared.endings.Ending.TheVariants.{Done, Memory, Disk, Net}
-use Rattle.serve_runs.specs.Serving.{HasRisen, HasNotRisen, FoundMemory, ClosesDoors}
+use Rattle.live_desk.specs.Seat.{SeatState}
+use Rattle.serve_runs.specs.Crew.{EndedWorker, ends_of, doors_of, lacks_memory, Serves}
+use Rattle.serve_runs.specs.Serving.{HasRisen, HasNotRisen, ClosesDoors}
 
 -- a net before and after a row of knocks: its count did not fall, and it tells the same doors closed
 pub record Knocks {N C : Type 0} (net_faults : N → ℕ) (net_closed : N → Option (List C)) (old new : N) : Type 0 where
@@ -43,16 +45,15 @@ pub record Officiates {D L E N C : Type 0} (disk_faults : D → ℕ) (state : D 
   pub same_kind : kind door_now ≡ kind door
   pub knocks : Knocks net_faults net_closed net net_now
 
--- What a service did between its opening and its end: whether memory was wanting at a door, and the rest as of `Administers`.
+-- What a service did between its opening and its end: whether memory was wanting at a door, and the rest as of `ServesAll`.
 pub record Staffs {D L E : Type 0} (disk_faults : D → ℕ) (state : D → Option DiskState) (moment : D → ℕ)
     (left_since : D → ℕ → FileMap → Type 0) (traffic : L → Option Traffic) (marks : L → LinkMarks)
     (faults : L → ℕ) (given_back : E → Option (List L)) (door_faults : E → ℕ) (kind : E → Option DoorKind)
-    (lacked : Bool) (keeper keeper_now : Keeper D) (net net_now : ℕ) (closed closed_now : Option (List E)) : Type 0 where
+    (posts : List (Option SeatState)) (lacked : Bool) (keeper keeper_now : Keeper D) (net net_now : ℕ) (closed closed_now : Option (List E)) : Type 0 where
   pub end : WorkerEnd
   pub published : List DeskState
   pub given : Option (List L)
   pub door : E
-  pub others : List E
   pub is_theirs : kind door ≡ Some Admin
   pub unused : IfTold given (λ links. links ≡ [])
   pub frames : List Exchange
@@ -60,9 +61,11 @@ pub record Staffs {D L E : Type 0} (disk_faults : D → ℕ) (state : D → Opti
       (office_of disk_faults keeper (keeper.desk ∷ []) []) (office_of disk_faults keeper_now published frames)
       given (given_back door) 0 (door_faults door)
   pub runs : RunsOver state moment left_since keeper keeper_now frames
-  pub doors : ClosesDoors closed (door ∷ others) closed_now
-  pub memory : OnFalse lacked (FoundMemory end)
-  pub failed : end ≡ DoorFailed → HasRisen net net_now
+  pub crew : List (EndedWorker E)
+  pub serves : AllZip (Serves traffic marks faults given_back door_faults kind) posts crew
+  pub doors : ClosesDoors closed (door ∷ doors_of crew) closed_now
+  pub memory : lacked ≡ lacks_memory (end ∷ ends_of crew)
+  pub failed : AllByRecursion (λ (one : WorkerEnd). one ≡ DoorFailed → HasRisen net net_now) (end ∷ ends_of crew)
 
 -- which ending follows from what was met, and from the counts of the disk and of the net
 abbrev pub EndsBy : Bool → ℕ → ℕ → ℕ → ℕ → Ending → Type 0

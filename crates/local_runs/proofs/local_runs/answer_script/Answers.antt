@@ -40,7 +40,7 @@ lines-init g c =
                 (λ left. g.met.D.Disk.only_now disk left) begins).1,
           )));
       decided = c.requires.decided;
-      folded = subst (λ folded. AreFolded folded desk c.args.script.now.shares) (sym c.requires.rules) (record { table = tt; given = tt });
+      folded = subst (λ folded. AreFolded folded desk c.args.script.now.shares) (sym c.requires.rules) (record { table = tt; given = tt; indexed = tt });
       source = refl;
       sink = refl;
       disk = refl;

@@ -1,4 +1,4 @@
-use Rattle.std.proofs.Common.{ap, ◌∙◌}
+use Rattle.std.proofs.Common.{refl, ap, ◌∙◌}
 use Rattle.run_endings.specs.Ending.{status_of}
 use Rattle.command_words.specs.Commands.{command_of}
 use Rattle.privilege_cli.specs.Program.{seen_of}
@@ -27,7 +27,7 @@ returns-clause-run g c =
       net_count = λ unused. ap g.N.Dial.faults (c.run_words-ending.ensures.net unused);
       completes = λ none. completes g.N.Dial g.N.Link.Link g.N.Net.closed g.N.Door.Door g.N.Door.Link.Link c.status.result before after
           c.args.net.now c.run_words-ending.new.net run.0 c.run_words-ending.result c.status.ensures
-          c.run_words-ending.ensures.source_count none (command_of c.args.words.now) run.1 writes c.run_words-ending.ensures.disk_count;
+          c.run_words-ending.ensures.source_count none refl refl (command_of c.args.words.now) run.1 writes c.run_words-ending.ensures.disk_count;
     }
 
 pub returns-clause-option : goal.returns-clause-option

@@ -24,14 +24,14 @@ pub returns-in-Ok-Serve-clause-run : goal.returns-in-Ok-Serve-clause-run
 returns-in-Ok-Serve-clause-run g c =
     serves-as g.N.Dial g.N.Link.Link g.N.Net.closed g.N.Door.Door g.N.Door.Link.Link c.args.words.now
     (seen_of g.S.Source g.K.Sink g.D.Disk g.N.Dial c.args.source.now c.args.sink.now c.args.disk.now c.args.net.now) c.args.net.now
-    (disk_seen g.D.Disk.state g.D.Disk.moment g.D.Disk.left_since g.D.Disk.faults c.run_serve.new.disk) c.run_serve.new.net
-    _ c.run_serve.result (c.in-Ok-Serve.ensures.command ∙ ap Some c.in-Ok-Serve.field-0-is) c.run_serve.ensures
+    _ (disk_seen g.D.Disk.state g.D.Disk.moment g.D.Disk.left_since g.D.Disk.faults c.run_serve.new.disk) c.run_serve.new.net
+    c.run_serve.result (c.in-Ok-Serve.ensures.command ∙ ap Some c.in-Ok-Serve.field-0-is) c.run_serve.ensures
 
 pub returns-in-Ok-Serve-clause-source_count : goal.returns-in-Ok-Serve-clause-source_count
 returns-in-Ok-Serve-clause-source_count g c =
     reads-nothing g.N.Dial g.N.Link.Link g.N.Net.closed g.N.Door.Door g.N.Door.Link.Link c.args.words.now
     (seen_of g.S.Source g.K.Sink g.D.Disk g.N.Dial c.args.source.now c.args.sink.now c.args.disk.now c.args.net.now) c.args.net.now
-    (disk_seen g.D.Disk.state g.D.Disk.moment g.D.Disk.left_since g.D.Disk.faults c.run_serve.new.disk) c.run_serve.new.net
+    _ (disk_seen g.D.Disk.state g.D.Disk.moment g.D.Disk.left_since g.D.Disk.faults c.run_serve.new.disk) c.run_serve.new.net
     c.run_serve.result c.run_serve.ensures
 
 pub returns-in-Ok-Check-clause-source_count : goal.returns-in-Ok-Check-clause-source_count
@@ -56,13 +56,13 @@ pub returns-in-Ok-Watch-clause-run : goal.returns-in-Ok-Watch-clause-run
 returns-in-Ok-Watch-clause-run g c =
     watches-as g.N.Dial g.N.Link.Link g.N.Net.closed g.N.Door.Door g.N.Door.Link.Link c.args.words.now
     (seen_of g.S.Source g.K.Sink g.D.Disk g.N.Dial c.args.source.now c.args.sink.now c.args.disk.now c.args.net.now) c.args.net.now
-    (disk_seen g.D.Disk.state g.D.Disk.moment g.D.Disk.left_since g.D.Disk.faults c.run_watch.new.disk) c.run_watch.new.net
-    _ c.run_watch.result (sink_seen g.K.Sink.taken g.K.Sink.faults c.run_watch.new.sink)
+    _ (disk_seen g.D.Disk.state g.D.Disk.moment g.D.Disk.left_since g.D.Disk.faults c.run_watch.new.disk) c.run_watch.new.net
+    c.run_watch.result (sink_seen g.K.Sink.taken g.K.Sink.faults c.run_watch.new.sink)
     (c.in-Ok-Watch.ensures.command ∙ ap Some c.in-Ok-Watch.field-0-is) c.run_watch.ensures
 
 pub returns-in-Ok-Watch-clause-source_count : goal.returns-in-Ok-Watch-clause-source_count
 returns-in-Ok-Watch-clause-source_count g c =
     watches-unread g.N.Dial g.N.Link.Link g.N.Net.closed g.N.Door.Door g.N.Door.Link.Link c.args.words.now
     (seen_of g.S.Source g.K.Sink g.D.Disk g.N.Dial c.args.source.now c.args.sink.now c.args.disk.now c.args.net.now) c.args.net.now
-    (disk_seen g.D.Disk.state g.D.Disk.moment g.D.Disk.left_since g.D.Disk.faults c.run_watch.new.disk) c.run_watch.new.net
-    _ c.run_watch.result (sink_seen g.K.Sink.taken g.K.Sink.faults c.run_watch.new.sink) c.run_watch.ensures
+    _ (disk_seen g.D.Disk.state g.D.Disk.moment g.D.Disk.left_since g.D.Disk.faults c.run_watch.new.disk) c.run_watch.new.net
+    c.run_watch.result (sink_seen g.K.Sink.taken g.K.Sink.faults c.run_watch.new.sink) c.run_watch.ensures

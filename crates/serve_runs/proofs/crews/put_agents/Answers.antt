@@ -1,6 +1,7 @@
-use Rattle.std.proofs.Common.{◌∙◌, append-nil}
-use Rattle.serve_runs.specs.parts.Crews.{duties_of}
+use Rattle.serve_runs.proofs.Crewing.{agents_more}
 use Rattle.serve_runs.proofs.crews.put_agents.Goals as goal
 
 pub loop-preserved : goal.loop-preserved
-loop-preserved g c = c.in_default.ensures ∙ (append-nil (duties_of c.loop.crew.items) ∙ c.loop.invariant)
+loop-preserved g c =
+    agents_more c.args.stations.now.items c.loop.stations.items c.push.new.self.items c.loop.counter c.loop.invariant
+    c.in_ok-push.ensures.items

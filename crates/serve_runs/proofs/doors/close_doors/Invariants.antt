@@ -1,12 +1,17 @@
-use Rattle.std.proofs.Common.{◌≡◌, ◌≤◌, List, map}
+use Rattle.std.proofs.Common.{◌≡◌, ◌+◌, ◌≤◌, length, map, vec_len, vec_capacity}
+use Rattle.std.specs.List.{AllByRecursion}
+use Rattle.std.specs.Vec.Iter.{into_iter_items}
 use Rattle.serve_runs.specs.Serving.{ClosesDoors}
-use Rattle.serve_runs.specs.parts.Crews.{duty_of}
+use Rattle.serve_runs.specs.parts.Crews.{duties_of, door_of, CountsDoor}
 use Rattle.serve_runs.proofs.doors.close_doors.Given as goal
 
 abbrev pub invariant-loop-worker : goal.invariant-loop-worker
 invariant-loop-worker g l =
     record {
       no_less : g.N.Dial.faults l.fn.net ≤ g.N.Dial.faults l.net;
-      closed : (doors : List g.row.N-Door.Denot) × ClosesDoors (g.N.Net.closed l.fn.net) doors (g.N.Net.closed l.net);
-      duties : map duty_of l.crew ≡ map duty_of l.fn.crew;
+      closed : ClosesDoors (g.N.Net.closed l.fn.net) (map door_of l.yielded) (g.N.Net.closed l.net);
+      counted : AllByRecursion (λ door. CountsDoor (g.N.Door.Door.faults door) (g.N.Dial.faults l.fn.net) (g.N.Dial.faults l.net))
+          (map door_of l.yielded);
+      duties : l.duties.items ≡ duties_of l.yielded;
+      room : vec_len l.duties + length (into_iter_items l.worker-iterator) ≤ vec_capacity l.duties;
     }

@@ -11,6 +11,7 @@ use Rattle.admin_door.proofs.Running.{runs-none}
 use Rattle.door_workers.specs.Visit.{Works}
 use Rattle.door_workers.specs.Administrators.{Office, VisitsOffice, EndsOffice, office_of}
 use Rattle.folder_runs.proofs.Mounting.{refuses-folder, refuses-count}
+use Rattle.serve_runs.specs.Crew.{ends_of}
 use Rattle.serve_runs.specs.Serving.{opening}
 use Rattle.serve_runs.specs.Run.{RunsServe}
 use Rattle.serve_runs.proofs.Concluding.{concludes, mount_undone, unopened_undone}
@@ -69,14 +70,15 @@ returns-clause-runs g c =
       last = office_of g.D.Disk.faults last staffs.published staffs.frames;
       given = staffs.given;
       door = staffs.door;
-      others = staffs.others;
       is_theirs = staffs.is_theirs;
       unused = staffs.unused;
       works = works;
       counted = refl;
+      crew = staffs.crew;
+      serves = staffs.serves;
       doors = staffs.doors;
-      ends = concludes c.ending_of-ending.result c.in-Ok-served.met.lacked_memory staffs.end (g.D.Disk.faults c.args.disk.now)
-          (g.D.Disk.faults last.vault.disk.now) (g.N.Dial.faults c.args.net.now) (g.N.Dial.faults c.serve_folder-served.new.net)
+      ends = concludes c.ending_of-ending.result c.in-Ok-served.met.lacked_memory (staffs.end ∷ ends_of staffs.crew)
+          (g.D.Disk.faults c.args.disk.now) (g.D.Disk.faults last.vault.disk.now) (g.N.Dial.faults c.args.net.now) (g.N.Dial.faults c.serve_folder-served.new.net)
           staffs.memory staffs.failed
           (rw (
             c.faults-disk_faults.ensures,

@@ -1,12 +1,22 @@
-use Rattle.std.proofs.Common.{rules, ◌≡◌, ◌≤◌, ◌∙◌, ◌∷◌, [], ℕ, List, Option, arith, subst, map}
+use Rattle.std.proofs.Common.{rules, ◌≡◌, ◌≤◌, ◌∙◌, ◌||◌, ◌∷◌, [], ℕ, List, Option, arith, sym, ap, subst, map}
+use Rattle.std.specs.List.{AllByRecursion, AllZip, list_any}
+use Rattle.std.proofs.lemmas.List.{with_items_is, places}
 use Rattle.link_ports.specs.Told.{AppendsTold}
 use Rattle.desk_state.specs.DeskState.{DeskState}
 use Rattle.door_workers.specs.Visit.{Works}
 use Rattle.door_workers.specs.Administrators.{VisitsOffice, EndsOffice, office_of}
-use Rattle.serve_runs.proofs.Closing.{closes_then, closes_again, door_failed}
-use Rattle.serve_runs.specs.parts.Crews.{duty_of}
-use Rattle.serve_runs.proofs.Duties.{goes_through}
+use Rattle.serve_runs.specs.Crew.{doors_of, is_lacking}
+use Rattle.serve_runs.specs.Serving.{ClosesDoors}
+use Rattle.serve_runs.specs.parts.Crews.{duty_at, post_at, duties_in, duties_of, door_of, worker_lacked, CountsDoor}
+use Rattle.serve_runs.proofs.Closing.{closes_then, closes_again, door_failed, counts_within}
+use Rattle.serve_runs.proofs.Crewing.{all_ended, failed_all}
 use Rattle.serve_runs.proofs.serving.open_and_serve.Goals as goal
+
+pub returns-in-Err-open_doors-clause-closed : goal.returns-in-Err-open_doors-clause-closed
+returns-in-Err-open_doors-clause-closed g c =
+    closes_again g.N.Door.Door.kind (g.N.Net.closed c.args.net.now) (g.N.Net.closed c.open_doors.new.net) (g.N.Net.closed c.close.new.self)
+    (g.N.Net.closed c.close_doors.new.net) c.in-Ok.door (map door_of c.open_doors.new.crew.items)
+    (c.open_doors.ensures.closed ∙ c.open.ensures.closed) c.in-Ok.ensures.of_kind c.close.ensures.closed c.close_doors.ensures.closed
 
 pub returns-clause-served : goal.returns-clause-served
 returns-clause-served g c =
@@ -28,37 +38,58 @@ returns-clause-served g c =
     (g.N.Door.Door.given_back c.in-Ok.door) (g.N.Door.Door.given_back c.serve-end.new.door)
     count (g.N.Door.Door.faults c.serve-end.new.door))
     c.in-Ok.ensures.fresh works_so in
-    let (others, closes) = c.close_doors-2.ensures.closed in
     let no_less : g.N.Dial.faults c.args.net.now ≤ g.N.Dial.faults c.serve-end.new.net =
     omega (arith, c.open.ensures.no_less, c.open_doors.ensures.no_less, c.serve-end.ensures.officiates.knocks.no_less) in
+    let now = c.serve-end.new.crew in
+    let written = with_items_is c.open_doors.new.crew now (search (rules, places)) in
+    let ended = all_ended g.N.Door.Link.Link.traffic g.N.Door.Link.Link.marks g.N.Door.Link.Link.faults g.N.Door.Door.given_back
+    g.N.Door.Door.faults g.N.Door.Door.kind g.X.ClientDuty.goes c.args.stations.items c.deref_mut.result.now now
+    (rw c.deref_mut.ensures.value c.in_default.ensures.opened) c.serve-end.ensures.workers in
+    let doors = ap (λ list. map door_of list) written ∙ sym ended.doors in
     record {
       end = c.serve-end.result;
       published = c.serve-end.new.publisher;
       given = g.N.Door.Door.given_back c.in-Ok.door;
       door = c.serve-end.new.door;
-      others = others;
       is_theirs = c.serve-end.ensures.officiates.same_kind ∙ c.in-Ok.ensures.of_kind;
       unused = c.in-Ok.ensures.unused;
       frames = c.serve-end.ensures.officiates.frames;
       works = works;
       runs = c.serve-end.ensures.officiates.runs;
+      crew = ended.crew;
+      serves = ended.serves;
       doors = closes_then (g.N.Net.closed c.args.net.now) (g.N.Net.closed c.close-2.new.self) (g.N.Net.closed c.close_doors-2.new.net)
-          (c.serve-end.new.door ∷ []) others
+          (c.serve-end.new.door ∷ []) (doors_of ended.crew)
           (subst (λ (told : Option (List g.row.N-Door.Denot)). AppendsTold told c.serve-end.new.door (g.N.Net.closed c.close-2.new.self))
-          opened_is c.close-2.ensures.closed) closes;
-      memory = c.lacks_memory.ensures;
-      failed = door_failed c.serve-end.result (g.N.Door.Door.faults c.serve-end.new.door) (g.N.Dial.faults c.args.net.now)
-          (g.N.Dial.faults c.serve-end.new.net) (g.N.Dial.faults c.close-2.new.self) (g.N.Dial.faults c.close_doors-2.new.net)
-          no_less works.counted c.close-2.ensures.count c.close_doors-2.ensures.no_less;
+          opened_is c.close-2.ensures.closed)
+          (subst (λ (list : List g.row.N-Door.Denot). ClosesDoors (g.N.Net.closed c.close-2.new.self) list
+          (g.N.Net.closed c.close_doors-2.new.net)) doors c.close_doors-2.ensures.closed);
+      memory =
+          c.lacks_memory.ensures
+          ∙ ap (λ lacked. is_lacking c.serve-end.result || lacked)
+          (c.lacked_memory-lacked.ensures
+          ∙ (ap (λ list. list_any worker_lacked list) (c.deref.ensures.value ∙ written) ∙ sym ended.lacks));
+      failed = (
+        door_failed c.serve-end.result (g.N.Door.Door.faults c.serve-end.new.door) (g.N.Dial.faults c.args.net.now)
+            (g.N.Dial.faults c.serve-end.new.net) (g.N.Dial.faults c.close-2.new.self) (g.N.Dial.faults c.close_doors-2.new.net)
+            no_less works.counted c.close-2.ensures.count c.close_doors-2.ensures.no_less,
+        failed_all g.N.Door.Link.Link.traffic g.N.Door.Link.Link.marks g.N.Door.Link.Link.faults g.N.Door.Door.given_back
+            g.N.Door.Door.faults g.N.Door.Door.kind (g.N.Dial.faults c.args.net.now) (g.N.Dial.faults c.close_doors-2.new.net)
+            (map post_at c.args.stations.items) ended.crew ended.serves
+            (counts_within g.N.Door.Door.faults (doors_of ended.crew) (g.N.Dial.faults c.args.net.now) (g.N.Dial.faults c.close-2.new.self)
+            (g.N.Dial.faults c.close_doors-2.new.net) (g.N.Dial.faults c.close_doors-2.new.net)
+            (omega (arith, no_less, c.close-2.ensures.bound.0)) (omega arith)
+            (subst (λ (list : List g.row.N-Door.Denot). AllByRecursion (λ door. CountsDoor (g.N.Door.Door.faults door)
+            (g.N.Dial.faults c.close-2.new.self) (g.N.Dial.faults c.close_doors-2.new.net)) list) doors c.close_doors-2.ensures.counted)),
+      );
     }
-
-pub returns-in-Err-open_doors-clause-closed : goal.returns-in-Err-open_doors-clause-closed
-returns-in-Err-open_doors-clause-closed g c =
-    closes_again g.N.Door.Door.kind (g.N.Net.closed c.args.net.now) (g.N.Net.closed c.open_doors.new.net) (g.N.Net.closed c.close.new.self)
-    (g.N.Net.closed c.close_doors.new.net) c.in-Ok.door (c.open_doors.ensures.closed ∙ c.open.ensures.closed) c.in-Ok.ensures.of_kind
-    c.close.ensures.closed c.close_doors.ensures.closed
 
 pub returns-clause-duties : goal.returns-clause-duties
 returns-clause-duties g c =
-    goes_through g.X.ClientDuty.goes (map duty_of c.args.crew.now) (map duty_of c.open_doors.new.crew) (map duty_of c.serve-end.new.crew)
-    (map duty_of c.close_doors-2.new.crew) c.open_doors.ensures.duties c.serve-end.ensures.duties c.close_doors-2.ensures.duties
+    let now = c.serve-end.new.crew in
+    let written = with_items_is c.open_doors.new.crew now (search (rules, places)) in
+    let ended = all_ended g.N.Door.Link.Link.traffic g.N.Door.Link.Link.marks g.N.Door.Link.Link.faults g.N.Door.Door.given_back
+    g.N.Door.Door.faults g.N.Door.Door.kind g.X.ClientDuty.goes c.args.stations.items c.deref_mut.result.now now
+    (rw c.deref_mut.ensures.value c.in_default.ensures.opened) c.serve-end.ensures.workers in
+    subst (λ list. AllZip g.X.ClientDuty.goes (duties_in (map duty_at c.args.stations.items)) list)
+    (sym (c.close_doors-2.ensures.duties ∙ ap (λ list. duties_of list) written)) ended.duties

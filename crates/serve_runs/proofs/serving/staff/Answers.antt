@@ -1,12 +1,17 @@
-use Rattle.std.proofs.Common.{rules, ◌≡◌, ◌∙◌, ap}
-use Rattle.std.proofs.lemmas.List.{with_items_is, places}
-use Rattle.serve_runs.specs.parts.Crews.{duties_of}
-use Rattle.serve_runs.proofs.Duties.{duties_went}
+use Rattle.std.proofs.Common.{◌≡◌, ◌∙◌, ap, map}
+use Rattle.serve_runs.specs.Crew.{posts_with}
+use Rattle.serve_runs.specs.parts.Crews.{duty_at, duties_in, post_at}
+use Rattle.serve_runs.proofs.Crewing.{duties_given, posts_given}
 use Rattle.serve_runs.proofs.serving.staff.Goals as goal
+
+pub returns-clause-served : goal.returns-clause-served
+returns-clause-served g c =
+    let posts : map post_at c.in-Ok.stations.items ≡ posts_with c.args.seats.items =
+    ap (λ list. map post_at list) c.in-Ok.ensures ∙ posts_given c.args.seats.items c.args.duties.items c.requires.seats in
+    rw posts at c.open_and_serve.ensures.served
 
 pub returns-clause-duties : goal.returns-clause-duties
 returns-clause-duties g c =
-    let written = with_items_is c.in-Ok.crew c.open_and_serve.new.crew (search (rules, places)) in
-    duties_went g.X.ClientDuty.goes c.deref_mut.result.now c.open_and_serve.new.crew c.args.duties.items c.duties_back.result.items
-    (rw c.deref_mut.ensures.value c.in-Ok.ensures) c.in-Ok-open_and_serve.ensures.duties
-    (c.duties_back.ensures ∙ ap (λ list. duties_of list) written)
+    let duties : duties_in (map duty_at c.in-Ok.stations.items) ≡ c.args.duties.items =
+    ap (λ list. duties_in (map duty_at list)) c.in-Ok.ensures ∙ duties_given c.args.seats.items c.args.duties.items c.requires.seats in
+    rw duties at c.open_and_serve.ensures.duties

@@ -1,0 +1,228 @@
+// How long a link that came in at a door may keep its worker.
+ghost use Rattle.std.specs.Prelude.{◌≤◌, length, take, IfOk, OnOk};
+ghost use Rattle.desk_ports.specs.Content.{Appended};
+
+use crate::commons::Commons;
+use crate::{limits, steps};
+use link_ports::DoorKind;
+use std::alloc::Global;
+use std::io;
+use std::io::{Error, ErrorKind, Write};
+use std::net::Net as HostNet;
+use std::os::unix::net::UnixStream;
+use std::sync::Arc;
+use std::time::{Clock, Duration, Instant};
+
+// The most milliseconds that are told apart.
+const MOST_MILLIS: u128 = u64::MAX as u128;
+
+/// What decides how long a link that came in at a door may keep its worker. What the peer does within the limits, and what
+/// the limits are, no clause says.
+#[derive(Drop)]
+pub struct Stay<R: HostNet + AllocGlobal + Clock + Copy + Drop> {
+    rt: R,
+    commons: Arc<Commons, Global>,
+    stood_in_line: bool,
+    // Whether a piece was sent to the peer.
+    is_answered: bool,
+    // Whether bytes came since a piece was last sent: the peer is within a frame, if nothing is sent for them.
+    is_heard: bool,
+    // When the wait for the rest of the frame began.
+    frame_began: Option<Instant>,
+    // How long the machine lets a read wait, in milliseconds.
+    tick: u64,
+}
+
+impl<R: HostNet + AllocGlobal + Clock + Copy + Drop> Stay<R> {
+    /// That of a connection which was just accepted, and may have stood in line before. The machine lets no read or write
+    /// of it wait for ever from then on.
+    pub fn begin(
+        rt: R,
+        commons: Arc<Commons, Global>,
+        stream: &UnixStream,
+        stood_in_line: bool,
+    ) -> io::Result<Stay<R>> {
+        let tick = if stood_in_line {
+            limits::SHORT_PATIENCE
+        } else {
+            limits::TICK
+        };
+        stream.set_read_timeout(Some(Duration::from_millis(tick)))?;
+        stream.set_write_timeout(Some(Duration::from_millis(limits::SENDING_TICK)))?;
+        Ok(Stay {
+            rt,
+            commons,
+            stood_in_line,
+            is_answered: false,
+            is_heard: false,
+            frame_began: None,
+            tick,
+        })
+    }
+
+    /// The next bytes, at the front of the slice. None where the connection was closed, and where it may keep its worker no
+    /// longer: then it is closed, and nothing that the peer could send before is lost.
+    pub fn receive(&mut self, stream: &mut UnixStream, into: &mut [u8]) -> io::Result<usize>
+        ensures within { IfOk result (λ count. count ≤ length into.old) }
+    {
+        let start = self.start()?;
+        // Bytes that come one by one are no reason to wait for more of them.
+        if self.is_heard && self.is_over(start)? {
+            return let_go(stream, into);
+        }
+        for _ in 0..steps::MOST_TRIES {
+            if let Some(count) = steps::receive_in_time(stream, into)? {
+                self.is_heard = true;
+                return Ok(count);
+            }
+            if self.is_over(start)? {
+                return let_go(stream, into);
+            }
+            self.set_tick(stream, start)?;
+        }
+        Err(Error::from(ErrorKind::Interrupted))
+    }
+
+    // When the wait that begins or goes on now began: within a frame, at the first call that found it so.
+    fn start(&mut self) -> io::Result<Instant> {
+        if !self.is_heard {
+            return Instant::now(&self.rt);
+        }
+        if let Some(began) = self.frame_began {
+            return Ok(began);
+        }
+        let now = Instant::now(&self.rt)?;
+        self.frame_began = Some(now);
+        Ok(now)
+    }
+
+    // For how long a wait goes on that began then, in milliseconds.
+    fn waited(&self, start: Instant) -> io::Result<u64> {
+        let waited = start.elapsed(&self.rt)?.as_millis();
+        Ok(waited.min(MOST_MILLIS) as u64)
+    }
+
+    // Whether a wait that began then is to end.
+    fn is_over(&self, start: Instant) -> io::Result<bool> {
+        if self.commons.is_knocked() {
+            return Ok(true);
+        }
+        let waited = self.waited(start)?;
+        if is_reached(self.most(), waited) {
+            return Ok(true);
+        }
+        Ok(is_reached(self.patience(), waited) && self.commons.has_line(&self.rt))
+    }
+
+    // How long the peer may be waited for in any case.
+    fn most(&self) -> Option<u64> {
+        if self.is_heard {
+            return Some(limits::MOST_OF_FRAME);
+        }
+        match self.commons.kind() {
+            DoorKind::Admin => Some(limits::MOST_OF_SILENCE),
+            DoorKind::Client | DoorKind::Agent => None,
+        }
+    }
+
+    // How long the peer may be waited for while another waits for the worker. An agent that was answered waits to be asked,
+    // or has a person before it.
+    fn patience(&self) -> Option<u64> {
+        match self.commons.kind() {
+            DoorKind::Admin => Some(limits::PATIENCE),
+            DoorKind::Agent if self.is_answered => None,
+            DoorKind::Agent | DoorKind::Client => Some(self.patience_of_guest()),
+        }
+    }
+
+    fn patience_of_guest(&self) -> u64 {
+        if self.stood_in_line || !self.is_answered {
+            limits::SHORT_PATIENCE
+        } else {
+            limits::PATIENCE
+        }
+    }
+
+    // Has the machine wake the next read when there is something to look at.
+    fn set_tick(&mut self, stream: &UnixStream, start: Instant) -> io::Result<()> {
+        let waited = self.waited(start)?;
+        let mut tick = sooner(limits::TICK, self.most(), waited);
+        if self.commons.is_taken() {
+            tick = sooner(tick, self.patience(), waited);
+        }
+        if tick == self.tick {
+            return Ok(());
+        }
+        stream.set_read_timeout(Some(Duration::from_millis(tick)))?;
+        self.tick = tick;
+        Ok(())
+    }
+
+    /// Sends all bytes, or fails: as `steps::send`, and where the peer takes them too slowly.
+    pub fn send<W: Write>(&mut self, stream: &mut W, from: &[u8]) -> io::Result<()>
+        ensures { OnOk result (Appended (W.contents stream.old) from.now (W.contents stream.new)) }
+    {
+        self.is_answered = true;
+        self.is_heard = false;
+        self.frame_began = None;
+        self.send_in_time(stream, from)
+    }
+
+    #[tactic(auto, using(crate::proofs::Appending::appended_more))]
+    fn send_in_time<W: Write>(&self, stream: &mut W, from: &[u8]) -> io::Result<()>
+        ensures { OnOk result (Appended (W.contents stream.old) from.now (W.contents stream.new)) }
+    {
+        let start = Instant::now(&self.rt)?;
+        let mut done = 0;
+        for _ in 0..steps::MOST_TRIES {
+            if done >= from.len() {
+                return Ok(());
+            }
+            done += steps::send_part(stream, &from[done..])?;
+            if done < from.len() && self.is_sending_over(start)? {
+                return Err(Error::from(ErrorKind::TimedOut));
+            }
+        }
+        Err(Error::from(ErrorKind::Interrupted))
+    }
+
+    // Whether a sending that began then is to end.
+    fn is_sending_over(&self, start: Instant) -> io::Result<bool> {
+        if self.commons.is_knocked() {
+            return Ok(true);
+        }
+        let waited = self.waited(start)?;
+        if waited >= limits::MOST_OF_SENDING {
+            return Ok(true);
+        }
+        Ok(is_reached(self.patience(), waited) && self.commons.has_line(&self.rt))
+    }
+}
+
+// Ends the connection. What the peer sent before is still given; from then on it can send nothing.
+fn let_go(stream: &mut UnixStream, into: &mut [u8]) -> io::Result<usize>
+    ensures within { IfOk result (λ count. count ≤ length into.old) }
+{
+    // Where the peer closed it before, there is nothing to shut.
+    let _ = steps::shut_input(stream);
+    let count = steps::receive(stream, into)?;
+    if count == 0 {
+        let _ = steps::shut_down(stream);
+    }
+    Ok(count)
+}
+
+fn is_reached(limit: Option<u64>, waited: u64) -> bool {
+    match limit {
+        Some(limit) => waited >= limit,
+        None => false,
+    }
+}
+
+// This tick, or what is left of the limit, where that is less and not over.
+fn sooner(tick: u64, limit: Option<u64>, waited: u64) -> u64 {
+    match limit {
+        Some(limit) if waited < limit => tick.min(limit - waited),
+        Some(_) | None => tick,
+    }
+}
