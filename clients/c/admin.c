@@ -69,7 +69,8 @@ static uint8_t first_reply(struct privilege_admin *admin, uint8_t operation) {
         /* The service ended it while nothing was asked: this message goes over a new one. */
         end_leave(end);
     }
-    uint8_t code = privilege_core_admin_send(&end->core, operation, admin->fields.at, admin->fields.count, &end->said);
+    uint8_t code =
+        privilege_core_admin_send(&end->core, operation, admin->fields.at, admin->fields.count, &end->said);
     return end_drive(end, code, true);
 }
 
@@ -95,7 +96,8 @@ static enum privilege_error send_message(struct privilege_admin *admin, uint8_t 
 }
 
 /* Sends a command, and ends the call. */
-static enum privilege_error command(struct privilege_admin *admin, uint8_t operation, uint64_t *commit, uint32_t *erased) {
+static enum privilege_error command(
+    struct privilege_admin *admin, uint8_t operation, uint64_t *commit, uint32_t *erased) {
     enum privilege_error error = send_message(admin, operation);
     if (error == PRIVILEGE_OK && commit) *commit = admin->end.said.commit;
     if (error == PRIVILEGE_OK && erased) *erased = admin->end.said.number;
@@ -103,8 +105,8 @@ static enum privilege_error command(struct privilege_admin *admin, uint8_t opera
     return error;
 }
 
-enum privilege_error privilege_admin_set(struct privilege_admin *admin, const struct privilege_policy *policies, size_t count,
-    uint64_t *commit) {
+enum privilege_error privilege_admin_set(
+    struct privilege_admin *admin, const struct privilege_policy *policies, size_t count, uint64_t *commit) {
     if (count && !policies) return PRIVILEGE_INVALID;
     enum privilege_error error = begin(admin);
     if (error) return error;
@@ -121,8 +123,8 @@ enum privilege_error privilege_admin_set(struct privilege_admin *admin, const st
     return command(admin, SET_POLICIES, commit, NULL);
 }
 
-enum privilege_error privilege_admin_set_bucket(struct privilege_admin *admin, const char *bucket, uint16_t result,
-    const char *metadata, uint64_t *commit) {
+enum privilege_error privilege_admin_set_bucket(
+    struct privilege_admin *admin, const char *bucket, uint16_t result, const char *metadata, uint64_t *commit) {
     enum privilege_error error = begin(admin);
     if (error) return error;
     fields_put_text(&admin->fields, bucket);
@@ -130,7 +132,8 @@ enum privilege_error privilege_admin_set_bucket(struct privilege_admin *admin, c
     return command(admin, SET_BUCKET, commit, NULL);
 }
 
-enum privilege_error privilege_admin_remove_bucket(struct privilege_admin *admin, const char *bucket, uint64_t *commit) {
+enum privilege_error privilege_admin_remove_bucket(
+    struct privilege_admin *admin, const char *bucket, uint64_t *commit) {
     enum privilege_error error = begin(admin);
     if (error) return error;
     fields_put_text(&admin->fields, bucket);
@@ -147,7 +150,8 @@ enum privilege_error privilege_admin_erase(struct privilege_admin *admin, const 
 }
 
 /* Hands on the rows that come, from the first reply on, and gives the code of the last one. */
-static uint8_t rows(struct end *end, uint8_t code, void (*each)(const struct privilege_row *, void *), void *context) {
+static uint8_t rows(
+    struct end *end, uint8_t code, void (*each)(const struct privilege_row *, void *), void *context) {
     while (code == PRIVILEGE_CORE_ROW) {
         struct privilege_row row;
         end_put_key(&row.key, &end->said);
@@ -162,7 +166,8 @@ static uint8_t rows(struct end *end, uint8_t code, void (*each)(const struct pri
 }
 
 enum privilege_error privilege_admin_list(struct privilege_admin *admin, const char *bucket, const char *client,
-    const char *user, const char *privilege, void (*each)(const struct privilege_row *row, void *context), void *context) {
+    const char *user, const char *privilege, void (*each)(const struct privilege_row *row, void *context),
+    void *context) {
     if (!each) return PRIVILEGE_INVALID;
     enum privilege_error error = begin(admin);
     if (error) return error;

@@ -91,7 +91,8 @@ static void give(struct privilege_agent *agent, struct privilege_question *quest
     end_put(question->metadata, sizeof question->metadata, &said->metadata);
 }
 
-enum privilege_error privilege_agent_next(struct privilege_agent *agent, int milliseconds, struct privilege_question *question) {
+enum privilege_error privilege_agent_next(
+    struct privilege_agent *agent, int milliseconds, struct privilege_question *question) {
     if (!agent) return PRIVILEGE_INVALID;
     struct end *end = &agent->end;
     if (!end_take(end, milliseconds)) return PRIVILEGE_BUSY;
@@ -127,7 +128,8 @@ enum privilege_error privilege_agent_answer(struct privilege_agent *agent, uint3
 
 /* Whether the answer to the question of this number is waited for, by what has come so far. */
 static bool is_awaited(const struct privilege_agent *agent, uint32_t number) {
-    return agent->is_registered && agent->is_open && number == agent->number && !agent->is_withdrawn && !agent->has_next;
+    return agent->is_registered && agent->is_open && number == agent->number && !agent->is_withdrawn &&
+           !agent->has_next;
 }
 
 bool privilege_agent_withdrawn(struct privilege_agent *agent, uint32_t number) {

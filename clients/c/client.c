@@ -76,8 +76,8 @@ static bool read_texts(struct question *question) {
     return true;
 }
 
-static enum privilege_error ask(struct privilege *client, struct question *question, bool simple, bool waits,
-    struct privilege_verdict *verdict) {
+static enum privilege_error ask(
+    struct privilege *client, struct question *question, bool simple, bool waits, struct privilege_verdict *verdict) {
     if (!client || !read_texts(question)) {
         if (verdict) end_deny(verdict);
         return PRIVILEGE_INVALID;
@@ -94,18 +94,18 @@ static enum privilege_error ask(struct privilege *client, struct question *quest
     }
     const uint8_t *const *text = (const uint8_t *const *)question->text;
     const size_t *count = question->count;
-    uint8_t code = privilege_core_client_ask(&end->core, text[0], count[0], text[1], count[1], text[2], count[2], text[3],
-        count[3], simple, &end->said);
+    uint8_t code = privilege_core_client_ask(
+        &end->core, text[0], count[0], text[1], count[1], text[2], count[2], text[3], count[3], simple, &end->said);
     return conclude(client, end_drive(end, code, waits), verdict);
 }
 
-enum privilege_error privilege_check(struct privilege *client, const char *name, const char *session, const char *user,
-    const char *privilege, struct privilege_verdict *verdict) {
+enum privilege_error privilege_check(struct privilege *client, const char *name, const char *session,
+    const char *user, const char *privilege, struct privilege_verdict *verdict) {
     return ask(client, &(struct question){.text = {session, name, user, privilege}}, false, true, verdict);
 }
 
-enum privilege_error privilege_simple_check(struct privilege *client, const char *name, const char *session, const char *user,
-    const char *privilege, struct privilege_verdict *verdict) {
+enum privilege_error privilege_simple_check(struct privilege *client, const char *name, const char *session,
+    const char *user, const char *privilege, struct privilege_verdict *verdict) {
     return ask(client, &(struct question){.text = {session, name, user, privilege}}, true, true, verdict);
 }
 

@@ -31,8 +31,8 @@ void end_close(struct end *end);
 bool end_take(struct end *end, int limit);
 void end_give(struct end *end);
 
-/* Does what the code asks for, and what follows, until it asks for nothing: the last code, or CORE_LATE. If it is not to
- * wait, that is PRIVILEGE_CORE_WAIT where the reply is not whole yet. */
+/* Does what the code asks for, and what follows, until it asks for nothing: the last code, or CORE_LATE. If it is not
+ * to wait, that is PRIVILEGE_CORE_WAIT where the reply is not whole yet. */
 uint8_t end_drive(struct end *end, uint8_t code, bool waits);
 /* Sends the core's frame. Answers PRIVILEGE_CORE_WAIT, or what else came of it. */
 uint8_t end_send(struct end *end);

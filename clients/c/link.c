@@ -22,7 +22,8 @@ int link_set(struct link *link, const char *path, const char *name, int limit) {
     } else {
         /* Not the word of whoever started a program that has more rights than they. */
         const char *directory = secure_getenv("PRIVILEGE_DIR");
-        length = snprintf(link->at.sun_path, room, "%s/%s", directory && *directory ? directory : "/run/privilege", name);
+        length =
+            snprintf(link->at.sun_path, room, "%s/%s", directory && *directory ? directory : "/run/privilege", name);
     }
     if (length <= 0) return EINVAL;
     return (size_t)length < room ? 0 : ENAMETOOLONG;

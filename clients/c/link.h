@@ -23,7 +23,8 @@ enum outcome {
     NOTHING /* no byte is there yet, and the call was not to wait */
 };
 
-/* Without a connection. The name of the door's socket counts where there is no path. Answers 0, EINVAL or ENAMETOOLONG. */
+/* Without a connection. The name of the door's socket counts where there is no path. Answers 0, EINVAL or
+ * ENAMETOOLONG. */
 int link_set(struct link *link, const char *path, const char *name, int limit);
 /* A call begins that may wait so long. */
 void link_begin(struct link *link, int limit);

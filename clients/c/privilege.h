@@ -34,9 +34,9 @@ enum privilege_error {
     PRIVILEGE_AGENT_GONE = 11,    /* the agent left before it answered */
     PRIVILEGE_AGENT_FULL = 12,    /* no more questions can be put to agents */
     PRIVILEGE_REFUSED = 13,       /* the command breaks a rule, and changed nothing: privilege_admin_refusal */
-    PRIVILEGE_STORE_FAULT = 14,   /* the service's disk failed: whether the command was accepted is not known */
+    PRIVILEGE_STORE_FAULT = 14,   /* the service's disk failed; was the command accepted? */
     PRIVILEGE_STORE_DAMAGED = 15, /* the store is damaged: privilege_admin_refusal names the file and the line */
-    PRIVILEGE_UNKNOWN = 16,       /* the connection ended before the reply: whether the command was accepted is not known */
+    PRIVILEGE_UNKNOWN = 16,       /* the connection ended before the reply; was the command accepted? */
     PRIVILEGE_KIND_TAKEN = 17,    /* another agent of this kind is registered */
     PRIVILEGE_ENDED = 18,         /* the service ended the agent's connection */
     PRIVILEGE_TOO_LONG = 19,      /* the command would be longer than 1,048,576 bytes; nothing was sent */
@@ -47,12 +47,7 @@ enum privilege_error {
 const char *privilege_error_text(enum privilege_error error);
 
 /* Kinds of results. From 2 to 65533 it is a kind of agent that is asked. */
-enum {
-    PRIVILEGE_DENY = 0,
-    PRIVILEGE_NONE = 1,
-    PRIVILEGE_BUCKET = 65534,
-    PRIVILEGE_ALLOW = 65535
-};
+enum { PRIVILEGE_DENY = 0, PRIVILEGE_NONE = 1, PRIVILEGE_BUCKET = 65534, PRIVILEGE_ALLOW = 65535 };
 
 /* Three names, or of a policy three key fields, with a null byte behind each. */
 struct privilege_key {
@@ -66,7 +61,7 @@ struct privilege_verdict {
     uint64_t commit;          /* the policy state that was asked */
     uint32_t number;          /* an agent's answer: the number of its question; else 0 */
     uint16_t agent;           /* an agent's answer: its kind; else 0 */
-    uint16_t result;          /* PRIVILEGE_ALLOW or PRIVILEGE_DENY; an administrator's also PRIVILEGE_NONE or an agent's kind */
+    uint16_t result;          /* PRIVILEGE_ALLOW, PRIVILEGE_DENY; to an administrator also NONE, or an agent's kind */
     bool has_key;             /* whether a policy decided, and not the fallback of the bucket */
     char metadata[256];       /* of the result */
     char bucket[65];          /* in which it was decided; empty is the root, or an agent's answer */
@@ -89,12 +84,13 @@ enum privilege_error privilege_check(struct privilege *, const char *client, con
     const char *privilege, struct privilege_verdict *verdict);
 
 /* The same, where no agent is asked. */
-enum privilege_error privilege_simple_check(struct privilege *, const char *client, const char *session, const char *user,
-    const char *privilege, struct privilege_verdict *verdict);
+enum privilege_error privilege_simple_check(struct privilege *, const char *client, const char *session,
+    const char *user, const char *privilege, struct privilege_verdict *verdict);
 
-/* The same without waiting, for event loops. PRIVILEGE_WAITING: the question is under way, and when privilege_fd becomes
- * readable, privilege_hear has the answer or says PRIVILEGE_WAITING again. Meanwhile every other question with this handle
- * is answered PRIVILEGE_BUSY. How long to wait is the caller's matter; connecting alone may wait in the call. */
+/* The same without waiting, for event loops. PRIVILEGE_WAITING: the question is under way, and when privilege_fd
+ * becomes readable, privilege_hear has the answer or says PRIVILEGE_WAITING again. Meanwhile every other question with
+ * this handle is answered PRIVILEGE_BUSY. How long to wait is the caller's matter; connecting alone may wait in the
+ * call. */
 enum privilege_error privilege_ask(struct privilege *, const char *client, const char *session, const char *user,
     const char *privilege, bool simple, struct privilege_verdict *verdict);
 enum privilege_error privilege_hear(struct privilege *, struct privilege_verdict *verdict);
@@ -131,12 +127,12 @@ struct privilege_policy {
 };
 
 /* Makes all changes, in order, in one commit, or none. The commit may be NULL. */
-enum privilege_error privilege_admin_set(struct privilege_admin *, const struct privilege_policy *policies, size_t count,
-    uint64_t *commit);
+enum privilege_error privilege_admin_set(
+    struct privilege_admin *, const struct privilege_policy *policies, size_t count, uint64_t *commit);
 
 /* Makes the bucket, or gives it another fallback. */
-enum privilege_error privilege_admin_set_bucket(struct privilege_admin *, const char *bucket, uint16_t result,
-    const char *metadata, uint64_t *commit);
+enum privilege_error privilege_admin_set_bucket(
+    struct privilege_admin *, const char *bucket, uint16_t result, const char *metadata, uint64_t *commit);
 
 /* Removes the bucket, with all policies that point to it. */
 enum privilege_error privilege_admin_remove_bucket(struct privilege_admin *, const char *bucket, uint64_t *commit);
@@ -155,13 +151,14 @@ struct privilege_row {
 
 /* Hands each policy of the bucket that the filters meet to the function, in order of key. What it was handed counts
  * only where the call then answers PRIVILEGE_OK. The function uses no call with this handle. */
-enum privilege_error privilege_admin_list(struct privilege_admin *, const char *bucket, const char *client, const char *user,
-    const char *privilege, void (*each)(const struct privilege_row *row, void *context), void *context);
+enum privilege_error privilege_admin_list(struct privilege_admin *, const char *bucket, const char *client,
+    const char *user, const char *privilege, void (*each)(const struct privilege_row *row, void *context),
+    void *context);
 
 /* What the policies answer, from this bucket on; if it is recursive, policies that point to buckets are followed. No
  * agent is asked: the result may be its kind. */
-enum privilege_error privilege_admin_check(struct privilege_admin *, const char *bucket, bool recursive, const char *client,
-    const char *user, const char *privilege, struct privilege_verdict *verdict);
+enum privilege_error privilege_admin_check(struct privilege_admin *, const char *bucket, bool recursive,
+    const char *client, const char *user, const char *privilege, struct privilege_verdict *verdict);
 
 /* Why the last call with this handle was answered PRIVILEGE_REFUSED or PRIVILEGE_STORE_DAMAGED. */
 struct privilege_refusal {
@@ -191,8 +188,10 @@ struct privilege_question {
     char metadata[256];       /* of the policy that has the agent asked */
 };
 
-/* Waits so long for the next question; PRIVILEGE_TIMEOUT leaves the agent registered. On PRIVILEGE_ENDED register again. */
-enum privilege_error privilege_agent_next(struct privilege_agent *, int milliseconds, struct privilege_question *question);
+/* Waits so long for the next question; PRIVILEGE_TIMEOUT leaves the agent registered. On PRIVILEGE_ENDED register
+ * again. */
+enum privilege_error privilege_agent_next(
+    struct privilege_agent *, int milliseconds, struct privilege_question *question);
 
 /* Answers the question of this number. One that nobody waits for any more is answered PRIVILEGE_OK too. */
 enum privilege_error privilege_agent_answer(struct privilege_agent *, uint32_t number, bool allow);

@@ -1,5 +1,5 @@
-/* What libclient_c.a exports: the machine that knows frames, sequence numbers and kept answers, and makes no call of the
- * machine but for memory. An export has no precondition: each wrong use has a code, and changes nothing. */
+/* What libclient_c.a exports: the core, which knows frames, sequence numbers and kept answers, and makes no call of
+ * the machine but for memory. An export has no precondition: each wrong use has a code, and changes nothing. */
 #ifndef PRIVILEGE_CORE_H
 #define PRIVILEGE_CORE_H
 
@@ -80,7 +80,8 @@ void privilege_core_close(struct privilege_core *core);
 
 uint8_t privilege_core_dialled(struct privilege_core *core, struct privilege_core_said *said);
 uint8_t privilege_core_down(struct privilege_core *core, struct privilege_core_said *said);
-uint8_t privilege_core_came(struct privilege_core *core, const uint8_t *piece, size_t count, struct privilege_core_said *said);
+uint8_t privilege_core_came(
+    struct privilege_core *core, const uint8_t *piece, size_t count, struct privilege_core_said *said);
 uint8_t privilege_core_leave(struct privilege_core *core);
 
 size_t privilege_core_frame(struct privilege_core *core, size_t from, uint8_t *out, size_t room);

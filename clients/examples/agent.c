@@ -1,4 +1,4 @@
-/* agent SOCKET KIND: asks the person at the terminal, for each question that the service has for an agent of this kind. */
+/* agent SOCKET KIND: asks the person at the terminal each question that the service has for an agent of this kind. */
 #include <poll.h>
 #include <privilege.h>
 #include <stdio.h>

@@ -1,5 +1,5 @@
 #!/usr/bin/env python3
-"""agent.py SOCKET KIND: asks the person at the terminal, for each question that the service has for an agent of this kind."""
+"""agent.py SOCKET KIND: asks the person at the terminal each question that the service has for this kind."""
 import os
 import select
 import sys

@@ -1,10 +1,13 @@
 /* A program over Cynara's names, as it would be written for Cynara:
  *   cynara check CLIENT SESSION USER PRIVILEGE         what the two checks answer
+ *   cynara async CLIENT SESSION USER PRIVILEGE         the same in an event loop, asked twice
  *   cynara set BUCKET CLIENT USER PRIVILEGE RESULT     sets a policy, and shows those of its bucket
  *   cynara agent TYPE ANSWER                           answers one question so: 65535 allows, 0 denies */
 #include <cynara-admin.h>
 #include <cynara-agent.h>
+#include <cynara-client-async.h>
 #include <cynara-client.h>
+#include <poll.h>
 #include <stdio.h>
 #include <stdlib.h>
 #include <string.h>
@@ -16,6 +19,36 @@ static int check(char **words) {
     found = cynara_check(client, words[0], words[1], words[2], words[3]);
     printf("check %d simple %d\n", found, cynara_simple_check(client, words[0], words[1], words[2], words[3]));
     cynara_finish(client);
+    return found;
+}
+
+/* The loop watches this descriptor from now on. */
+static void watch(int old_fd, int new_fd, cynara_async_status status, void *data) {
+    struct pollfd *one = (struct pollfd *)data;
+    (void)old_fd;
+    one->fd = new_fd;
+    one->events = status == CYNARA_STATUS_FOR_RW ? POLLIN | POLLOUT : POLLIN;
+}
+
+static void answered(cynara_check_id id, cynara_async_call_cause cause, int response, void *data) {
+    (void)id;
+    *(int *)data = cause == CYNARA_CALL_CAUSE_ANSWER ? response : CYNARA_API_SERVICE_NOT_AVAILABLE;
+}
+
+static int ask_in_loop(char **words) {
+    struct pollfd one = {-1, 0, 0};
+    int answers[2] = {CYNARA_API_CACHE_MISS, CYNARA_API_CACHE_MISS};
+    cynara_async *client = NULL;
+    int found = cynara_async_initialize(&client, NULL, watch, &one);
+    for (int at = 0; at < 2 && found == CYNARA_API_SUCCESS; at++) {
+        found =
+            cynara_async_create_request(client, words[0], words[1], words[2], words[3], NULL, answered, &answers[at]);
+        while (found == CYNARA_API_SUCCESS && answers[at] == CYNARA_API_CACHE_MISS) {
+            if (poll(&one, 1, -1) > 0) found = cynara_async_process(client);
+        }
+    }
+    printf("async %d %d\n", answers[0], answers[1]);
+    cynara_async_finish(client);
     return found;
 }
 
@@ -61,6 +94,7 @@ int main(int count, char **words) {
     char text[128] = "wrong words";
     int found = CYNARA_API_INVALID_COMMANDLINE_PARAM;
     if (count == 6 && !strcmp(words[1], "check")) found = check(words + 2);
+    if (count == 6 && !strcmp(words[1], "async")) found = ask_in_loop(words + 2);
     if (count == 7 && !strcmp(words[1], "set")) found = set(words + 2);
     if (count == 4 && !strcmp(words[1], "agent")) found = answer(words + 2);
     if (found >= 0) return 0;

@@ -1,4 +1,4 @@
-/* installer SOCKET APPLICATION PRIVILEGE..: lets the application use these privileges, and no others, for every user. */
+/* installer SOCKET APPLICATION PRIVILEGE..: lets the application use these privileges, and no others, for all users. */
 #include <privilege.h>
 #include <stdio.h>
 

@@ -1,5 +1,5 @@
 #!/usr/bin/env python3
-"""installer.py SOCKET APPLICATION PRIVILEGE..: lets the application use these privileges, and no others, for every user."""
+"""installer.py SOCKET APPLICATION PRIVILEGE..: lets the application use these privileges, and no others, for all."""
 import sys
 
 import privilege

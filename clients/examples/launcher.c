@@ -1,5 +1,5 @@
-/* launcher [SOCKET]: reads lines CLIENT USER PRIVILEGE, and says of each program whether it may start. Answers are kept as long as
- * they hold: a line that comes twice is sent to the service once, unless a policy was changed between. */
+/* launcher [SOCKET]: reads lines CLIENT USER PRIVILEGE, and says of each program whether it may start. Answers are kept
+ * as long as they hold: a line that comes twice is sent to the service once, unless a policy was changed between. */
 #include <privilege.h>
 #include <stdio.h>
 
@@ -19,7 +19,7 @@ int main(int count, char **words) {
         } else if (error == PRIVILEGE_OK) {
             printf("no %s: commit %llu\n", client, (unsigned long long)verdict.commit);
         } else {
-            /* Also where the person was not asked, or gave no answer: not now, and asked again when it is tried again. */
+            /* Also where nobody was asked, or gave no answer: it is asked again when the user tries again. */
             printf("not now %s: %s\n", client, privilege_error_text(error));
         }
         fflush(stdout);

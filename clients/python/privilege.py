@@ -1,12 +1,13 @@
-"""Who may use which privilege? Clients of the privilege service, over libprivilege: those that ask, administrators and agents.
+"""Who may use which privilege? Clients of the service, over libprivilege: those that ask, administrators and agents.
 
     with privilege.Client() as client:
         if client.check("org.example.camera", "session1", "5001", "http://tizen.org/privilege/camera").allowed:
             ...
 
-A `Client` asks, an `Admin` sets and lists policies, an `Agent` answers questions for the user. Each is used by one thread at a time, and not
-by a child of fork. Times are in seconds, None is no limit. What has no answer is raised as `PrivilegeError`, which is never an allow.
-privilege(3) has the calls of C behind this module, and what their errors mean.
+A `Client` asks, an `Admin` sets and lists policies, an `Agent` answers questions for the user. Each is used by one
+thread at a time, and not by a child of fork. Times are in seconds, None is no limit. What has no answer is raised as
+`PrivilegeError`, which is never an allow. privilege(3) has the calls of C behind this module, and what their errors
+mean.
 """
 
 from __future__ import annotations
@@ -15,9 +16,13 @@ import asyncio
 import ctypes
 import dataclasses
 import enum
-from ctypes import POINTER, c_bool, c_char, c_char_p, c_int, c_size_t, c_uint, c_uint8, c_uint16, c_uint32, c_uint64, c_void_p
+from ctypes import POINTER, c_bool, c_char, c_char_p, c_int, c_size_t, c_uint, c_void_p
+from ctypes import c_uint8, c_uint16, c_uint32, c_uint64
 
-__all__ = ["Admin", "Agent", "Client", "Error", "Key", "NotNow", "Policy", "PrivilegeError", "Question", "Refused", "Result", "Row", "Verdict"]
+__all__ = [
+    *("Admin", "Agent", "Client", "Error", "Key", "NotNow", "Policy", "PrivilegeError", "Question", "Refused"),
+    *("Result", "Row", "Verdict"),
+]
 
 
 class Result(enum.IntEnum):
@@ -65,11 +70,11 @@ class PrivilegeError(Exception):
 
 
 class NotNow(PrivilegeError):
-    """A check that an agent would have to decide, and none did: do not do it now, and ask again when the user tries again."""
+    """A check that an agent would have to decide, and none did: not now, and ask again when the user tries again."""
 
 
 class Refused(PrivilegeError):
-    """A command that breaks a rule, or a damaged store: the rule's number, its text and its value, as privilege-protocol(7) has them."""
+    """A command that breaks a rule, or a damaged store: rule, text and value, as privilege-protocol(7) has them."""
 
     def __init__(self, error, rule, text, value):
         super().__init__(error, f"rule {rule} {text} {value}")
@@ -87,7 +92,7 @@ class Key:
 
 @dataclasses.dataclass(frozen=True)
 class Verdict:
-    """What a check was answered. The key is that of the policy that decided, None where the fallback of the bucket or an agent did."""
+    """What a check was answered. The key is that of the policy that decided; None where a fallback or an agent did."""
 
     commit: int
     result: int
@@ -157,7 +162,8 @@ class _Verdict(ctypes.Structure):
 
     def value(self):
         key = self.key.value() if self.has_key else None
-        return Verdict(self.commit, self.result, self.metadata.decode(), self.bucket.decode(), key, self.agent, self.number)
+        texts = self.metadata.decode(), self.bucket.decode()
+        return Verdict(self.commit, self.result, *texts, key, self.agent, self.number)
 
 
 class _Policy(ctypes.Structure):
@@ -309,7 +315,8 @@ class Client(_Handle):
 
     def __init__(self, path=None, seconds=5, entries=100):
         self._seconds, self._turn = seconds, asyncio.Lock()
-        super().__init__(_library.privilege_open(_path(path), _milliseconds(seconds), entries), _library.privilege_close, path)
+        handle = _library.privilege_open(_path(path), _milliseconds(seconds), entries)
+        super().__init__(handle, _library.privilege_close, path)
 
     def check(self, client, session, user, privilege):
         """The verdict. An agent may be asked. Raises `NotNow`, or another `PrivilegeError`."""
@@ -357,10 +364,11 @@ class Client(_Handle):
 
 
 class Admin(_Handle):
-    """Sets and lists policies. A command gives the number of its commit, or raises `Refused` or another `PrivilegeError`."""
+    """Sets and lists policies. A command gives its commit, or raises `Refused` or another `PrivilegeError`."""
 
     def __init__(self, path=None, seconds=5):
-        super().__init__(_library.privilege_admin_open(_path(path), _milliseconds(seconds)), _library.privilege_admin_close, path)
+        handle = _library.privilege_admin_open(_path(path), _milliseconds(seconds))
+        super().__init__(handle, _library.privilege_admin_close, path)
 
     def _done(self, error):
         if error in (Error.REFUSED, Error.STORE_DAMAGED):
@@ -373,10 +381,9 @@ class Admin(_Handle):
         """Makes all changes, in order, in one commit, or none."""
         rows, commit = (_Policy * len(policies))(), c_uint64()
         for row, policy in zip(rows, policies):
-            row.bucket, row.client, row.user, row.privilege = _bytes(policy.bucket, policy.client, policy.user, policy.privilege)
-            row.deletes = policy.result is None
-            row.result = policy.result or 0
-            (row.metadata,) = _bytes(policy.metadata)
+            texts = _bytes(policy.bucket, policy.client, policy.user, policy.privilege, policy.metadata)
+            row.bucket, row.client, row.user, row.privilege, row.metadata = texts
+            row.deletes, row.result = policy.result is None, policy.result or 0
         self._done(_library.privilege_admin_set(self._handle, rows, len(policies), commit))
         return commit.value
 
@@ -395,7 +402,8 @@ class Admin(_Handle):
     def erase(self, bucket, client="#", user="#", privilege="#"):
         """Deletes the policies that the filters meet. Gives the commit, and how many there were."""
         commit, erased = c_uint64(), c_uint32()
-        self._done(_library.privilege_admin_erase(self._handle, *_bytes(bucket, client, user, privilege), commit, erased))
+        texts = _bytes(bucket, client, user, privilege)
+        self._done(_library.privilege_admin_erase(self._handle, *texts, commit, erased))
         return commit.value, erased.value
 
     def list(self, bucket, client="#", user="#", privilege="#"):
@@ -416,7 +424,8 @@ class Agent(_Handle):
     """Registers as the agent of this kind, and answers questions for the user."""
 
     def __init__(self, kind, path=None, seconds=5):
-        super().__init__(_library.privilege_agent_open(_path(path), _milliseconds(seconds)), _library.privilege_agent_close, path)
+        handle = _library.privilege_agent_open(_path(path), _milliseconds(seconds))
+        super().__init__(handle, _library.privilege_agent_close, path)
         try:
             _asked(_library.privilege_agent_register(self._handle, kind))
         except PrivilegeError:
@@ -424,7 +433,7 @@ class Agent(_Handle):
             raise
 
     def next(self, seconds=None):
-        """The next question, or None where none came in that time. Raises `PrivilegeError` with ENDED where the service ended."""
+        """The next question, or None where none came in that time. `PrivilegeError` of ENDED: make another agent."""
         question = _Question()
         error = _library.privilege_agent_next(self._handle, _milliseconds(seconds), question)
         if error == Error.TIMEOUT:

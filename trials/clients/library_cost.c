@@ -1,7 +1,8 @@
 /* What `library_cost.py` times: cost SOCKET ROUNDS HITS MISSES asks an echo at the socket, in turn and so often in each round, by
  * - libprivilege, where the answer is kept; a client written by hand, where the answer is kept;
  * - libprivilege, where no answer is kept; a bare client, which sends a frame that stands and reads the reply.
- * Prints the nanoseconds of one call of each, a line for each round: of a kept answer the processor's time, since it waits for nobody. With a word behind it does that one alone, once, for callgrind. */
+ * Prints the nanoseconds of one call of each, a line for each round: of a kept answer the processor's time, since it waits for nobody. With
+ * a word behind it does that one alone, once, for callgrind. */
 #define _GNU_SOURCE
 #include <errno.h>
 #include <privilege.h>

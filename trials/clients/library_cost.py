@@ -1,6 +1,6 @@
 #!/usr/bin/env python3
-"""library_cost.py [--rounds N] [--hits N] [--misses N] [--core FILE]: what libprivilege costs, beside clients that make the same calls of the
-machine, all in turn in one process, over an echo of equal frames (`service_load.c`):
+"""library_cost.py [--rounds N] [--hits N] [--misses N] [--core FILE]: what libprivilege costs, beside clients that make the same calls of
+the machine, all in turn in one process, over an echo of equal frames (`service_load.c`):
 - a check whose answer is kept, beside one by a client written by hand: at most 1.2 of its time is wanted;
 - a check whose answer is not kept, beside the round trip of a bare client: at most 1.05 of its time is wanted.
 Prints the middle of the rounds, and with valgrind the instructions of one call, where time is noisy. Ends with status 1 where one is not as
@@ -71,8 +71,10 @@ def main():
     kept = statistics.median(row[0] / row[1] for row in rows)
     asked = statistics.median(row[2] / row[3] for row in rows)
     least = [min(column) for column in zip(*rows)]
-    print(f"{options.rounds * options.hits} kept answers: {hit:.0f} ns, by hand {hand:.0f} ns, {kept:.2f}; least {least[0]:.0f} and {least[1]:.0f}")
-    print(f"a miss: {miss / 1000:.2f} us, a bare round trip {bare / 1000:.2f} us, {asked:.3f}; least {least[2] / 1000:.2f} and {least[3] / 1000:.2f}")
+    count = options.rounds * options.hits
+    print(f"{count} kept answers: {hit:.0f} ns, by hand {hand:.0f} ns, {kept:.2f}; least {least[0]:.0f} and {least[1]:.0f}")
+    least = [nanoseconds / 1000 for nanoseconds in least]
+    print(f"a miss: {miss / 1000:.2f} us, a bare round trip {bare / 1000:.2f} us, {asked:.3f}; least {least[2]:.2f} and {least[3]:.2f}")
     print("instructions of one call:", ", ".join(f"{name} {count:.0f}" for name, count in counted.items()))
     sys.exit(kept > 1.2 or asked > 1.05)
 

@@ -1,57 +1,12 @@
-/* What `library_schedules.py` drives libprivilege by: driver SOCKET MILLISECONDS ENTRIES. Each line of standard input is a call, `check` or
- * `simple` or `ask` or `late` with four names, `tell N`, `leave` or `up`; each line of standard output is what came of it. `ask` is a check
- * by privilege_ask and privilege_hear. It is linked so that its own recv, send, poll and connect stand before those of the machine: they take
- * or give less than they might, and are interrupted, by a number that is drawn. */
+/* What `library_schedules.py` drives libprivilege by: driver SOCKET MILLISECONDS ENTRIES. Each line of standard input is a call, `check`,
+ * `simple` or `ask` with four names, `tell N`, `leave` or `up`; each line of standard output is what came of it. `ask` is a check
+ * by privilege_ask and privilege_hear. `library_calls.c` is linked with it. */
 #define _GNU_SOURCE
-#include <errno.h>
 #include <poll.h>
 #include <privilege.h>
 #include <stdio.h>
 #include <stdlib.h>
 #include <string.h>
-#include <sys/socket.h>
-
-static uint64_t state = 88172645463325252u;
-
-static unsigned draw(unsigned most) {
-    state ^= state << 13;
-    state ^= state >> 7;
-    state ^= state << 17;
-    return (unsigned)(state >> 33) % most;
-}
-
-static int interrupted(void) {
-    if (draw(8)) return 0;
-    errno = EINTR;
-    return 1;
-}
-
-ssize_t __real_recv(int, void *, size_t, int);
-ssize_t __real_send(int, const void *, size_t, int);
-int __real_poll(struct pollfd *, nfds_t, int);
-int __real_connect(int, const struct sockaddr *, socklen_t);
-
-ssize_t __wrap_recv(int fd, void *to, size_t count, int flags) {
-    if (interrupted()) return -1;
-    return __real_recv(fd, to, draw(3) ? count : 1 + draw(count > 9 ? 9 : (unsigned)count), flags);
-}
-
-ssize_t __wrap_send(int fd, const void *from, size_t count, int flags) {
-    if (interrupted()) return -1;
-    if (count && !draw(8)) {
-        errno = EAGAIN;
-        return -1;
-    }
-    return __real_send(fd, from, draw(3) || !count ? count : 1 + draw((unsigned)count), flags);
-}
-
-int __wrap_poll(struct pollfd *all, nfds_t count, int milliseconds) {
-    return interrupted() ? -1 : __real_poll(all, count, milliseconds);
-}
-
-int __wrap_connect(int fd, const struct sockaddr *at, socklen_t size) {
-    return interrupted() ? -1 : __real_connect(fd, at, size);
-}
 
 static const char *shown(const char *text) {
     return *text ? text : ".";
@@ -62,7 +17,7 @@ static enum privilege_error ask(struct privilege *client, char names[4][256], in
     while (error == PRIVILEGE_WAITING) {
         struct pollfd one = {privilege_fd(client), POLLIN, 0};
         if (privilege_check(client, "c", "s", "u", "p", NULL) != PRIVILEGE_BUSY) abort();
-        if (__real_poll(&one, 1, milliseconds) == 0) {
+        if (poll(&one, 1, milliseconds) == 0) {
             privilege_leave(client);
             return PRIVILEGE_TIMEOUT;
         }

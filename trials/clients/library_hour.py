@@ -1,5 +1,5 @@
 #!/usr/bin/env python3
-"""library_hour.py [--seconds N] [--program PATH] [--seed N] [--core FILE] [--plain | --valgrind]: the hour's trial of `service_hour.py`, with
+"""library_hour.py [--seconds N] [--program PATH] [--seed N] [--core FILE] [--plain | --valgrind]: the trial of `service_hour.py`, with
 clients and an agent in C over libprivilege, under AddressSanitizer and UndefinedBehaviorSanitizer (or under valgrind, or neither), and with
 the module of Python as the administrator. Wanted are, beside what that trial wants,
 - no answer of a commit below the last one that was acknowledged before its question, kept or not, nor of one that was not begun;
@@ -30,8 +30,8 @@ def people_of(scratch, options):
     """The words that start a person."""
     flags = ("-O2", "-g") if options.plain or options.valgrind else SANITIZED
     library = built_library(scratch, options.core, flags)
-    words = ["gcc", "-std=c11", *flags, "-Wall", "-Wextra", "-Werror", "-I", library / "include", HERE / "library_people.c", "-Wl,--wrap=send"]
-    subprocess.run([*words, library / "lib" / "libprivilege.a", "-o", scratch / "people"], check=True)
+    words = ["gcc", "-std=c11", *flags, "-Wall", "-Wextra", "-Werror", "-Wl,--wrap=send", "-I", library / "include"]
+    subprocess.run([*words, HERE / "library_people.c", library / "lib" / "libprivilege.a", "-o", scratch / "people"], check=True)
     return [*(VALGRIND if options.valgrind else ()), scratch / "people"]
 
 
@@ -106,9 +106,8 @@ class Hour(service_hour.Hour):
         self.leave()
         with self.privilege.Admin(self.folder / "admin.socket", 60) as admin:
             found = admin.list(bucket.decode())
-        return [
-            (*(word.encode() for word in (row.key.client, row.key.user, row.key.privilege)), row.result, row.metadata.encode()) for row in found
-        ]
+        keys = [(row.key.client, row.key.user, row.key.privilege) for row in found]
+        return [(*map(str.encode, key), row.result, row.metadata.encode()) for key, row in zip(keys, found)]
 
 
 def main():

@@ -1,5 +1,5 @@
-/* The clients and the agent of `library_hour.py`, over libprivilege: people client FOLDER PLACE SEED, people agent FOLDER PLACE SEED. What they
- * count and know of one another stands in the file `words` of the folder, in shared memory (`service_people.py` says what it has); the
+/* The clients and the agent of `library_hour.py`, over libprivilege: people client FOLDER PLACE SEED, people agent FOLDER PLACE SEED. What
+ * they count and know of one another stands in the file `words` of the folder, in shared memory (`service_people.py` says what it has); the
  * questions stand in the file `questions`. A client tests of each answer that its commit is none below the last one that was acknowledged
  * before the question, and none that was not begun; what an answer says otherwise is a line of standard output, each once in a row. It is
  * linked with a `send` of its own, which counts the frames. */

@@ -1,4 +1,4 @@
-"""One client or agent of `library_hour.py`: library_people.py ROLE FOLDER PLACE SEED WORD.. starts the words with the others behind them, as
+"""One client or agent of `library_hour.py`: library_people.py ROLE FOLDER PLACE SEED WORD.. starts the words with the others behind, as
 `library_people.c` takes them, and compares each answer that a client tells with what the model has at the commit that it names."""
 
 import subprocess

@@ -1,6 +1,6 @@
 #!/usr/bin/env python3
 """library_schedules.py [--count N] [--seed N] [--valgrind] [--core FILE]: random schedules of connections that fail, close and answer, for
-libprivilege over real sockets, against a model of what PROTOCOL allows a client. A driver in C makes the calls one by one; this trial is the
+libprivilege over real sockets, against a model of what PROTOCOL allows a client. A driver in C makes the calls one by one; this is the
 service, which answers rightly, wrongly, in pieces, late, or not at all, hangs up between questions, and goes away. Wanted are
 - of each call the answer of the model, whole: error, result, commit, agent, bucket, key;
 - a frame on the connection exactly where the model has one, the same each time that it is sent, with the next number;
@@ -9,40 +9,18 @@ Within the driver every call of the machine gives less than it might, or is inte
 `rt lib` makes in crates/client_c. Ends with status 1 where one is not as wanted. Linux alone."""
 
 import argparse
-import contextlib
-import os
 import pathlib
 import random
-import select
-import socket
-import subprocess
 import sys
 import tempfile
 
 import program
 from client_model import framed, number, text
-from library_build import built_library
+from library_door import Door, Wrong, driver_of, run_all, words_of
 
-HERE = pathlib.Path(__file__).resolve().parent
 MILLISECONDS = 400
 OK, UNAVAILABLE, TIMEOUT, BAD_REPLY, OLDER, NOT_RESOLVED, NO_AGENT, AGENT_GONE, AGENT_FULL = 0, 4, 6, 7, 8, 9, 10, 11, 12
 ALLOW, TRIES = 65535, 3
-# The driver is waited for so long, in seconds.
-PATIENCE = 60
-
-
-class Wrong(Exception):
-    """Something is not as the model has it."""
-
-
-def driver_of(scratch, options):
-    """The driver, linked with the library, with its own calls before those of the machine."""
-    flags = ["-O1", "-g"] + ([] if options.valgrind else ["-fsanitize=address,undefined", "-fno-sanitize-recover=all"])
-    library = built_library(scratch, options.core, flags)
-    wrapped = [f"-Wl,--wrap={call}" for call in ("recv", "send", "poll", "connect")]
-    words = ["gcc", "-std=c11", *flags, "-Wall", "-Wextra", "-Werror", "-I", library / "include", HERE / "library_driver.c"]
-    subprocess.run([*words, *wrapped, library / "lib" / "libprivilege.a", "-o", scratch / "driver"], check=True)
-    return scratch / "driver"
 
 
 class Model:
@@ -69,36 +47,19 @@ class Model:
         self.kept = []
 
 
-class Schedule:
+class Schedule(Door):
     """A service by a schedule, and a driver that is asked one call after the other."""
 
     def __init__(self, folder, words, draw):
-        self.path, self.draw, self.commit = str(folder / "client.socket"), draw, 1
-        self.entries = draw.choice((1, 2, 3, 16, 4096))
-        self.model, self.door, self.link = Model(self.entries), None, None
-        self.last = 65535
-        self.counts = dict.fromkeys(("calls", "hits", "frames", "dials", "ends"), 0)
-        self.open_door()
-        command = [*words, self.path, str(MILLISECONDS), str(self.entries)]
-        self.driver = subprocess.Popen(command, stdin=subprocess.PIPE, stdout=subprocess.PIPE)
+        self.commit, self.last, self.entries = 1, 65535, draw.choice((1, 2, 3, 16, 4096))
+        self.model, self.unasked, self.was_up, self.ended = Model(self.entries), False, False, False
+        path = folder / "client.socket"
+        super().__init__(path, [*words, path, str(MILLISECONDS), str(self.entries)], draw, ["hits"])
 
     # ---- the service
 
-    def open_door(self):
-        self.door = socket.socket(socket.AF_UNIX)
-        self.door.bind(self.path)
-        self.door.listen()
-
-    def close_door(self):
-        self.door.close()
-        self.door = None
-        os.unlink(self.path)
-
     def hang_up(self):
-        if self.link:
-            self.link.close()
-            self.counts["ends"] += 1
-        self.link = None
+        super().hang_up()
         self.model.lost()
 
     def between(self):
@@ -158,62 +119,9 @@ class Schedule:
 
     # ---- a call
 
-    def events(self):
-        """Whether the driver has said something, or else what came to the service."""
-        ready, _, _ = select.select([self.driver.stdout, *filter(None, (self.door, self.link))], [], [], PATIENCE)
-        if not ready:
-            raise Wrong("nothing happens")
-        return ready
-
-    def wait_for(self, what):
-        """Waits for a connection, a frame or the driver's word, which has to come next."""
-        ready = self.events()
-        if self.door in ready:
-            found = "dial"
-        elif self.link in ready:
-            found = "frame"
-        else:
-            found = "line"
-        if found != what:
-            said = self.driver.stdout.readline() if found == "line" else b""
-            raise Wrong(f"a {found} {said} came, and a {what} was wanted")
-
-    def accept(self):
-        self.wait_for("dial")
-        self.link, _ = self.door.accept()
-        self.link.settimeout(PATIENCE)
-        self.counts["dials"] += 1
-
     def take_frame(self, asked, simple):
         """Takes the frame of the question, and gives its number."""
-        session, name = asked
-        wanted = framed(0, 2 if simple else 1, text(name.encode()) + text(b"u") + text(b"p"))
-        found = b""
-        while len(found) < len(wanted):
-            self.wait_for("frame")
-            found += (piece := self.link.recv(len(wanted) - len(found)))
-            if not piece:
-                raise Wrong("the client ended the connection")
-        if found[:4] + found[6:] != wanted[:4] + wanted[6:]:
-            raise Wrong(f"the frame {found.hex()}, and {wanted.hex()} is wanted")
-        self.counts["frames"] += 1
-        return int.from_bytes(found[4:6], "big")
-
-    def give(self, data):
-        """Sends it whole or in pieces. The client may drop the connection within a wrong reply."""
-        at = 0
-        with contextlib.suppress(BrokenPipeError, ConnectionResetError):
-            while at < len(data):
-                size = len(data) if self.draw.random() < 0.6 else self.draw.randint(1, 9)
-                self.link.sendall(data[at : at + size])
-                at += size
-
-    def closed_by_client(self):
-        """The client ends the connection, and nothing else; with a reset where it has left bytes unread."""
-        with contextlib.suppress(ConnectionResetError):
-            if self.link and self.link.recv(1) != b"":
-                raise Wrong("the client goes on with a connection that it has to drop")
-        self.hang_up()
+        return self.take(framed(0, 2 if simple else 1, text(asked[1].encode()) + text(b"u") + text(b"p")))
 
     def ask(self, word, asked):
         """What the driver is to say to this question, by the model and what the service does now."""
@@ -269,70 +177,40 @@ class Schedule:
 
     def call(self):
         """One call. What the driver says has to be what the model says."""
-        self.counts["calls"] += 1
         draw = self.draw
         if draw.random() < 0.12:
             commit = max(0, self.commit - draw.randrange(3) + (draw.random() < 0.2))
             self.model.tell(commit)
             self.say(f"tell {commit}")
-            wanted = str(OK)
-        elif draw.random() < 0.03:
+            self.hear(str(OK))
+            return
+        if draw.random() < 0.03:
             self.say("leave")
-            wanted = str(OK)
+            self.hear(str(OK))
             self.closed_by_client()
             self.unasked = self.was_up = False
-        else:
-            word, asked = draw.choice(("check", "check", "ask", "simple")), (draw.choice("ab"), draw.choice("cde"))
-            self.ended = False
-            self.say(f"{word} {asked[1]} {asked[0]} u p")
-            wanted = self.ask(word, asked)
-        found = self.driver.stdout.readline().decode().strip()
-        if found != wanted:
-            raise Wrong(f"{found!r}, and {wanted!r} is wanted")
-        if getattr(self, "ended", False):
-            self.ended = False
+            return
+        word, asked = draw.choice(("check", "check", "ask", "simple")), (draw.choice("ab"), draw.choice("cde"))
+        self.ended = False
+        self.say(f"{word} {asked[1]} {asked[0]} u p")
+        self.hear(self.ask(word, asked))
+        if self.ended:
             self.closed_by_client()
 
-    def say(self, line):
-        self.driver.stdin.write(f"{line}\n".encode())
-        self.driver.stdin.flush()
-
     def run(self, calls):
-        self.unasked = self.was_up = False
         for _ in range(calls):
             if not self.unasked and not self.was_up:
                 self.between()
             self.call()
-        self.driver.stdin.close()
-        if self.driver.wait(PATIENCE):
-            raise Wrong(f"the driver ends with {self.driver.returncode}")
+        self.end()
 
 
 def main():
-    words = argparse.ArgumentParser(description=__doc__, formatter_class=argparse.RawDescriptionHelpFormatter)
-    words.add_argument("--count", type=int, default=200)
-    words.add_argument("--seed", type=int, default=1)
-    words.add_argument("--valgrind", action="store_true")
-    words.add_argument("--core", type=pathlib.Path)
-    options = words.parse_args()
-    totals = {}
+    options = words_of(argparse.ArgumentParser(description=__doc__, formatter_class=argparse.RawDescriptionHelpFormatter))
     with tempfile.TemporaryDirectory(dir=program.ROOM) as name:
         scratch = pathlib.Path(name)
-        driver = driver_of(scratch, options)
-        valgrind = ["valgrind", "-q", "--error-exitcode=9", "--leak-check=full", "--show-leak-kinds=all"]
-        command = [*valgrind, driver] if options.valgrind else [driver]
-        for at in range(options.count):
-            folder = scratch / str(at)
-            folder.mkdir()
-            schedule = Schedule(folder, command, random.Random(f"{options.seed} {at}"))
-            try:
-                schedule.run(60)
-            except (Wrong, OSError) as why:
-                schedule.driver.kill()
-                sys.exit(f"schedule {at} of seed {options.seed}, call {schedule.counts['calls']}: {why!r}")
-            for what, count in schedule.counts.items():
-                totals[what] = totals.get(what, 0) + count
-    print(f"{options.count} schedules, none otherwise:", ", ".join(f"{count} {what}" for what, count in totals.items()))
+        command = driver_of(scratch, options, "library_driver.c")
+        sys.exit(run_all(options, scratch, lambda folder, seed: Schedule(folder, command, random.Random(seed)), 60))
 
 
 if __name__ == "__main__":

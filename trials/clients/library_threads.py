@@ -30,7 +30,8 @@ def main():
             for flags in (("-O2",), ("-O1", "-g", "-fsanitize=thread")):
                 library = built_library(scratch, options.core, flags)
                 build = ["gcc", "-std=c11", *flags, "-Wall", "-Wextra", "-Werror", "-pthread", "-I", library / "include"]
-                subprocess.run([*build, HERE / "library_threads.c", library / "lib" / "libprivilege.a", "-o", scratch / "threads"], check=True)
+                built = [HERE / "library_threads.c", library / "lib" / "libprivilege.a", "-o", scratch / "threads"]
+                subprocess.run([*build, *built], check=True)
                 done = subprocess.run([scratch / "threads", path, str(options.count)], stdout=subprocess.PIPE)
                 print(" ".join(flags), "answered, busy, wrong:", ", ".join(done.stdout.decode().split("\n")[:3]))
                 if done.returncode:

@@ -168,7 +168,8 @@ int cynara_admin_erase(struct cynara_admin *handle, const char *start_bucket, in
     const char *user, const char *privilege) {
     if (!handle) return CYNARA_API_INVALID_PARAM;
     if (recursive) return CYNARA_API_METHOD_NOT_SUPPORTED;
-    return number_for(handle, privilege_admin_erase(handle->admin, start_bucket, client, user, privilege, NULL, NULL));
+    return number_for(
+        handle, privilege_admin_erase(handle->admin, start_bucket, client, user, privilege, NULL, NULL));
 }
 
 static struct cynara_admin_policy_descr *described(int result, const char *name) {
@@ -181,7 +182,8 @@ static struct cynara_admin_policy_descr *described(int result, const char *name)
     return NULL;
 }
 
-int cynara_admin_list_policies_descriptions(struct cynara_admin *handle, struct cynara_admin_policy_descr ***descriptions) {
+int cynara_admin_list_policies_descriptions(
+    struct cynara_admin *handle, struct cynara_admin_policy_descr ***descriptions) {
     if (!handle || !descriptions) return CYNARA_API_INVALID_PARAM;
     struct cynara_admin_policy_descr **rows = calloc(3, sizeof *rows);
     if (!rows) return CYNARA_API_OUT_OF_MEMORY;

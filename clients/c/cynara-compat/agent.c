@@ -13,9 +13,9 @@ struct cynara_agent {
     struct privilege_agent *agent;
     uint16_t kind;
     bool is_registered;
-    int canceller;       /* an event descriptor, by which the waiting is ended */
-    bool is_asked;       /* a request was given, and is not answered */
-    uint32_t number;     /* of its question */
+    int canceller;   /* an event descriptor, by which the waiting is ended */
+    bool is_asked;   /* a request was given, and is not answered */
+    uint32_t number; /* of its question */
 };
 
 /* The kind that a type names, a number without sign and leading zeros; 0 where it names none. */
@@ -55,7 +55,8 @@ int cynara_agent_finish(cynara_agent *handle) {
 int cynara_agent_cancel_waiting(cynara_agent *handle) {
     if (!handle) return CYNARA_API_INVALID_PARAM;
     uint64_t one = 1;
-    return write(handle->canceller, &one, sizeof one) == (ssize_t)sizeof one ? CYNARA_API_SUCCESS : CYNARA_API_OPERATION_FAILED;
+    return write(handle->canceller, &one, sizeof one) == (ssize_t)sizeof one ? CYNARA_API_SUCCESS
+                                                                             : CYNARA_API_OPERATION_FAILED;
 }
 
 /* Waits until the connection has something, or the waiting is ended: INTERRUPTED. */
@@ -75,7 +76,8 @@ static int wait_for_request(struct cynara_agent *handle) {
 }
 
 /* Hands out a question, as a text. */
-static int give_question(struct cynara_agent *handle, const struct privilege_question *question, void **data, size_t *size) {
+static int give_question(
+    struct cynara_agent *handle, const struct privilege_question *question, void **data, size_t *size) {
     const struct privilege_key *key = &question->key;
     size_t length = strlen(key->client) + strlen(key->user) + strlen(key->privilege) + strlen(question->metadata) + 3;
     char *text = malloc(length + 1);
@@ -121,8 +123,8 @@ static bool look(struct cynara_agent *handle, cynara_agent_msg_type *type, void 
     return false;
 }
 
-int cynara_agent_get_request(cynara_agent *handle, cynara_agent_msg_type *type, cynara_agent_req_id *id, void **data,
-    size_t *size) {
+int cynara_agent_get_request(
+    cynara_agent *handle, cynara_agent_msg_type *type, cynara_agent_req_id *id, void **data, size_t *size) {
     if (!handle || !type || !id || !data || !size) return CYNARA_API_INVALID_PARAM;
     int number = ensure_registered(handle);
     while (!number && look(handle, type, data, size, &number)) number = wait_for_request(handle);

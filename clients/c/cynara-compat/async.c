@@ -91,8 +91,8 @@ void cynara_async_finish(cynara_async *handle) {
     free(handle);
 }
 
-int cynara_async_check_cache(cynara_async *handle, const char *client, const char *client_session, const char *user,
-    const char *privilege) {
+int cynara_async_check_cache(
+    cynara_async *handle, const char *client, const char *client_session, const char *user, const char *privilege) {
     if (!handle || !client || !client_session || !user || !privilege) return CYNARA_API_INVALID_PARAM;
     return CYNARA_API_CACHE_MISS;
 }
@@ -110,8 +110,8 @@ static int begin(cynara_async *handle, enum privilege_error error, const struct 
     return handle->request == NONE ? number : CYNARA_API_SUCCESS;
 }
 
-static int create(cynara_async *handle, const char *client, const char *session, const char *user, const char *privilege,
-    bool simple, cynara_check_id *check_id, cynara_response_callback callback, void *data) {
+static int create(cynara_async *handle, const char *client, const char *session, const char *user,
+    const char *privilege, bool simple, cynara_check_id *check_id, cynara_response_callback callback, void *data) {
     struct privilege_verdict verdict;
     if (!handle) return CYNARA_API_INVALID_PARAM;
     if (handle->request != NONE) return CYNARA_API_MAX_PENDING_REQUESTS;
@@ -123,8 +123,9 @@ static int create(cynara_async *handle, const char *client, const char *session,
     return begin(handle, error, &verdict);
 }
 
-int cynara_async_create_request(cynara_async *handle, const char *client, const char *client_session, const char *user,
-    const char *privilege, cynara_check_id *check_id, cynara_response_callback callback, void *user_response_data) {
+int cynara_async_create_request(cynara_async *handle, const char *client, const char *client_session,
+    const char *user, const char *privilege, cynara_check_id *check_id, cynara_response_callback callback,
+    void *user_response_data) {
     return create(handle, client, client_session, user, privilege, false, check_id, callback, user_response_data);
 }
 

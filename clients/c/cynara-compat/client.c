@@ -49,15 +49,17 @@ int cynara_finish(cynara *handle) {
     return CYNARA_API_SUCCESS;
 }
 
-int cynara_check(cynara *handle, const char *client, const char *client_session, const char *user, const char *privilege) {
+int cynara_check(
+    cynara *handle, const char *client, const char *client_session, const char *user, const char *privilege) {
     struct privilege_verdict verdict;
     if (!handle) return CYNARA_API_INVALID_PARAM;
     return answer_of(privilege_check(handle->client, client, client_session, user, privilege, &verdict), &verdict);
 }
 
-int cynara_simple_check(cynara *handle, const char *client, const char *client_session, const char *user,
-    const char *privilege) {
+int cynara_simple_check(
+    cynara *handle, const char *client, const char *client_session, const char *user, const char *privilege) {
     struct privilege_verdict verdict;
     if (!handle) return CYNARA_API_INVALID_PARAM;
-    return answer_of(privilege_simple_check(handle->client, client, client_session, user, privilege, &verdict), &verdict);
+    return answer_of(
+        privilege_simple_check(handle->client, client, client_session, user, privilege, &verdict), &verdict);
 }

@@ -29,7 +29,7 @@ struct cynara_admin_policy {
     char *user;
     char *privilege;
     int result;
-    char *result_extra; /* with CYNARA_ADMIN_BUCKET the bucket that is meant; of an agent's kind its metadata; or NULL */
+    char *result_extra; /* with CYNARA_ADMIN_BUCKET the bucket; of an agent's kind its metadata; or NULL */
 };
 
 struct cynara_admin_policy_descr {
@@ -54,7 +54,8 @@ int cynara_admin_list_policies(struct cynara_admin *handle, const char *bucket, 
 int cynara_admin_erase(struct cynara_admin *handle, const char *start_bucket, int recursive, const char *client,
     const char *user, const char *privilege);
 /* The caller frees the list, which a NULL ends, its rows, and their names: "Deny" and "Allow". */
-int cynara_admin_list_policies_descriptions(struct cynara_admin *handle, struct cynara_admin_policy_descr ***descriptions);
+int cynara_admin_list_policies_descriptions(
+    struct cynara_admin *handle, struct cynara_admin_policy_descr ***descriptions);
 
 #ifdef __cplusplus
 }

@@ -25,8 +25,8 @@ int cynara_agent_finish(cynara_agent *handle);
 
 /* Waits for the next request. The data of a question is the text "CLIENT USER PRIVILEGE METADATA", with single spaces
  * and a null byte behind it that is not counted; the metadata may be empty. The caller frees it. A CANCEL has none. */
-int cynara_agent_get_request(cynara_agent *handle, cynara_agent_msg_type *type, cynara_agent_req_id *id, void **data,
-    size_t *size);
+int cynara_agent_get_request(
+    cynara_agent *handle, cynara_agent_msg_type *type, cynara_agent_req_id *id, void **data, size_t *size);
 /* The data of an answer is the text of CYNARA_ADMIN_ALLOW or of CYNARA_ADMIN_DENY, "65535" or "0", with or without a
  * null byte. */
 int cynara_agent_put_response(cynara_agent *handle, const cynara_agent_msg_type type, const cynara_agent_req_id id,

@@ -24,16 +24,13 @@ typedef enum {
 } cynara_async_call_cause;
 
 /* What the descriptor is to be watched for. */
-typedef enum {
-    CYNARA_STATUS_FOR_READ = 0,
-    CYNARA_STATUS_FOR_RW = 1
-} cynara_async_status;
+typedef enum { CYNARA_STATUS_FOR_READ = 0, CYNARA_STATUS_FOR_RW = 1 } cynara_async_status;
 
 /* The descriptor is another one, or there is none (-1). */
 typedef void (*cynara_status_callback)(int old_fd, int new_fd, cynara_async_status status, void *user_status_data);
 /* The response to a request; behind CAUSE_ANSWER it is as cynara_check has it. */
-typedef void (*cynara_response_callback)(cynara_check_id check_id, cynara_async_call_cause cause, int response,
-    void *user_response_data);
+typedef void (*cynara_response_callback)(
+    cynara_check_id check_id, cynara_async_call_cause cause, int response, void *user_response_data);
 
 int cynara_async_configuration_create(cynara_async_configuration **configuration);
 void cynara_async_configuration_destroy(cynara_async_configuration *configuration);
@@ -45,11 +42,12 @@ int cynara_async_initialize(cynara_async **handle, const cynara_async_configurat
 void cynara_async_finish(cynara_async *handle);
 
 /* Always CACHE_MISS: what is kept is found by the request, which then asks nobody. */
-int cynara_async_check_cache(cynara_async *handle, const char *client, const char *client_session, const char *user,
-    const char *privilege);
+int cynara_async_check_cache(
+    cynara_async *handle, const char *client, const char *client_session, const char *user, const char *privilege);
 /* MAX_PENDING_REQUESTS while another request is open. The response comes within cynara_async_process. */
-int cynara_async_create_request(cynara_async *handle, const char *client, const char *client_session, const char *user,
-    const char *privilege, cynara_check_id *check_id, cynara_response_callback callback, void *user_response_data);
+int cynara_async_create_request(cynara_async *handle, const char *client, const char *client_session,
+    const char *user, const char *privilege, cynara_check_id *check_id, cynara_response_callback callback,
+    void *user_response_data);
 int cynara_async_create_simple_request(cynara_async *handle, const char *client, const char *client_session,
     const char *user, const char *privilege, cynara_check_id *check_id, cynara_response_callback callback,
     void *user_response_data);

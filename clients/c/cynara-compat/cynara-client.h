@@ -22,10 +22,11 @@ int cynara_initialize(cynara **handle, const cynara_configuration *configuration
 int cynara_finish(cynara *handle);
 
 /* ACCESS_ALLOWED, ACCESS_DENIED, or a failure. An agent may be asked: it waits for a minute. */
-int cynara_check(cynara *handle, const char *client, const char *client_session, const char *user, const char *privilege);
+int cynara_check(
+    cynara *handle, const char *client, const char *client_session, const char *user, const char *privilege);
 /* Asks no agent: ACCESS_NOT_RESOLVED where one would have to be. */
-int cynara_simple_check(cynara *handle, const char *client, const char *client_session, const char *user,
-    const char *privilege);
+int cynara_simple_check(
+    cynara *handle, const char *client, const char *client_session, const char *user, const char *privilege);
 
 #ifdef __cplusplus
 }

@@ -9,17 +9,9 @@
 extern "C" {
 #endif
 
-enum cynara_client_creds {
-    CLIENT_METHOD_DEFAULT,
-    CLIENT_METHOD_SMACK,
-    CLIENT_METHOD_PID
-};
+enum cynara_client_creds { CLIENT_METHOD_DEFAULT, CLIENT_METHOD_SMACK, CLIENT_METHOD_PID };
 
-enum cynara_user_creds {
-    USER_METHOD_DEFAULT,
-    USER_METHOD_UID,
-    USER_METHOD_GID
-};
+enum cynara_user_creds { USER_METHOD_DEFAULT, USER_METHOD_UID, USER_METHOD_GID };
 
 int cynara_creds_get_default_client_method(enum cynara_client_creds *method);
 int cynara_creds_get_default_user_method(enum cynara_user_creds *method);
