@@ -1,15 +1,17 @@
 // Reading the words of the command line.
 ghost use Rattle.std.specs.Prelude.{◌≡◌, None, Some, true, IfOk, option_map};
-ghost use Rattle.std.specs.List.{list_any};
+ghost use Rattle.std.specs.List.{list_any, position};
 ghost use Rattle.std.specs.String.{string_bytes};
 ghost use Rattle.cynara_keys.specs.Name.{name_fault};
 ghost use Rattle.smack_rules.specs.Label.{label_fault};
 ghost use Rattle.command_words.specs.Commands.{is_option, command_of};
 ghost use Rattle.command_words.specs.Commands.{serve_of, watch_of, sample_of, allowed_of, agent_of, access_of, names_of};
 ghost use Rattle.command_words.specs.Commands.{ReadsCommand, IsUnknown, KeepsBounds};
+ghost use Rattle.command_words.specs.Faults.{NamesFault, first_wrong, number_wrong, agent_wrong, access_wrong, names_wrong};
 ghost use Rattle.command_words.specs.parts.Names.{ReadsNames};
-ghost use Rattle.command_words.specs.parts.Lines.{command_in};
+ghost use Rattle.command_words.specs.parts.Lines.{command_in, wrong_in};
 ghost use Rattle.command_words.specs.declared.commands.Command.TheVariants.{Check, Simple};
+ghost use Rattle.command_words.specs.declared.word_faults.WordFault.TheVariants as fault;
 
 use crate::commands::{AskedNames, Command, CommandRefusal};
 use crate::numbers::number_within;
@@ -20,16 +22,17 @@ use std::alloc::{AllocError, Global};
 use word_line::{Line, LineRefusal, read_line};
 
 impl Command {
-    /// Reads the words behind the program's name. `Unknown` exactly where they name no command, in this order: a word begins
-    /// with `-`, they are the words of no line, the first word is wrong that is no number, label, modes, name or answer in
+    /// Reads the words behind the program's name. `Unknown` exactly where they name no command, with the first fault in this
+    /// order: a word begins with `-`, they are the words of no line, a word is no number, label, modes, name or answer in
     /// its place. `Memory` may come at any words of which none begins with `-`.
     pub fn read(alloc: Global, words: &[String]) -> Result<Command, CommandRefusal>
         ensures command { ReadsCommand result (command_of words.now) }
         ensures option { list_any is_option words.now ≡ true → IsUnknown result }
         ensures bounds { IfOk result KeepsBounds }
+        ensures fault { NamesFault result (first_wrong words.now) }
     {
-        if has_option(words) {
-            return Err(CommandRefusal::Unknown(option_fault(words)));
+        if let Some(place) = first_option(words) {
+            return Err(CommandRefusal::Unknown(WordFault::Dash { place }));
         }
         match read_line(alloc, words) {
             Ok(line) => read_values(alloc, &line),
@@ -43,6 +46,7 @@ impl Command {
 fn read_values(alloc: Global, line: &Line) -> Result<Command, CommandRefusal>
     ensures command { ReadsCommand result (command_in line.now) }
     ensures bounds { IfOk result KeepsBounds }
+    ensures fault { NamesFault result (wrong_in line.now) }
 {
     match line {
         Line::Local => Ok(Command::Local),
@@ -89,19 +93,11 @@ fn read_values(alloc: Global, line: &Line) -> Result<Command, CommandRefusal>
     }
 }
 
-// Whether a word begins with a dash.
-fn has_option(words: &[String]) -> bool
-    ensures { result ≡ list_any is_option words.now }
+// The place of the first word that begins with a dash.
+fn first_option(words: &[String]) -> Option<usize>
+    ensures { result ≡ position is_option words.now }
 {
-    words.iter().any(|word| is_option(word))
-}
-
-// What is wrong with words of which one begins with a dash.
-fn option_fault(words: &[String]) -> WordFault {
-    match words.iter().position(|word| is_option(word)) {
-        Some(place) => WordFault::Dash { place },
-        None => WordFault::NoLine,
-    }
+    words.iter().position(|word| is_option(word))
 }
 
 fn is_option(word: &String) -> bool
@@ -113,6 +109,7 @@ fn is_option(word: &String) -> bool
 fn read_serve(workers: &[u8]) -> Result<Command, CommandRefusal>
     ensures command { ReadsCommand result (serve_of workers.now) }
     ensures bounds { IfOk result KeepsBounds }
+    ensures fault { NamesFault result (number_wrong 1 64 workers.now) }
 {
     match number_within(workers, 1, 64) {
         Some(workers) => Ok(Command::Serve { workers }),
@@ -123,6 +120,7 @@ fn read_serve(workers: &[u8]) -> Result<Command, CommandRefusal>
 fn read_watch(workers: &[u8]) -> Result<Command, CommandRefusal>
     ensures command { ReadsCommand result (watch_of workers.now) }
     ensures bounds { IfOk result KeepsBounds }
+    ensures fault { NamesFault result (number_wrong 1 64 workers.now) }
 {
     match number_within(workers, 1, 64) {
         Some(workers) => Ok(Command::Watch { workers }),
@@ -133,6 +131,7 @@ fn read_watch(workers: &[u8]) -> Result<Command, CommandRefusal>
 fn read_sample(count: &[u8]) -> Result<Command, CommandRefusal>
     ensures command { ReadsCommand result (sample_of count.now) }
     ensures bounds { IfOk result KeepsBounds }
+    ensures fault { NamesFault result (number_wrong 1 1000 count.now) }
 {
     match number_within(count, 1, 1_000) {
         Some(count) => Ok(Command::Sample { count }),
@@ -141,7 +140,9 @@ fn read_sample(count: &[u8]) -> Result<Command, CommandRefusal>
 }
 
 // The second word is no number of this range.
-fn number_fault(least: u32, most: u32) -> WordFault {
+fn number_fault(least: u32, most: u32) -> WordFault
+    ensures { result ≡ fault.Number 1 least most }
+{
     WordFault::Number {
         place: 1,
         least,
@@ -152,6 +153,7 @@ fn number_fault(least: u32, most: u32) -> WordFault {
 fn read_agent(kind: &[u8], answer: &[u8]) -> Result<Command, CommandRefusal>
     ensures command { ReadsCommand result (agent_of kind.now answer.now) }
     ensures bounds { IfOk result KeepsBounds }
+    ensures fault { NamesFault result (agent_wrong kind.now answer.now) }
 {
     let Some(kind) = number_within(kind, 2, 65_533) else {
         return Err(CommandRefusal::Unknown(number_fault(2, 65_533)));
@@ -186,6 +188,7 @@ fn read_access(
 ) -> Result<Command, CommandRefusal>
     ensures command { ReadsCommand result (access_of subject.now object.now modes.now) }
     ensures bounds { IfOk result KeepsBounds }
+    ensures fault { NamesFault result (access_wrong subject.now object.now modes.now) }
 {
     if let Some(fault) = label_fault(subject) {
         return Err(CommandRefusal::Unknown(WordFault::Label { place: 1, fault }));
@@ -229,6 +232,7 @@ fn read_check(
 ) -> Result<Command, CommandRefusal>
     ensures command { ReadsCommand result (option_map Check (names_of client.now session.now user.now privilege.now)) }
     ensures bounds { IfOk result KeepsBounds }
+    ensures fault { NamesFault result (names_wrong client.now session.now user.now privilege.now) }
 {
     match read_names(alloc, client, session, user, privilege) {
         Ok(asked) => Ok(Command::Check(asked)),
@@ -245,6 +249,7 @@ fn read_simple(
 ) -> Result<Command, CommandRefusal>
     ensures command { ReadsCommand result (option_map Simple (names_of client.now session.now user.now privilege.now)) }
     ensures bounds { IfOk result KeepsBounds }
+    ensures fault { NamesFault result (names_wrong client.now session.now user.now privilege.now) }
 {
     match read_names(alloc, client, session, user, privilege) {
         Ok(asked) => Ok(Command::Simple(asked)),
@@ -260,7 +265,8 @@ fn read_names(
     user: &[u8],
     privilege: &[u8],
 ) -> Result<AskedNames, CommandRefusal>
-    ensures { ReadsNames result (names_of client.now session.now user.now privilege.now) }
+    ensures names { ReadsNames result (names_of client.now session.now user.now privilege.now) }
+    ensures fault { NamesFault result (names_wrong client.now session.now user.now privilege.now) }
 {
     if let Some(fault) = name_fault(client) {
         return Err(CommandRefusal::Unknown(WordFault::Name { place: 1, fault }));
