@@ -5,7 +5,7 @@ ghost use Rattle.client_c.specs.Exports.{Opens, Copies};
 
 use crate::codes::{IDLE, NO_MEMORY, WRONG_ROLE};
 use crate::handles::put;
-use crate::questions::asking_of;
+use crate::questions::{Unread, asking_of};
 use crate::telling::{code_of_step, told};
 use crate::{Handle, Said};
 use client_core::Machine;
@@ -44,11 +44,11 @@ pub(crate) fn ask(
     };
     match asking_of(alloc, session, client, user, privilege) {
         Ok(asking) => told(asker.ask(asking.session, asking.question, simple), said),
-        Err(NO_MEMORY) => {
+        Err(Unread::Memory) => {
             asker.leave();
             NO_MEMORY
         }
-        Err(code) => code,
+        Err(Unread::Wrong(code)) => code,
     }
 }
 

@@ -28,7 +28,7 @@ pub struct Said {
 }
 
 impl Text {
-    ghost use Rattle.std.specs.Prelude.{◌≡◌, [], take};
+    ghost use Rattle.std.specs.Prelude.{◌≡◌, ◌≤◌, [], length, take};
     ghost use Rattle.client_c.specs.Seen.{held};
 
     /// No bytes.
@@ -45,11 +45,22 @@ impl Text {
     pub(crate) fn of(bytes: &[u8]) -> Text
         ensures { held result ≡ take 255 bytes.now }
     {
-        let count = bytes.len().min(255);
-        let mut text = Text::empty();
-        text.bytes[..count].copy_from_slice(&bytes[..count]);
-        text.count = count as u8;
-        text
+        if bytes.len() > 255 {
+            return Text::short(&bytes[..255]);
+        }
+        Text::short(bytes)
+    }
+
+    fn short(bytes: &[u8]) -> Text
+        requires { length bytes.now ≤ 255 }
+        ensures { held result ≡ bytes.now }
+    {
+        let mut array = [0; 255];
+        array[..bytes.len()].copy_from_slice(bytes);
+        Text {
+            count: bytes.len() as u8,
+            bytes: array,
+        }
     }
 }
 
