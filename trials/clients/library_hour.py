@@ -23,7 +23,8 @@ from service_people import ACKNOWLEDGED, BEGUN
 
 HERE = pathlib.Path(__file__).resolve().parent
 SANITIZED = ("-O1", "-g", "-fsanitize=address,undefined", "-fno-sanitize-recover=all")
-VALGRIND = ("valgrind", "-q", "--error-exitcode=9", "--leak-check=full", "--show-leak-kinds=all")
+# One that is cut off, as its judge was killed, still holds what it had.
+VALGRIND = ("valgrind", "-q", "--error-exitcode=9", "--leak-check=full", "--show-leak-kinds=definite,indirect,possible")
 
 
 def people_of(scratch, options):
@@ -124,6 +125,9 @@ def main():
     with room() as folder, room() as scratch:
         scratch = pathlib.Path(scratch)
         (scratch / "plain").mkdir()
+        if options.valgrind:
+            # It takes some seconds to start one, and more where the machine is busy.
+            service_hour.KILL_CLIENT = service_hour.KILL_AGENT = 60
         hour = Hour(pathlib.Path(folder), options, people_of(scratch, options), module_of(scratch, options))
         try:
             hour.run(options.seconds)
