@@ -1,5 +1,5 @@
 -- A run that no failing call stops.
-use Rattle.std.proofs.Common.{◌≡◌, ◌∙◌, ◌<◌, ◌⊎◌, inl, inr, ℕ, List, [], Option, Some, None, refl, sym, ap, subst, arith}
+use Rattle.std.proofs.Common.{◌≡◌, ◌∙◌, ◌<◌, ◌⊎◌, inl, inr, ℕ, List, [], Option, Some, refl, sym, ap, subst, arith}
 use Rattle.desk_ports.specs.Faults.{next_count, last_count}
 use Rattle.link_ports.specs.declared.dials.Dial.{Ghosts as DialTells}
 use Rattle.link_ports.specs.declared.links.Link.{Ghosts as LinkTells}

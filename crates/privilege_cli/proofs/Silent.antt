@@ -31,7 +31,7 @@ use Rattle.monitor_journal.specs.declared.writing.Writing.TheVariants.{GoesOn}
 use Rattle.watch_runs.specs.Watching.{Journaled, ending_with}
 use Rattle.watch_runs.specs.Watching.Journaled.{unserved as unserved_lines}
 use Rattle.watch_runs.proofs.Lines as lines
-use Rattle.privilege_cli.specs.Program.{Serves, RunsCommand, AnswersBy}
+use Rattle.privilege_cli.specs.Program.{Serves, RunsCommand, AnswersBy, CountsDisk}
 use Rattle.privilege_cli.proofs.Serving.{never-sink, never-source}
 
 -- `check` and `simple` are given no source and no disk, and so no call of them ends it
@@ -39,6 +39,12 @@ pub uncounted : (ending : Ending) (count : ℕ) → EndsCheck ending → (count 
 uncounted Source count ends = absurd ends
 uncounted Disk count ends = absurd ends
 uncounted ending count ends = (refl, refl)
+
+-- where no memory is found for the words, no call of the disk was made
+pub unmoved : (command : Option Command) (count : ℕ) → CountsDisk command Memory count count
+unmoved (Some (Serve workers)) count = tt
+unmoved (Some (Watch workers)) count = tt
+unmoved command count = refl
 
 module _ {N L H E A J : Type 0} (dial : DialTells N L H) (link : LinkTells L H) (closed : N → Option (List E)) (door : DoorTells E A J)
     (accepted : LinkTells A J) (words : List (String Global)) (before : Outside) (net : N) where

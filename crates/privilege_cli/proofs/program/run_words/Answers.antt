@@ -3,7 +3,7 @@ use Rattle.run_endings.specs.Outside.{sink_seen, disk_seen}
 use Rattle.command_words.specs.Commands.{ReadsCommand, command_of}
 use Rattle.command_words.specs.declared.commands.Command.{Command}
 use Rattle.privilege_cli.specs.Program.{seen_of, CountsDisk}
-use Rattle.privilege_cli.proofs.Silent.{uncounted, without_memory, without_command, serves-as, reads-nothing, watches-as, watches-unread}
+use Rattle.privilege_cli.proofs.Silent.{uncounted, unmoved, without_memory, without_command, serves-as, reads-nothing, watches-as, watches-unread}
 use Rattle.privilege_cli.proofs.program.run_words.Goals as goal
 
 pub returns-in-Err-Memory-clause-run : goal.returns-in-Err-Memory-clause-run
@@ -11,6 +11,9 @@ returns-in-Err-Memory-clause-run g c =
     without_memory g.N.Dial g.N.Link.Link g.N.Net.closed g.N.Door.Door g.N.Door.Link.Link c.args.words.now
     (seen_of g.S.Source g.K.Sink g.D.Disk g.N.Dial c.args.source.now c.args.sink.now c.args.disk.now c.args.net.now) c.args.net.now
     (g.met.D.Disk.only_now c.args.disk.now)
+
+pub returns-in-Err-Memory-clause-disk_count : goal.returns-in-Err-Memory-clause-disk_count
+returns-in-Err-Memory-clause-disk_count g c = unmoved (command_of c.args.words.now) (g.D.Disk.faults c.args.disk.now)
 
 pub returns-in-Err-Unknown-clause-run : goal.returns-in-Err-Unknown-clause-run
 returns-in-Err-Unknown-clause-run g c =
