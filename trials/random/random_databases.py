@@ -14,6 +14,9 @@ import subprocess
 import sys
 import tempfile
 
+# `rt try` ends a program that writes a mebibyte.
+MOST_BYTES = 800_000
+
 ORDER = {"deny": 0, "none": 1, "agent": 7, "bucket": 65534, "allow": 65535}
 RUN = pathlib.Path(__file__).resolve().parents[1] / "cases" / "run"
 
@@ -118,11 +121,25 @@ def told(lines):
     return done.stdout.splitlines()
 
 
+def batches(databases):
+    """The lines of these databases, in parts for each of which the program writes little enough."""
+    batch, size = [], 0
+    for lines in databases:
+        more = sum(len(f"{line} = {answer}\n".encode()) for line, answer in lines)
+        if batch and size + more > MOST_BYTES:
+            yield batch
+            batch, size = [], 0
+        batch, size = [*batch, *lines], size + more
+    yield batch
+
+
 def main():
     count, seed = int(sys.argv[1]), int(sys.argv[2])
     chance = random.Random(seed)
-    lines = [line for _ in range(count) for line in database_lines(chance)]
-    given = told([line for line, _ in lines])
+    lines, given = [], []
+    for batch in batches(database_lines(chance) for _ in range(count)):
+        lines += batch
+        given += told([line for line, _ in batch])
     wanted = [f"{line} = {answer}" for line, answer in lines]
     questions = sum(not line.startswith(("fresh", "bucket", "set")) for line, _ in lines)
     wrong = [pair for pair in zip(wanted, given) if pair[0] != pair[1]]
