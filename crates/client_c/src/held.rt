@@ -21,12 +21,14 @@ impl Model for Held {
 }
 
 impl Held {
+    /// Without a machine. All of its bytes are zeros.
     pub fn none() -> Held
         ensures { result.value ≡ None }
     {
         Held { at: null_mut() }
     }
 
+    /// The machine of a box that was taken apart.
     pub fn of(loose: Loose<Machine, Global>) -> Held
         ensures { result.value ≡ Some loose.value }
     {
@@ -34,6 +36,7 @@ impl Held {
         Held { at: at as *mut u8 }
     }
 
+    /// Its machine, for a box of this memory to be put together from.
     pub fn into_loose(self, alloc: Global) -> Loose<Machine, Global>
         requires { IsSome self.value }
         ensures { self.value ≡ Some result.value }
