@@ -1,0 +1,161 @@
+// Reading the words by clap.
+use crate::grammar::program;
+use crate::orders::{Asked, Form, LogOptions, Order, Subject, Unread};
+use clap::error::ErrorKind;
+use clap::{ArgMatches, Error};
+use std::alloc::{AllocError, Global};
+
+/// Reads the words behind the program's name. `Shown` where they ask for the help or the version, `Wrong` with what is wrong
+/// and which words are near where clap does not take them, and `Memory` where there was none.
+pub fn read_order<'a>(alloc: Global, words: &'a [String]) -> Result<Order<'a>, Unread> {
+    let command = match program(alloc) {
+        Ok(command) => command,
+        Err(error) => return Err(Unread::Memory(error)),
+    };
+    match command.try_get_matches_from(words) {
+        Ok(matches) => match order_of(&matches) {
+            Some(order) => Ok(order),
+            None => Err(Unread::Memory(AllocError)),
+        },
+        Err(error) => Err(unread(alloc, &error)),
+    }
+}
+
+// What clap says of words that it does not take.
+fn unread(alloc: Global, error: &Error) -> Unread {
+    let kind = error.kind();
+    if kind == ErrorKind::OutOfMemory {
+        return Unread::Memory(AllocError);
+    }
+    match format!(in alloc; "{error}") {
+        Ok(text) => match kind {
+            ErrorKind::DisplayHelp | ErrorKind::DisplayVersion => Unread::Shown(text),
+            _ => Unread::Wrong(text),
+        },
+        Err(error) => Unread::Memory(error),
+    }
+}
+
+fn order_of<'a>(matches: &ArgMatches<'a>) -> Option<Order<'a>> {
+    let (name, values) = matches.subcommand()?;
+    match name {
+        "may" => may_order(values),
+        "explain" => explain_order(values),
+        "who" => who_order(values),
+        "plan" => plan_order(values),
+        "level-set" => level_set_order(values),
+        "log" => Some(log_order(values)),
+        _ => short_order(name, values),
+    }
+}
+
+// An order with one word at most.
+fn short_order<'a>(name: &str, values: &ArgMatches<'a>) -> Option<Order<'a>> {
+    let store = values.get_str("store");
+    match name {
+        "export" => Some(Order::Export { store }),
+        "level-get" => level_get_order(values),
+        "import-cynara" => import_order(values),
+        "users" => Some(listing(Subject::Users, store)),
+        "packages" => Some(listing(Subject::Packages, store)),
+        "apps" => Some(listing(Subject::Apps, store)),
+        "buckets" => Some(listing(Subject::Buckets, store)),
+        "status" => Some(listing(Subject::Status, store)),
+        _ => None,
+    }
+}
+
+fn listing<'a>(subject: Subject, store: Option<&'a str>) -> Order<'a> {
+    Order::List { subject, store }
+}
+
+fn asked_in<'a>(values: &ArgMatches<'a>) -> Option<Asked<'a>> {
+    let client = values.get_str("CLIENT")?;
+    let user = values.get_str("USER")?;
+    let privilege = values.get_str("PRIVILEGE")?;
+    Some(Asked {
+        client,
+        user,
+        privilege,
+    })
+}
+
+fn form_in(values: &ArgMatches<'_>) -> Form {
+    if values.get_flag("json") {
+        Form::Json
+    } else if values.get_flag("quiet") {
+        Form::Quiet
+    } else {
+        Form::Line
+    }
+}
+
+fn may_order<'a>(values: &ArgMatches<'a>) -> Option<Order<'a>> {
+    let asked = asked_in(values)?;
+    let seconds = values.get_one::<u32>("timeout")?;
+    Some(Order::May {
+        asked,
+        form: form_in(values),
+        seconds,
+    })
+}
+
+fn explain_order<'a>(values: &ArgMatches<'a>) -> Option<Order<'a>> {
+    let asked = asked_in(values)?;
+    let store = values.get_str("store");
+    Some(Order::Explain { asked, store })
+}
+
+fn who_order<'a>(values: &ArgMatches<'a>) -> Option<Order<'a>> {
+    let privilege = values.get_str("PRIVILEGE")?;
+    Some(Order::Who {
+        privilege,
+        user: values.get_str("user"),
+        store: values.get_str("store"),
+    })
+}
+
+fn plan_order<'a>(values: &ArgMatches<'a>) -> Option<Order<'a>> {
+    let script = values.get_str("SCRIPT")?;
+    let store = values.get_str("store");
+    Some(Order::Plan { script, store })
+}
+
+fn level_get_order<'a>(values: &ArgMatches<'a>) -> Option<Order<'a>> {
+    let uid = values.get_str("UID")?;
+    let store = values.get_str("store");
+    Some(Order::LevelGet { uid, store })
+}
+
+fn level_set_order<'a>(values: &ArgMatches<'a>) -> Option<Order<'a>> {
+    let uid = values.get_str("UID")?;
+    let client = values.get_str("CLIENT")?;
+    let privilege = values.get_str("PRIVILEGE")?;
+    let level = values.get_str("LEVEL")?;
+    Some(Order::LevelSet {
+        uid,
+        client,
+        privilege,
+        level,
+        admin: values.get_str("admin"),
+    })
+}
+
+fn import_order<'a>(values: &ArgMatches<'a>) -> Option<Order<'a>> {
+    let folder = values.get_str("DIR")?;
+    Some(Order::Import { folder })
+}
+
+fn log_order<'a>(values: &ArgMatches<'a>) -> Order<'a> {
+    let options = LogOptions {
+        client: values.get_str("client"),
+        user: values.get_str("user"),
+        privilege: values.get_str("privilege"),
+        denied: values.get_flag("denied"),
+        json: values.get_flag("json"),
+    };
+    Order::Log {
+        options,
+        file: values.get_str("FILE"),
+    }
+}
