@@ -1,31 +1,26 @@
 -- What each change of the places keeps.
-use Rattle.std.proofs.Common.{◌≡◌, ℕ, max, Bool, true, false, cond, nat_lt, List, [], ◌∷◌, ◌++◌, map, set, zero, suc, length, Option, Some, None, IfSome, refl, sym, ◌∙◌, subst, arith}
+use Rattle.std.proofs.Common.{◌≡◌, ℕ, max, Bool, true, false, nat_lt, List, [], ◌∷◌, ◌++◌, set, zero, suc, length, Option, Some, None, refl, sym, ◌∙◌, ap, subst, arith, get_or, ◌<◌}
 use Rattle.std.proofs.lemmas.Bool.{ltb-false}
-use Rattle.std.proofs.lemmas.List.{length-map, with_items_is}
+use Rattle.std.proofs.lemmas.List.{with_items_is}
 use Rattle.std.specs.Vec.{with_items}
 use Rattle.std.specs.declared.vec.Vec.{Vec}
 use Rattle.std.specs.declared.alloc.Global.{Global}
 use Rattle.std.specs.List.{AllByRecursion}
 use Rattle.live_roll.specs.declared.entries.Entry.{Entry}
-use Rattle.live_roll.specs.Places.{kept_from, vacated, IsVacant, EnteredAt}
-use Rattle.live_roll.specs.Roll.{RollState, IsRoll, hung_to, stopped}
+use Rattle.live_roll.specs.Places.{IsHungUp, IsHungUpIf, IsClosed, IsCurrent, AreHungUp, AreHungBelow, is_below, IsVacant}
+use Rattle.live_roll.specs.Roll.{RollState, IsRoll}
 
 module _ {H : Type 0} where
   pub vacant_push : (places : List (Option (Entry H))) → IsVacant places → IsVacant (places ++ None ∷ [])
   vacant_push [] vacant = (refl, tt)
   vacant_push (place ∷ places) vacant = (vacant.0, vacant_push places vacant.1)
 
-  -- where nothing stands each end entered at the commit
-  pub entered_vacant : (note : ℕ) (places : List (Option (Entry H))) → IsVacant places → EnteredAt note places
-  entered_vacant note [] vacant = tt
-  entered_vacant note (place ∷ places) vacant = (
-    subst (λ (p : Option (Entry H)). IfSome p (λ entry. entry.entered ≡ note)) (sym vacant.0) tt,
-    entered_vacant note places vacant.1,
-  )
-
-  pub vacant_vacated : (places : List (Option (Entry H))) → IsVacant (map vacated places)
-  vacant_vacated [] = tt
-  vacant_vacated (place ∷ places) = (refl, vacant_vacated places)
+  -- where nothing stands each end that is not hung up entered at the commit
+  pub current_vacant : (used : H → Bool) (note : ℕ) (places : List (Option (Entry H))) → IsVacant places
+      → AllByRecursion (IsCurrent used note) places
+  current_vacant used note [] vacant = tt
+  current_vacant used note (place ∷ places) vacant =
+      (subst (IsCurrent used note) (sym vacant.0) tt, current_vacant used note places vacant.1)
 
   -- a fact of each place stays where one place changes
   pub all_set : (P : Option (Entry H) → Type 0) (places : List (Option (Entry H))) (at : ℕ) (place : Option (Entry H))
@@ -34,49 +29,91 @@ module _ {H : Type 0} where
   all_set P (first ∷ places) zero place own all = (own, all.1)
   all_set P (first ∷ places) (suc at) place own all = (all.0, all_set P places at place own all.1)
 
-  one_kept : (note commit : ℕ) (place : Option (Entry H)) → IfSome place (λ entry. entry.entered ≡ note)
-      → IfSome (kept_from (max note commit) place) (λ entry. entry.entered ≡ max note commit)
-  one_kept note commit None entered = tt
-  one_kept note commit (Some entry) entered =
-      let low = max note commit in
-      let P : Bool → Type 0 = λ b. nat_lt entry.entered low ≡ b
-      → IfSome {T = Entry H} (cond b None (Some entry)) (λ entry. entry.entered ≡ low) in
-      let cases : (b : Bool) → P b =
-      λ b. elim b as P [
-        | true ↦ λ is. tt
-        | false ↦ λ is. let own : entry.entered ≡ note = entered in omega (arith, own, ltb-false entry.entered low is)
-      ] in
-      cases (nat_lt entry.entered low) refl
+  -- what was hung up is closed, and whatever is closed is current at any commit
+  pub closed_hung : (used : H → Bool) (place now : Option (Entry H)) → IsHungUp used place now → IsClosed used now
+  closed_hung used None now is = subst (IsClosed used) (sym is) tt
+  closed_hung used (Some entry) None is = absurd is
+  closed_hung used (Some entry) (Some now) is = is.1
 
-  -- the ends that are left entered at the note that was, or it has risen and none is left
-  pub entered_kept : (note commit : ℕ) (places : List (Option (Entry H))) → EnteredAt note places
-      → EnteredAt (max note commit) (map (kept_from (max note commit)) places)
-  entered_kept note commit [] entered = tt
-  entered_kept note commit (place ∷ places) entered =
-      (one_kept note commit place entered.0, entered_kept note commit places entered.1)
+  pub current_closed : (used : H → Bool) (note : ℕ) (place : Option (Entry H)) → IsClosed used place → IsCurrent used note place
+  current_closed used note None is = tt
+  current_closed used note (Some entry) is = λ unused. absurd (cc (is, unused))
 
-  pub vacant_kept : (low : ℕ) (places : List (Option (Entry H))) → IsVacant places → IsVacant (map (kept_from low) places)
-  vacant_kept low [] vacant = tt
-  vacant_kept low (place ∷ places) vacant = (
-    subst (λ (p : Option (Entry H)). kept_from low p ≡ None) (sym vacant.0) refl,
-    vacant_kept low places vacant.1,
+  one_kept : (used : H → Bool) (note commit : ℕ) (b : Bool) (place now : Option (Entry H)) → IsCurrent used note place
+      → is_below (max note commit) place ≡ b → IsHungUpIf used b place now → IsCurrent used (max note commit) now
+  one_kept used note commit true place now is below hung =
+      current_closed used (max note commit) now (closed_hung used place now hung)
+  one_kept used note commit false None now is below hung = subst (IsCurrent used (max note commit)) (sym hung) tt
+  one_kept used note commit false (Some entry) now is below hung =
+      subst (IsCurrent used (max note commit)) (sym hung)
+      (λ unused. let own : entry.entered ≡ note = is unused in
+      omega (arith, own, ltb-false entry.entered (max note commit) below))
+
+  -- what is not hung up entered at the note that was, or it has risen and all are hung up
+  pub current_kept : (used : H → Bool) (note commit : ℕ) (places now : List (Option (Entry H)))
+      → AllByRecursion (IsCurrent used note) places → AreHungBelow used (max note commit) places now
+      → AllByRecursion (IsCurrent used (max note commit)) now
+  current_kept used note commit [] now all hung = subst (AllByRecursion (IsCurrent used (max note commit))) (sym hung) tt
+  current_kept used note commit (place ∷ places) [] all hung = tt
+  current_kept used note commit (place ∷ places) (now ∷ more) all hung = (
+    one_kept used note commit (is_below (max note commit) place) place now all.0 refl hung.0,
+    current_kept used note commit places more all.1 hung.1,
   )
+
+  one_closed : (used : H → Bool) (b : Bool) (place now : Option (Entry H)) → IsClosed used place → IsHungUpIf used b place now
+      → IsClosed used now
+  one_closed used true place now is hung = closed_hung used place now hung
+  one_closed used false place now is hung = subst (IsClosed used) (sym hung) is
+
+  pub closed_kept : (used : H → Bool) (low : ℕ) (places now : List (Option (Entry H)))
+      → AllByRecursion (IsClosed used) places → AreHungBelow used low places now → AllByRecursion (IsClosed used) now
+  closed_kept used low [] now all hung = subst (AllByRecursion (IsClosed used)) (sym hung) tt
+  closed_kept used low (place ∷ places) [] all hung = tt
+  closed_kept used low (place ∷ places) (now ∷ more) all hung =
+      (one_closed used (is_below low place) place now all.0 hung.0, closed_kept used low places more all.1 hung.1)
+
+  pub closed_each : (used : H → Bool) (places now : List (Option (Entry H))) → AreHungUp used places now
+      → AllByRecursion (IsClosed used) now
+  closed_each used [] now hung = subst (AllByRecursion (IsClosed used)) (sym hung) tt
+  closed_each used (place ∷ places) [] hung = tt
+  closed_each used (place ∷ places) (now ∷ more) hung = (closed_hung used place now hung.0, closed_each used places more hung.1)
+
+  pub current_each : (used : H → Bool) (note : ℕ) (places : List (Option (Entry H))) → AllByRecursion (IsClosed used) places
+      → AllByRecursion (IsCurrent used note) places
+  current_each used note [] all = tt
+  current_each used note (place ∷ places) all =
+      (current_closed used note place all.0, current_each used note places all.1)
+
+  -- none is lost
+  pub count_below : (used : H → Bool) (low : ℕ) (places now : List (Option (Entry H))) → AreHungBelow used low places now
+      → length now ≡ length places
+  count_below used low [] now hung = ap length hung
+  count_below used low (place ∷ places) [] hung = absurd hung
+  count_below used low (place ∷ places) (now ∷ more) hung = ap suc (count_below used low places more hung.1)
+
+  pub count_each : (used : H → Bool) (places now : List (Option (Entry H))) → AreHungUp used places now → length now ≡ length places
+  count_each used [] now hung = ap length hung
+  count_each used (place ∷ places) [] hung = absurd hung
+  count_each used (place ∷ places) (now ∷ more) hung = ap suc (count_each used places more hung.1)
 
   -- as many places written over a vector's are its places
   pub items_written : (kept : Vec (Option (Entry H)) Global) (written : List (Option (Entry H)))
       → length written ≡ length kept.items → (with_items kept written).items ≡ written
   items_written kept written same = with_items_is kept written (same ∙ sym kept.ok.0)
 
-  pub hung_roll : (roll : RollState H) (commit : ℕ) → IsRoll roll → IsRoll (hung_to commit roll)
-  hung_roll roll commit is = record {
-    count = length-map roll.places (kept_from (max roll.note commit)) ∙ is.count;
-    current = entered_kept roll.note commit roll.places is.current;
-    ended = λ ended. vacant_kept (max roll.note commit) roll.places (is.ended ended);
+  pub hung_roll : (used : H → Bool) (roll : RollState H) (commit : ℕ) (now : List (Option (Entry H))) → IsRoll used roll
+      → AreHungBelow used (max roll.note commit) roll.places now
+      → IsRoll used (record { note = max roll.note commit; is_stopped = roll.is_stopped; places = now })
+  hung_roll used roll commit now is hung = record {
+    count = count_below used (max roll.note commit) roll.places now hung ∙ is.count;
+    current = current_kept used roll.note commit roll.places now is.current hung;
+    ended = λ ended. closed_kept used (max roll.note commit) roll.places now (is.ended ended) hung;
   }
 
-  pub stopped_roll : (roll : RollState H) → IsRoll roll → IsRoll (stopped roll)
-  stopped_roll roll is = record {
-    count = length-map roll.places vacated ∙ is.count;
-    current = entered_vacant roll.note (map vacated roll.places) (vacant_vacated roll.places);
-    ended = λ _. vacant_vacated roll.places;
+  pub stopped_roll : (used : H → Bool) (roll : RollState H) (now : List (Option (Entry H))) → IsRoll used roll
+      → AreHungUp used roll.places now → IsRoll used (record { note = roll.note; is_stopped = true; places = now })
+  stopped_roll used roll now is hung = record {
+    count = count_each used roll.places now hung ∙ is.count;
+    current = current_each used roll.note now (closed_each used roll.places now hung);
+    ended = λ _. closed_each used roll.places now hung;
   }

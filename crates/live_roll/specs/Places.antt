@@ -1,25 +1,49 @@
--- The places of a roll, in each of which an end may stand, with the commit at which it entered.
-use Rattle.std.specs.Prelude.{◌≡◌, ℕ, nat_lt, Bool, false, if◌then◌else◌, List, Option, Some, None, IfSome}
+-- The places of a roll, in each of which an end may stand, with the commit at which it entered. An end that was hung up stays
+-- in its place until the next connection comes there, so that it can be said of it that it was.
+use Rattle.std.specs.Prelude.{◌≡◌, ℕ, nat_lt, Bool, true, false, List, [], ◌∷◌, Option, Some, None, get_or, slice_set}
 use Rattle.std.specs.List.{AllByRecursion}
 use Rattle.live_roll.specs.declared.entries.Entry.{Entry}
+
+module _ {H : Type 0} (used : H → Bool) where
+  -- the place, once what stands there was hung up: it stands there still, and is used
+  abbrev pub IsHungUp : Option (Entry H) → Option (Entry H) → Type 0
+  IsHungUp None now = now ≡ None
+  IsHungUp (Some entry) None = ⊥
+  IsHungUp (Some entry) (Some now) = (now.entered ≡ entry.entered) × (used now.end ≡ true)
+
+  -- the place, once it was hung up if that is so, and else was left
+  abbrev pub IsHungUpIf : Bool → Option (Entry H) → Option (Entry H) → Type 0
+  IsHungUpIf true place now = IsHungUp place now
+  IsHungUpIf false place now = now ≡ place
+
+  -- nothing stands there that is not hung up
+  abbrev pub IsClosed : Option (Entry H) → Type 0
+  IsClosed None = Unit {0}
+  IsClosed (Some entry) = used entry.end ≡ true
+
+  -- what stands there and is not hung up entered at this commit
+  abbrev pub IsCurrent : ℕ → Option (Entry H) → Type 0
+  IsCurrent note None = Unit {0}
+  IsCurrent note (Some entry) = used entry.end ≡ false → entry.entered ≡ note
+
+  -- what each place is, once all were hung up
+  abbrev pub AreHungUp : List (Option (Entry H)) → List (Option (Entry H)) → Type 0
+  AreHungUp [] now = now ≡ []
+  AreHungUp (place ∷ places) [] = ⊥
+  AreHungUp (place ∷ places) (now ∷ more) = IsHungUp place now × AreHungUp places more
 
 -- an end stands there that entered below the commit
 abbrev pub is_below : {H : Type 0} → ℕ → Option (Entry H) → Bool
 is_below low None = false
 is_below low (Some entry) = nat_lt entry.entered low
 
--- what is left of a place once the ends that entered below the commit are hung up
-abbrev pub kept_from : {H : Type 0} → ℕ → Option (Entry H) → Option (Entry H)
-kept_from low place = if is_below low place then None else place
-
--- what is left of a place once all ends are hung up
-abbrev pub vacated : {H : Type 0} → Option (Entry H) → Option (Entry H)
-vacated place = None
+-- what each place is, once those were hung up that entered below the commit
+abbrev pub AreHungBelow : {H : Type 0} → (H → Bool) → ℕ → List (Option (Entry H)) → List (Option (Entry H)) → Type 0
+AreHungBelow used low [] now = now ≡ []
+AreHungBelow used low (place ∷ places) [] = ⊥
+AreHungBelow used low (place ∷ places) (now ∷ more) =
+    IsHungUpIf used (is_below low place) place now × AreHungBelow used low places more
 
 -- no end stands in any place
 abbrev pub IsVacant : {H : Type 0} → List (Option (Entry H)) → Type 0
 IsVacant places = AllByRecursion (λ place. place ≡ None) places
-
--- each end that stands there entered at this commit
-abbrev pub EnteredAt : {H : Type 0} → ℕ → List (Option (Entry H)) → Type 0
-EnteredAt note places = AllByRecursion (λ place. IfSome place (λ entry. entry.entered ≡ note)) places

@@ -1,6 +1,6 @@
 // The ends that stand in the roll.
-ghost use Rattle.std.specs.Prelude.{◌≡◌, map};
-ghost use Rattle.live_roll.specs.Places.{is_below, kept_from, vacated};
+ghost use Rattle.std.specs.Prelude.{◌≡◌, Some};
+ghost use Rattle.live_roll.specs.Places.{is_below, IsHungUp, IsHungUpIf, IsClosed, AreHungUp, AreHungBelow};
 
 use link_ports::HangEnd;
 
@@ -11,36 +11,54 @@ pub struct Entry<H> {
     pub entered: u64,
 }
 
-/// Hangs up what stands in a place, if anything does, and drops it.
-pub fn hang_up<H: HangEnd>(place: Option<Entry<H>>) {
-    if let Some(mut entry) = place {
+/// Hangs up what stands in a place, if anything does. It stays there.
+pub fn hang_up<H: HangEnd>(place: &mut Option<Entry<H>>)
+    ensures { IsHungUp H.used place.old place.new }
+{
+    if let Some(entry) = place {
         entry.end.hang_up();
     }
 }
 
-/// Hangs up and drops each end that entered below the commit.
+/// Puts an end into a place. What stood there is hung up first, and dropped.
+pub fn enter<H: HangEnd>(place: &mut Option<Entry<H>>, entry: Entry<H>)
+    ensures { place.new ≡ Some entry }
+{
+    hang_up(place);
+    put(place, entry);
+}
+
+// Puts an end into a place, where nothing stands that is not hung up.
+fn put<H: HangEnd>(place: &mut Option<Entry<H>>, entry: Entry<H>)
+    requires { IsClosed H.used place.old }
+    ensures { place.new ≡ Some entry }
+{
+    *place = Some(entry);
+}
+
+/// Hangs up each end that entered below the commit.
 pub fn hang_below<H: HangEnd>(places: &mut [Option<Entry<H>>], low: u64)
-    ensures { places.new ≡ map (kept_from low) places.old }
+    ensures { AreHungBelow H.used low places.old places.new }
 {
     for place in places.iter_mut() {
-        keep_from(place, low);
+        hang_if_below(place, low);
     }
 }
 
-/// Hangs up and drops all ends.
+/// Hangs up all ends.
 pub fn hang_each<H: HangEnd>(places: &mut [Option<Entry<H>>])
-    ensures { places.new ≡ map vacated places.old }
+    ensures { AreHungUp H.used places.old places.new }
 {
     for place in places.iter_mut() {
-        vacate(place);
+        hang_up(place);
     }
 }
 
-fn keep_from<H: HangEnd>(place: &mut Option<Entry<H>>, low: u64)
-    ensures { place.new ≡ kept_from low place.old }
+fn hang_if_below<H: HangEnd>(place: &mut Option<Entry<H>>, low: u64)
+    ensures { IsHungUpIf H.used (is_below low place.old) place.old place.new }
 {
     if is_below(place, low) {
-        hang_up(place.take());
+        hang_up(place);
     }
 }
 
@@ -51,10 +69,4 @@ fn is_below<H: HangEnd>(place: &Option<Entry<H>>, low: u64) -> bool
         Some(entry) => entry.entered < low,
         None => false,
     }
-}
-
-fn vacate<H: HangEnd>(place: &mut Option<Entry<H>>)
-    ensures { place.new ≡ vacated place.old }
-{
-    hang_up(place.take());
 }

@@ -1,12 +1,11 @@
 ghost use Rattle.std.specs.Prelude.{◌≡◌, ◌<◌, length, false, MatchResult, IfOk, IfErr, OnOk, OnErr};
 ghost use Rattle.std.specs.Bool.{IsTrue};
 ghost use Rattle.live_roll.specs.Places.{IsVacant};
-ghost use Rattle.live_roll.specs.Roll.{IsNew, left_of, with_entry, without_entry, hung_to, stopped};
+ghost use Rattle.live_roll.specs.Roll.{IsNew, left_of, with_entry, LeavesPlace, HangsTo, StopsAll};
 
 use crate::answers::{Left, Stopped};
-use crate::entries::{Entry, hang_below, hang_each, hang_up};
+use crate::entries::{Entry, enter, hang_below, hang_each, hang_up};
 use crate::seated::Seated;
-use core::mem::replace;
 use link_ports::HangEnd;
 use std::alloc::{AllocError, Global};
 use std::marker::Model;
@@ -15,27 +14,28 @@ use std::marker::Model;
 pub const MOST_SEATS: u32 = 64;
 
 /// The connections that a commit has to hang up, a place for each seat, and the note: the commit at which a connection
-/// enters now. Each end in it entered at the note, and a stopped roll has none.
+/// enters now. An end that was hung up stays in its place until the next connection comes there. Each end that was not
+/// entered at the note, and in a stopped roll all were.
 #[derive(Drop)]
-pub struct Roll<H> {
+pub struct Roll<H: HangEnd> {
     note: u64,
     is_stopped: bool,
     places: Vec<Option<Entry<H>>>,
 }
 
-impl<H> Model for Roll<H> {
+impl<H: HangEnd> Model for Roll<H> {
     ghost use Rattle.live_roll.specs.Roll.{RollState, IsRoll};
 
     ghost Value = { RollState H };
 
     ghost view = { λ roll. record { note = roll.note; is_stopped = roll.is_stopped; places = roll.places.items } };
 
-    ghost invariant = { λ roll. IsRoll (record { note = roll.note; is_stopped = roll.is_stopped; places = roll.places.items }) };
+    ghost invariant = { λ roll. IsRoll H.used (record { note = roll.note; is_stopped = roll.is_stopped; places = roll.places.items }) };
 }
 
 impl<H: HangEnd> Roll<H> {
     /// A roll with no connection, whose note is this commit.
-    #[tactic(auto, using(crate::proofs::Keeping::entered_vacant))]
+    #[tactic(auto, using(crate::proofs::Keeping::current_vacant))]
     pub fn new(alloc: Global, note: u64) -> Result<Roll<H>, AllocError>
         ensures { IfOk result (IsNew note) }
     {
@@ -48,8 +48,8 @@ impl<H: HangEnd> Roll<H> {
     }
 
     /// A connection enters at the roll's note, which is told to the seat and answered. Its end stands in the seat's
-    /// place, and an end that stood there is hung up and dropped. Refuses exactly where the roll is stopped; the end
-    /// then comes back.
+    /// place; one that stood there is hung up first, and dropped. Refuses exactly where the roll is stopped; the end then
+    /// comes back.
     #[tactic(auto, using(crate::proofs::Keeping::all_set))]
     pub fn enter<S: Seated>(&mut self, end: H, seat: &mut S) -> Result<u64, (H, Stopped)>
         ensures open { OnOk result (self.old.is_stopped ≡ false) }
@@ -68,21 +68,20 @@ impl<H: HangEnd> Roll<H> {
         }
         let at = seat.place() as usize;
         let entry = Entry { end, entered: note };
-        hang_up(replace(&mut self.places[at], Some(entry)));
+        enter(&mut self.places[at], entry);
         seat.tell(note);
         Ok(note)
     }
 
-    /// A connection leaves that entered at this commit in the place of this seat: what stands there is hung up and
-    /// dropped. `Hung` exactly where the note has risen above the commit, else `Stopped` exactly where the roll is
+    /// A connection leaves that entered at this commit in the place of this seat: what stands there is hung up. `Hung` exactly where the note has risen above the commit, else `Stopped` exactly where the roll is
     /// stopped, else `Still`.
     #[tactic(auto, using(crate::proofs::Keeping::all_set))]
     pub fn leave(&mut self, seat: u32, entered: u64) -> Left
         requires { seat < 64 }
         ensures answer { result ≡ left_of entered self.old }
-        ensures left { self.new ≡ without_entry seat self.old }
+        ensures left { LeavesPlace H.used seat self.old self.new }
     {
-        hang_up(self.places[seat as usize].take());
+        hang_up(&mut self.places[seat as usize]);
         let now = self.note;
         if entered < now {
             return Left::Hung { now };
@@ -93,18 +92,18 @@ impl<H: HangEnd> Roll<H> {
         Left::Still
     }
 
-    /// Raises the note to this commit, where that is higher. Hangs up and drops every end that entered below the note.
+    /// Raises the note to this commit, where that is higher. Hangs up every end that entered below the note.
     pub fn hang_all(&mut self, note: u64)
-        ensures { self.new ≡ hung_to note self.old }
+        ensures { HangsTo H.used note self.old self.new }
     {
         let now = self.note.max(note);
         hang_below(self.places.as_mut_slice(), now);
         self.note = now;
     }
 
-    /// From now on no connection enters. Hangs up and drops all ends.
+    /// From now on no connection enters. Hangs up all ends.
     pub fn stop(&mut self)
-        ensures { self.new ≡ stopped self.old }
+        ensures { StopsAll H.used self.old self.new }
     {
         hang_each(self.places.as_mut_slice());
         self.is_stopped = true;
