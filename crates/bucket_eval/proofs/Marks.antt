@@ -191,10 +191,6 @@ eight f a b c d e g h i ea eb ec ed ee eg eh ei (suc (suc (suc (suc (suc (suc (s
 
 module _ (names : List (List ℕ)) (policies : List Policy) (places : ℕ → Option ℕ) (table : IsTable names policies places)
     (question : Question) (shape : ℕ) where
-  pub placed-within : (mark place : ℕ) → places mark ≡ Some place → place < length policies
-  placed-within mark place is =
-      let has = table.sound mark place is in slice_get_within policies place has.policy has.there
-
   pub placed-stands : (mark place : ℕ) → IsStrictlySortedBy policy_cmp policies
       → mark_of names (sought question shape) ≡ Some mark → places mark ≡ Some place
       → StandsAt (λ policy. key_cmp policy.key (sought question shape)) policies place

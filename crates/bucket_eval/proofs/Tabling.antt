@@ -4,7 +4,7 @@ use Rattle.std.proofs.Common.{nat_lt, slice_get, option_and_then, Option, None, 
 use Rattle.std.specs.List.{position, position_or_len}
 use Rattle.std.specs.Option.{option_map}
 use Rattle.std.proofs.Math.ListN.{set}
-use Rattle.std.proofs.lemmas.Bool.{cases_eq, cases_lt, lt-ltb, le-ltb, eqb-true, eq-eqb, ne_eqb}
+use Rattle.std.proofs.lemmas.Bool.{cases_eq, cases_lt, lt-ltb, le-ltb, eqb-true, eq-eqb, false≢true, ne_eqb}
 use Rattle.std.proofs.lemmas.List.{length-map}
 use Rattle.std.proofs.lemmas.Option.{same_Some, slice_get-map, slice_get_within}
 use Rattle.cynara_keys.specs.PolicyResult.{Ruling}
@@ -15,10 +15,11 @@ use Rattle.bucket_store.specs.Database.{Database, Heading, database_of, heading_
 use Rattle.bucket_store.specs.WellFormed.{IsKept}
 use Rattle.bucket_eval.specs.Evaluation.{policies_of}
 use Rattle.bucket_eval.specs.declared.sheets.Filed.{Filed}
+use Rattle.bucket_eval.specs.declared.sheets.Marked.{Marked}
 use Rattle.bucket_eval.specs.declared.sheets.Sheet.{Sheet}
 use Rattle.bucket_eval.specs.parts.Numbers.{HasMark, IsMarked, IsTable, IsTableTo, KeepsNumbers, if_small, mark_of, number_of}
 use Rattle.bucket_eval.specs.parts.Shapes.{shape_of}
-use Rattle.bucket_eval.specs.parts.Sheets.{AreFiled, AreNext, AreSheets, AreSheetsOf, EachIsSheet, IsFiled, IsGap, IsNextOf, IsShaped, IsShapedTo, IsSheetOf, PointsTo, TargetIs, TargetsAt, filed_in, places_by}
+use Rattle.bucket_eval.specs.parts.Sheets.{AreFiled, AreNext, AreSheets, AreSheetsOf, EachIsSheet, IsFiled, IsGap, IsNextOf, IsShaped, IsShapedTo, IsSheetOf, PointsTo, TargetIs, TargetsAt, filed_in, first_or, is_behind, places_by}
 use Rattle.bucket_eval.proofs.Buckets.{policies_of-at}
 use Rattle.bucket_eval.proofs.Known.{get-set-other}
 use Rattle.bucket_eval.proofs.Marks.{mark-kept}
@@ -318,6 +319,47 @@ module _ (old new : ℕ → Option Filed) (mark : ℕ) (one : Filed)
       → IsFiled buckets policies one → AreFiled buckets policies new
   filed-put buckets policies are is =
       λ other own found. put-filed buckets policies are is other own (other == mark) (sym (puts other) ∙ found)
+
+-- one more while there is no first, or in the place of the first
+pub first-put : (old : Option Marked) (found : Option Filed) (mark : ℕ) (filed : Filed) (other : ℕ)
+    → is_behind old mark ≡ false
+    → first_or (Some (record { mark = mark; filed = filed })) found other
+    ≡ cond (other == mark) (Some filed) (first_or old found other)
+first-put None found mark filed other apart = refl
+first-put (Some first) found mark filed other apart = by-mark (other == mark) refl
+  where
+    same : (b : Bool) → (mark == first.mark) ≡ b → not b ≡ false → mark ≡ first.mark
+    same true is h = eqb-true mark first.mark is
+    same false is h = cc
+
+    by-mark : (b : Bool) → (other == mark) ≡ b
+        → cond b (Some filed) found ≡ cond b (Some filed) (cond (other == first.mark) (Some first.filed) found)
+    by-mark true is = refl
+    by-mark false is =
+        let none : (other == first.mark) ≡ false =
+        ap (λ m. other == m) (sym (same (mark == first.mark) refl apart)) ∙ is in
+        ap (λ b. cond b (Some first.filed) found) (sym none)
+
+-- one more behind the first
+pub behind-put : (first : Option Marked) (found : Option Filed) (mark : ℕ) (filed : Filed) (other : ℕ)
+    → is_behind first mark ≡ true
+    → first_or first (cond (other == mark) (Some filed) found) other
+    ≡ cond (other == mark) (Some filed) (first_or first found other)
+behind-put None found mark filed other apart = cc
+behind-put (Some first) found mark filed other apart = by-first (other == first.mark) refl
+  where
+    differs : (b : Bool) → (mark == first.mark) ≡ b → not b ≡ true → mark ≡ first.mark → ⊥
+    differs true is h same = cc
+    differs false is h same = false≢true (sym is ∙ eq-eqb mark first.mark same)
+
+    by-first : (b : Bool) → (other == first.mark) ≡ b
+        → cond b (Some first.filed) (cond (other == mark) (Some filed) found)
+        ≡ cond (other == mark) (Some filed) (cond b (Some first.filed) found)
+    by-first true is =
+        let none : (other == mark) ≡ false =
+        ne_eqb other mark (λ same. differs (mark == first.mark) refl apart (sym same ∙ eqb-true other first.mark is)) in
+        ap (λ b. cond b (Some filed) (Some first.filed)) (sym none)
+    by-first false is = refl
 
 pub table-none : (names : List (List ℕ)) (policies : List Policy) (filed : ℕ → Option Filed)
     → ((mark : ℕ) → filed mark ≡ None) → IsTableTo names policies (places_by filed) 0

@@ -141,22 +141,10 @@ best-of buckets policies (Some made) (Some weighed) is = record { made = made; i
 
 module _ (buckets : List Bucket) (policies : List Policy) (key : Key) (outcome : Outcome) (known : Known)
     (is : IsKnown buckets outcome known) where
-  counted-none : known.kind ≡ 1 → counted key (Some outcome) ≡ None
-  counted-none kind =
-      ap (λ b. cond b None (let c : Contribution = record { outcome = outcome; key = key } in Some c))
-      (eq-eqb outcome.result.kind none (sym is.kind ∙ kind))
-
   counted-some : (known.kind ≡ 1 → ⊥) → counted key (Some outcome) ≡ Some (record { outcome = outcome; key = key })
   counted-some kind =
       ap (λ b. cond b None (let c : Contribution = record { outcome = outcome; key = key } in Some c))
       (ne_eqb outcome.result.kind none (λ e. kind (is.kind ∙ e)))
-
-  pub lesser-none : (least : Option Contribution) (best : Option Weighed) → known.kind ≡ 1
-      → IsLeast buckets policies least best
-      → IsLeast buckets policies (combined contribution_cmp (counted key (Some outcome)) least) best
-  lesser-none least best kind least_is =
-      subst (λ made. IsLeast buckets policies (combined contribution_cmp made least) best) (sym (counted-none kind))
-      least_is
 
   module _ (place : ℕ) (policy : Policy) (there : slice_get policies place ≡ Some policy) (own : policy.key ≡ key)
       (kind : known.kind ≡ 1 → ⊥) where

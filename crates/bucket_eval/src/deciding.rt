@@ -7,7 +7,7 @@ ghost use Rattle.bucket_store.specs.Bucket.{Bucket as Content};
 ghost use Rattle.bucket_store.specs.WellFormed.{IsKept};
 ghost use Rattle.bucket_eval.specs.Evaluation.{Outcome};
 ghost use Rattle.bucket_eval.specs.parts.Buckets.{outcome_at};
-ghost use Rattle.bucket_eval.specs.parts.Deciding.{AnswersAt, EndsAt, FiledAt, FitsIn, FollowsAt, IsBestAt, IsLeastAt, IsLeastBelow, IsLesserAt, IsOrderAt, IsReady, IsRight, IsWeighedAt, answer_of, is_answered, outcome_known};
+ghost use Rattle.bucket_eval.specs.parts.Deciding.{AnswersAt, EndsAt, FiledAt, FitsIn, FollowsAt, IsBestAt, IsLeastAt, IsLeastBelow, IsLesserAt, IsOrderAt, IsReady, IsRight, IsWeighedAt, answer_of, is_answered, is_bare, outcome_known};
 ghost use Rattle.bucket_eval.specs.parts.Slots.{spot_of};
 
 use crate::answers::Found;
@@ -327,7 +327,50 @@ fn is_after(asking: &Asking<'_>, at: usize, offer: &Weighed, other: &Weighed) ->
     if offer.known.kind > other.known.kind {
         return true;
     }
+    if is_bare(offer.known.kind) {
+        return is_after_by_places(asking, at, offer, other);
+    }
     is_after_by_texts(asking, at, offer, other)
+}
+
+// Whether results of this kind have no metadata: DENY and ALLOW.
+#[inline(always)]
+fn is_bare(kind: u16) -> bool
+    ensures { result ≡ is_bare kind }
+{
+    kind == 0 || kind == 65535
+}
+
+// The same where the kinds are alike and no result has metadata. Policies stand in the order of their keys.
+#[inline(always)]
+fn is_after_by_places(asking: &Asking<'_>, at: usize, offer: &Weighed, other: &Weighed) -> bool
+    requires kept { IsKept asking.now.buckets.now }
+    requires there { at < length asking.now.buckets.now }
+    requires offer { IsWeighedAt asking.now at offer.now }
+    requires other { IsWeighedAt asking.now at other.now }
+    requires alike { offer.now.known.kind ≡ other.now.known.kind }
+    requires bare { is_bare offer.now.known.kind ≡ true }
+    ensures { IsOrderAt asking.now at offer.now other.now result }
+{
+    let result = result_at(asking, at, offer);
+    let other_result = result_at(asking, at, other);
+    comes_after_bare(result, other_result, offer.place, other.place)
+}
+
+#[inline(always)]
+fn comes_after_bare(
+    outcome: &PolicyResult,
+    other: &PolicyResult,
+    place: u32,
+    other_place: u32,
+) -> bool
+    requires alike { outcome.now.kind ≡ other.now.kind }
+    requires bare { is_bare outcome.now.kind ≡ true }
+    ensures { result ≡ is_gt (ordering_then (result_cmp outcome.now other.now) (nat_cmp place other_place)) }
+{
+    let _ = outcome.metadata();
+    let _ = other.metadata();
+    place.cmp(&other_place).is_gt()
 }
 
 // The same where the kinds are alike. Policies stand in the order of their keys.

@@ -1,8 +1,8 @@
 // The numbers of names, and the marks of keys: the numbers of a key's three texts as one number.
 ghost use Rattle.std.specs.Prelude.{◌≡◌, ◌<◌, ℕ, length, slice_get, IfOk, IfSome, Some};
 ghost use Rattle.cynara_keys.specs.Field.{wildcard};
-ghost use Rattle.bucket_eval.specs.parts.Numbers.{KeepsNumbers, join, mark_of, number_of};
-ghost use Rattle.bucket_eval.specs.parts.Marks.{AreNumbers, AreSmall, sought_mark};
+ghost use Rattle.bucket_eval.specs.parts.Numbers.{KeepsNumbers, join, joined, mark_of, number_of};
+ghost use Rattle.bucket_eval.specs.parts.Marks.{AreNumbers, AreSmall, all_of, sought_mark};
 
 use crate::names::Names;
 use cynara_keys::{BorrowedQuestion, Key};
@@ -50,7 +50,7 @@ fn join(client: Option<u64>, user: Option<u64>, privilege: Option<u64>) -> Optio
     let Some(privilege) = privilege else {
         return None;
     };
-    Some(client * 68_719_476_736 + (user * 262_144 + privilege))
+    Some(joined(client, user, privilege))
 }
 
 /// The mark of a key, whose texts are given numbers, where these have 18 bits.
@@ -93,6 +93,60 @@ fn sought_mark(numbers: &Numbers, shape: usize) -> Option<u64>
 /// For each shape the mark of the key that matches the question.
 #[inline(always)]
 pub fn marks_of(numbers: &Numbers) -> [Option<u64>; 8]
+    requires { AreSmall numbers.now }
+    ensures count { length result ≡ 8 }
+    ensures each { (shape : ℕ) → shape < 8 → slice_get result shape ≡ Some (sought_mark numbers.now shape) }
+{
+    let Some(wildcard) = numbers.wildcard else {
+        return marks_of_some(numbers);
+    };
+    let Some(client) = numbers.client else {
+        return marks_of_some(numbers);
+    };
+    let Some(user) = numbers.user else {
+        return marks_of_some(numbers);
+    };
+    let Some(privilege) = numbers.privilege else {
+        return marks_of_some(numbers);
+    };
+    marks_of_all(wildcard, client, user, privilege)
+}
+
+// The same where each text has a number.
+#[inline(always)]
+fn marks_of_all(wildcard: u64, client: u64, user: u64, privilege: u64) -> [Option<u64>; 8]
+    requires wildcard { wildcard < 262144 }
+    requires client { client < 262144 }
+    requires user { user < 262144 }
+    requires privilege { privilege < 262144 }
+    ensures count { length result ≡ 8 }
+    ensures each { (shape : ℕ) → shape < 8
+        → slice_get result shape ≡ Some (sought_mark (all_of wildcard client user privilege) shape) }
+{
+    [
+        Some(joined(client, user, privilege)),
+        Some(joined(client, user, wildcard)),
+        Some(joined(client, wildcard, privilege)),
+        Some(joined(client, wildcard, wildcard)),
+        Some(joined(wildcard, user, privilege)),
+        Some(joined(wildcard, user, wildcard)),
+        Some(joined(wildcard, wildcard, privilege)),
+        Some(joined(wildcard, wildcard, wildcard)),
+    ]
+}
+
+#[inline(always)]
+fn joined(client: u64, user: u64, privilege: u64) -> u64
+    requires client { client < 262144 }
+    requires user { user < 262144 }
+    requires privilege { privilege < 262144 }
+    ensures { result ≡ joined client user privilege }
+{
+    client * 68_719_476_736 + (user * 262_144 + privilege)
+}
+
+// The same where some text may have none.
+fn marks_of_some(numbers: &Numbers) -> [Option<u64>; 8]
     requires { AreSmall numbers.now }
     ensures count { length result ≡ 8 }
     ensures each { (shape : ℕ) → shape < 8 → slice_get result shape ≡ Some (sought_mark numbers.now shape) }

@@ -4,7 +4,9 @@ ghost use Rattle.std.specs.Prelude.{◌≡◌, ◌==◌, ◌<◌, ◌≤◌, ◌
 ghost use Rattle.std.proofs.Math.ListN.{set};
 ghost use Rattle.bucket_store.specs.WellFormed.{IsKept};
 ghost use Rattle.bucket_eval.specs.parts.Numbers.{KeepsNumbers};
-ghost use Rattle.bucket_eval.specs.parts.Sheets.{AreNext, IsFiled, IsNextOf, IsSheetOf, TargetIs, drafted_in, filed_in};
+ghost use Rattle.std.specs.Prelude.{nat_eq};
+ghost use Rattle.std.specs.HashMap.{get};
+ghost use Rattle.bucket_eval.specs.parts.Sheets.{AreNext, is_behind, IsFiled, IsNextOf, IsSheetOf, TargetIs, drafted_in, filed_in};
 ghost use Rattle.bucket_eval.specs.parts.Slots.{none_or};
 
 use crate::names::Names;
@@ -27,18 +29,27 @@ pub struct Filed {
     pub shape: u16,
 }
 
-/// A bucket: its policies by the marks of their keys, and the kind of its fallback. `next` has for each shape, and behind
-/// the last, the first from there on that a policy has, or the number of shapes.
+/// A policy, with the mark of its key.
+#[derive(Clone, Copy)]
+pub struct Marked {
+    pub mark: u64,
+    pub filed: Filed,
+}
+
+/// A bucket: its policies by the marks of their keys, the first of them apart, and the kind of its fallback. `next` has
+/// for each shape, and behind the last, the first from there on that a policy has, or the number of shapes.
 #[derive(Drop)]
 pub struct Sheet {
+    pub first: Option<Marked>,
     pub filed: HashMap<u64, Filed>,
     pub next: [usize; 9],
     pub fallback: u16,
 }
 
-// What is known of a bucket's first policies: these by mark, and which shapes they have.
+// What is known of a bucket's first policies: these by mark, the first of them apart, and which shapes they have.
 #[derive(Drop)]
 pub struct Draft {
+    pub first: Option<Marked>,
     pub filed: HashMap<u64, Filed>,
     pub shapes: [bool; 8],
 }
@@ -98,6 +109,7 @@ impl Draft {
         ensures { IfOk result (λ draft. (mark : ℕ) → drafted_in draft mark ≡ None) }
     {
         Ok(Draft {
+            first: None,
             filed: HashMap::with_capacity(alloc, count)?,
             shapes: [false; 8],
         })
@@ -111,10 +123,34 @@ impl Draft {
             → drafted_in self.new other ≡ (if other == mark then Some filed else drafted_in self.old other)) }
     {
         self.shapes[shape] = true;
+        if is_behind(self.first, mark) {
+            return self.put_behind(mark, filed);
+        }
+        self.first = Some(Marked { mark, filed });
+        Ok(())
+    }
+
+    // Files a policy behind the first under a mark.
+    fn put_behind(&mut self, mark: u64, filed: Filed) -> Result<(), AllocError>
+        ensures shapes { self.new.shapes ≡ self.old.shapes }
+        ensures first { self.new.first ≡ self.old.first }
+        ensures filed { IfOk result (λ done. (other : ℕ)
+            → get nat_eq self.new.filed other ≡ (if other == mark then Some filed else get nat_eq self.old.filed other)) }
+    {
         match self.filed.insert(mark, filed) {
             Ok(_) => Ok(()),
             Err(_) => Err(AllocError),
         }
+    }
+}
+
+// Whether there is a first policy, of another mark.
+fn is_behind(first: Option<Marked>, mark: u64) -> bool
+    ensures { result ≡ is_behind first mark }
+{
+    match first {
+        Some(first) => mark != first.mark,
+        None => false,
     }
 }
 
@@ -143,6 +179,7 @@ impl Sheet {
             draft.put(mark, filed, shape_of(&policy.key))?;
         }
         Ok(Some(Sheet {
+            first: draft.first,
             filed: draft.filed,
             next: next_of(&draft.shapes),
             fallback: bucket.fallback().kind().0,
@@ -154,6 +191,11 @@ impl Sheet {
     pub fn filed(&self, mark: u64) -> Option<Filed>
         ensures { result ≡ filed_in self.now mark }
     {
+        if let Some(first) = self.first {
+            if mark == first.mark {
+                return Some(first.filed);
+            }
+        }
         self.filed.get(&mark).copied()
     }
 

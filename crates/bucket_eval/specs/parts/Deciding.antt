@@ -1,9 +1,10 @@
 -- What is known of the buckets' answers while a question is answered by sheets.
-use Rattle.std.specs.Prelude.{◌≡◌, ◌<◌, ◌≤◌, ℕ, Bool, true, List, length, Option, None, Some, is_some, slice_get, if◌then◌else◌}
+use Rattle.std.specs.Prelude.{◌≡◌, ◌<◌, ◌≤◌, ℕ, Bool, true, ◌==◌, ◌||◌, List, length, Option, None, Some, is_some, slice_get, if◌then◌else◌}
 use Rattle.std.specs.Prelude.{option_and_then}
 use Rattle.std.specs.Ordering.{is_gt}
 use Rattle.std.specs.List.{filter_map}
 use Rattle.cynara_keys.specs.Minimum.{first_least}
+use Rattle.cynara_keys.specs.PolicyResult.{allow, deny}
 use Rattle.cynara_keys.specs.declared.keys.Policy.{Policy}
 use Rattle.bucket_store.specs.Bucket.{Bucket}
 use Rattle.bucket_store.specs.Database.{database_of}
@@ -151,6 +152,10 @@ IsBestOf buckets policies (Some weighed) = IsSomeWeighed buckets policies weighe
 abbrev pub IsBestAt : Asking → ℕ → Option Weighed → Type 0
 IsBestAt asking at best =
     (bucket : Bucket) → slice_get asking.buckets.now at ≡ Some bucket → IsBestOf asking.buckets.now bucket.policies best
+
+-- results of these kinds have no metadata
+abbrev pub is_bare : ℕ → Bool
+is_bare kind = kind == deny || kind == allow
 
 -- whether the one contribution comes after the other
 abbrev pub IsOrderAt : Asking → ℕ → Weighed → Weighed → Bool → Type 0

@@ -25,6 +25,11 @@ pub record AreSmall (numbers : Numbers) : Type 0 where
   pub user : IfSome numbers.user (λ number. number < 262144)
   pub privilege : IfSome numbers.privilege (λ number. number < 262144)
 
+-- each text has one of these numbers
+abbrev pub all_of : ℕ → ℕ → ℕ → ℕ → Numbers
+all_of star client user privilege =
+    record { wildcard = Some star; client = Some client; user = Some user; privilege = Some privilege }
+
 -- the mark of the key of the shape that matches the question
 abbrev pub sought_mark : Numbers → ℕ → Option ℕ
 sought_mark numbers shape =

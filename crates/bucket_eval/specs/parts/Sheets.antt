@@ -1,5 +1,5 @@
 -- What a sheet says of the policies of a bucket.
-use Rattle.std.specs.Prelude.{◌≡◌, ◌<◌, ◌≤◌, ◌==◌, ℕ, nat_eq, Bool, true, false, if◌then◌else◌, List, length, Option, None, Some, slice_get}
+use Rattle.std.specs.Prelude.{◌≡◌, ◌<◌, ◌≤◌, ◌==◌, ℕ, nat_eq, Bool, true, false, not, if◌then◌else◌, List, length, Option, None, Some, slice_get}
 use Rattle.std.specs.HashMap.{get}
 use Rattle.std.specs.Option.{option_map}
 use Rattle.cynara_keys.specs.declared.keys.Policy.{Policy}
@@ -9,6 +9,7 @@ use Rattle.bucket_store.specs.Walk.{points, target}
 use Rattle.bucket_store.specs.WellFormed.{IsKept}
 use Rattle.bucket_eval.specs.declared.sheets.Draft.{Draft}
 use Rattle.bucket_eval.specs.declared.sheets.Filed.{Filed}
+use Rattle.bucket_eval.specs.declared.sheets.Marked.{Marked}
 use Rattle.bucket_eval.specs.declared.sheets.Sheet.{Sheet}
 use Rattle.bucket_eval.specs.parts.Numbers.{IsTable, IsTableTo}
 use Rattle.bucket_eval.specs.parts.Shapes.{shape_of}
@@ -42,11 +43,21 @@ pub record IsFiled (buckets : List Bucket) (policies : List Policy) (filed : Fil
 
 -- ---- all policies of a bucket
 
+-- the first policy where the mark is its own, and else what is found
+abbrev pub first_or : Option Marked → Option Filed → ℕ → Option Filed
+first_or None found mark = found
+first_or (Some first) found mark = if mark == first.mark then Some first.filed else found
+
+-- there is a first policy, of another mark
+abbrev pub is_behind : Option Marked → ℕ → Bool
+is_behind None mark = false
+is_behind (Some first) mark = not (mark == first.mark)
+
 abbrev pub filed_in : Sheet → ℕ → Option Filed
-filed_in sheet mark = get nat_eq sheet.filed mark
+filed_in sheet mark = first_or sheet.first (get nat_eq sheet.filed mark) mark
 
 abbrev pub drafted_in : Draft → ℕ → Option Filed
-drafted_in draft mark = get nat_eq draft.filed mark
+drafted_in draft mark = first_or draft.first (get nat_eq draft.filed mark) mark
 
 -- the places of what is filed
 abbrev pub places_by : (ℕ → Option Filed) → ℕ → Option ℕ
