@@ -88,6 +88,10 @@ impl Link for CutLink {
         self.link.is_up()
     }
 
+    fn has_come(&mut self) -> bool {
+        self.link.has_come()
+    }
+
     fn hang_end(&mut self) -> Result<MemEnd, PortFault> {
         self.link.hang_end()
     }

@@ -42,6 +42,10 @@ impl<'a, W: Wait + Clock + Copy + Drop, L: Link> Link for HeardLink<'a, W, L> {
         self.link.is_up()
     }
 
+    fn has_come(&mut self) -> bool {
+        self.link.has_come()
+    }
+
     fn hang_end(&mut self) -> Result<L::End, PortFault> {
         self.link.hang_end()
     }

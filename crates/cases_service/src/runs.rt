@@ -81,7 +81,7 @@ fn parts_of(steps: &str) -> (&str, &str, &str) {
 }
 
 // A run of the service, by 1 to 64 workers of clients.
-fn service<R: Threads + Wait + Sync, D: Disk, N: Net, G: Gate + Sync>(
+fn service<R: Threads + Wait + Sync + Clock, D: Disk, N: Net, G: Gate + Sync>(
     rt: &R,
     alloc: Global,
     workers: u32,
@@ -101,7 +101,7 @@ where
 }
 
 // Those who talk with the service. It is they who stop it, and who call the agent.
-fn talk<R: Wait + Copy + Drop, W: Wait + Clock + Copy + Drop>(
+fn talk<R: Wait + Clock + Copy + Drop, W: Wait + Clock + Copy + Drop>(
     alloc: Global,
     gate: &HoldingGate<W>,
     net: &mut JoinedNet<R>,

@@ -20,6 +20,7 @@ use std::alloc::{AllocError, Global};
 use std::io;
 use std::sync::Wait;
 use std::thread::Threads;
+use std::time::Clock;
 
 // What stands in place of an answer where there is none.
 fn text_of(alloc: Global, answer: Result<String, Failure>) -> Result<String, AllocError> {
@@ -30,7 +31,7 @@ fn text_of(alloc: Global, answer: Result<String, Failure>) -> Result<String, All
     }
 }
 
-fn answered<R: Threads + Wait + Sync>(
+fn answered<R: Threads + Wait + Sync + Clock>(
     rt: &R,
     alloc: Global,
     line: &str,

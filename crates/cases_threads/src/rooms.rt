@@ -11,9 +11,10 @@ use server_hall::QuestionDesk;
 use std::alloc::Global;
 use std::sync::{Mutex, Wait};
 use std::thread::Threads;
+use std::time::Clock;
 
 /// What the steps read, and how the connections ended.
-pub fn conversation<R: Threads + Wait + Sync>(
+pub fn conversation<R: Threads + Wait + Sync + Clock>(
     rt: &R,
     alloc: Global,
     line: &str,
@@ -29,7 +30,7 @@ pub fn conversation<R: Threads + Wait + Sync>(
     }
 }
 
-fn with_keeper<D: Disk, R: Threads + Wait + Sync>(
+fn with_keeper<D: Disk, R: Threads + Wait + Sync + Clock>(
     rt: &R,
     alloc: Global,
     keeper: &mut Keeper<'_, D>,
@@ -41,7 +42,7 @@ fn with_keeper<D: Disk, R: Threads + Wait + Sync>(
     told
 }
 
-fn with_seats<'a, D: Disk, R: Threads + Wait + Sync>(
+fn with_seats<'a, D: Disk, R: Threads + Wait + Sync + Clock>(
     rt: &'a R,
     alloc: Global,
     keeper: &mut Keeper<'_, D>,
@@ -72,7 +73,7 @@ fn with_seats<'a, D: Disk, R: Threads + Wait + Sync>(
 }
 
 // Dials a link and accepts it: the one end is kept under the name, and the other one is given.
-fn accepted<R: Wait + Copy + Drop>(
+fn accepted<R: Wait + Clock + Copy + Drop>(
     alloc: Global,
     net: &mut JoinedNet<R>,
     kind: DoorKind,

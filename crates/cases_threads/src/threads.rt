@@ -12,11 +12,12 @@ use server_hall::QuestionDesk;
 use std::alloc::{AllocError, Global};
 use std::sync::{Mutex, Wait};
 use std::thread::{Threads, join};
+use std::time::Clock;
 
 /// What serves a client.
 pub trait Place {
     /// Serves the connection. How it ended.
-    fn serve<R: Wait, L: Link + Drop>(
+    fn serve<R: Wait + Clock, L: Link + Drop>(
         self,
         rt: &R,
         alloc: Global,
@@ -27,7 +28,7 @@ pub trait Place {
 }
 
 impl Place for Seat {
-    fn serve<R: Wait, L: Link + Drop>(
+    fn serve<R: Wait + Clock, L: Link + Drop>(
         self,
         rt: &R,
         alloc: Global,
@@ -43,7 +44,7 @@ impl Place for Seat {
     }
 }
 
-fn agent<R: Wait, L: Link + Drop>(
+fn agent<R: Wait + Clock, L: Link + Drop>(
     rt: &R,
     alloc: Global,
     roll: &Mutex<Roll<L::End>>,
@@ -57,7 +58,7 @@ fn agent<R: Wait, L: Link + Drop>(
 }
 
 // Serves an administrator. What was published is never newer than what is kept.
-fn administrator<R: Wait, D: Disk, L: Link + Drop>(
+fn administrator<R: Wait + Clock, D: Disk, L: Link + Drop>(
     rt: &R,
     alloc: Global,
     keeper: &mut Keeper<'_, D>,
@@ -75,7 +76,7 @@ fn administrator<R: Wait, D: Disk, L: Link + Drop>(
 }
 
 // Two clients side by side.
-fn clients<S: Place + Send + Drop, L: Link + Send + Drop, R: Threads + Wait + Sync>(
+fn clients<S: Place + Send + Drop, L: Link + Send + Drop, R: Threads + Wait + Sync + Clock>(
     rt: &R,
     alloc: Global,
     first: S,
@@ -99,7 +100,7 @@ where
 }
 
 // The clients and the agent side by side.
-fn served<S: Place + Send + Drop, L: Link + Send + Drop, R: Threads + Wait + Sync>(
+fn served<S: Place + Send + Drop, L: Link + Send + Drop, R: Threads + Wait + Sync + Clock>(
     rt: &R,
     alloc: Global,
     first: S,
@@ -124,7 +125,7 @@ where
 }
 
 // Those who are served, and those who speak with them.
-fn crowd<S: Place + Send + Drop, L: Link + Send + Drop, R: Threads + Wait + Sync>(
+fn crowd<S: Place + Send + Drop, L: Link + Send + Drop, R: Threads + Wait + Sync + Clock>(
     rt: &R,
     alloc: Global,
     first: S,
@@ -153,7 +154,12 @@ where
 
 /// Serves the connections `x` and `y` of clients, `a` of an agent and `m` of an administrator, each on a thread of its own,
 /// while those who speak do the steps. What was read, and how each ended.
-pub fn all<S: Place + Send + Drop, L: Link + Send + Drop, D: Disk, R: Threads + Wait + Sync>(
+pub fn all<
+    S: Place + Send + Drop,
+    L: Link + Send + Drop,
+    D: Disk,
+    R: Threads + Wait + Sync + Clock,
+>(
     rt: &R,
     alloc: Global,
     first: S,

@@ -1,5 +1,5 @@
 -- What two joined ends share.
-use Rattle.std.specs.Prelude.{ℕ, Bool, true, false, List, [], ◌++◌, drop, if◌then◌else◌}
+use Rattle.std.specs.Prelude.{◌⊎◌, ◌<◌, ℕ, Bool, true, false, List, [], ◌++◌, length, drop, if◌then◌else◌, IsTrue}
 use Rattle.joined_net.specs.declared.wires.Side.{Side}
 use Rattle.joined_net.specs.declared.wires.Side.TheVariants.{Dialler, Door}
 
@@ -16,6 +16,10 @@ new_wire = record { to_dialler = []; to_door = []; is_closed = false }
 abbrev pub bytes_to : Side → WireBytes → List ℕ
 bytes_to Dialler wire = wire.to_dialler
 bytes_to Door wire = wire.to_door
+
+-- a read of this end waits for nothing: bytes are on their way to it, or the connection was closed
+abbrev pub HasCome : Side → WireBytes → Type 0
+HasCome side wire = (0 < length (bytes_to side wire)) ⊎ IsTrue wire.is_closed
 
 -- after this end wrote these bytes: those written to a closed connection go nowhere
 abbrev pub with_written : Side → List ℕ → WireBytes → WireBytes

@@ -7,16 +7,17 @@ use desk_ports::PortFault;
 use link_ports::{Door, DoorKind};
 use std::alloc::Global;
 use std::sync::{Arc, Wait};
+use std::time::Clock;
 
 /// A door of a joined net. Doors of one kind share the connections that wait. Its `accept` never fails.
 #[derive(Drop)]
-pub struct JoinedDoor<R: Wait + Copy + Drop> {
+pub struct JoinedDoor<R: Wait + Clock + Copy + Drop> {
     rt: R,
     kind: DoorKind,
     doors: Arc<SharedDoors, Global>,
 }
 
-impl<R: Wait + Copy + Drop> JoinedDoor<R> {
+impl<R: Wait + Clock + Copy + Drop> JoinedDoor<R> {
     /// A door of this kind that was opened.
     pub(crate) fn opened(rt: R, kind: DoorKind, doors: Arc<SharedDoors, Global>) -> JoinedDoor<R>
         ensures { result.kind ≡ kind }
@@ -39,7 +40,7 @@ pub(crate) fn queue_of(doors: &SharedDoors, kind: DoorKind) -> &SharedQueue {
     }
 }
 
-impl<R: Wait + Copy + Drop> Door for JoinedDoor<R> {
+impl<R: Wait + Clock + Copy + Drop> Door for JoinedDoor<R> {
     type Link = JoinedLink<R>;
 
     ghost faults = { λ _. 0 };

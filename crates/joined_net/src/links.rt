@@ -6,6 +6,7 @@ use desk_ports::{Failed, PortFault};
 use link_ports::{HangEnd, Link, LinkTally};
 use std::alloc::{AllocError, Global};
 use std::sync::{Arc, Wait};
+use std::time::Clock;
 
 /// Hangs up a joined link, from whatever thread.
 #[derive(Drop)]
@@ -28,14 +29,14 @@ impl<R: Wait + Drop> HangEnd for JoinedEnd<R> {
 
 /// One of two joined ends. It fails only in `send`, where it finds no memory. Bytes sent over a closed connection go
 /// nowhere, and what was written before it was closed may still be read. Letting it go closes the connection.
-pub struct JoinedLink<R: Wait + Copy + Drop> {
+pub struct JoinedLink<R: Wait + Clock + Copy + Drop> {
     rt: R,
     side: Side,
     shared: Option<Arc<SharedWire, Global>>,
     tally: LinkTally,
 }
 
-impl<R: Wait + Copy + Drop> JoinedLink<R> {
+impl<R: Wait + Clock + Copy + Drop> JoinedLink<R> {
     /// This end of the connection.
     pub(crate) fn over(rt: R, side: Side, shared: Arc<SharedWire, Global>) -> JoinedLink<R>
         ensures { result.tally ≡ fresh_tally }
@@ -68,7 +69,7 @@ impl<R: Wait + Copy + Drop> JoinedLink<R> {
     }
 }
 
-impl<R: Wait + Copy + Drop> Drop for JoinedLink<R> {
+impl<R: Wait + Clock + Copy + Drop> Drop for JoinedLink<R> {
     fn drop(self) {
         let JoinedLink {
             rt,
@@ -82,7 +83,7 @@ impl<R: Wait + Copy + Drop> Drop for JoinedLink<R> {
     }
 }
 
-impl<R: Wait + Copy + Drop> Link for JoinedLink<R> {
+impl<R: Wait + Clock + Copy + Drop> Link for JoinedLink<R> {
     type End = JoinedEnd<R>;
 
     ghost faults = { λ link. link.tally.faults };
@@ -122,6 +123,14 @@ impl<R: Wait + Copy + Drop> Link for JoinedLink<R> {
         };
         self.tally.note_looked(is_up);
         is_up
+    }
+
+    fn has_come(&mut self) -> bool {
+        let _faults = self.tally.faults();
+        match &self.shared {
+            Some(shared) => shared.has_come(&self.rt, self.side),
+            None => true,
+        }
     }
 
     fn hang_end(&mut self) -> Result<JoinedEnd<R>, PortFault> {

@@ -9,12 +9,13 @@ use desk_ports::PortFault;
 use link_ports::{Dial, DoorKind, Net};
 use std::alloc::{AllocError, Global};
 use std::sync::{Arc, Wait};
+use std::time::Clock;
 
 /// A net whose links join threads of one process. A dial waits for nobody: its connection stands in line until a door
 /// of that kind accepts it, also where no door is open yet. Once the doors of a kind were all closed, the connections
 /// in line are closed, and a dial gives a link that is already closed, until a door is opened again.
 #[derive(Drop)]
-pub struct JoinedNet<R: Wait + Copy + Drop> {
+pub struct JoinedNet<R: Wait + Clock + Copy + Drop> {
     rt: R,
     alloc: Global,
     doors: Arc<SharedDoors, Global>,
@@ -22,7 +23,7 @@ pub struct JoinedNet<R: Wait + Copy + Drop> {
     faults: u64,
 }
 
-impl<R: Wait + Copy + Drop> JoinedNet<R> {
+impl<R: Wait + Clock + Copy + Drop> JoinedNet<R> {
     /// A net with no door open.
     pub fn new(rt: R, alloc: Global) -> Result<JoinedNet<R>, AllocError>
         ensures counts { IfOk result (λ net. (net.faults ≡ 0) × (net.dials ≡ 0)) }
@@ -80,7 +81,7 @@ impl<R: Wait + Copy + Drop> JoinedNet<R> {
     }
 }
 
-impl<R: Wait + Copy + Drop> Dial for JoinedNet<R> {
+impl<R: Wait + Clock + Copy + Drop> Dial for JoinedNet<R> {
     type Link = JoinedLink<R>;
 
     ghost faults = { λ net. net.faults };
@@ -107,7 +108,7 @@ impl<R: Wait + Copy + Drop> Dial for JoinedNet<R> {
     }
 }
 
-impl<R: Wait + Copy + Drop> Net for JoinedNet<R> {
+impl<R: Wait + Clock + Copy + Drop> Net for JoinedNet<R> {
     type Door = JoinedDoor<R>;
 
     ghost closed = { λ _. None };

@@ -1,10 +1,14 @@
-ghost use Rattle.std.specs.Prelude.{◌≡◌, ◌≤◌, [], ◌++◌, min, length, take, drop, OnOk, OnErr};
-ghost use Rattle.joined_net.specs.Wire.{new_wire, bytes_to, with_written, with_read, with_closed};
+ghost use Rattle.std.specs.Prelude.{◌≡◌, ◌<◌, ◌≤◌, ◌↔◌, [], ◌++◌, min, length, take, drop, IsTrue, OnOk, OnErr};
+ghost use Rattle.joined_net.specs.Wire.{new_wire, bytes_to, HasCome, with_written, with_read, with_closed};
 
 use desk_ports::Bytes;
 use std::alloc::{AllocError, Global};
 use std::marker::Model;
 use std::sync::{Arc, Condvar, Mutex, Wait};
+use std::time::{Clock, Duration};
+
+/// How long an end waits for bytes that looks whether some have come, in milliseconds.
+const LOOK: u64 = 100;
 
 /// Which of its two ends an end of a connection is.
 #[derive(Clone, Copy, Debug, PartialEq, Eq)]
@@ -64,6 +68,13 @@ impl Pipe {
         self.read += count;
         count
     }
+
+    // Whether bytes are on their way.
+    fn has_bytes(&self) -> bool
+        ensures { IsTrue result ↔ (0 < length self.now) }
+    {
+        self.read < self.bytes.len()
+    }
 }
 
 /// What two joined ends share.
@@ -117,6 +128,19 @@ impl Wire {
         match side {
             Side::Dialler => self.to_dialler.read(into),
             Side::Door => self.to_door.read(into),
+        }
+    }
+
+    /// Whether bytes are on their way to this end, or the connection was closed.
+    pub(crate) fn has_come(&self, side: Side) -> bool
+        ensures { IsTrue result ↔ HasCome side self.now }
+    {
+        if self.is_closed {
+            return true;
+        }
+        match side {
+            Side::Dialler => self.to_dialler.has_bytes(),
+            Side::Door => self.to_door.has_bytes(),
         }
     }
 
@@ -181,6 +205,17 @@ impl SharedWire {
             wire = self.news.wait(rt, wire);
         }
         unreachable!()
+    }
+
+    /// Whether there are bytes for this end, or the connection is closed. It waits for that, a tenth of a second at most.
+    pub(crate) fn has_come<R: Wait + Clock>(&self, rt: &R, side: Side) -> bool {
+        let wire = self.wire.lock(rt);
+        let tick = Duration::from_millis(LOOK);
+        let wire = self
+            .news
+            .wait_timeout_while(rt, wire, tick, |lent| !lent.has_come(side))
+            .0;
+        wire.has_come(side)
     }
 
     /// Closes the connection, and wakes who waits for it.

@@ -32,5 +32,8 @@ pub const TICK: u64 = 1_250;
 /// The same for a write, which waits only where a peer doesn't read.
 pub const SENDING_TICK: u64 = 100;
 
+/// How long a link that is asked whether something has come waits for it.
+pub const LOOK: u64 = 100;
+
 /// An `accept` that took less, in microseconds, found its link standing in line.
 pub const AT_ONCE_MICROS: u64 = 500;

@@ -85,6 +85,23 @@ impl<R: HostNet + AllocGlobal + Clock + Copy + Drop> Stay<R> {
         Err(Error::from(ErrorKind::Interrupted))
     }
 
+    /// Whether a `receive` waits for nothing: bytes came, or the connection was closed, or may keep its worker no longer. Then
+    /// it is closed for what the peer may still send, so that the `receive` finds the end behind what was sent before. It waits
+    /// for bytes itself, no longer than a look takes. A wait between two frames begins anew with each look.
+    pub fn has_come(&mut self, stream: &mut UnixStream) -> io::Result<bool> {
+        let start = self.start()?;
+        self.tick_by(stream, limits::LOOK)?;
+        if steps::has_come(stream)? {
+            return Ok(true);
+        }
+        if !self.is_over(start)? {
+            return Ok(false);
+        }
+        // Where the peer closed it before, there is nothing to shut.
+        let _ = steps::shut_input(stream);
+        Ok(true)
+    }
+
     // Whether a wait that is about to begin or to go on, and began then, is to end. Within a frame, since bytes that come one
     // by one are no reason to wait for more of them; and between two, since a peer that asks without a pause holds its worker
     // as one that is silent does.
@@ -166,6 +183,11 @@ impl<R: HostNet + AllocGlobal + Clock + Copy + Drop> Stay<R> {
         if self.commons.is_taken() {
             tick = sooner(tick, self.patience(), waited);
         }
+        self.tick_by(stream, tick)
+    }
+
+    // Has the machine let a read wait for so many milliseconds.
+    fn tick_by(&mut self, stream: &UnixStream, tick: u64) -> io::Result<()> {
         if tick == self.tick {
             return Ok(());
         }
