@@ -31,9 +31,9 @@ class Reader:
     def flag(self):
         return self.number(1, lambda number: number < 2)
 
-    def text(self, holds):
+    def text(self, holds, wide=2):
         start = self.at
-        size = self.number(2)
+        size = self.number(wide)
         if len(self.frame) - self.at < size:
             raise Fault(f"field {start}")
         self.at += size
@@ -143,6 +143,11 @@ def names(read):
     three(read, is_name)
 
 
+def part(read):
+    """Bytes of a file behind their number of four bytes."""
+    read.text(lambda text: len(text) <= 65_536, 4)
+
+
 FILTER = each(text(is_bucket), lambda read: three(read, is_name_or((b"*", b"#"))))
 FIELDS = {
     "client": {0x01: names, 0x02: names},
@@ -162,6 +167,7 @@ FIELDS = {
         0x1C: each(),
         0x1D: install,
         0x1E: each(text(is_ident), flag),
+        0x1F: each(),
     },
     "agent": {0x20: number(2, lambda kind: 2 <= kind <= 65533), 0x21: each(number(4), flag)},
     "replies": {
@@ -177,8 +183,10 @@ FIELDS = {
         0x93: number(4),
         0x95: each(),
         0x96: each(text(is_file_name), number(4)),
+        0x97: each(text(is_file_name), part),
+        0x98: number(8),
     },
-    "agent-replies": {0xA0: number(2), 0xA1: number(2), 0xA2: each(number(4), names, result), 0xA3: number(4)},
+    "agent-replies": {0xA0: number(2), 0xA1: number(2), 0xA2: each(number(4), names, result), 0xA3: number(4), 0xA4: number(4)},
 }
 
 

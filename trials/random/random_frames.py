@@ -79,6 +79,13 @@ class Frames:
         ]
         return self.text([b"".join(lines)])
 
+    def file_name(self):
+        return self.text([b"guard", b"users", b"r.pk", b"f" * 255])
+
+    def part(self):
+        part = self.draw.randbytes(self.one([0, 1, 2, 63, 1000]))
+        return len(part).to_bytes(4, "big") + part
+
     def refused(self):
         rule = self.one([*range(1, 15)])
         texts = {1: BUCKETS[1:], 4: BUCKETS[1:], 12: BUCKETS[1:], 8: PACKAGES, 9: [b"", b"web"], 11: frame_model.COUNTED}
@@ -93,14 +100,16 @@ class Frames:
             0x16: lambda: self.n(4) + self.n(1, (0, 1, 2, 3, 3, 4)), 0x17: lambda: self.n(4), 0x18: self.install,
             0x19: lambda: self.text(APPLICATIONS) + self.scope(), 0x1A: lambda: self.bucket() + filters,
             0x1B: lambda: self.bucket() + self.flag() + self.names(), 0x1C: bytes, 0x1D: self.install,
-            0x1E: lambda: self.text(PACKAGES) + self.flag(), 0x20: lambda: self.n(2), 0x21: lambda: self.n(4) + self.flag(),
+            0x1E: lambda: self.text(PACKAGES) + self.flag(), 0x1F: bytes, 0x20: lambda: self.n(2), 0x21: lambda: self.n(4) + self.flag(),
             0x81: lambda: self.n(8) + self.result() + self.bucket() + self.one([b"\0", b"\1" + self.names([b"*"])]),
             0x82: lambda: self.n(8) + self.n(2) + self.n(4) + self.flag(), 0x83: lambda: self.n(8) + self.n(2),
             0x84: lambda: self.n(8) + self.n(2), 0x85: lambda: self.n(8) + self.n(4),
             0x86: lambda: self.n(8) + self.n(2) + self.n(4, (1024, 2**32 - 1, 1023)), 0x90: lambda: self.n(8) + self.n(4),
             0x91: self.refused, 0x92: lambda: self.names([b"*"]) + self.result(), 0x93: lambda: self.n(4), 0x95: bytes,
-            0x96: lambda: self.text([b"guard", b"users", b"r.pk", b"f" * 255]) + self.n(4), 0xA0: lambda: self.n(2),
+            0x96: lambda: self.file_name() + self.n(4), 0x97: lambda: self.file_name() + self.part(),
+            0x98: lambda: self.n(8), 0xA0: lambda: self.n(2),
             0xA1: lambda: self.n(2), 0xA2: lambda: self.n(4) + self.names() + self.result(), 0xA3: lambda: self.n(4),
+            0xA4: lambda: self.n(4),
         }
         return given[operation]()
 

@@ -15,7 +15,7 @@ use Rattle.std.proofs.lemmas.Nat.{from_be_bytes-to_be_bytes_4, from_be_bytes-to_
 use Rattle.wire_messages.specs.declared.refusals.WireRefusal.{WireRefusal}
 use Rattle.wire_messages.specs.declared.refusals.WireRefusal.TheVariants.{BadField}
 use Rattle.wire_messages.specs.Left.{IsBytes, Left, place, wrong, ◌>>=◌}
-use Rattle.wire_messages.specs.Format.{Format, behind, number, text, tested, seen, ◌⊗◌, leading, nothing, flag, flagged}
+use Rattle.wire_messages.specs.Format.{Format, behind, number, sized, text, tested, seen, ◌⊗◌, leading, nothing, flag, flagged}
 use Rattle.wire_messages.specs.Format.{behind_flag, either, each, counted}
 
 pub IsBytes-drop : (n : ℕ) (bytes : List ℕ) → IsBytes bytes → IsBytes (drop n bytes)
@@ -155,15 +155,16 @@ number_exact w limit wide = record { takes = number_takes w limit wide; again = 
 
 -- ---- texts
 
-text_takes : (left : Left) (x : List ℕ × Left) → IsBytes left.rest → text.read left ≡ Ok x
-    → Takes left (text.spelled x.0) x.1 × (length x.0 < 2 ^ 16)
-text_takes left x fits e =
-    let b = bind_ok ((number w16).read left)
+sized_takes : (w : Width) (limit : ℕ) → IsWide w limit → (left : Left) (x : List ℕ × Left) → IsBytes left.rest
+    → (sized w).read left ≡ Ok x
+    → Takes left ((sized w).spelled x.0) x.1 × (length x.0 < limit)
+sized_takes w limit wide left x fits e =
+    let b = bind_ok ((number w).read left)
     (λ count. cond (ltb (length count.1.rest) count.0) (wrong left)
     (Ok (take count.0 count.1.rest, behind count.0 count.1))) x e in
     let n = b.0.0 in
     let next = b.0.1 in
-    let t = number_takes w16 (2 ^ 16) wide16 left b.0 fits b.1 in
+    let t = number_takes w limit wide left b.0 fits b.1 in
     let read : List ℕ × Left = (take n next.rest, behind n next) in
     let g = guard_ok (ltb (length next.rest) n) (BadField (place left)) read x b.2 in
     let long : n ≤ length next.rest = ltb-false _ _ g.0 in
@@ -173,30 +174,33 @@ text_takes left x fits e =
       same_end = refl;
       bytes = IsBytes-drop n next.rest t.0.bytes;
     } in
-    let both = Takes-then left (to_be_bytes w16 n) next (take n next.rest) (behind n next) t.0 second in
-    let whole : Takes left (text.spelled (take n next.rest)) (behind n next) =
-    subst (λ (k : ℕ). Takes left (to_be_bytes w16 k ++ take n next.rest) (behind n next)) (sym len) both in
-    subst (λ (x : List ℕ × Left). Takes left (text.spelled x.0) x.1 × (length x.0 < 2 ^ 16)) g.1
-    (whole, omega (arith, t.1))
+    let both = Takes-then left (to_be_bytes w n) next (take n next.rest) (behind n next) t.0 second in
+    let whole : Takes left ((sized w).spelled (take n next.rest)) (behind n next) =
+    subst (λ (k : ℕ). Takes left (to_be_bytes w k ++ take n next.rest) (behind n next)) (sym len) both in
+    subst (λ (x : List ℕ × Left). Takes left ((sized w).spelled x.0) x.1 × (length x.0 < limit)) g.1
+    (whole, subst (λ (k : ℕ). k < limit) (sym len) t.1)
 
-text_again : (end : ℕ) (bytes rest : List ℕ) → length bytes < 2 ^ 16
-    → text.read (record { end = end; rest = text.spelled bytes ++ rest })
+sized_again : (w : Width) (limit : ℕ) → IsWide w limit → (end : ℕ) (bytes rest : List ℕ) → length bytes < limit
+    → (sized w).read (record { end = end; rest = (sized w).spelled bytes ++ rest })
     ≡ Ok (bytes, record { end = end; rest = rest })
-text_again end bytes rest lt =
-    let regrouped : text.spelled bytes ++ rest ≡ to_be_bytes w16 (length bytes) ++ (bytes ++ rest) =
-    append_assoc (to_be_bytes w16 (length bytes)) bytes rest in
+sized_again w limit wide end bytes rest lt =
+    let regrouped : (sized w).spelled bytes ++ rest ≡ to_be_bytes w (length bytes) ++ (bytes ++ rest) =
+    append_assoc (to_be_bytes w (length bytes)) bytes rest in
     let long : ltb (length (bytes ++ rest)) (length bytes) ≡ false =
     le-ltb _ _ (omega (arith, length-append bytes rest)) in
-    ap (λ (r : List ℕ). text.read (record { end = end; rest = r })) regrouped
+    ap (λ (r : List ℕ). (sized w).read (record { end = end; rest = r })) regrouped
     ∙ rw (
-      number_again w16 (2 ^ 16) wide16 end (length bytes) (bytes ++ rest) lt,
+      number_again w limit wide end (length bytes) (bytes ++ rest) lt,
       long,
       take_at bytes rest (length bytes) refl,
       drop_at bytes rest (length bytes) refl,
     ) refl
 
+pub sized_exact : (w : Width) (limit : ℕ) → IsWide w limit → IsExact (sized w) (λ bytes. length bytes < limit)
+sized_exact w limit wide = record { takes = sized_takes w limit wide; again = sized_again w limit wide }
+
 pub text_exact : IsExact text (λ bytes. length bytes < 2 ^ 16)
-text_exact = record { takes = text_takes; again = text_again }
+text_exact = sized_exact w16 (2 ^ 16) wide16
 
 -- ---- fields made of others
 

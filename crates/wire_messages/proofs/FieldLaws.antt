@@ -8,7 +8,7 @@ use Rattle.std.specs.Result.{result_unwrap_or}
 use Rattle.std.specs.List.{AllByRecursion, flat_map}
 use Rattle.std.specs.Int.{w8, w16, w32, w64, to_be_bytes}
 use Rattle.std.specs.Cmp.Lexicographic as texts
-use Rattle.std.proofs.lemmas.Bool.{ltb-true, eqb-true}
+use Rattle.std.proofs.lemmas.Bool.{ltb-true, lt-ltb, eqb-true}
 use Rattle.std.proofs.lemmas.Cmp.{nat_list_eq_equiv}
 use Rattle.std.proofs.lemmas.List.Concat.{flat_map-cons}
 use Rattle.cynara_keys.specs.Text.{same_text}
@@ -34,15 +34,15 @@ use Rattle.rule_templates.specs.declared.lines.TemplateLine.{TemplateLine}
 use Rattle.rule_templates.specs.declared.templates.TemplateRefusal.{TemplateRefusal}
 use Rattle.rule_templates.specs.Template.{template_of, template_text}
 use Rattle.wire_messages.specs.Left.{IsBytes, Left, ◌>>=◌}
-use Rattle.wire_messages.specs.Format.{Format, number, text, tested, ◌⊗◌, leading, nothing, either, counted}
+use Rattle.wire_messages.specs.Format.{Format, number, text, sized, tested, ◌⊗◌, leading, nothing, either, counted}
 use Rattle.wire_messages.specs.Field as field
-use Rattle.wire_messages.specs.Field.{is_field_text, is_filter_text, is_ident, is_file_text, is_most, is_author_text}
+use Rattle.wire_messages.specs.Field.{is_field_text, is_filter_text, is_ident, is_file_text, is_file_part, is_most, is_author_text}
 use Rattle.wire_messages.specs.Field.{author_of, author_text, is_text_of, is_template_text, user_type_of}
 use Rattle.wire_messages.specs.Field.{user_type_number, change_of, of_change, some_or, or_none, scope_of, scope_uid}
 use Rattle.wire_messages.specs.Field.{comes_after, rising_names}
 use Rattle.wire_messages.specs.Right as right
 use Rattle.wire_messages.proofs.Exact.{bind_ok, ok_is, Takes, Takes-then, IsExact, number_exact, wide8, wide16}
-use Rattle.wire_messages.proofs.Exact.{wide32, wide64, text_exact, tested_exact, seen_exact, leading_exact, pair_exact}
+use Rattle.wire_messages.proofs.Exact.{wide32, wide64, sized_exact, text_exact, tested_exact, seen_exact, leading_exact, pair_exact}
 use Rattle.wire_messages.proofs.Exact.{nothing_exact, either_exact, OneOf, counted_exact}
 use Rattle.wire_messages.proofs.Lengths.{name_short, bucket_name_short, metadata_short, ident_short, file_name_short}
 
@@ -54,7 +54,7 @@ exact_as format exact there back = record {
   again = λ end x rest right. exact.again end x rest (back x right);
 }
 
-none_is : {X : Type 0} (o : Option X) → is_none o ≡ true → o ≡ None
+pub none_is : {X : Type 0} (o : Option X) → is_none o ≡ true → o ≡ None
 none_is None is = refl
 none_is (Some x) is = absurd cc
 
@@ -84,6 +84,17 @@ ident_exact = short_exact is_ident (λ bytes is. ident_short bytes (none_is (ide
 
 pub file_name_exact : IsExact field.file_name (λ bytes. is_file_text bytes ≡ true)
 file_name_exact = short_exact is_file_text (λ bytes is. file_name_short bytes (none_is (file_name_fault bytes) is))
+
+few_there : (bytes : List ℕ) → is_file_part bytes ≡ true → length bytes ≤ 65536
+few_there bytes passes = (let below : length bytes < 65537 = ltb-true _ _ passes in omega (arith, below))
+
+few_back : (bytes : List ℕ) → length bytes ≤ 65536 → is_file_part bytes ≡ true
+few_back bytes few = lt-ltb _ _ (omega (arith, few))
+
+pub file_part_exact : IsExact field.file_part (λ bytes. length bytes ≤ 65536)
+file_part_exact =
+    exact_as field.file_part (tested_exact is_file_part (sized w32) (sized_exact w32 (2 ^ 32) wide32))
+    (λ bytes right. few_there bytes right.1) (λ bytes few. (omega (arith, few), few_back bytes few))
 
 -- ---- fields of keys
 

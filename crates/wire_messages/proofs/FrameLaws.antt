@@ -135,6 +135,7 @@ number_small op.AdminCheck = omega arith
 number_small op.Stop = omega arith
 number_small op.InstallHybrid = omega arith
 number_small op.Convert = omega arith
+number_small op.ReadState = omega arith
 number_small op.Register = omega arith
 number_small op.AgentAnswer = omega arith
 number_small op.Judged = omega arith
@@ -149,10 +150,13 @@ number_small op.ListRow = omega arith
 number_small op.ListEnd = omega arith
 number_small op.StoreFault = omega arith
 number_small op.StoreDamaged = omega arith
+number_small op.StateFile = omega arith
+number_small op.StateEnd = omega arith
 number_small op.Registered = omega arith
 number_small op.KindTaken = omega arith
 number_small op.AgentQuestion = omega arith
 number_small op.UnknownNumber = omega arith
+number_small op.AgentWithdrawn = omega arith
 
 body_again : (heard : Heard) (framed : Framed) (end : ℕ) → IsHeard heard framed
     → body_of heard (record { end = end; rest = body framed }) ≡ Ok framed
@@ -247,6 +251,7 @@ known_by_number op.AdminCheck = refl
 known_by_number op.Stop = refl
 known_by_number op.InstallHybrid = refl
 known_by_number op.Convert = refl
+known_by_number op.ReadState = refl
 known_by_number op.Register = refl
 known_by_number op.AgentAnswer = refl
 known_by_number op.Judged = refl
@@ -261,10 +266,13 @@ known_by_number op.ListRow = refl
 known_by_number op.ListEnd = refl
 known_by_number op.StoreFault = refl
 known_by_number op.StoreDamaged = refl
+known_by_number op.StateFile = refl
+known_by_number op.StateEnd = refl
 known_by_number op.Registered = refl
 known_by_number op.KindTaken = refl
 known_by_number op.AgentQuestion = refl
 known_by_number op.UnknownNumber = refl
+known_by_number op.AgentWithdrawn = refl
 
 same_operation : (a b : Operation) → number_of a ≡ number_of b → a ≡ b
 same_operation a b same = is (sym (known_by_number a)

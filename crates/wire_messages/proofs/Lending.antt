@@ -77,12 +77,12 @@ field_text_short bytes is = by_cases (same_text bytes wildcard) refl is
         (let one : length bytes ≡ 1 = ap length (same_is bytes wildcard same) in omega (arith, one))
     by_cases false same e = name_short bytes e
 
-row_short : (row : Option Row) → IsOptionalRow row → IsShortOptionalRow row
+pub row_short : (row : Option Row) → IsOptionalRow row → IsShortOptionalRow row
 row_short None is = tt
 row_short (Some row) is =
     (field_text_short row.client is.0, (field_text_short row.user is.1.0, field_text_short row.privilege is.1.1))
 
-verdict_short : (verdict : Verdict) → IsRightVerdict verdict → IsShortVerdict verdict
+pub verdict_short : (verdict : Verdict) → IsRightVerdict verdict → IsShortVerdict verdict
 verdict_short verdict is = record {
   metadata = ruling_short _ is.1.0;
   bucket = bucket_short verdict.answer.cause.bucket is.1.1.0;
@@ -91,7 +91,7 @@ verdict_short verdict is = record {
 
 -- ---- fields are short
 
-text_size : (bytes : List ℕ) → length (text.spelled bytes) ≡ 2 + length bytes
+pub text_size : (bytes : List ℕ) → length (text.spelled bytes) ≡ 2 + length bytes
 text_size bytes = length-append (to_be_bytes w16 (length bytes)) bytes
 
 three_size : (a b c : List ℕ) → length a ≤ 255 → length b ≤ 255 → length c ≤ 255
@@ -111,7 +111,7 @@ ruling_size : (kind : ℕ) (metadata : List ℕ) → length metadata ≤ 255
 ruling_size kind metadata short =
     omega (arith, length-append (to_be_bytes w16 kind) (text.spelled metadata), text_size metadata)
 
-row_size : (row : Option Row) → IsShortOptionalRow row → length ((field.optional field.row).spelled row) ≤ 772
+pub row_size : (row : Option Row) → IsShortOptionalRow row → length ((field.optional field.row).spelled row) ≤ 772
 row_size None is = omega arith
 row_size (Some row) is =
     (let few = three_size row.client row.user row.privilege is.0 is.1.0 is.1.1 in omega (arith, few))

@@ -13,4 +13,6 @@ pub mod Hearings
 pub mod Refusing
 pub mod Wanting
 pub mod Lending
+pub mod Behind
+pub mod LentChecks
 pub mod Templates

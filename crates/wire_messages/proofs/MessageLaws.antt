@@ -10,7 +10,8 @@ use Rattle.wire_messages.specs.declared.messages.Message.TheVariants.{Register, 
 use Rattle.wire_messages.specs.declared.messages.Message.TheVariants.{FromAgent, NotResolved, NoAgent, AgentGone}
 use Rattle.wire_messages.specs.declared.messages.Message.TheVariants.{AgentFull, Done, Refused, ListRow, ListEnd}
 use Rattle.wire_messages.specs.declared.messages.Message.TheVariants.{StoreFault, StoreDamaged, Registered, KindTaken}
-use Rattle.wire_messages.specs.declared.messages.Message.TheVariants.{AgentQuestion, UnknownNumber}
+use Rattle.wire_messages.specs.declared.messages.Message.TheVariants.{AgentQuestion, UnknownNumber, AgentWithdrawn}
+use Rattle.wire_messages.specs.declared.messages.Message.TheVariants.{ReadState, StateFile, StateEnd}
 use Rattle.wire_messages.specs.declared.operations.Operation.{Operation}
 use Rattle.wire_messages.specs.declared.operations.Operation.TheVariants as op
 use Rattle.wire_messages.specs.Left.{IsBytes, Left, Reading, ◌>>=◌}
@@ -24,7 +25,7 @@ use Rattle.wire_messages.proofs.Exact.{pair_exact, nothing_exact, flag_exact}
 use Rattle.wire_messages.proofs.FieldLaws.{question_exact, bucket_exact, ruling_exact, filter_exact, template_exact}
 use Rattle.wire_messages.proofs.FieldLaws.{user_type_exact, install_exact, ident_exact, scope_exact, agent_kind_exact}
 use Rattle.wire_messages.proofs.FieldLaws.{verdict_exact, kind_exact, most_exact, policy_exact, file_name_exact}
-use Rattle.wire_messages.proofs.FieldLaws.{changes_exact}
+use Rattle.wire_messages.proofs.FieldLaws.{changes_exact, file_part_exact}
 use Rattle.wire_messages.proofs.RefusalLaws.{refused_exact}
 
 exact32 : IsExact (number w32) (λ n. n < 2 ^ 32)
@@ -94,6 +95,7 @@ message_takes op.InstallHybrid =
 message_takes op.Convert =
     says op.Convert (λ x. Convert x.0 x.1) (field.ident ⊗ flag)
     (pair_exact field.ident flag ident_exact flag_exact) (λ x good. (refl, refl, good))
+message_takes op.ReadState = says op.ReadState (λ none. ReadState) nothing nothing_exact (λ x good. (refl, refl, good))
 message_takes op.Register = says op.Register Register field.agent_kind agent_kind_exact (λ x good. (refl, refl, good))
 message_takes op.AgentAnswer =
     says op.AgentAnswer (λ x. AgentAnswer x.0 x.1) ((number w32) ⊗ flag)
@@ -128,6 +130,10 @@ message_takes op.StoreFault =
 message_takes op.StoreDamaged =
     says op.StoreDamaged (λ x. StoreDamaged x.0 x.1) (field.file_name ⊗ (number w32))
     (pair_exact field.file_name (number w32) file_name_exact exact32) (λ x good. (refl, refl, good))
+message_takes op.StateFile =
+    says op.StateFile (λ x. StateFile x.0 x.1) (field.file_name ⊗ field.file_part)
+    (pair_exact field.file_name field.file_part file_name_exact file_part_exact) (λ x good. (refl, refl, good))
+message_takes op.StateEnd = says op.StateEnd StateEnd (number w64) exact64 (λ x good. (refl, refl, good))
 message_takes op.Registered = says op.Registered Registered field.kind kind_exact (λ x good. (refl, refl, good))
 message_takes op.KindTaken = says op.KindTaken KindTaken field.kind kind_exact (λ x good. (refl, refl, good))
 message_takes op.AgentQuestion =
@@ -135,6 +141,8 @@ message_takes op.AgentQuestion =
     (pair_exact (number w32) (field.question ⊗ field.ruling) exact32
     (pair_exact field.question field.ruling question_exact ruling_exact)) (λ x good. (refl, refl, good))
 message_takes op.UnknownNumber = says op.UnknownNumber UnknownNumber (number w32) exact32 (λ x good. (refl, refl, good))
+message_takes op.AgentWithdrawn =
+    says op.AgentWithdrawn AgentWithdrawn (number w32) exact32 (λ x good. (refl, refl, good))
 
 again : {X : Type 0} (of : X → Message) (format : Format X) {P : X → Type 0} → IsExact format P
     → (end : ℕ) (rest : List ℕ) (x : X) → P x
@@ -182,6 +190,7 @@ message_again (InstallHybrid install) end rest good =
 message_again (Convert name hybrid) end rest good =
     again (λ x. Convert x.0 x.1) (field.ident ⊗ flag) (pair_exact field.ident flag ident_exact flag_exact) end rest
     (name, hybrid) good
+message_again ReadState end rest good = again (λ none. ReadState) nothing nothing_exact end rest tt good
 message_again (Register kind) end rest good = again Register field.agent_kind agent_kind_exact end rest kind good
 message_again (AgentAnswer asked allowed) end rest good =
     again (λ x. AgentAnswer x.0 x.1) ((number w32) ⊗ flag) (pair_exact (number w32) flag exact32 flag_exact) end rest
@@ -215,6 +224,10 @@ message_again StoreFault end rest good = again (λ none. StoreFault) nothing not
 message_again (StoreDamaged file line) end rest good =
     again (λ x. StoreDamaged x.0 x.1) (field.file_name ⊗ (number w32))
     (pair_exact field.file_name (number w32) file_name_exact exact32) end rest (file, line) good
+message_again (StateFile name bytes) end rest good =
+    again (λ x. StateFile x.0 x.1) (field.file_name ⊗ field.file_part)
+    (pair_exact field.file_name field.file_part file_name_exact file_part_exact) end rest (name, bytes) good
+message_again (StateEnd commit) end rest good = again StateEnd (number w64) exact64 end rest commit good
 message_again (Registered kind) end rest good = again Registered field.kind kind_exact end rest kind good
 message_again (KindTaken kind) end rest good = again KindTaken field.kind kind_exact end rest kind good
 message_again (AgentQuestion asked question result) end rest good =
@@ -222,3 +235,4 @@ message_again (AgentQuestion asked question result) end rest good =
     (pair_exact (number w32) (field.question ⊗ field.ruling) exact32
     (pair_exact field.question field.ruling question_exact ruling_exact)) end rest (asked, (question, result)) good
 message_again (UnknownNumber asked) end rest good = again UnknownNumber (number w32) exact32 end rest asked good
+message_again (AgentWithdrawn asked) end rest good = again AgentWithdrawn (number w32) exact32 end rest asked good

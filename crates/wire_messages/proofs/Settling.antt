@@ -42,7 +42,7 @@ length_wrong heard bytes fault long is =
     (le-ltb (length bytes) 4 long)
     ∙ ap (with_length heard bytes (length_of bytes + 4)) is
 
-with_no_fault : (heard : Heard) (bytes : List ℕ) → 4 ≤ length bytes → length_fault (length_of bytes) ≡ None
+pub with_no_fault : (heard : Heard) (bytes : List ℕ) → 4 ≤ length bytes → length_fault (length_of bytes) ≡ None
     → first_of heard bytes ≡ with_length heard bytes (length_of bytes + 4) None
 unfolding first_of
 with_no_fault heard bytes long none =

@@ -1,13 +1,12 @@
 -- The text of a template has room in a field.
 use Rattle.std.proofs.Common.{◌≡◌, ℕ, ◌+◌, ◌*◌, ◌^◌, ◌<◌, ◌≤◌, Bool, true, false, cond, ltb, leb, eqb, ◌&&◌, List, [], ◌∷◌, ◌++◌}
-use Rattle.std.proofs.Common.{length, Option, Some, None, is_none, Result, Ok, Err, refl, sym, ap, subst, ◌∙◌, arith}
+use Rattle.std.proofs.Common.{length, Option, Some, None, is_none, Result, Ok, Err, refl, subst, arith}
 use Rattle.std.specs.Option.{option_map}
 use Rattle.std.specs.List.{list_all}
 use Rattle.std.proofs.lemmas.Bool.{ltb-false, leb-true}
 use Rattle.std.proofs.lemmas.List.{length-append}
 use Rattle.text_lines.specs.Lines.{lines_of}
-use Rattle.smack_rules.specs.Label.{label_fault}
-use Rattle.smack_rules.specs.Modes.{spelling, is_mode_word, is_mode_byte, modes_of, letters_that, stands_in}
+use Rattle.smack_rules.specs.Modes.{spelling, is_mode_word, is_mode_byte, letters_that, stands_in}
 use Rattle.smack_rules.specs.Rule.{is_label}
 use Rattle.smack_rules.specs.Spelling.{parted}
 use Rattle.smack_rules.specs.Words.{words_of}

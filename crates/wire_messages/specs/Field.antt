@@ -33,8 +33,9 @@ use Rattle.desk_ports.specs.FileName.{file_name_fault}
 use Rattle.rule_templates.specs.declared.lines.TemplateLine.{TemplateLine}
 use Rattle.rule_templates.specs.declared.templates.TemplateRefusal.{TemplateRefusal}
 use Rattle.rule_templates.specs.Template.{template_of, template_text}
+use Rattle.wire_messages.specs.Limits.{most_part_bytes}
 use Rattle.wire_messages.specs.Left.{Left, Reading, ◌>>=◌}
-use Rattle.wire_messages.specs.Format.{Format, number, text, tested, seen, ◌⊗◌, leading, nothing, either}
+use Rattle.wire_messages.specs.Format.{Format, number, text, sized, tested, seen, ◌⊗◌, leading, nothing, either}
 
 -- ---- names and keys
 
@@ -248,6 +249,13 @@ is_file_text bytes = is_none (file_name_fault bytes)
 
 abbrev pub file_name : Format (List ℕ)
 file_name = tested is_file_text text
+
+-- few enough bytes of a file for one reply
+abbrev pub is_file_part : List ℕ → Bool
+is_file_part bytes = nat_lt (length bytes) (suc most_part_bytes)
+
+abbrev pub file_part : Format (List ℕ)
+file_part = tested is_file_part (sized w32)
 
 -- whether a text is the one spelling of the template that it is read as
 abbrev pub is_text_of : List ℕ → Result (List TemplateLine) TemplateRefusal → Bool

@@ -22,14 +22,18 @@ number w = record {
       else Ok (from_be_bytes w (take (byte_len w) left.rest), behind (byte_len w) left);
 }
 
--- the bytes of which a number of two bytes tells how many
-abbrev pub text : Format (List ℕ)
-text = record {
-  spelled = λ bytes. to_be_bytes w16 (length bytes) ++ bytes;
-  read = λ left. (number w16).read left
+-- the bytes of which a number in front of them tells how many
+abbrev pub sized : Width → Format (List ℕ)
+sized w = record {
+  spelled = λ bytes. to_be_bytes w (length bytes) ++ bytes;
+  read = λ left. (number w).read left
       >>= λ count. if nat_lt (length count.1.rest) count.0 then wrong left
       else Ok (take count.0 count.1.rest, behind count.0 count.1);
 }
+
+-- a number of two bytes, and so many bytes
+abbrev pub text : Format (List ℕ)
+text = sized w16
 
 -- a field whose value must pass a test
 abbrev pub tested : {X : Type 0} → (X → Bool) → Format X → Format X

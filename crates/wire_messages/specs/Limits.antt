@@ -8,3 +8,7 @@ least_length = 3
 -- the greatest length of a frame
 abbrev pub most_length : ℕ
 most_length = 1048576
+
+-- the most bytes of a file in one reply
+abbrev pub most_part_bytes : ℕ
+most_part_bytes = 65536

@@ -10,7 +10,8 @@ use Rattle.wire_messages.specs.declared.messages.Message.TheVariants.{Register, 
 use Rattle.wire_messages.specs.declared.messages.Message.TheVariants.{FromAgent, NotResolved, NoAgent, AgentGone}
 use Rattle.wire_messages.specs.declared.messages.Message.TheVariants.{AgentFull, Done, Refused, ListRow, ListEnd}
 use Rattle.wire_messages.specs.declared.messages.Message.TheVariants.{StoreFault, StoreDamaged, Registered, KindTaken}
-use Rattle.wire_messages.specs.declared.messages.Message.TheVariants.{AgentQuestion, UnknownNumber}
+use Rattle.wire_messages.specs.declared.messages.Message.TheVariants.{AgentQuestion, UnknownNumber, AgentWithdrawn}
+use Rattle.wire_messages.specs.declared.messages.Message.TheVariants.{ReadState, StateFile, StateEnd}
 use Rattle.wire_messages.specs.declared.operations.Operation.{Operation}
 use Rattle.wire_messages.specs.declared.operations.Operation.TheVariants as op
 use Rattle.wire_messages.specs.Left.{Left, Reading}
@@ -36,6 +37,7 @@ operation (AdminCheck bucket recursive question) = op.AdminCheck
 operation Stop = op.Stop
 operation (InstallHybrid install) = op.InstallHybrid
 operation (Convert name hybrid) = op.Convert
+operation ReadState = op.ReadState
 operation (Register kind) = op.Register
 operation (AgentAnswer asked allowed) = op.AgentAnswer
 operation (Judged verdict) = op.Judged
@@ -50,10 +52,13 @@ operation (ListRow policy) = op.ListRow
 operation (ListEnd count) = op.ListEnd
 operation StoreFault = op.StoreFault
 operation (StoreDamaged file line) = op.StoreDamaged
+operation (StateFile name bytes) = op.StateFile
+operation (StateEnd commit) = op.StateEnd
 operation (Registered kind) = op.Registered
 operation (KindTaken kind) = op.KindTaken
 operation (AgentQuestion asked question result) = op.AgentQuestion
 operation (UnknownNumber asked) = op.UnknownNumber
+operation (AgentWithdrawn asked) = op.AgentWithdrawn
 
 -- the fields of a message as bytes
 abbrev pub fields : Message → List ℕ
@@ -75,6 +80,7 @@ fields (AdminCheck bucket recursive question) =
 fields Stop = nothing.spelled tt
 fields (InstallHybrid install) = (field.install true).spelled install
 fields (Convert name hybrid) = (field.ident ⊗ flag).spelled (name, hybrid)
+fields ReadState = nothing.spelled tt
 fields (Register kind) = field.agent_kind.spelled kind
 fields (AgentAnswer asked allowed) = (number w32 ⊗ flag).spelled (asked, allowed)
 fields (Judged verdict) = field.verdict.spelled verdict
@@ -90,11 +96,14 @@ fields (ListRow policy) = field.policy.spelled policy
 fields (ListEnd count) = (number w32).spelled count
 fields StoreFault = nothing.spelled tt
 fields (StoreDamaged file line) = (field.file_name ⊗ number w32).spelled (file, line)
+fields (StateFile name bytes) = (field.file_name ⊗ field.file_part).spelled (name, bytes)
+fields (StateEnd commit) = (number w64).spelled commit
 fields (Registered kind) = field.kind.spelled kind
 fields (KindTaken kind) = field.kind.spelled kind
 fields (AgentQuestion asked question result) =
     (number w32 ⊗ (field.question ⊗ field.ruling)).spelled (asked, (question, result))
 fields (UnknownNumber asked) = (number w32).spelled asked
+fields (AgentWithdrawn asked) = (number w32).spelled asked
 
 -- what is read as a message of an operation
 abbrev pub read : Operation → Left → Reading Message
@@ -115,6 +124,7 @@ read op.AdminCheck = made (λ x. AdminCheck x.0 x.1.0 x.1.1) (field.bucket ⊗ (
 read op.Stop = made (λ none. Stop) nothing
 read op.InstallHybrid = made InstallHybrid (field.install true)
 read op.Convert = made (λ x. Convert x.0 x.1) (field.ident ⊗ flag)
+read op.ReadState = made (λ none. ReadState) nothing
 read op.Register = made Register field.agent_kind
 read op.AgentAnswer = made (λ x. AgentAnswer x.0 x.1) (number w32 ⊗ flag)
 read op.Judged = made Judged field.verdict
@@ -129,10 +139,13 @@ read op.ListRow = made ListRow field.policy
 read op.ListEnd = made ListEnd (number w32)
 read op.StoreFault = made (λ none. StoreFault) nothing
 read op.StoreDamaged = made (λ x. StoreDamaged x.0 x.1) (field.file_name ⊗ number w32)
+read op.StateFile = made (λ x. StateFile x.0 x.1) (field.file_name ⊗ field.file_part)
+read op.StateEnd = made StateEnd (number w64)
 read op.Registered = made Registered field.kind
 read op.KindTaken = made KindTaken field.kind
 read op.AgentQuestion = made (λ x. AgentQuestion x.0 x.1.0 x.1.1) (number w32 ⊗ (field.question ⊗ field.ruling))
 read op.UnknownNumber = made UnknownNumber (number w32)
+read op.AgentWithdrawn = made AgentWithdrawn (number w32)
 
 -- the commit that a reply tells, if it tells one
 abbrev pub commit_of : Message → Option ℕ
@@ -143,4 +156,5 @@ commit_of (NoAgent commit kind) = Some commit
 commit_of (AgentGone commit asked) = Some commit
 commit_of (AgentFull commit kind most) = Some commit
 commit_of (Done commit erased) = Some commit
+commit_of (StateEnd commit) = Some commit
 commit_of other = None

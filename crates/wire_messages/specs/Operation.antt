@@ -11,7 +11,7 @@ use Rattle.wire_messages.specs.declared.operations.Operation.TheVariants.{AgentA
 use Rattle.wire_messages.specs.declared.operations.Operation.TheVariants.{NoAgent, AgentGone, AgentFull, Done, Refused}
 use Rattle.wire_messages.specs.declared.operations.Operation.TheVariants.{ListRow, ListEnd, StoreFault, StoreDamaged}
 use Rattle.wire_messages.specs.declared.operations.Operation.TheVariants.{Registered, KindTaken, AgentQuestion}
-use Rattle.wire_messages.specs.declared.operations.Operation.TheVariants.{UnknownNumber}
+use Rattle.wire_messages.specs.declared.operations.Operation.TheVariants.{UnknownNumber, AgentWithdrawn, ReadState, StateFile, StateEnd}
 
 abbrev pub number_of : Operation → ℕ
 number_of Check = 0x01
@@ -31,6 +31,7 @@ number_of AdminCheck = 0x1B
 number_of Stop = 0x1C
 number_of InstallHybrid = 0x1D
 number_of Convert = 0x1E
+number_of ReadState = 0x1F
 number_of Register = 0x20
 number_of AgentAnswer = 0x21
 number_of Judged = 0x81
@@ -45,22 +46,25 @@ number_of ListRow = 0x92
 number_of ListEnd = 0x93
 number_of StoreFault = 0x95
 number_of StoreDamaged = 0x96
+number_of StateFile = 0x97
+number_of StateEnd = 0x98
 number_of Registered = 0xA0
 number_of KindTaken = 0xA1
 number_of AgentQuestion = 0xA2
 number_of UnknownNumber = 0xA3
+number_of AgentWithdrawn = 0xA4
 
 -- the operations that a side knows
 abbrev pub known_at : Heard → List Operation
 known_at AtClient = Check ∷ SimpleCheck ∷ []
 known_at AtAdmin =
     SetBucket ∷ RemoveBucket ∷ SetPolicies ∷ Erase ∷ Layout ∷ SetTemplate ∷ UserSet ∷ UserRemove ∷ Install ∷ Uninstall
-    ∷ Listing ∷ AdminCheck ∷ Stop ∷ InstallHybrid ∷ Convert ∷ []
+    ∷ Listing ∷ AdminCheck ∷ Stop ∷ InstallHybrid ∷ Convert ∷ ReadState ∷ []
 known_at AtAgent = Register ∷ AgentAnswer ∷ []
 known_at Replies =
     Judged ∷ FromAgent ∷ NotResolved ∷ NoAgent ∷ AgentGone ∷ AgentFull ∷ Done ∷ Refused ∷ ListRow ∷ ListEnd ∷ StoreFault
-    ∷ StoreDamaged ∷ []
-known_at AgentReplies = Registered ∷ KindTaken ∷ AgentQuestion ∷ UnknownNumber ∷ []
+    ∷ StoreDamaged ∷ StateFile ∷ StateEnd ∷ []
+known_at AgentReplies = Registered ∷ KindTaken ∷ AgentQuestion ∷ UnknownNumber ∷ AgentWithdrawn ∷ []
 
 -- the operation of a number at a side, if the side knows it
 abbrev pub operation_of : Heard → ℕ → Option Operation

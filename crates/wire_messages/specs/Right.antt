@@ -1,5 +1,5 @@
 -- What the values of a message are that has a spelling. Most of it the types of the fields keep.
-use Rattle.std.specs.Prelude.{◌≡◌, ◌<◌, ◌^◌, ℕ, Bool, true, false, ◌&&◌, List, [], ◌∷◌, length, Option, Some, None, Ok}
+use Rattle.std.specs.Prelude.{◌≡◌, ◌<◌, ◌≤◌, ◌^◌, ℕ, Bool, true, false, ◌&&◌, List, [], ◌∷◌, length, Option, Some, None, Ok}
 use Rattle.std.specs.List.{AllByRecursion}
 use Rattle.cynara_keys.specs.Name.{is_name}
 use Rattle.cynara_keys.specs.BucketName.{is_bucket_name}
@@ -34,7 +34,9 @@ use Rattle.wire_messages.specs.declared.messages.Message.TheVariants.{Register, 
 use Rattle.wire_messages.specs.declared.messages.Message.TheVariants.{FromAgent, NotResolved, NoAgent, AgentGone}
 use Rattle.wire_messages.specs.declared.messages.Message.TheVariants.{AgentFull, Done, Refused, ListRow, ListEnd}
 use Rattle.wire_messages.specs.declared.messages.Message.TheVariants.{StoreFault, StoreDamaged, Registered, KindTaken}
-use Rattle.wire_messages.specs.declared.messages.Message.TheVariants.{AgentQuestion, UnknownNumber}
+use Rattle.wire_messages.specs.declared.messages.Message.TheVariants.{AgentQuestion, UnknownNumber, AgentWithdrawn}
+use Rattle.wire_messages.specs.declared.messages.Message.TheVariants.{ReadState, StateFile, StateEnd}
+use Rattle.wire_messages.specs.Limits.{most_part_bytes}
 use Rattle.wire_messages.specs.Field.{is_field_text, is_ident, is_file_text, is_most, comes_after}
 
 -- ---- numbers
@@ -181,6 +183,7 @@ IsRight (AdminCheck bucket recursive question) = IsBucket bucket × (Unit {0} ×
 IsRight Stop = Unit {0}
 IsRight (InstallHybrid install) = IsInstall true install
 IsRight (Convert name hybrid) = IsIdent name × Unit {0}
+IsRight ReadState = Unit {0}
 IsRight (Register kind) = IsKind kind × (is_agent kind.0 ≡ true)
 IsRight (AgentAnswer asked allowed) = IsNumber4 asked × Unit {0}
 IsRight (Judged verdict) = IsRightVerdict verdict
@@ -195,10 +198,13 @@ IsRight (ListRow policy) = IsPolicy policy
 IsRight (ListEnd count) = IsNumber4 count
 IsRight StoreFault = Unit {0}
 IsRight (StoreDamaged file line) = (is_file_text file ≡ true) × IsNumber4 line
+IsRight (StateFile name bytes) = (is_file_text name ≡ true) × (length bytes ≤ most_part_bytes)
+IsRight (StateEnd commit) = IsNumber8 commit
 IsRight (Registered kind) = IsKind kind
 IsRight (KindTaken kind) = IsKind kind
 IsRight (AgentQuestion asked question result) = IsNumber4 asked × (IsQuestion question × IsRuling result)
 IsRight (UnknownNumber asked) = IsNumber4 asked
+IsRight (AgentWithdrawn asked) = IsNumber4 asked
 
 -- the number in front of a list has room for it, which no type keeps
 abbrev pub HasRoom : Message → Type 0

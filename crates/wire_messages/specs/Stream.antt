@@ -28,6 +28,10 @@ first_of heard bytes =
     if nat_lt (length bytes) 4 then Partial
     else with_length heard bytes (length_of bytes + 4) (length_fault (length_of bytes))
 
+-- no whole frame of a message stands at the front of the bytes
+abbrev pub NoneWhole : Heard → List ℕ → Type 0
+NoneWhole heard bytes = (framed : Framed) (rest : List ℕ) → first_of heard bytes ≡ Whole framed rest → ⊥
+
 -- these messages were heard one after the other, and these bytes are behind them
 abbrev pub Hears : Heard → List ℕ → List Framed → List ℕ → Type 0
 Hears heard bytes [] behind = bytes ≡ behind

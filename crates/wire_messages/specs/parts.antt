@@ -1,3 +1,4 @@
 pub mod Feeding
 pub mod FiveTexts
+pub mod LentCheck
 pub mod Packed

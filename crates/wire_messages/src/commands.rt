@@ -25,6 +25,7 @@ impl Message {
             Message::AgentGone { commit, .. } => Some(*commit),
             Message::AgentFull { commit, .. } => Some(*commit),
             Message::Done { commit, .. } => Some(*commit),
+            Message::StateEnd { commit } => Some(*commit),
             _ => None,
         }
     }

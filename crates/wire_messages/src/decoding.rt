@@ -1,7 +1,8 @@
-ghost use Rattle.std.specs.Prelude.{◌≡◌, ◌+◌, ◌≤◌, Ok, length, IfOk};
+ghost use Rattle.std.specs.Prelude.{◌≡◌, ◌+◌, ◌≤◌, ◌==◌, if◌then◌else◌, Ok, Err, length, IfOk};
 ghost use Rattle.wire_messages.specs.Frame.{length_of, length_fault, body_of, frame_of, spelling};
 ghost use Rattle.wire_messages.specs.Frame.{Answers, BeginsRight, IsKnown};
-ghost use Rattle.wire_messages.specs.Left.{OnMemory};
+ghost use Rattle.wire_messages.specs.Left.{OnMemory, place};
+ghost use Rattle.wire_messages.specs.declared.refusals.WireRefusal.TheVariants.{Trailing};
 ghost use Rattle.wire_messages.specs.Hearing.{IsHeard};
 ghost use Rattle.wire_messages.specs.declared.messages.Framed.{Framed};
 
@@ -75,8 +76,16 @@ fn body(alloc: Global, heard: Heard, fields: &mut Fields) -> Result<Framed, Wire
         return Err(WireRefusal::BadOperation(number));
     };
     let message = message(alloc, operation, fields)?;
+    let message = unless_more(message, fields)?;
+    Ok(Framed { sequence, message })
+}
+
+// The value, where no byte is left behind it. It is let go here, once for every type of value.
+fn unless_more<T: Drop>(value: T, fields: &Fields) -> Result<T, WireRefusal>
+    ensures { result ≡ (if length fields.now.rest == 0 then Ok value else Err (Trailing (place fields.now))) }
+{
     if !fields.is_empty() {
         return Err(WireRefusal::Trailing(fields.place()));
     }
-    Ok(Framed { sequence, message })
+    Ok(value)
 }

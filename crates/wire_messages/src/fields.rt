@@ -2,7 +2,7 @@
 ghost use Rattle.std.specs.Prelude.{◌≡◌, ◌≤◌, ◌==◌, length};
 ghost use Rattle.std.specs.Int.{w8, w16, w32, w64};
 ghost use Rattle.wire_messages.specs.Left.{IsBytes, Gives, GivesText, OnMemory, place};
-ghost use Rattle.wire_messages.specs.Format.{number, text, behind};
+ghost use Rattle.wire_messages.specs.Format.{number, text, sized, behind};
 
 use crate::WireRefusal;
 use std::marker::Model;
@@ -119,10 +119,25 @@ impl<'a> Fields<'a> {
 
     /// The bytes of a text field, which are not copied.
     pub fn text(&mut self) -> Result<&'a [u8], WireRefusal>
-        ensures { GivesText result self.new (text.read self.old) }
+        ensures read { GivesText result self.new (text.read self.old) }
+        ensures memory { OnMemory result ⊥ }
     {
         let place = self.place();
         let count = usize::from(self.number2()?);
+        if self.rest.len() < count {
+            return Err(WireRefusal::BadField(place));
+        }
+        let (front, rest) = self.rest.split_at(count);
+        self.rest = rest;
+        Ok(front)
+    }
+
+    /// The bytes of a field whose number of bytes has four bytes. They are not copied.
+    pub fn long_text(&mut self) -> Result<&'a [u8], WireRefusal>
+        ensures { GivesText result self.new ((sized w32).read self.old) }
+    {
+        let place = self.place();
+        let count = self.number4()? as usize;
         if self.rest.len() < count {
             return Err(WireRefusal::BadField(place));
         }

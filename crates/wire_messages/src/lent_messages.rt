@@ -1,5 +1,5 @@
 // Messages that are spelled from parts that stand elsewhere, so that none is copied.
-ghost use Rattle.std.specs.Prelude.{◌≡◌, [], OnOk, OnErr};
+ghost use Rattle.std.specs.Prelude.{◌≡◌, [], ◌++◌, OnOk, OnErr};
 ghost use Rattle.wire_messages.specs.Frame.{spelling, with_sequence};
 ghost use Rattle.wire_messages.specs.Hearing.{IsHeard};
 ghost use Rattle.wire_messages.specs.Lent.{asks, judged};
@@ -9,7 +9,9 @@ ghost use Rattle.wire_messages.specs.declared.operations.Heard.TheVariants.{AtCl
 ghost use Rattle.wire_messages.specs.declared.messages.Message.TheVariants.{Judged, ListRow};
 
 use crate::encoding::set_length;
-use crate::lent_writers::{put_check_frame, put_judged_frame, put_row_frame, put_verdict_frame};
+use crate::lent_writers::{
+    put_check_frame, put_judged_behind, put_judged_frame, put_row_frame, put_verdict_frame,
+};
 use crate::right_fields::{answer_is_right, policy_is_right, question_is_right};
 use bucket_eval::{BorrowedAnswer, Row, Verdict};
 use cynara_keys::{Policy, Question};
@@ -58,6 +60,25 @@ pub fn encode_judged_into(
     }
     set_length(frame);
     Ok(())
+}
+
+/// Spells the same reply behind what the buffer has. Fails for want of memory alone, and the buffer is then as it was.
+pub fn encode_judged_behind(
+    frames: &mut Bytes,
+    sequence: u16,
+    commit: u64,
+    answer: &BorrowedAnswer<'_>,
+) -> Result<(), AllocError>
+    ensures spelled { OnOk result
+        (frames.new ≡ frames.old ++ spelling (with_sequence sequence (judged commit answer.now))) }
+    ensures kept { OnErr result (frames.new ≡ frames.old) }
+    ensures heard { IsHeard Replies (with_sequence sequence (judged commit answer.now)) }
+{
+    answer_is_right(commit, answer);
+    match put_judged_behind(frames, sequence, commit, answer) {
+        Ok(()) => Ok(()),
+        Err(error) => Err(error),
+    }
 }
 
 /// Spells a verdict by value as the reply `Judged`, in place of what the buffer held. Fails for want of memory alone,

@@ -1,10 +1,13 @@
 // Frames of messages whose parts are lent, but for the length in front, which is 0.
-ghost use Rattle.std.specs.Prelude.{◌≡◌, [], ◌∷◌, ◌++◌, OnOk};
+ghost use Rattle.std.specs.Prelude.{◌≡◌, ◌≤◌, ◌+◌, [], ◌∷◌, ◌++◌, OnOk, OnErr};
+ghost use Rattle.std.specs.Int.{w16, w32, w64, to_be_bytes};
 ghost use Rattle.std.specs.Option.{option_map};
 ghost use Rattle.bucket_eval.specs.Found.{row_of};
 ghost use Rattle.wire_messages.specs.Appended.{Appended};
 ghost use Rattle.wire_messages.specs.Field as field;
-ghost use Rattle.wire_messages.specs.Frame.{body, with_sequence};
+ghost use Rattle.wire_messages.specs.Format.{text};
+ghost use Rattle.wire_messages.specs.Frame.{body, spelling, with_sequence};
+ghost use Rattle.wire_messages.specs.Right.{IsRight};
 ghost use Rattle.wire_messages.specs.Lent.{asks, judged};
 ghost use Rattle.wire_messages.specs.declared.messages.Message.TheVariants.{Judged, ListRow};
 
@@ -17,6 +20,7 @@ use crate::writers::{
     put1, put8,
 };
 use bucket_eval::{BorrowedAnswer, Verdict};
+use byteorder::{BigEndian, ByteOrder};
 use cynara_keys::{Key, Policy, Question};
 use desk_ports::Bytes;
 use std::alloc::AllocError;
@@ -57,6 +61,100 @@ pub fn put_judged_frame(
     put_ruling(out, answer.result)?;
     put_bucket(out, answer.bucket)?;
     put_optional_key(out, answer.key)
+}
+
+/// Puts the whole frame of a verdict on a lent answer behind what the buffer has, or leaves the buffer as it is.
+pub fn put_judged_behind(
+    out: &mut Bytes,
+    sequence: u16,
+    commit: u64,
+    answer: &BorrowedAnswer<'_>,
+) -> Result<(), AllocError>
+    requires { IsRight (judged commit answer.now) }
+    ensures spelled { OnOk result
+        (out.new ≡ out.old ++ spelling (with_sequence sequence (judged commit answer.now))) }
+    ensures kept { OnErr result (out.new ≡ out.old) }
+{
+    let metadata = answer.result.metadata().as_slice();
+    let bucket = answer.bucket.as_slice();
+    let (flag, key) = flag_and_key(answer.key);
+    let length = judged_length(metadata.len(), bucket.len(), key.len());
+    let kind = answer.result.kind().0;
+    let head = judged_head(length, sequence, commit, kind, metadata.len());
+    match put_parts(out, &head, metadata, bucket, flag, key) {
+        Ok(()) => Ok(()),
+        Err(error) => Err(error),
+    }
+}
+
+// The length of the frame of a verdict.
+fn judged_length(metadata: usize, bucket: usize, key: usize) -> u32
+    requires metadata { metadata ≤ 255 }
+    requires bucket { bucket ≤ 255 }
+    requires key { key ≤ 771 }
+    ensures { result ≡ 18 + metadata + bucket + key }
+{
+    (18 + metadata + bucket + key) as u32
+}
+
+// What stands in a frame of a verdict up to its metadata.
+fn judged_head(length: u32, sequence: u16, commit: u64, kind: u16, count: usize) -> [u8; 19]
+    ensures { result ≡ to_be_bytes w32 length ++ (to_be_bytes w16 sequence ++ (129 ∷ (to_be_bytes w64 commit
+        ++ (to_be_bytes w16 kind ++ to_be_bytes w16 count)))) }
+{
+    let mut front = [0; 4];
+    BigEndian::write_u32(&mut front, length);
+    let mut number = [0; 2];
+    BigEndian::write_u16(&mut number, sequence);
+    let mut at = [0; 8];
+    BigEndian::write_u64(&mut at, commit);
+    let mut of = [0; 2];
+    BigEndian::write_u16(&mut of, kind);
+    let mut many = [0; 8];
+    BigEndian::write_u64(&mut many, count as u64);
+    [
+        front[0], front[1], front[2], front[3], number[0], number[1], 0x81, at[0], at[1], at[2],
+        at[3], at[4], at[5], at[6], at[7], of[0], of[1], many[6], many[7],
+    ]
+}
+
+// Puts the head of a frame, its metadata, its bucket and its key behind a flag, all or none of them.
+fn put_parts(
+    out: &mut Bytes,
+    head: &[u8],
+    metadata: &[u8],
+    bucket: &[u8],
+    flag: u8,
+    key: &[u8],
+) -> Result<(), AllocError>
+    ensures spelled { OnOk result (out.new ≡ out.old ++ ((head.now ++ metadata.now)
+        ++ (text.spelled bucket.now ++ (flag ∷ key.now)))) }
+    ensures kept { OnErr result (out.new ≡ out.old) }
+{
+    let before = out.len();
+    if let Err(error) = out.append_both(head, metadata) {
+        return Err(error);
+    }
+    if let Err(error) = put_text(out, bucket) {
+        out.truncate(before);
+        return Err(error);
+    }
+    if let Err(error) = out.append_both(&[flag], key) {
+        out.truncate(before);
+        return Err(error);
+    }
+    Ok(())
+}
+
+// The flag of a key and its packed texts: 1 and the texts where there is a key, else 0 and no texts.
+fn flag_and_key<'a>(key: Option<&'a Key>) -> (u8, &'a [u8])
+    ensures spelled { result.0 ∷ result.1.now
+        ≡ (field.optional field.row).spelled (option_map row_of (option_map (λ key. key.now) key.entry)) }
+{
+    match key {
+        None => (0, b""),
+        Some(key) => (1, key.packed()),
+    }
 }
 
 /// Puts the frame of a verdict into the empty buffer, behind four bytes of room for its length.

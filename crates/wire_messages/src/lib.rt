@@ -12,6 +12,7 @@ mod feeding;
 mod fields;
 mod five_texts;
 mod laws;
+mod lent_checks;
 mod lent_messages;
 mod lent_writers;
 mod limits;
@@ -37,14 +38,17 @@ pub use laws::{
     no_byte_past_a_frame, one_reading, one_refusal, one_spelling, pieces_do_not_matter,
     what_is_heard_is_spelled, what_is_spelled_is_heard,
 };
+pub use lent_checks::{LentCheck, check_in_front};
 pub use lent_messages::{
-    encode_check_into, encode_judged_into, encode_row_into, encode_verdict_into,
+    encode_check_into, encode_judged_behind, encode_judged_into, encode_row_into,
+    encode_verdict_into,
 };
-pub use limits::{LEAST_LENGTH, MOST_FRAME_BYTES, MOST_LENGTH};
+pub use limits::{LEAST_LENGTH, MOST_FRAME_BYTES, MOST_LENGTH, MOST_PART_BYTES};
 pub use messages::{Framed, Message};
 pub use operations::{Heard, Operation};
 pub use refusals::{EncodeRefusal, WireRefusal};
 pub use right_fields::{
     agent_question_is_right, answer_is_right, policy_is_right, question_is_right,
+    state_file_is_right,
 };
 pub use verdicts::{BorrowedRow, PackedVerdict};

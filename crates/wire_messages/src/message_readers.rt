@@ -5,8 +5,8 @@ ghost use Rattle.wire_messages.specs.Message as message;
 use crate::fields::Fields;
 use crate::list_readers::{changes, install, verdict};
 use crate::readers::{
-    agent_kind, bucket, file_name, filter, flag, ident, kind, most, policy, question, ruling,
-    scope, template, user_type,
+    agent_kind, bucket, file_name, file_part, filter, flag, ident, kind, most, policy, question,
+    ruling, scope, template, user_type,
 };
 use crate::refusal_readers::refusal;
 use crate::{Message, Operation, WireRefusal};
@@ -38,6 +38,7 @@ pub fn message(
         Operation::Stop => Ok(Message::Stop),
         Operation::InstallHybrid => install_hybrid(alloc, fields),
         Operation::Convert => convert(alloc, fields),
+        Operation::ReadState => Ok(Message::ReadState),
         Operation::Register => register(fields),
         Operation::AgentAnswer => agent_answer(fields),
         Operation::Judged => judged(alloc, fields),
@@ -52,10 +53,13 @@ pub fn message(
         Operation::ListEnd => list_end(fields),
         Operation::StoreFault => Ok(Message::StoreFault),
         Operation::StoreDamaged => store_damaged(alloc, fields),
+        Operation::StateFile => state_file(alloc, fields),
+        Operation::StateEnd => state_end(fields),
         Operation::Registered => registered(fields),
         Operation::KindTaken => kind_taken(fields),
         Operation::AgentQuestion => agent_question(alloc, fields),
         Operation::UnknownNumber => unknown_number(fields),
+        Operation::AgentWithdrawn => agent_withdrawn(fields),
     }
 }
 
@@ -284,6 +288,21 @@ fn store_damaged(alloc: Global, fields: &mut Fields) -> Result<Message, WireRefu
     Ok(Message::StoreDamaged { file, line })
 }
 
+fn state_file(alloc: Global, fields: &mut Fields) -> Result<Message, WireRefusal>
+    ensures { Gives result fields.new (message.read Operation.StateFile fields.old) }
+{
+    let name = file_name(alloc, fields)?;
+    let bytes = file_part(alloc, fields)?;
+    Ok(Message::StateFile { name, bytes })
+}
+
+fn state_end(fields: &mut Fields) -> Result<Message, WireRefusal>
+    ensures { Gives result fields.new (message.read Operation.StateEnd fields.old) }
+{
+    let commit = fields.number8()?;
+    Ok(Message::StateEnd { commit })
+}
+
 fn registered(fields: &mut Fields) -> Result<Message, WireRefusal>
     ensures { Gives result fields.new (message.read Operation.Registered fields.old) }
 {
@@ -316,4 +335,11 @@ fn unknown_number(fields: &mut Fields) -> Result<Message, WireRefusal>
 {
     let number = fields.number4()?;
     Ok(Message::UnknownNumber { number })
+}
+
+fn agent_withdrawn(fields: &mut Fields) -> Result<Message, WireRefusal>
+    ensures { Gives result fields.new (message.read Operation.AgentWithdrawn fields.old) }
+{
+    let number = fields.number4()?;
+    Ok(Message::AgentWithdrawn { number })
 }

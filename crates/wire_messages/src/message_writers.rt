@@ -6,8 +6,8 @@ ghost use Rattle.wire_messages.specs.Operation.{number_of};
 
 use crate::list_writers::{put_changes, put_install, put_refusal, put_verdict};
 use crate::writers::{
-    put_bucket, put_file_name, put_filter, put_flag, put_ident, put_kind, put_policy, put_question,
-    put_ruling, put_scope, put_template, put_user_type, put4, put8,
+    put_bucket, put_file_name, put_filter, put_flag, put_ident, put_kind, put_part, put_policy,
+    put_question, put_ruling, put_scope, put_template, put_user_type, put4, put8,
 };
 use crate::{Message, Operation};
 use cynara_keys::Kind;
@@ -36,6 +36,7 @@ pub fn operation(message: &Message) -> Operation
         Message::Stop => Operation::Stop,
         Message::InstallHybrid { .. } => Operation::InstallHybrid,
         Message::Convert { .. } => Operation::Convert,
+        Message::ReadState => Operation::ReadState,
         Message::Register { .. } => Operation::Register,
         Message::AgentAnswer { .. } => Operation::AgentAnswer,
         Message::Judged { .. } => Operation::Judged,
@@ -50,10 +51,13 @@ pub fn operation(message: &Message) -> Operation
         Message::ListEnd { .. } => Operation::ListEnd,
         Message::StoreFault => Operation::StoreFault,
         Message::StoreDamaged { .. } => Operation::StoreDamaged,
+        Message::StateFile { .. } => Operation::StateFile,
+        Message::StateEnd { .. } => Operation::StateEnd,
         Message::Registered { .. } => Operation::Registered,
         Message::KindTaken { .. } => Operation::KindTaken,
         Message::AgentQuestion { .. } => Operation::AgentQuestion,
         Message::UnknownNumber { .. } => Operation::UnknownNumber,
+        Message::AgentWithdrawn { .. } => Operation::AgentWithdrawn,
     }
 }
 
@@ -114,6 +118,7 @@ pub fn put_fields(out: &mut Bytes, message: &Message) -> Result<(), AllocError>
             put_ident(out, package)?;
             put_flag(out, *hybrid)
         }
+        Message::ReadState => Ok(()),
         Message::Register { kind } => put_kind(out, *kind),
         Message::AgentAnswer { number, allowed } => {
             put4(out, *number)?;
@@ -145,6 +150,11 @@ pub fn put_fields(out: &mut Bytes, message: &Message) -> Result<(), AllocError>
             put_file_name(out, file)?;
             put4(out, *line)
         }
+        Message::StateFile { name, bytes } => {
+            put_file_name(out, name)?;
+            put_part(out, bytes.as_slice())
+        }
+        Message::StateEnd { commit } => put8(out, *commit),
         Message::Registered { kind } => put_kind(out, *kind),
         Message::KindTaken { kind } => put_kind(out, *kind),
         Message::AgentQuestion {
@@ -157,6 +167,7 @@ pub fn put_fields(out: &mut Bytes, message: &Message) -> Result<(), AllocError>
             put_ruling(out, result)
         }
         Message::UnknownNumber { number } => put4(out, *number),
+        Message::AgentWithdrawn { number } => put4(out, *number),
     }
 }
 

@@ -2,7 +2,7 @@ use crate::PackedVerdict;
 use app_registry::{Ident, Install, Scope, UserType};
 use bucket_store::Changes;
 use cynara_keys::{BucketName, Filter, Kind, Policy, PolicyResult, Question};
-use desk_ports::FileName;
+use desk_ports::{Bytes, FileName};
 use desk_state::Refusal;
 use rule_templates::Template;
 
@@ -71,6 +71,8 @@ pub enum Message {
         package: Ident,
         hybrid: bool,
     },
+    /// An administrator asks for the whole policy state.
+    ReadState,
     /// An agent says what kind it answers.
     Register {
         kind: Kind,
@@ -136,6 +138,16 @@ pub enum Message {
         file: FileName,
         line: u32,
     },
+    /// Bytes of a file of the policy state that was asked for, at most 65,536 of them. A file of more comes in several
+    /// replies, one behind the other.
+    StateFile {
+        name: FileName,
+        bytes: Bytes,
+    },
+    /// The end of the policy state that was asked for, and the commit that it is of.
+    StateEnd {
+        commit: u64,
+    },
     /// The agent is registered.
     Registered {
         kind: Kind,
@@ -152,6 +164,10 @@ pub enum Message {
     },
     /// No question of the number waits for an answer.
     UnknownNumber {
+        number: u32,
+    },
+    /// The question of the number needs no answer any more: who asked it has left.
+    AgentWithdrawn {
         number: u32,
     },
 }

@@ -36,6 +36,7 @@ pub enum Operation {
     Stop,
     InstallHybrid,
     Convert,
+    ReadState,
     Register,
     AgentAnswer,
     Judged,
@@ -50,10 +51,13 @@ pub enum Operation {
     ListEnd,
     StoreFault,
     StoreDamaged,
+    StateFile,
+    StateEnd,
     Registered,
     KindTaken,
     AgentQuestion,
     UnknownNumber,
+    AgentWithdrawn,
 }
 
 impl Operation {
@@ -92,6 +96,7 @@ impl Operation {
             Operation::Stop => 0x1C,
             Operation::InstallHybrid => 0x1D,
             Operation::Convert => 0x1E,
+            Operation::ReadState => 0x1F,
             Operation::Register => 0x20,
             Operation::AgentAnswer => 0x21,
             Operation::Judged => 0x81,
@@ -106,10 +111,13 @@ impl Operation {
             Operation::ListEnd => 0x93,
             Operation::StoreFault => 0x95,
             Operation::StoreDamaged => 0x96,
+            Operation::StateFile => 0x97,
+            Operation::StateEnd => 0x98,
             Operation::Registered => 0xA0,
             Operation::KindTaken => 0xA1,
             Operation::AgentQuestion => 0xA2,
             Operation::UnknownNumber => 0xA3,
+            Operation::AgentWithdrawn => 0xA4,
         }
     }
 }
@@ -143,6 +151,7 @@ fn at_admin(number: u8) -> Option<Operation>
         0x1C => Some(Operation::Stop),
         0x1D => Some(Operation::InstallHybrid),
         0x1E => Some(Operation::Convert),
+        0x1F => Some(Operation::ReadState),
         _ => None,
     }
 }
@@ -173,6 +182,8 @@ fn reply(number: u8) -> Option<Operation>
         0x93 => Some(Operation::ListEnd),
         0x95 => Some(Operation::StoreFault),
         0x96 => Some(Operation::StoreDamaged),
+        0x97 => Some(Operation::StateFile),
+        0x98 => Some(Operation::StateEnd),
         _ => None,
     }
 }
@@ -185,6 +196,7 @@ fn agent_reply(number: u8) -> Option<Operation>
         0xA1 => Some(Operation::KindTaken),
         0xA2 => Some(Operation::AgentQuestion),
         0xA3 => Some(Operation::UnknownNumber),
+        0xA4 => Some(Operation::AgentWithdrawn),
         _ => None,
     }
 }

@@ -3,12 +3,13 @@ ghost use Rattle.std.specs.Prelude.{◌≡◌, ◌≤◌, None, IfOk, length};
 ghost use Rattle.cynara_keys.specs.Limits.{most_short_bytes};
 ghost use Rattle.cynara_keys.specs.Name.{name_fault};
 ghost use Rattle.cynara_keys.specs.Field.{field_fault};
-ghost use Rattle.wire_messages.specs.Left.{Gives, GivesText};
+ghost use Rattle.wire_messages.specs.Left.{Gives, GivesText, OnMemory};
 ghost use Rattle.wire_messages.specs.Format as format;
 ghost use Rattle.wire_messages.specs.Field as field;
 
 use crate::WireRefusal;
 use crate::fields::Fields;
+use crate::limits::MOST_PART_BYTES;
 use crate::verdicts::BorrowedRuling;
 use app_registry::{Ident, IdentRefusal, Scope, UserType};
 use cynara_keys::{
@@ -16,7 +17,7 @@ use cynara_keys::{
     NameRefusal, Policy, PolicyResult, Question, field_fault, is_bucket_name, is_metadata,
     name_fault,
 };
-use desk_ports::{FileName, FileNameRefusal};
+use desk_ports::{Bytes, FileName, FileNameRefusal};
 use rule_templates::{Template, TemplateRefusal};
 use std::alloc::Global;
 
@@ -59,10 +60,11 @@ pub fn bucket_text<'a>(fields: &mut Fields<'a>) -> Result<&'a [u8], WireRefusal>
     Ok(text)
 }
 
-// the bytes of a name, which are not copied
-fn name_text<'a>(fields: &mut Fields<'a>) -> Result<&'a [u8], WireRefusal>
+/// Reads the bytes of a name, which are lent and not copied.
+pub fn name_text<'a>(fields: &mut Fields<'a>) -> Result<&'a [u8], WireRefusal>
     ensures text { GivesText result fields.new (field.name.read fields.old) }
     ensures name { IfOk result (λ text. name_fault text.now ≡ None) }
+    ensures memory { OnMemory result ⊥ }
 {
     let place = fields.place();
     let text = fields.text()?;
@@ -291,6 +293,20 @@ pub fn file_name(alloc: Global, fields: &mut Fields) -> Result<FileName, WireRef
         Err(FileNameRefusal::Memory(error)) => Err(WireRefusal::Memory(error)),
         Err(_) => Err(WireRefusal::BadField(place)),
     }
+}
+
+/// Reads bytes of a file: at most 65,536 behind their number, which has four bytes. They are copied.
+pub fn file_part(alloc: Global, fields: &mut Fields) -> Result<Bytes, WireRefusal>
+    ensures { Gives result fields.new (field.file_part.read fields.old) }
+{
+    let place = fields.place();
+    let part = fields.long_text()?;
+    if part.len() > MOST_PART_BYTES {
+        return Err(WireRefusal::BadField(place));
+    }
+    let mut bytes = Bytes::new(alloc);
+    bytes.append(part)?;
+    Ok(bytes)
 }
 
 /// Reads a template of rules in its one spelling.

@@ -30,64 +30,116 @@ fn refusal_by(alloc: Global, rule: Rule, fields: &mut Fields) -> Result<Refusal,
     ensures { Gives result fields.new (read_rule rule fields.old) }
 {
     match rule {
-        Rule::Reserved => {
-            let name = bucket(alloc, fields)?;
-            zero(fields)?;
-            Ok(Refusal::Reserved(name))
-        }
-        Rule::LayoutThere => {
-            nothing_more(fields)?;
-            Ok(Refusal::LayoutThere)
-        }
-        Rule::NoLayout => {
-            nothing_more(fields)?;
-            Ok(Refusal::NoLayout)
-        }
-        Rule::NoBucket => {
-            let name = bucket(alloc, fields)?;
-            zero(fields)?;
-            Ok(Refusal::NoBucket(name))
-        }
-        Rule::RootBucket => {
-            nothing_more(fields)?;
-            Ok(Refusal::RootBucket)
-        }
-        Rule::BadKind => {
-            empty(fields)?;
-            Ok(Refusal::BadKind(Kind(kind_value(fields)?)))
-        }
-        Rule::UnknownUser => {
-            empty(fields)?;
-            Ok(Refusal::UnknownUser(uid_value(fields)?))
-        }
-        Rule::OtherPackage => {
-            let name = ident(alloc, fields)?;
-            zero(fields)?;
-            Ok(Refusal::OtherPackage(name))
-        }
-        Rule::OtherAuthor => {
-            let name = author(alloc, fields)?;
-            zero(fields)?;
-            Ok(Refusal::OtherAuthor(name))
-        }
-        Rule::OtherHybrid => {
-            empty(fields)?;
-            Ok(Refusal::OtherHybrid(yes_value(fields)?))
-        }
-        Rule::NotInstalled => {
-            nothing_more(fields)?;
-            Ok(Refusal::NotInstalled)
-        }
-        Rule::Limit => {
-            let counted = counted(fields)?;
-            Ok(Refusal::Limit(counted, fields.number8()?))
-        }
-        Rule::Cycle => {
-            let name = bucket(alloc, fields)?;
-            zero(fields)?;
-            Ok(Refusal::Cycle(name))
-        }
+        Rule::Reserved => reserved(alloc, fields),
+        Rule::LayoutThere => layout_there(fields),
+        Rule::NoLayout => no_layout(fields),
+        Rule::NoBucket => no_bucket(alloc, fields),
+        Rule::RootBucket => root_bucket(fields),
+        Rule::BadKind => bad_kind(fields),
+        Rule::UnknownUser => unknown_user(fields),
+        Rule::OtherPackage => other_package(alloc, fields),
+        Rule::OtherAuthor => other_author(alloc, fields),
+        Rule::OtherHybrid => other_hybrid(fields),
+        Rule::NotInstalled => not_installed(fields),
+        Rule::Limit => limit(fields),
+        Rule::Cycle => cycle(alloc, fields),
     }
+}
+
+fn reserved(alloc: Global, fields: &mut Fields) -> Result<Refusal, WireRefusal>
+    ensures { Gives result fields.new (read_rule Rule.Reserved fields.old) }
+{
+    let name = bucket(alloc, fields)?;
+    zero(fields)?;
+    Ok(Refusal::Reserved(name))
+}
+
+fn layout_there(fields: &mut Fields) -> Result<Refusal, WireRefusal>
+    ensures { Gives result fields.new (read_rule Rule.LayoutThere fields.old) }
+{
+    nothing_more(fields)?;
+    Ok(Refusal::LayoutThere)
+}
+
+fn no_layout(fields: &mut Fields) -> Result<Refusal, WireRefusal>
+    ensures { Gives result fields.new (read_rule Rule.NoLayout fields.old) }
+{
+    nothing_more(fields)?;
+    Ok(Refusal::NoLayout)
+}
+
+fn no_bucket(alloc: Global, fields: &mut Fields) -> Result<Refusal, WireRefusal>
+    ensures { Gives result fields.new (read_rule Rule.NoBucket fields.old) }
+{
+    let name = bucket(alloc, fields)?;
+    zero(fields)?;
+    Ok(Refusal::NoBucket(name))
+}
+
+fn root_bucket(fields: &mut Fields) -> Result<Refusal, WireRefusal>
+    ensures { Gives result fields.new (read_rule Rule.RootBucket fields.old) }
+{
+    nothing_more(fields)?;
+    Ok(Refusal::RootBucket)
+}
+
+fn bad_kind(fields: &mut Fields) -> Result<Refusal, WireRefusal>
+    ensures { Gives result fields.new (read_rule Rule.BadKind fields.old) }
+{
+    empty(fields)?;
+    Ok(Refusal::BadKind(Kind(kind_value(fields)?)))
+}
+
+fn unknown_user(fields: &mut Fields) -> Result<Refusal, WireRefusal>
+    ensures { Gives result fields.new (read_rule Rule.UnknownUser fields.old) }
+{
+    empty(fields)?;
+    Ok(Refusal::UnknownUser(uid_value(fields)?))
+}
+
+fn other_package(alloc: Global, fields: &mut Fields) -> Result<Refusal, WireRefusal>
+    ensures { Gives result fields.new (read_rule Rule.OtherPackage fields.old) }
+{
+    let name = ident(alloc, fields)?;
+    zero(fields)?;
+    Ok(Refusal::OtherPackage(name))
+}
+
+fn other_author(alloc: Global, fields: &mut Fields) -> Result<Refusal, WireRefusal>
+    ensures { Gives result fields.new (read_rule Rule.OtherAuthor fields.old) }
+{
+    let name = author(alloc, fields)?;
+    zero(fields)?;
+    Ok(Refusal::OtherAuthor(name))
+}
+
+fn other_hybrid(fields: &mut Fields) -> Result<Refusal, WireRefusal>
+    ensures { Gives result fields.new (read_rule Rule.OtherHybrid fields.old) }
+{
+    empty(fields)?;
+    Ok(Refusal::OtherHybrid(yes_value(fields)?))
+}
+
+fn not_installed(fields: &mut Fields) -> Result<Refusal, WireRefusal>
+    ensures { Gives result fields.new (read_rule Rule.NotInstalled fields.old) }
+{
+    nothing_more(fields)?;
+    Ok(Refusal::NotInstalled)
+}
+
+fn limit(fields: &mut Fields) -> Result<Refusal, WireRefusal>
+    ensures { Gives result fields.new (read_rule Rule.Limit fields.old) }
+{
+    let counted = counted(fields)?;
+    Ok(Refusal::Limit(counted, fields.number8()?))
+}
+
+fn cycle(alloc: Global, fields: &mut Fields) -> Result<Refusal, WireRefusal>
+    ensures { Gives result fields.new (read_rule Rule.Cycle fields.old) }
+{
+    let name = bucket(alloc, fields)?;
+    zero(fields)?;
+    Ok(Refusal::Cycle(name))
 }
 
 // an empty text and a value of 0

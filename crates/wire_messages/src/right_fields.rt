@@ -1,6 +1,6 @@
 // What the types of fields keep, told to the contracts of messages that are made of values. These functions change
 // nothing: that a name is a name is what its type knows.
-ghost use Rattle.std.specs.Prelude.{◌<◌, ◌^◌, length, OnOk};
+ghost use Rattle.std.specs.Prelude.{◌<◌, ◌≤◌, ◌^◌, length, OnOk};
 ghost use Rattle.std.specs.List.{AllByRecursion};
 ghost use Rattle.wire_messages.specs.Commands.{IsByRule, HasRightText, install_message, message_of};
 ghost use Rattle.wire_messages.specs.Right.{IsName, IsBucket, IsIdent, IsAuthor, IsFilterField, IsKey, IsFilter};
@@ -17,6 +17,7 @@ use bucket_store::Change;
 use cynara_keys::{
     BucketName, Filter, FilterField, Key, Kind, Name, Policy, PolicyResult, Question,
 };
+use desk_ports::{Bytes, FileName};
 use desk_state::{Command, Refusal};
 use rule_templates::Template;
 use std::alloc::AllocError;
@@ -229,6 +230,15 @@ pub fn policy_is_right(policy: &Policy)
 {
     key_is_right(&policy.key);
     ruling_is_right(&policy.result);
+}
+
+/// A law, which does nothing when it is called: no field of the reply is wrong that has so few bytes of a file.
+pub fn state_file_is_right(name: &FileName, bytes: &Bytes)
+    requires { length bytes.now ≤ 65536 }
+    ensures { IsRight (Message.StateFile name.now bytes.now) }
+{
+    let _name = name.as_slice();
+    let _bytes = bytes.as_slice();
 }
 
 /// A law, which does nothing when it is called: no field of what an agent is asked is wrong.

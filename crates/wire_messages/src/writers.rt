@@ -1,5 +1,5 @@
 // The fields of messages, appended to a frame in their one spelling.
-ghost use Rattle.std.specs.Prelude.{◌≡◌, ◌∷◌, [], length};
+ghost use Rattle.std.specs.Prelude.{◌≡◌, ◌∷◌, [], length, OnErr};
 ghost use Rattle.std.specs.Int.{w16, w32, w64, to_be_bytes};
 ghost use Rattle.wire_messages.specs.Format as format;
 ghost use Rattle.wire_messages.specs.Field as field;
@@ -71,9 +71,10 @@ pub fn put_count(out: &mut Bytes, count: usize) -> Result<(), AllocError>
     out.append(&bytes[4..])
 }
 
-/// Puts a text behind the number of its bytes, which has two bytes.
+/// Puts a text behind the number of its bytes, which has two bytes. Where it finds no memory, the buffer stays as it was.
 pub fn put_text(out: &mut Bytes, text: &[u8]) -> Result<(), AllocError>
-    ensures { Appended result out.old out.new (format.text.spelled text.now) }
+    ensures appended { Appended result out.old out.new (format.text.spelled text.now) }
+    ensures kept { OnErr result (out.new ≡ out.old) }
 {
     let mut count = [0; 8];
     BigEndian::write_u64(&mut count, text.len() as u64);
@@ -87,6 +88,15 @@ pub fn put1_and_text(out: &mut Bytes, n: u8, text: &[u8]) -> Result<(), AllocErr
     let mut count = [0; 8];
     BigEndian::write_u64(&mut count, text.len() as u64);
     out.append_both(&[n, count[6], count[7]], text)
+}
+
+/// Puts bytes of a file behind their number, which has four bytes.
+pub fn put_part(out: &mut Bytes, part: &[u8]) -> Result<(), AllocError>
+    ensures { Appended result out.old out.new (field.file_part.spelled part.now) }
+{
+    let mut count = [0; 8];
+    BigEndian::write_u64(&mut count, part.len() as u64);
+    out.append_both(&count[4..], part)
 }
 
 /// Puts the name of a client, a user or a privilege.

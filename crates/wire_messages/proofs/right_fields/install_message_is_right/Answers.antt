@@ -1,4 +1,4 @@
-use Rattle.std.proofs.Common.{◌≡◌, ◌^◌, ◌<◌, Bool, true, false, cond, length}
+use Rattle.std.proofs.Common.{◌^◌, ◌<◌, Bool, true, false, cond, length}
 use Rattle.app_registry.specs.declared.installs.Install.{Install}
 use Rattle.wire_messages.specs.declared.messages.Message.TheVariants as message
 use Rattle.wire_messages.specs.Right.{IsInstall, IsRight, HasRoom}

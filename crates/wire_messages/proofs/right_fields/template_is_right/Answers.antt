@@ -1,4 +1,4 @@
-use Rattle.std.proofs.Common.{◌≡◌, Result, Ok, List, rules, ap, sym, ◌∙◌}
+use Rattle.std.proofs.Common.{◌≡◌, Ok, ap, sym, ◌∙◌}
 use Rattle.rule_templates.specs.Template.{template_of, template_text}
 use Rattle.wire_messages.proofs.Templates.{template_room}
 use Rattle.wire_messages.proofs.right_fields.template_is_right.Goals as goal
