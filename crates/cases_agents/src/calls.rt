@@ -56,10 +56,10 @@ fn register(table: &mut Questions, alloc: Global, kind: u32) -> Result<String, F
     }
 }
 
-// An agent for every kind that may have one.
+// An agent for each kind in turn, as long as one is taken in. How many were.
 fn register_all(table: &mut Questions, alloc: Global) -> Result<String, Failure> {
     let mut count = 0u32;
-    for number in 2..65534 {
+    for number in 2..100 {
         if table.register(agent(number)?).is_ok() {
             count = count.saturating_add(1);
         }

@@ -5,6 +5,7 @@ use live_desk::{Publisher, Seat};
 use server_hall::{Hall, Locked};
 use std::alloc::Global;
 use std::sync::Wait;
+use std::time::Clock;
 
 fn question(alloc: Global) -> Option<Question> {
     let client = Name::read(alloc, b"c").ok()?;
@@ -19,7 +20,7 @@ fn question(alloc: Global) -> Option<Question> {
     .ok()
 }
 
-fn enter<R: Wait + Drop>(
+fn enter<R: Wait + Clock + Drop>(
     hall: &mut Locked<'_, R, MemEnd>,
     seat: &mut Seat,
     link: &mut MemLink,
@@ -28,31 +29,40 @@ fn enter<R: Wait + Drop>(
     hall.enter(end, seat).ok()
 }
 
-fn join_twice<R: Wait + Drop>(alloc: Global, hall: &mut Locked<'_, R, MemEnd>) -> Option<String> {
+fn join_twice<R: Wait + Clock + Drop>(
+    alloc: Global,
+    hall: &mut Locked<'_, R, MemEnd>,
+) -> Option<String> {
     let joined = hall.join(Kind(10));
     let twice = hall.join(Kind(10));
     format!(in alloc; "join {joined:?} and {twice:?}").ok()
 }
 
-fn ask<R: Wait + Drop>(
+fn ask<R: Wait + Clock + Drop>(
     alloc: Global,
     hall: &mut Locked<'_, R, MemEnd>,
     kind: Kind,
+    link: &mut MemLink,
 ) -> Option<String> {
     if !kind.is_agent() {
         return None;
     }
     let question = question(alloc)?;
-    let refusal = hall.ask(kind, question, Metadata::empty(alloc)).err()?;
+    let refusal = hall
+        .ask(kind, question, Metadata::empty(alloc), link)
+        .err()?;
     format!(in alloc; "ask {refusal:?}").ok()
 }
 
-fn answer<R: Wait + Drop>(alloc: Global, hall: &mut Locked<'_, R, MemEnd>) -> Option<String> {
+fn answer<R: Wait + Clock + Drop>(
+    alloc: Global,
+    hall: &mut Locked<'_, R, MemEnd>,
+) -> Option<String> {
     let answered = hall.answer(Kind(10), 0, true);
     format!(in alloc; "answer {answered:?}").ok()
 }
 
-fn leave<R: Wait + Drop>(
+fn leave<R: Wait + Clock + Drop>(
     alloc: Global,
     hall: &mut Locked<'_, R, MemEnd>,
     entered: u64,
@@ -61,7 +71,10 @@ fn leave<R: Wait + Drop>(
     format!(in alloc; "leave {left:?}").ok()
 }
 
-fn counts<R: Wait + Drop>(alloc: Global, hall: &mut Locked<'_, R, MemEnd>) -> Option<String> {
+fn counts<R: Wait + Clock + Drop>(
+    alloc: Global,
+    hall: &mut Locked<'_, R, MemEnd>,
+) -> Option<String> {
     let leaves = hall.tally().leaves();
     let stops = hall.tally().stops();
     let losses = hall.tally().losses();
@@ -69,7 +82,7 @@ fn counts<R: Wait + Drop>(alloc: Global, hall: &mut Locked<'_, R, MemEnd>) -> Op
 }
 
 /// Enters, joins, asks in vain, answers in vain, leaves and enters again by a further link.
-pub fn before_a_commit<R: Wait + Drop>(
+pub fn before_a_commit<R: Wait + Clock + Drop>(
     alloc: Global,
     hall: &mut Locked<'_, R, MemEnd>,
     seat: &mut Seat,
@@ -78,7 +91,7 @@ pub fn before_a_commit<R: Wait + Drop>(
 ) -> Option<String> {
     let entered = enter(hall, seat, link)?;
     let joined = join_twice(alloc, hall)?;
-    let asked = ask(alloc, hall, Kind(11))?;
+    let asked = ask(alloc, hall, Kind(11), link)?;
     let answered = answer(alloc, hall)?;
     let left = leave(alloc, hall, entered)?;
     let again = enter(hall, seat, further)?;
@@ -89,7 +102,7 @@ pub fn before_a_commit<R: Wait + Drop>(
 }
 
 /// Hangs up what entered before the commit, leaves and enters by a further link.
-pub fn behind_a_commit<R: Wait + Drop>(
+pub fn behind_a_commit<R: Wait + Clock + Drop>(
     alloc: Global,
     hall: &mut Locked<'_, R, MemEnd>,
     seat: &mut Seat,
@@ -111,7 +124,7 @@ pub fn behind_a_commit<R: Wait + Drop>(
 
 /// A connection enters behind the publication of a state and before the hang-up: it is told the commit before, is answered at
 /// the new one, and is hung up as those are that entered before.
-pub fn between_publication_and_hang_up<R: Wait, W: Wait + Drop>(
+pub fn between_publication_and_hang_up<R: Wait + Clock, W: Wait + Clock + Drop>(
     rt: &R,
     alloc: Global,
     hall: &mut Locked<'_, W, MemEnd>,
@@ -141,15 +154,15 @@ fn checked_at<R: Wait>(rt: &R, alloc: Global, seat: &mut Seat) -> Option<u64> {
 }
 
 /// Is refused everything.
-pub fn behind_a_stop<R: Wait + Drop>(
+pub fn behind_a_stop<R: Wait + Clock + Drop>(
     alloc: Global,
     hall: &mut Locked<'_, R, MemEnd>,
     seat: &mut Seat,
     link: &mut MemLink,
 ) -> Option<String> {
     let entered = refused_entry(alloc, hall, seat, link)?;
-    let joined = refused_agent(alloc, hall)?;
-    let asked = ask(alloc, hall, Kind(10))?;
+    let joined = refused_agent(alloc, hall, link)?;
+    let asked = ask(alloc, hall, Kind(10), link)?;
     let left = leave(alloc, hall, 1)?;
     let stops = hall.tally().stops();
     let calls = hall.tally().stop_calls();
@@ -158,7 +171,7 @@ pub fn behind_a_stop<R: Wait + Drop>(
     ).ok()
 }
 
-fn refused_entry<R: Wait + Drop>(
+fn refused_entry<R: Wait + Clock + Drop>(
     alloc: Global,
     hall: &mut Locked<'_, R, MemEnd>,
     seat: &mut Seat,
@@ -169,11 +182,57 @@ fn refused_entry<R: Wait + Drop>(
     format!(in alloc; "enter {entered:?}").ok()
 }
 
-fn refused_agent<R: Wait + Drop>(
+fn refused_agent<R: Wait + Clock + Drop>(
+    alloc: Global,
+    hall: &mut Locked<'_, R, MemEnd>,
+    link: &mut MemLink,
+) -> Option<String> {
+    let joined = hall.join(Kind(11));
+    let next = hall.next(Kind(10), link).err();
+    format!(in alloc; "join {joined:?}; next {next:?}").ok()
+}
+
+/// Whoever asks has left, and so has the agent: the question is taken away, and nobody is given it.
+pub fn behind_those_who_left<R: Wait + Clock + Drop>(
+    alloc: Global,
+    hall: &mut Locked<'_, R, MemEnd>,
+    asker: &mut MemLink,
+    agent: &mut MemLink,
+) -> Option<String> {
+    let joined = hall.join(Kind(10));
+    let asked = ask(alloc, hall, Kind(10), asker)?;
+    let open = hall.is_open(0);
+    let next = hall.next(Kind(10), agent).err();
+    let answered = answer(alloc, hall)?;
+    let looks = hall.tally().looks();
+    let down = (asker.tally().is_down(), agent.tally().is_down());
+    format!(in alloc;
+        "join {joined:?}; {asked}; open {open}; next {next:?}; {answered}; looks {looks}; down {} and {}",
+        down.0, down.1
+    )
+    .ok()
+}
+
+/// As many kinds have an agent as may, and one more comes.
+pub fn with_all_agents<R: Wait + Clock + Drop>(
     alloc: Global,
     hall: &mut Locked<'_, R, MemEnd>,
 ) -> Option<String> {
-    let joined = hall.join(Kind(11));
-    let next = hall.next(Kind(10)).err();
-    format!(in alloc; "join {joined:?}; next {next:?}").ok()
+    let mut joined = 0u32;
+    for number in 2..20 {
+        joined = joined.saturating_add(taken_in(hall, Kind(number)));
+    }
+    let further = hall.join(Kind(20));
+    format!(in alloc; "joined {joined}, and {further:?}").ok()
+}
+
+// How many agents of the kind were taken in: one, or none.
+fn taken_in<R: Wait + Clock + Drop>(hall: &mut Locked<'_, R, MemEnd>, kind: Kind) -> u32 {
+    if !kind.is_agent() {
+        return 0;
+    }
+    match hall.join(kind) {
+        Ok(()) => 1,
+        Err(_) => 0,
+    }
 }

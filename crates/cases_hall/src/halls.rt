@@ -1,6 +1,7 @@
 // A service in small: one seat, the roll and the table under their locks, and a state that is published.
 use crate::calls::{
-    before_a_commit, behind_a_commit, behind_a_stop, between_publication_and_hang_up,
+    before_a_commit, behind_a_commit, behind_a_stop, behind_those_who_left,
+    between_publication_and_hang_up, with_all_agents,
 };
 use cynara_keys::{BucketName, Kind, PolicyResult};
 use desk_ports::{Bytes, FailList};
@@ -11,9 +12,10 @@ use live_roll::Roll;
 use server_hall::{Locked, QuestionDesk};
 use std::alloc::{AllocError, Global};
 use std::sync::{Mutex, Wait};
+use std::time::Clock;
 
 /// What a connection meets that enters in the middle of a commit, or want of memory.
-pub fn late_comer<R: Wait>(rt: &R, alloc: Global) -> Result<String, AllocError> {
+pub fn late_comer<R: Wait + Clock>(rt: &R, alloc: Global) -> Result<String, AllocError> {
     let mut desk = Desk::fresh(alloc)?;
     let (mut publisher, mut seats, roll) = start(rt, alloc, &desk, 1)?;
     let told = match seats.pop() {
@@ -24,7 +26,7 @@ pub fn late_comer<R: Wait>(rt: &R, alloc: Global) -> Result<String, AllocError> 
     told.ok_or(AllocError)
 }
 
-fn comes_late<R: Wait>(
+fn comes_late<R: Wait + Clock>(
     rt: &R,
     alloc: Global,
     desk: &mut Desk,
@@ -51,7 +53,7 @@ fn comes_late<R: Wait>(
 }
 
 /// What the calls answered, or want of memory.
-pub fn conversation<R: Wait>(rt: &R, alloc: Global) -> Result<String, AllocError> {
+pub fn conversation<R: Wait + Clock>(rt: &R, alloc: Global) -> Result<String, AllocError> {
     let mut desk = Desk::fresh(alloc)?;
     let (mut publisher, mut seats, roll) = start(rt, alloc, &desk, 1)?;
     let told = match seats.pop() {
@@ -62,7 +64,7 @@ pub fn conversation<R: Wait>(rt: &R, alloc: Global) -> Result<String, AllocError
     told.ok_or(AllocError)
 }
 
-fn with_seat<R: Wait>(
+fn with_seat<R: Wait + Clock>(
     rt: &R,
     alloc: Global,
     desk: &mut Desk,
@@ -81,7 +83,7 @@ fn with_seat<R: Wait>(
     format!(in alloc; "{first}\n{second}\n{third}; table stopped {stopped}").ok()
 }
 
-fn line_before_a_commit<R: Wait + Drop>(
+fn line_before_a_commit<R: Wait + Clock + Drop>(
     alloc: Global,
     hall: &mut Locked<'_, R, MemEnd>,
     seat: &mut Seat,
@@ -91,7 +93,7 @@ fn line_before_a_commit<R: Wait + Drop>(
     before_a_commit(alloc, hall, seat, &mut link, &mut further)
 }
 
-fn line_behind_a_commit<R: Wait + Drop>(
+fn line_behind_a_commit<R: Wait + Clock + Drop>(
     alloc: Global,
     hall: &mut Locked<'_, R, MemEnd>,
     seat: &mut Seat,
@@ -101,7 +103,7 @@ fn line_behind_a_commit<R: Wait + Drop>(
     behind_a_commit(alloc, hall, seat, publisher, &mut link)
 }
 
-fn line_behind_a_stop<R: Wait + Drop>(
+fn line_behind_a_stop<R: Wait + Clock + Drop>(
     alloc: Global,
     hall: &mut Locked<'_, R, MemEnd>,
     seat: &mut Seat,
@@ -110,12 +112,37 @@ fn line_behind_a_stop<R: Wait + Drop>(
     behind_a_stop(alloc, hall, seat, &mut link)
 }
 
+/// What the calls answer where those who wait have left, and where no further agent is taken in, or want of memory.
+pub fn leavers<R: Wait + Clock>(rt: &R, alloc: Global) -> Result<String, AllocError> {
+    let roll = Mutex::new(Roll::new(alloc, 0)?);
+    let questions = QuestionDesk::new(alloc);
+    let mut hall = Locked::new(rt, &roll, &questions);
+    let told = line_of_leavers(alloc, &mut hall);
+    told.ok_or(AllocError)
+}
+
+fn line_of_leavers<R: Wait + Clock + Drop>(
+    alloc: Global,
+    hall: &mut Locked<'_, R, MemEnd>,
+) -> Option<String> {
+    let mut asker = link_closed_after(alloc, 0)?;
+    let mut agent = link_closed_after(alloc, 0)?;
+    let left = behind_those_who_left(alloc, hall, &mut asker, &mut agent)?;
+    let full = with_all_agents(alloc, hall)?;
+    format!(in alloc; "{left}; {full}").ok()
+}
+
 // A link over which nothing comes.
 fn quiet_link(alloc: Global) -> Option<MemLink> {
+    link_closed_after(alloc, u64::MAX)
+}
+
+// A link over which nothing comes, and that reads as closed after so many calls.
+fn link_closed_after(alloc: Global, closed_after: u64) -> Option<MemLink> {
     MemLink::new(
         alloc,
         Bytes::new(alloc),
-        u64::MAX,
+        closed_after,
         FailList::of(Vec::new(alloc)),
     )
     .ok()

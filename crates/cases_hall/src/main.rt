@@ -9,5 +9,6 @@ use std::io;
 fn main(rt: HostRuntime) -> io::Result<()> {
     println!(rt; "{}", halls::conversation(&rt, rt.alloc())?)?;
     println!(rt; "{}", halls::late_comer(&rt, rt.alloc())?)?;
+    println!(rt; "{}", halls::leavers(&rt, rt.alloc())?)?;
     Ok(())
 }

@@ -76,6 +76,7 @@ impl Places {
             "send" => self.send(rt, words)?,
             "receive" => self.receive(rt, words)?,
             "up" => self.look(rt, words)?,
+            "come" => self.wait(rt, words)?,
             "end" => self.make_end(rt, words)?,
             "hang" => self.hang(words.first),
             "give" => self.give_to_net(words),
@@ -208,6 +209,15 @@ impl Places {
     fn look(&mut self, rt: &HostRuntime, words: &Words<'_>) -> io::Result<()> {
         if let Some(link) = self.link(words.first) {
             let text = if link.is_up() { "up" } else { "down" };
+            println!(rt; "{text}")?;
+        }
+        Ok(())
+    }
+
+    // come LINK
+    fn wait(&mut self, rt: &HostRuntime, words: &Words<'_>) -> io::Result<()> {
+        if let Some(link) = self.link(words.first) {
+            let text = if link.has_come() { "come" } else { "nothing" };
             println!(rt; "{text}")?;
         }
         Ok(())

@@ -14,9 +14,10 @@ use monitor_door::monitor_loop;
 use server_hall::{Locked, QuestionDesk};
 use std::alloc::Global;
 use std::sync::{Mutex, Wait};
+use std::time::Clock;
 
 /// Serves one connection of a client in the place of the seat, and records its checks, as `monitor_loop` does. It may wait.
-pub fn serve_monitored<R: Wait, L: Link, G: Gate>(
+pub fn serve_monitored<R: Wait + Clock, L: Link, G: Gate>(
     rt: &R,
     alloc: Global,
     seat: &mut Seat,

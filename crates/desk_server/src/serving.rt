@@ -22,9 +22,10 @@ use live_roll::Roll;
 use server_hall::{Locked, QuestionDesk};
 use std::alloc::Global;
 use std::sync::{Mutex, Wait};
+use std::time::Clock;
 
 /// Serves one connection of a client in the place of the seat, as `client_loop` does. It may wait.
-pub fn serve_client<R: Wait, L: Link, G: Gate>(
+pub fn serve_client<R: Wait + Clock, L: Link, G: Gate>(
     rt: &R,
     alloc: Global,
     seat: &mut Seat,
@@ -42,7 +43,7 @@ pub fn serve_client<R: Wait, L: Link, G: Gate>(
 }
 
 /// Serves one connection of an agent, as `agent_loop` does. It may wait.
-pub fn serve_agent<R: Wait, H: HangEnd, L: Link>(
+pub fn serve_agent<R: Wait + Clock, H: HangEnd, L: Link>(
     rt: &R,
     alloc: Global,
     roll: &Mutex<Roll<H>>,
@@ -58,7 +59,7 @@ pub fn serve_agent<R: Wait, H: HangEnd, L: Link>(
 }
 
 /// Serves one connection of an administrator, as `admin_loop` does. It may wait.
-pub fn serve_admin<R: Wait, D: Disk, H: HangEnd, L: Link>(
+pub fn serve_admin<R: Wait + Clock, D: Disk, H: HangEnd, L: Link>(
     rt: &R,
     alloc: Global,
     keeper: &mut Keeper<'_, D>,

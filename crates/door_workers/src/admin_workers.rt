@@ -20,12 +20,13 @@ use live_roll::Roll;
 use server_hall::{Hall, QuestionDesk};
 use std::alloc::Global;
 use std::sync::{Mutex, Wait};
+use std::time::Clock;
 
 /// Serves connections of administrators, one after the other, and does the chore behind each, until one of them has stopped the
 /// service. Where its door accepts none it stops the service itself, by way of its own hall. What a stop at any moment may
 /// leave in the folder is told of the frames that came (`RunsOver`). It may wait.
 pub fn work_for_administrators<
-    R: Wait,
+    R: Wait + Clock,
     D: Disk,
     H: HangEnd,
     L: Link,
@@ -75,7 +76,7 @@ fn stop_behind<A: Hall>(hall: &mut A, end: WorkerEnd)
 
 // The same, but for the stop of the service where the door accepts none.
 fn serve_administrators<
-    R: Wait,
+    R: Wait + Clock,
     D: Disk,
     H: HangEnd,
     L: Link,
@@ -114,7 +115,7 @@ fn serve_administrators<
 }
 
 // Serves the next administrator, and says whether the worker ends behind it.
-fn serve_next<R: Wait, D: Disk, H: HangEnd, L: Link, E: Door<Link = L>, T: Notes, C: Chore>(
+fn serve_next<R: Wait + Clock, D: Disk, H: HangEnd, L: Link, E: Door<Link = L>, T: Notes, C: Chore>(
     rt: &R,
     alloc: Global,
     keeper: &mut Keeper<'_, D>,

@@ -12,6 +12,7 @@ use live_roll::Roll;
 use server_hall::{QuestionDesk, StopNews};
 use std::alloc::Global;
 use std::sync::{Mutex, Wait};
+use std::time::Clock;
 
 /// What a worker of clients does of each connection beside answering it.
 pub trait ClientDuty: Drop {
@@ -19,7 +20,7 @@ pub trait ClientDuty: Drop {
     ghost goes: { Self → Self → Type 0 };
 
     /// Serves connections of clients, one after the other, as `work_for_clients` does. It may wait.
-    fn work<R: Wait, H: HangEnd, L: Link<End = H>, D: Door<Link = L>, G: Gate>(
+    fn work<R: Wait + Clock, H: HangEnd, L: Link<End = H>, D: Door<Link = L>, G: Gate>(
         &mut self,
         rt: &R,
         alloc: Global,
@@ -46,7 +47,7 @@ pub struct Unrecorded;
 impl ClientDuty for Unrecorded {
     ghost goes = { λ old new. Unit {0} };
 
-    fn work<R: Wait, H: HangEnd, L: Link<End = H>, D: Door<Link = L>, G: Gate>(
+    fn work<R: Wait + Clock, H: HangEnd, L: Link<End = H>, D: Door<Link = L>, G: Gate>(
         &mut self,
         rt: &R,
         alloc: Global,
@@ -70,7 +71,7 @@ impl ClientDuty for Recorder {
 
     ghost goes = { RecordsSome };
 
-    fn work<R: Wait, H: HangEnd, L: Link<End = H>, D: Door<Link = L>, G: Gate>(
+    fn work<R: Wait + Clock, H: HangEnd, L: Link<End = H>, D: Door<Link = L>, G: Gate>(
         &mut self,
         rt: &R,
         alloc: Global,

@@ -15,11 +15,12 @@ use live_roll::Roll;
 use server_hall::{QuestionDesk, StopNews};
 use std::alloc::Global;
 use std::sync::{Mutex, Wait};
+use std::time::Clock;
 
 /// Serves connections of clients as `work_for_clients` does, and records their checks. It may wait.
 #[tactic(auto, using(crate::proofs::Watched::same_then))]
 pub fn work_for_monitored_clients<
-    R: Wait,
+    R: Wait + Clock,
     H: HangEnd,
     L: Link<End = H>,
     D: Door<Link = L>,
@@ -52,7 +53,7 @@ pub fn work_for_monitored_clients<
 }
 
 // Serves the next client, and says whether the worker ends behind it.
-fn serve_next_monitored<R: Wait, H: HangEnd, L: Link<End = H>, D: Door<Link = L>, G: Gate>(
+fn serve_next_monitored<R: Wait + Clock, H: HangEnd, L: Link<End = H>, D: Door<Link = L>, G: Gate>(
     rt: &R,
     alloc: Global,
     seat: &mut Seat,

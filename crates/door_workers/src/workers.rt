@@ -20,6 +20,7 @@ use live_roll::Roll;
 use server_hall::{QuestionDesk, StopNews};
 use std::alloc::Global;
 use std::sync::{Mutex, Wait};
+use std::time::Clock;
 
 /// Why a worker serves no further connection.
 #[derive(Clone, Copy, Debug, PartialEq, Eq)]
@@ -35,7 +36,7 @@ pub enum WorkerEnd {
 /// Serves connections of clients, one after the other, in the place of the seat. It ends behind one that ended for a stop, or
 /// at whose end it is told that the service is stopped, or where its door accepts none. What it is told is kept in `news`. It
 /// may wait.
-pub fn work_for_clients<R: Wait, H: HangEnd, L: Link<End = H>, D: Door<Link = L>, G: Gate>(
+pub fn work_for_clients<R: Wait + Clock, H: HangEnd, L: Link<End = H>, D: Door<Link = L>, G: Gate>(
     rt: &R,
     alloc: Global,
     seat: &mut Seat,
@@ -58,7 +59,7 @@ pub fn work_for_clients<R: Wait, H: HangEnd, L: Link<End = H>, D: Door<Link = L>
 }
 
 // Serves the next client, and says whether the worker ends behind it.
-fn serve_next_client<R: Wait, H: HangEnd, L: Link<End = H>, D: Door<Link = L>, G: Gate>(
+fn serve_next_client<R: Wait + Clock, H: HangEnd, L: Link<End = H>, D: Door<Link = L>, G: Gate>(
     rt: &R,
     alloc: Global,
     seat: &mut Seat,
@@ -90,7 +91,7 @@ fn serve_next_client<R: Wait, H: HangEnd, L: Link<End = H>, D: Door<Link = L>, G
 }
 
 /// Serves connections of agents, one after the other. It ends as a worker of clients does. It may wait.
-pub fn work_for_agents<R: Wait, H: HangEnd, L: Link, D: Door<Link = L>>(
+pub fn work_for_agents<R: Wait + Clock, H: HangEnd, L: Link, D: Door<Link = L>>(
     rt: &R,
     alloc: Global,
     roll: &Mutex<Roll<H>>,
@@ -111,7 +112,7 @@ pub fn work_for_agents<R: Wait, H: HangEnd, L: Link, D: Door<Link = L>>(
 }
 
 // Serves the next agent, and says whether the worker ends behind it.
-fn serve_next_agent<R: Wait, H: HangEnd, L: Link, D: Door<Link = L>>(
+fn serve_next_agent<R: Wait + Clock, H: HangEnd, L: Link, D: Door<Link = L>>(
     rt: &R,
     alloc: Global,
     roll: &Mutex<Roll<H>>,

@@ -1,7 +1,8 @@
 -- What the calls of a hall make of the table of questions to agents.
-use Rattle.std.specs.Prelude.{◌≡◌, ℕ, Bool, true, false, Option, Some, None, Result, Ok, Err}
+use Rattle.std.specs.Prelude.{◌≡◌, ℕ, Bool, true, false, List, Option, Some, None, Result, Ok, Err}
 use Rattle.std.specs.Option.{option_map}
-use Rattle.agent_table.specs.OpenQuestion.{first_waiting}
+use Rattle.agent_table.specs.OpenQuestion.{numbered, first_waiting}
+use Rattle.agent_table.specs.declared.open_questions.OpenQuestion.{OpenQuestion}
 use Rattle.agent_table.specs.Table.{Table, after_next}
 use Rattle.agent_table.specs.Refusals.{RefusesQuestion, told}
 use Rattle.agent_table.specs.declared.refusals.PutRefusal.{PutRefusal}
@@ -14,8 +15,9 @@ use Rattle.agent_table.specs.declared.table.Taken.{Taken}
 use Rattle.server_hall.specs.declared.refusals.AskRefusal.{AskRefusal}
 use Rattle.server_hall.specs.declared.refusals.AskRefusal.TheVariants.{Put, Gone, Stopped, Lost}
 use Rattle.server_hall.specs.declared.refusals.NextRefusal.{NextRefusal}
-use Rattle.server_hall.specs.declared.refusals.NextRefusal.TheVariants.{Stopped as NoneIsGiven, Memory as NoRoom}
+use Rattle.server_hall.specs.declared.refusals.NextRefusal.TheVariants.{Stopped as NoneIsGiven, Memory as NoRoom, Left as AgentLeft}
 use Rattle.server_hall.specs.Tally.{IsNamedForItself}
+use Rattle.server_hall.specs.Found.{IsOfTheTable}
 use Rattle.server_hall.specs.declared.table_calls.Awaited.{Awaited}
 use Rattle.server_hall.specs.declared.table_calls.Awaited.TheVariants.{Answered, Refused, NotYet}
 
@@ -35,9 +37,14 @@ awaited number (Err (AgentGone other)) = Refused (Gone number)
 awaited number (Err NoneIsTaken) = Refused Stopped
 awaited number (Err NoAnswer) = NotYet
 
--- a refusal that is told so is named for itself
+-- the question is open no more, unless there is no answer yet
+abbrev pub IsGone : ℕ → Awaited → List OpenQuestion → Type 0
+IsGone number NotYet questions = Unit {0}
+IsGone number awaited questions = numbered number questions ≡ None
+
+-- a refusal that is told so is named for itself, and is none of a link that is down
 abbrev pub IsNamed : Awaited → Type 0
-IsNamed (Refused refusal) = IsNamedForItself refusal
+IsNamed (Refused refusal) = IsNamedForItself refusal × IsOfTheTable refusal
 IsNamed other = Unit {0}
 
 -- ---- being asked
@@ -51,6 +58,7 @@ GivesNext kind table (Err refusal) = Unit {0}
 abbrev pub RefusesNext : Bool → NextRefusal → Type 0
 RefusesNext stopped NoneIsGiven = stopped ≡ true
 RefusesNext stopped (NoRoom error) = stopped ≡ false
+RefusesNext stopped AgentLeft = ⊥
 
 abbrev pub table_after_next : {E : Type 0} → ℕ → Result (Option Asked) E → Table → Table
 table_after_next kind (Ok asked) table = after_next (first_waiting kind table.questions) table

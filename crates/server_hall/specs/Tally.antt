@@ -15,8 +15,9 @@ use Rattle.server_hall.specs.declared.refusals.NextRefusal.{NextRefusal}
 use Rattle.server_hall.specs.declared.refusals.NextRefusal.TheVariants.{Stopped as NextStopped}
 use Rattle.server_hall.specs.Call.{AskResult, AskMade, LeaveMade, JoinMade, NextMade, AnswerMade}
 use Rattle.server_hall.specs.declared.calls.PartCall.{PartCall}
+use Rattle.server_hall.specs.declared.calls.LookCall.{LookCall}
 use Rattle.server_hall.specs.declared.calls.HallCall.{HallCall}
-use Rattle.server_hall.specs.declared.calls.HallCall.TheVariants.{Ask, Join, Next, Answer}
+use Rattle.server_hall.specs.declared.calls.HallCall.TheVariants.{Ask, Join, Next, Answer, Look}
 
 -- The counts never fall, and stand still at the last value of a count.
 pub record Tally : Type 0 where
@@ -31,6 +32,7 @@ pub record Tally : Type 0 where
   pub joins : ℕ
   pub nexts : ℕ
   pub answers : ℕ
+  pub looks : ℕ
   pub parts : ℕ
   pub stop_calls : ℕ
   -- the commit at which a connection entered last
@@ -41,6 +43,7 @@ pub record Tally : Type 0 where
   pub last_join : Option JoinMade
   pub last_next : Option NextMade
   pub last_answer : Option AnswerMade
+  pub last_look : Option LookCall
   pub last_part : Option PartCall
   -- the commit for which all older connections were hung up last, 0 before any
   pub cleared : ℕ
@@ -57,6 +60,7 @@ no_calls = record {
   joins = 0;
   nexts = 0;
   answers = 0;
+  looks = 0;
   parts = 0;
   stop_calls = 0;
   last_enter = None;
@@ -65,6 +69,7 @@ no_calls = record {
   last_join = None;
   last_next = None;
   last_answer = None;
+  last_look = None;
   last_part = None;
   cleared = 0;
 }
@@ -162,6 +167,9 @@ after_next call tally = record tally {
 abbrev pub after_answer : AnswerMade → Tally → Tally
 after_answer call tally = record tally { answers = next_count tally.answers; last_answer = Some call }
 
+abbrev pub after_look : LookCall → Tally → Tally
+after_look call tally = record tally { looks = next_count tally.looks; last_look = Some call }
+
 abbrev pub after_part : Kind → Tally → Tally
 after_part kind tally = record tally {
   parts = next_count tally.parts;
@@ -180,6 +188,7 @@ after_call (Ask call) tally = after_ask call tally
 after_call (Join call) tally = after_join call tally
 after_call (Next call) tally = after_next call tally
 after_call (Answer call) tally = after_answer call tally
+after_call (Look number «open») tally = after_look (record { number = number; «open» = «open» }) tally
 
 abbrev pub after_calls : List HallCall → Tally → Tally
 after_calls [] tally = tally

@@ -198,6 +198,13 @@ pub struct PartCall {
     pub answers: u64,
 }
 
+/// It was asked whether the question of the number still waits for its answer, and this was told.
+#[derive(Clone, Copy, Debug, PartialEq, Eq)]
+pub struct LookCall {
+    pub number: u32,
+    pub open: bool,
+}
+
 /// A call that was made on a hall.
 #[derive(Drop)]
 pub enum HallCall {
@@ -205,4 +212,5 @@ pub enum HallCall {
     Join(JoinCall),
     Next(NextCall),
     Answer(AnswerCall),
+    Look { number: u32, open: bool },
 }

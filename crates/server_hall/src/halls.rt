@@ -1,22 +1,24 @@
 ghost use Rattle.std.specs.Prelude.{◌≡◌, ◌<◌, ◌∷◌, [], List, Option, false, IsTrue, IfOk, IfErr, OnErr};
 ghost use Rattle.cynara_keys.specs.PolicyResult.{is_agent};
+ghost use Rattle.link_ports.specs.Told.{KeepsTold};
 ghost use Rattle.live_desk.specs.History.{last_commit};
 ghost use Rattle.live_desk.specs.Seat.{with_note};
 ghost use Rattle.server_hall.specs.Tally.{Tally, after_enter, after_leave, IsRaised, after_hang, after_ask, after_join};
-ghost use Rattle.server_hall.specs.Tally.{after_next, after_answer, after_part, after_stop, IsNamedForItself};
+ghost use Rattle.server_hall.specs.Tally.{after_next, after_answer, after_look, after_part, after_stop, IsNamedForItself};
 ghost use Rattle.server_hall.specs.Told.{AppendsCalls};
+ghost use Rattle.server_hall.specs.Found.{marks_after_ask, CountsAsk, marks_after_next, CountsNext};
 ghost use Rattle.server_hall.specs.declared.calls.HallCall as call;
 
 use crate::{AskRefusal, NextRefusal};
 use agent_table::{AnswerRefusal, Asked, RegisterRefusal, Taken};
 use cynara_keys::{Kind, Metadata, Question};
-use link_ports::HangEnd;
+use link_ports::{HangEnd, Link};
 use live_desk::{Publisher, Seat};
 use live_roll::{Left, Stopped};
 
 /// What all connections of a service share: the roll of the connections that a commit has to hang up, and the questions to
-/// agents. A call may wait. Every hall tells its tally; it may tell the list of its calls of `ask`, `join`, `next` and
-/// `answer`.
+/// agents. A call may wait. Every hall tells its tally; it may tell the list of its calls of `ask`, `join`, `next`, `answer`
+/// and `is_open`.
 pub trait Hall {
     /// What hangs a connection of a client up.
     type End: HangEnd;
@@ -24,7 +26,7 @@ pub trait Hall {
     /// How often each call was made, how often one found the hall stopped, and the last calls.
     ghost tally: { Self → Tally };
 
-    /// The calls of `ask`, `join`, `next` and `answer`, in order, where the hall tells them.
+    /// The calls of `ask`, `join`, `next`, `answer` and `is_open`, in order, where the hall tells them.
     ghost calls: { Self → Option (List call.HallCall) };
 
     /// A connection enters, in the place of the seat. The seat is told the commit at which it enters, which is answered:
@@ -51,12 +53,14 @@ pub trait Hall {
         ensures calls { calls self.new ≡ calls self.old };
 
     /// Puts a question to the agent of the kind, and waits for its answer: the number of the question, and the question that
-    /// was found under it with the answer. Want of memory is `Put` of it.
-    fn ask(
+    /// was found under it with the answer. Want of memory is `Put` of it. While it waits it looks each tenth of a second
+    /// whether the asker's link is up. Where it is not, the question is taken away, and refused as `Withdrawn`.
+    fn ask<L: Link>(
         &mut self,
         kind: Kind,
         question: Question,
         metadata: Metadata,
+        link: &mut L,
     ) -> Result<(u32, Taken), AskRefusal>
         requires { IsTrue (is_agent kind.0) }
         ensures tally { tally self.new ≡ after_ask (record {
@@ -71,21 +75,29 @@ pub trait Hall {
           metadata = metadata;
           result = result;
         }) ∷ []) (calls self.new) }
-        ensures named { IfErr result IsNamedForItself };
+        ensures named { IfErr result IsNamedForItself }
+        ensures kept { KeepsTold (L.traffic link.old) (L.traffic link.new) }
+        ensures marks { L.marks link.new ≡ marks_after_ask result (L.marks link.old) }
+        ensures faults { CountsAsk result (L.faults link.old) (L.faults link.new) };
 
-    /// An agent comes for the kind. Refuses `Stopped`, and `Taken` where the kind has an agent.
+    /// An agent comes for the kind. Refuses `Stopped`, `Taken` where the kind has an agent, and `Full` where as many kinds
+    /// have one as may.
     fn join(&mut self, kind: Kind) -> Result<(), RegisterRefusal>
         requires { IsTrue (is_agent kind.0) }
         ensures tally { tally self.new ≡ after_join (record { kind = kind; result = result }) (tally self.old) }
         ensures calls { AppendsCalls (calls self.old)
             (call.HallCall.Join (record { kind = kind; result = result }) ∷ []) (calls self.new) };
 
-    /// Waits until there is a question for the agent of the kind, and gives it. Refuses `Stopped`.
-    fn next(&mut self, kind: Kind) -> Result<Asked, NextRefusal>
+    /// Waits until there is a question for the agent of the kind, and gives it. Refuses `Stopped`. While it waits it looks
+    /// each tenth of a second whether the agent's link is up. Where it is not, the agent has `Left`.
+    fn next<L: Link>(&mut self, kind: Kind, link: &mut L) -> Result<Asked, NextRefusal>
         requires { IsTrue (is_agent kind.0) }
         ensures tally { tally self.new ≡ after_next (record { kind = kind; result = result }) (tally self.old) }
         ensures calls { AppendsCalls (calls self.old)
-            (call.HallCall.Next (record { kind = kind; result = result }) ∷ []) (calls self.new) };
+            (call.HallCall.Next (record { kind = kind; result = result }) ∷ []) (calls self.new) }
+        ensures kept { KeepsTold (L.traffic link.old) (L.traffic link.new) }
+        ensures marks { L.marks link.new ≡ marks_after_next result (L.marks link.old) }
+        ensures faults { CountsNext result (L.faults link.old) (L.faults link.new) };
 
     /// Takes the answer of the agent of the kind to the question of the number. Refuses it where no such question waits
     /// for it.
@@ -103,6 +115,12 @@ pub trait Hall {
           allowed = allowed;
           result = result;
         }) ∷ []) (calls self.new) };
+
+    /// Whether the question of the number still waits for its answer: it is not answered, was not taken away, its agent is
+    /// still there, and the service is not stopped.
+    fn is_open(&mut self, number: u32) -> bool
+        ensures tally { tally self.new ≡ after_look (record { number = number; «open» = result }) (tally self.old) }
+        ensures calls { AppendsCalls (calls self.old) (call.HallCall.Look number result ∷ []) (calls self.new) };
 
     /// The agent of the kind leaves.
     fn part(&mut self, kind: Kind)

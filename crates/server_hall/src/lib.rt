@@ -19,8 +19,9 @@ mod roll_calls;
 mod stop_news;
 mod table_calls;
 mod tallies;
+mod waiting;
 
-pub use calls::{AnswerCall, AskCall, HallCall, JoinCall, NextCall, PartCall};
+pub use calls::{AnswerCall, AskCall, HallCall, JoinCall, LookCall, NextCall, PartCall};
 pub use halls::Hall;
 pub use list_answers::HallAnswer;
 pub use list_hall::ListHall;
@@ -28,5 +29,5 @@ pub use locked::{Locked, QuestionDesk};
 pub use refusals::{AskRefusal, NextRefusal};
 pub use roll_calls::{EnterCall, HangCall, LeaveCall, enter_roll, hang_roll, leave_roll};
 pub use stop_news::StopNews;
-pub use table_calls::{Awaited, await_answer, give_next, put_question};
+pub use table_calls::{Awaited, await_answer, give_next, put_question, withdraw_question};
 pub use tallies::HallTally;

@@ -9,4 +9,5 @@ pub enum HallAnswer {
     Join(Result<(), RegisterRefusal>),
     Next(Result<Asked, NextRefusal>),
     Answer(Result<(), AnswerRefusal>),
+    Look(bool),
 }

@@ -1,10 +1,12 @@
 ghost use Rattle.std.specs.Prelude.{◌≡◌, ◌<◌, ◌∷◌, [], false, IfOk, IfErr, OnErr};
-ghost use Rattle.live_roll.specs.Roll.{with_entry, without_entry, hung_to, stopped};
+ghost use Rattle.link_ports.specs.Told.{KeepsTold};
+ghost use Rattle.live_roll.specs.Roll.{with_entry, LeavesPlace, HangsTo, StopsAll};
 ghost use Rattle.live_desk.specs.History.{last_commit};
 ghost use Rattle.live_desk.specs.Seat.{with_note};
 ghost use Rattle.server_hall.specs.Tally.{after_enter, after_leave, IsRaised, after_hang, after_ask, after_join};
 ghost use Rattle.server_hall.specs.Tally.{after_next, after_answer, after_part, after_stop, IsNamedForItself};
 ghost use Rattle.server_hall.specs.Told.{AppendsCalls};
+ghost use Rattle.server_hall.specs.Found.{marks_after_ask, CountsAsk, IsOfTheTable, marks_after_next, CountsNext, IsOfTheQueue};
 ghost use Rattle.server_hall.specs.ListHall.{IsNewHall};
 ghost use Rattle.server_hall.specs.declared.calls.HallCall as call;
 
@@ -15,18 +17,20 @@ use crate::tallies::HallTally;
 use crate::{AskRefusal, Hall, NextRefusal};
 use agent_table::{AnswerRefusal, Asked, PutRefusal, RegisterRefusal, Taken};
 use cynara_keys::{Kind, Metadata, Question};
-use link_ports::HangEnd;
+use link_ports::{HangEnd, Link};
 use live_desk::{Publisher, Seat};
 use live_roll::{Left, Roll, Stopped};
 use std::alloc::{AllocError, Global};
 use std::marker::Model;
 use std::snapshot::Snapshot;
 
-/// A hall in memory, for tests: a roll, and a list of answers to `ask`, `join`, `next` and `answer`, of which each of
-/// these calls takes the next one. Where that is an answer to another call, or none is left, the list counts as used up from
-/// then on: such a call counts a stop and answers `Stopped`, and `answer` refuses. It tells its calls until then.
+/// A hall in memory, for tests: a roll, and a list of answers to `ask`, `join`, `next`, `answer` and `is_open`, of which each
+/// of these calls takes the next one. Where that is an answer to another call, or none is left, the list counts as used up
+/// from then on: such a call counts a stop and answers `Stopped`, `answer` refuses, and no question is open. It tells its
+/// calls until then. `ask` and `next` look first, once, whether the link is up. Where it is not they take no answer, and
+/// refuse `Withdrawn` of number 0 and `Left`.
 #[derive(Drop)]
-pub struct ListHall<H> {
+pub struct ListHall<H: HangEnd> {
     // The next one is the last.
     answers: Vec<HallAnswer>,
     roll: Roll<H>,
@@ -35,7 +39,7 @@ pub struct ListHall<H> {
     calls: Option<Vec<HallCall>>,
 }
 
-impl<H> Model for ListHall<H> {
+impl<H: HangEnd> Model for ListHall<H> {
     ghost use Rattle.std.specs.Option.{option_map};
     ghost use Rattle.server_hall.specs.ListHall.{HeldHall};
 
@@ -51,7 +55,7 @@ impl<H> Model for ListHall<H> {
 
 impl<H: HangEnd> ListHall<H> {
     /// A hall with this roll, and these answers in turn. Takes room for as many calls. An answer `Put` of the table's
-    /// `Stopped` stands for `Stopped`.
+    /// `Stopped` stands for `Stopped`, and so do `Withdrawn` and `Left`, which no link gets that is up.
     pub fn new(
         alloc: Global,
         answers: Vec<HallAnswer>,
@@ -130,8 +134,27 @@ impl<H: HangEnd> ListHall<H> {
         }
     }
 
-    fn next_ask(&mut self) -> Result<(u32, Taken), AskRefusal>
+    // What whoever asks is told, with this link.
+    #[tactic(auto, using(crate::proofs::Marks::marks_up, crate::proofs::Marks::marks_down))]
+    fn next_ask<L: Link>(&mut self, link: &mut L) -> Result<(u32, Taken), AskRefusal>
         ensures named { IfErr result IsNamedForItself }
+        ensures roll { self.new.roll ≡ self.old.roll }
+        ensures tally { self.new.tally ≡ self.old.tally }
+        ensures calls { AppendsCalls self.old.calls [] self.new.calls }
+        ensures kept { KeepsTold (L.traffic link.old) (L.traffic link.new) }
+        ensures marks { L.marks link.new ≡ marks_after_ask result (L.marks link.old) }
+        ensures faults { CountsAsk result (L.faults link.old) (L.faults link.new) }
+    {
+        if !link.is_up() {
+            return Err(AskRefusal::Withdrawn(0));
+        }
+        let outcome = self.listed_ask();
+        outcome
+    }
+
+    fn listed_ask(&mut self) -> Result<(u32, Taken), AskRefusal>
+        ensures named { IfErr result IsNamedForItself }
+        ensures own { IfErr result IsOfTheTable }
         ensures roll { self.new.roll ≡ self.old.roll }
         ensures tally { self.new.tally ≡ self.old.tally }
         ensures calls { AppendsCalls self.old.calls [] self.new.calls }
@@ -162,13 +185,37 @@ impl<H: HangEnd> ListHall<H> {
         }
     }
 
-    fn next_next(&mut self) -> Result<Asked, NextRefusal>
+    // What an agent is given, with this link.
+    #[tactic(auto, using(crate::proofs::Marks::marks_up, crate::proofs::Marks::marks_down))]
+    fn next_next<L: Link>(&mut self, link: &mut L) -> Result<Asked, NextRefusal>
+        ensures roll { self.new.roll ≡ self.old.roll }
+        ensures tally { self.new.tally ≡ self.old.tally }
+        ensures calls { AppendsCalls self.old.calls [] self.new.calls }
+        ensures kept { KeepsTold (L.traffic link.old) (L.traffic link.new) }
+        ensures marks { L.marks link.new ≡ marks_after_next result (L.marks link.old) }
+        ensures faults { CountsNext result (L.faults link.old) (L.faults link.new) }
+    {
+        if !link.is_up() {
+            return Err(NextRefusal::Left);
+        }
+        let outcome = self.listed_next();
+        outcome
+    }
+
+    fn listed_next(&mut self) -> Result<Asked, NextRefusal>
+        ensures own { IfErr result IsOfTheQueue }
         ensures roll { self.new.roll ≡ self.old.roll }
         ensures tally { self.new.tally ≡ self.old.tally }
         ensures calls { AppendsCalls self.old.calls [] self.new.calls }
     {
         match self.take_answer() {
-            Some(HallAnswer::Next(outcome)) => outcome,
+            Some(HallAnswer::Next(Ok(asked))) => Ok(asked),
+            Some(HallAnswer::Next(Err(NextRefusal::Memory(error)))) => {
+                Err(NextRefusal::Memory(error))
+            }
+            Some(HallAnswer::Next(Err(NextRefusal::Stopped | NextRefusal::Left))) => {
+                Err(NextRefusal::Stopped)
+            }
             Some(_) => {
                 self.use_up();
                 Err(NextRefusal::Stopped)
@@ -191,11 +238,27 @@ impl<H: HangEnd> ListHall<H> {
             None => Err(AnswerRefusal::UnknownNumber(number)),
         }
     }
+
+    fn next_look(&mut self) -> bool
+        ensures roll { self.new.roll ≡ self.old.roll }
+        ensures tally { self.new.tally ≡ self.old.tally }
+        ensures calls { AppendsCalls self.old.calls [] self.new.calls }
+    {
+        match self.take_answer() {
+            Some(HallAnswer::Look(open)) => open,
+            Some(_) => {
+                self.use_up();
+                false
+            }
+            None => false,
+        }
+    }
 }
 
 // The refusal, named for itself.
 fn named(refusal: AskRefusal) -> AskRefusal
-    ensures { IsNamedForItself result }
+    ensures named { IsNamedForItself result }
+    ensures own { IsOfTheTable result }
 {
     match refusal {
         AskRefusal::Put(PutRefusal::Stopped) => AskRefusal::Stopped,
@@ -206,6 +269,7 @@ fn named(refusal: AskRefusal) -> AskRefusal
         AskRefusal::Gone(number) => AskRefusal::Gone(number),
         AskRefusal::Stopped => AskRefusal::Stopped,
         AskRefusal::Lost(number) => AskRefusal::Lost(number),
+        AskRefusal::Withdrawn(_) => AskRefusal::Stopped,
     }
 }
 
@@ -241,7 +305,7 @@ impl<H: HangEnd> Hall for ListHall<H> {
         ensures raised { IsRaised entered result }
 
         // More than any hall promises: what it makes of the roll.
-        ensures left { self.new.roll ≡ without_entry seat self.old.roll }
+        ensures left { LeavesPlace H.used seat self.old.roll self.new.roll }
     {
         let call = leave_roll(&mut self.roll, seat, entered);
         let left = call.left();
@@ -254,19 +318,20 @@ impl<H: HangEnd> Hall for ListHall<H> {
         ensures calls { self.new.calls ≡ self.old.calls }
 
         // More than any hall promises: what it makes of the roll.
-        ensures hung { self.new.roll ≡ hung_to (last_commit 0 publisher.now) self.old.roll }
+        ensures hung { HangsTo H.used (last_commit 0 publisher.now) self.old.roll self.new.roll }
     {
         let call = hang_roll(&mut self.roll, publisher);
         self.tally.note_hang(call);
     }
 
-    fn ask(
+    fn ask<L: Link>(
         &mut self,
         kind: Kind,
         question: Question,
         metadata: Metadata,
+        link: &mut L,
     ) -> Result<(u32, Taken), AskRefusal> {
-        let outcome = self.next_ask();
+        let outcome = self.next_ask(link);
         self.tally.count_ask(
             kind,
             Snapshot::of(&question),
@@ -290,8 +355,8 @@ impl<H: HangEnd> Hall for ListHall<H> {
         outcome
     }
 
-    fn next(&mut self, kind: Kind) -> Result<Asked, NextRefusal> {
-        let outcome = self.next_next();
+    fn next<L: Link>(&mut self, kind: Kind, link: &mut L) -> Result<Asked, NextRefusal> {
+        let outcome = self.next_next(link);
         self.tally.count_next(kind, &outcome);
         self.keep(HallCall::Next(NextCall::of(kind, &outcome)));
         outcome
@@ -304,6 +369,13 @@ impl<H: HangEnd> Hall for ListHall<H> {
         outcome
     }
 
+    fn is_open(&mut self, number: u32) -> bool {
+        let open = self.next_look();
+        self.tally.count_look(number, open);
+        self.keep(HallCall::Look { number, open });
+        open
+    }
+
     fn part(&mut self, kind: Kind) {
         self.tally.count_part(kind);
     }
@@ -313,7 +385,7 @@ impl<H: HangEnd> Hall for ListHall<H> {
         ensures calls { self.new.calls ≡ self.old.calls }
 
         // More than any hall promises: what it makes of the roll.
-        ensures stopped { self.new.roll ≡ stopped self.old.roll }
+        ensures stopped { StopsAll H.used self.old.roll self.new.roll }
     {
         self.roll.stop();
         self.tally.count_stop();

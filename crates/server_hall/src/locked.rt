@@ -1,19 +1,19 @@
-ghost use Rattle.std.specs.Prelude.{◌≡◌, None, IsTrue, IfErr};
-ghost use Rattle.cynara_keys.specs.PolicyResult.{is_agent};
-ghost use Rattle.server_hall.specs.Tally.{no_calls, IsNamedForItself};
+ghost use Rattle.std.specs.Prelude.{◌≡◌, None};
+ghost use Rattle.server_hall.specs.Tally.{no_calls};
 
 use crate::roll_calls::{enter_roll, hang_roll, leave_roll};
-use crate::table_calls::{Awaited, await_answer, give_next, put_question};
 use crate::tallies::HallTally;
+use crate::waiting::{ask_at, next_at};
 use crate::{AskRefusal, Hall, NextRefusal};
 use agent_table::{AnswerRefusal, Asked, Questions, RegisterRefusal, Taken};
 use cynara_keys::{Kind, Metadata, Question};
-use link_ports::HangEnd;
+use link_ports::{HangEnd, Link};
 use live_desk::{Publisher, Seat};
 use live_roll::{Left, Roll, Stopped};
 use std::alloc::Global;
 use std::snapshot::Snapshot;
 use std::sync::{Condvar, Mutex, Wait};
+use std::time::Clock;
 
 /// The table of questions to agents under its lock, and what tells those that wait of news.
 #[derive(Drop)]
@@ -40,14 +40,14 @@ impl QuestionDesk {
 /// The hall over a locked roll and a locked table. It keeps the runtime, and counts the calls that are made by way of it. It
 /// tells no list of its calls.
 #[derive(Drop)]
-pub struct Locked<'a, R: Wait + Drop, H: HangEnd> {
+pub struct Locked<'a, R: Wait + Clock + Drop, H: HangEnd> {
     rt: R,
     roll: &'a Mutex<Roll<H>>,
     questions: &'a QuestionDesk,
     tally: HallTally,
 }
 
-impl<'a, R: Wait + Drop, H: HangEnd> Locked<'a, R, H> {
+impl<'a, R: Wait + Clock + Drop, H: HangEnd> Locked<'a, R, H> {
     /// The hall over these locks, by way of which no call was made. Takes no memory.
     pub fn new(rt: R, roll: &'a Mutex<Roll<H>>, questions: &'a QuestionDesk) -> Locked<'a, R, H>
         ensures { result.tally ≡ no_calls }
@@ -68,7 +68,7 @@ impl<'a, R: Wait + Drop, H: HangEnd> Locked<'a, R, H> {
     }
 }
 
-impl<'a, R: Wait + Drop, H: HangEnd> Hall for Locked<'a, R, H> {
+impl<'a, R: Wait + Clock + Drop, H: HangEnd> Hall for Locked<'a, R, H> {
     type End = H;
 
     ghost tally = { λ hall. hall.tally };
@@ -100,15 +100,16 @@ impl<'a, R: Wait + Drop, H: HangEnd> Hall for Locked<'a, R, H> {
         self.tally.note_hang(call);
     }
 
-    fn ask(
+    fn ask<L: Link>(
         &mut self,
         kind: Kind,
         question: Question,
         metadata: Metadata,
+        link: &mut L,
     ) -> Result<(u32, Taken), AskRefusal> {
         let asked = Snapshot::of(&question);
         let with = Snapshot::of(&metadata);
-        let outcome = ask_at(&self.rt, self.questions, kind, question, metadata);
+        let outcome = ask_at(&self.rt, self.questions, kind, question, metadata, link);
         self.tally.count_ask(kind, asked, with, &outcome);
         outcome
     }
@@ -119,8 +120,8 @@ impl<'a, R: Wait + Drop, H: HangEnd> Hall for Locked<'a, R, H> {
         outcome
     }
 
-    fn next(&mut self, kind: Kind) -> Result<Asked, NextRefusal> {
-        let outcome = next_at(&self.rt, self.questions, kind);
+    fn next<L: Link>(&mut self, kind: Kind, link: &mut L) -> Result<Asked, NextRefusal> {
+        let outcome = next_at(&self.rt, self.questions, kind, link);
         self.tally.count_next(kind, &outcome);
         outcome
     }
@@ -136,6 +137,12 @@ impl<'a, R: Wait + Drop, H: HangEnd> Hall for Locked<'a, R, H> {
         outcome
     }
 
+    fn is_open(&mut self, number: u32) -> bool {
+        let open = self.questions.table.lock(&self.rt).awaits(number);
+        self.tally.count_look(number, open);
+        open
+    }
+
     fn part(&mut self, kind: Kind) {
         self.questions.table.lock(&self.rt).drop_agent(kind);
         self.questions.news.notify_all();
@@ -148,46 +155,4 @@ impl<'a, R: Wait + Drop, H: HangEnd> Hall for Locked<'a, R, H> {
         self.questions.news.notify_all();
         self.tally.count_stop();
     }
-}
-
-// Puts a question, and waits for its answer.
-fn ask_at<R: Wait>(
-    rt: &R,
-    questions: &QuestionDesk,
-    kind: Kind,
-    question: Question,
-    metadata: Metadata,
-) -> Result<(u32, Taken), AskRefusal>
-    requires { IsTrue (is_agent kind.0) }
-    ensures { IfErr result IsNamedForItself }
-{
-    let mut table = questions.table.lock(rt);
-    let number = match put_question(&mut *table, kind, question, metadata) {
-        Ok(number) => number,
-        Err(refusal) => return Err(refusal),
-    };
-    questions.news.notify_all();
-    for _ in rt.forever() {
-        match await_answer(&mut *table, number) {
-            Awaited::Answered(taken) => return Ok((number, taken)),
-            Awaited::Refused(refusal) => return Err(refusal),
-            Awaited::NotYet => table = questions.news.wait(rt, table),
-        }
-    }
-    unreachable!()
-}
-
-// Waits until there is a question for the agent of the kind.
-fn next_at<R: Wait>(rt: &R, questions: &QuestionDesk, kind: Kind) -> Result<Asked, NextRefusal>
-    requires { IsTrue (is_agent kind.0) }
-{
-    let mut table = questions.table.lock(rt);
-    for _ in rt.forever() {
-        match give_next(&mut *table, kind) {
-            Ok(Some(asked)) => return Ok(asked),
-            Ok(None) => table = questions.news.wait(rt, table),
-            Err(refusal) => return Err(refusal),
-        }
-    }
-    unreachable!()
 }

@@ -16,6 +16,9 @@ pub enum AskRefusal {
     /// The table has no question of the number that was put.
     #[error("the question {0} is lost")]
     Lost(u32),
+    /// The link of whoever asked the question of this number was found down, and the question was taken away.
+    #[error("whoever asked question {0} has left")]
+    Withdrawn(u32),
 }
 
 /// Why an agent is given no question.
@@ -25,4 +28,7 @@ pub enum NextRefusal {
     Stopped,
     #[error("out of memory")]
     Memory(AllocError),
+    /// The agent's link was found down.
+    #[error("the agent has left")]
+    Left,
 }

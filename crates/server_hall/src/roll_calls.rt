@@ -1,7 +1,7 @@
 // What the calls of a hall make of the roll that they are lent. What a hall may count and note of them these functions alone make:
 // no other module can.
 ghost use Rattle.std.specs.Prelude.{◌≡◌, ◌<◌, false, IsTrue, IfOk, IfErr, OnOk, OnErr};
-ghost use Rattle.live_roll.specs.Roll.{left_of, with_entry, without_entry, hung_to};
+ghost use Rattle.live_roll.specs.Roll.{left_of, with_entry, LeavesPlace, HangsTo};
 ghost use Rattle.live_desk.specs.History.{last_commit};
 ghost use Rattle.live_desk.specs.Seat.{with_note};
 ghost use Rattle.server_hall.specs.Tally.{IsRaised};
@@ -116,7 +116,7 @@ pub fn leave_roll<H: HangEnd>(roll: &mut Roll<H>, seat: u32, entered: u64) -> Le
     requires { seat < 64 }
     ensures answer { result ≡ record { seat = seat; entered = entered; left = left_of entered roll.old } }
     ensures raised { IsRaised entered result.left }
-    ensures left { roll.new ≡ without_entry seat roll.old }
+    ensures left { LeavesPlace H.used seat roll.old roll.new }
 {
     let left = roll.leave(seat, entered);
     LeaveCall {
@@ -130,7 +130,7 @@ pub fn leave_roll<H: HangEnd>(roll: &mut Roll<H>, seat: u32, entered: u64) -> Le
 /// handed out, for a hall to note.
 pub fn hang_roll<H: HangEnd>(roll: &mut Roll<H>, publisher: &Publisher) -> HangCall
     ensures commit { result ≡ last_commit 0 publisher.now }
-    ensures hung { roll.new ≡ hung_to (last_commit 0 publisher.now) roll.old }
+    ensures hung { HangsTo H.used (last_commit 0 publisher.now) roll.old roll.new }
 {
     let commit = publisher.commit();
     roll.hang_all(commit);

@@ -1,10 +1,12 @@
 // What the calls of a hall make of the table of questions that they are lent.
 ghost use Rattle.std.specs.Prelude.{◌≡◌, false, None, IsTrue, IfOk, IfErr, OnOk, OnErr};
 ghost use Rattle.cynara_keys.specs.PolicyResult.{is_agent};
-ghost use Rattle.agent_table.specs.Table.{after_put};
+ghost use Rattle.agent_table.specs.OpenQuestion.{numbered};
+ghost use Rattle.agent_table.specs.Table.{after_put, taken_away};
 ghost use Rattle.agent_table.specs.Refusals.{put_fault, take_reply, after_take};
 ghost use Rattle.server_hall.specs.Tally.{IsNamedForItself};
-ghost use Rattle.server_hall.specs.Table.{RefusesAsk, awaited, IsNamed, GivesNext, RefusesNext, table_after_next};
+ghost use Rattle.server_hall.specs.Found.{IsOfTheTable, IsOfTheQueue};
+ghost use Rattle.server_hall.specs.Table.{RefusesAsk, awaited, IsGone, IsNamed, GivesNext, RefusesNext, table_after_next};
 
 use crate::{AskRefusal, NextRefusal};
 use agent_table::{Asked, PutRefusal, Questions, TakeRefusal, Taken};
@@ -32,6 +34,7 @@ pub fn put_question(
     ensures refused { IfErr result (RefusesAsk (put_fault kind table.old)) }
     ensures err { OnErr result (table.new ≡ table.old) }
     ensures named { IfErr result IsNamedForItself }
+    ensures own { IfErr result IsOfTheTable }
 {
     match table.put(kind, question, metadata) {
         Ok(number) => Ok(number),
@@ -44,9 +47,11 @@ pub fn put_question(
 }
 
 /// Takes the answer to the question of the number, as `Questions::take` does, if there is one yet.
+#[tactic(auto, using(crate::proofs::Gone::numbered_without))]
 pub fn await_answer(table: &mut Questions, number: u32) -> Awaited
     ensures answer { result ≡ awaited number (take_reply number table.old) }
     ensures table { table.new ≡ after_take (take_reply number table.old) number table.old }
+    ensures gone { IsGone number result table.new.questions }
     ensures named { IsNamed result }
 {
     match table.take(number) {
@@ -58,12 +63,22 @@ pub fn await_answer(table: &mut Questions, number: u32) -> Awaited
     }
 }
 
+/// Takes the question of the number away, as `Questions::withdraw` does: nobody waits for its answer any more.
+#[tactic(auto, using(crate::proofs::Gone::numbered_without))]
+pub fn withdraw_question(table: &mut Questions, number: u32)
+    ensures table { table.new ≡ taken_away number table.old }
+    ensures gone { numbered number table.new.questions ≡ None }
+{
+    table.withdraw(number);
+}
+
 /// Gives the agent of the kind its next question, as `Questions::next` does, if one waits; a stopped table gives none.
 pub fn give_next(table: &mut Questions, kind: Kind) -> Result<Option<Asked>, NextRefusal>
     requires { IsTrue (is_agent kind.0) }
     ensures asked { GivesNext kind.0 table.old result }
     ensures table { table.new ≡ table_after_next kind.0 result table.old }
     ensures stopped { IfErr result (λ refusal. RefusesNext table.old.stopped refusal) }
+    ensures own { IfErr result IsOfTheQueue }
     ensures running { OnOk result (table.old.stopped ≡ false) }
 {
     if table.is_stopped() {

@@ -1,10 +1,10 @@
 ghost use Rattle.std.specs.Prelude.{◌≡◌, ◌≤◌};
 ghost use Rattle.desk_ports.specs.Faults.{last_count};
 ghost use Rattle.server_hall.specs.Tally.{no_calls, after_enter, after_leave, after_hang, after_ask, after_join};
-ghost use Rattle.server_hall.specs.Tally.{after_next, after_answer, after_part, after_stop};
+ghost use Rattle.server_hall.specs.Tally.{after_next, after_answer, after_look, after_part, after_stop};
 ghost use Rattle.server_hall.specs.Tally.{stops_after_ask, losses_after_ask, stops_after_join, stops_after_next};
 
-use crate::calls::{AnswerCall, AskCall, JoinCall, NextCall, PartCall};
+use crate::calls::{AnswerCall, AskCall, JoinCall, LookCall, NextCall, PartCall};
 use crate::roll_calls::{EnterCall, HangCall, LeaveCall};
 use crate::{AskRefusal, NextRefusal};
 use agent_table::{AnswerRefusal, Asked, RegisterRefusal, Taken};
@@ -26,6 +26,7 @@ pub struct HallTally {
     joins: u64,
     nexts: u64,
     answers: u64,
+    looks: u64,
     parts: u64,
     stop_calls: u64,
     last_enter: Option<u64>,
@@ -34,6 +35,7 @@ pub struct HallTally {
     last_join: Option<JoinCall>,
     last_next: Option<NextCall>,
     last_answer: Option<AnswerCall>,
+    last_look: Option<LookCall>,
     last_part: Option<PartCall>,
     cleared: u64,
 }
@@ -53,6 +55,7 @@ impl Model for HallTally {
       joins = tally.joins;
       nexts = tally.nexts;
       answers = tally.answers;
+      looks = tally.looks;
       parts = tally.parts;
       stop_calls = tally.stop_calls;
       last_enter = tally.last_enter;
@@ -61,6 +64,7 @@ impl Model for HallTally {
       last_join = tally.last_join;
       last_next = tally.last_next;
       last_answer = tally.last_answer;
+      last_look = tally.last_look;
       last_part = tally.last_part;
       cleared = tally.cleared;
     } };
@@ -81,6 +85,7 @@ impl HallTally {
             joins: 0,
             nexts: 0,
             answers: 0,
+            looks: 0,
             parts: 0,
             stop_calls: 0,
             last_enter: None,
@@ -89,6 +94,7 @@ impl HallTally {
             last_join: None,
             last_next: None,
             last_answer: None,
+            last_look: None,
             last_part: None,
             cleared: 0,
         }
@@ -148,6 +154,13 @@ impl HallTally {
         ensures { result ≡ self.now.answers }
     {
         self.answers
+    }
+
+    /// How often it was asked whether a question still waits.
+    pub fn looks(&self) -> u64
+        ensures { result ≡ self.now.looks }
+    {
+        self.looks
     }
 
     /// How many agents left.
@@ -267,6 +280,14 @@ impl HallTally {
         self.last_answer = Some(AnswerCall::of(kind, number, allowed, outcome));
     }
 
+    /// Counts a look at a question, and keeps it.
+    pub fn count_look(&mut self, number: u32, open: bool)
+        ensures { self.new ≡ after_look (record { number = number; «open» = «open» }) self.old }
+    {
+        self.looks = self.looks.saturating_add(1);
+        self.last_look = Some(LookCall { number, open });
+    }
+
     /// Counts an agent that left.
     pub fn count_part(&mut self, kind: Kind)
         ensures { self.new ≡ after_part kind self.old }
@@ -292,7 +313,8 @@ fn stops_after_ask(outcome: &Result<(u32, Taken), AskRefusal>, stops: u64) -> u6
 {
     match outcome {
         Err(AskRefusal::Stopped) => stops.saturating_add(1),
-        Err(AskRefusal::Put(_)) | Err(AskRefusal::Gone(_)) | Err(AskRefusal::Lost(_)) => stops,
+        Err(AskRefusal::Put(_)) | Err(AskRefusal::Gone(_)) => stops,
+        Err(AskRefusal::Lost(_)) | Err(AskRefusal::Withdrawn(_)) => stops,
         Ok(_) => stops,
     }
 }
@@ -302,7 +324,8 @@ fn losses_after_ask(outcome: &Result<(u32, Taken), AskRefusal>, losses: u64) -> 
 {
     match outcome {
         Err(AskRefusal::Lost(_)) => losses.saturating_add(1),
-        Err(AskRefusal::Put(_)) | Err(AskRefusal::Gone(_)) | Err(AskRefusal::Stopped) => losses,
+        Err(AskRefusal::Put(_)) | Err(AskRefusal::Gone(_)) => losses,
+        Err(AskRefusal::Stopped) | Err(AskRefusal::Withdrawn(_)) => losses,
         Ok(_) => losses,
     }
 }
@@ -312,7 +335,8 @@ fn stops_after_join(outcome: &Result<(), RegisterRefusal>, stops: u64) -> u64
 {
     match outcome {
         Err(RegisterRefusal::Stopped) => stops.saturating_add(1),
-        Err(RegisterRefusal::Taken(_)) | Err(RegisterRefusal::Memory(_)) => stops,
+        Err(RegisterRefusal::Taken(_)) | Err(RegisterRefusal::Full) => stops,
+        Err(RegisterRefusal::Memory(_)) => stops,
         Ok(()) => stops,
     }
 }
@@ -322,7 +346,7 @@ fn stops_after_next(outcome: &Result<Asked, NextRefusal>, stops: u64) -> u64
 {
     match outcome {
         Err(NextRefusal::Stopped) => stops.saturating_add(1),
-        Err(NextRefusal::Memory(_)) => stops,
+        Err(NextRefusal::Memory(_)) | Err(NextRefusal::Left) => stops,
         Ok(_) => stops,
     }
 }
