@@ -1,7 +1,7 @@
 // How long a peer may keep a worker of a service, and so others waiting.
 //
-// The limits hold for links that came in at a door; a link that was dialled waits for ever. Each time is judged by the
-// clock, and given in milliseconds.
+// The limits hold for links that came in at a door; a link that was dialled waits for ever, but where its net has a limit.
+// Each time is judged by the clock, and given in milliseconds.
 
 /// From the first bytes of a frame until the whole of it is there. A program of the same machine sends a frame in one
 /// write, so one that takes longer is stopped, or holds the worker on purpose.
