@@ -246,6 +246,13 @@ class World:
         need(entry["state"] == "open")
         entry["state"] = "true" if answer == "allow" else "false"
 
+    def withdraw(self, number):
+        link = self.link(number)
+        need(link.reading is not None and link.reading[0] == "waiting" and link.run == self.run and not link.up)
+        entry = self.entry(self.run, link.reading[3])
+        need(entry["state"] == "open")
+        entry["state"] = "gone"
+
     def leave(self, kind):
         need(kind in self.agents)
         self.agents.remove(kind)
@@ -287,6 +294,7 @@ def candidates(draw, world):
         f"dial {client}", f"enter {link}", f"hit {client} {draw.randrange(3)}", f"send {client}",
         f"read {link} {commit}", f"write {link}", f"deliver {client}", f"notice {client}", f"decide {keep}", "publish",
         "acknowledge", f"put {link}", f"reply {draw.randrange(3)} {draw.choice(['allow', 'deny'])}",
+        f"withdraw {link}",
     ]
     if client not in world.clients or world.clients[client].asking is None:
         often.append(ask)
@@ -313,7 +321,7 @@ def random_list(draw):
 # the events of which --all makes every list
 SMALL = ["dial 1", "enter 0", "ask 1 p", "send 1", "read 0 0", "write 0", "deliver 1", "hit 1 0", "notice 1", "lose 0",
          "stored set p 10", "publish", "hang", "acknowledge", "stop drop", "join 10", "put 0", "reply 0 allow",
-         "leave 10"]
+         "withdraw 0", "leave 10"]
 
 
 # the outcome as the program tells it: of more than twenty replies their number and the last one

@@ -9,10 +9,10 @@ use Rattle.desk_world.specs.World.{World, history, desk_at, with_link, entry_at,
 use Rattle.desk_world.specs.Clients.{when, with_some, new_link, dialled, new_ask, asked, send, given, hit, delivered, deliver, notice}
 use Rattle.desk_world.specs.Links.{enter, read, outgoing, write, lose}
 use Rattle.desk_world.specs.Commits.{committed, decide, hung_up, hang, closed, restarted, under_way}
-use Rattle.desk_world.specs.Agents.{has_agent, put, put_due, put_with, fits, answer}
+use Rattle.desk_world.specs.Agents.{has_agent, put, put_due, put_with, fits, answer, withdraw, withdraw_waiting}
 use Rattle.desk_world.specs.Events.{connect, after}
 use Rattle.desk_world.specs.declared.events.Event.{Event}
-use Rattle.desk_world.specs.declared.events.Event.TheVariants.{Connect, Ask, Hit, Send, Read, Write, Deliver, Notice, Lose, Stored, Undecided, Decide, Publish, Hang, Acknowledge, AgentJoin, AgentPut, AgentReply, AgentLeave, Stop, Tell}
+use Rattle.desk_world.specs.declared.events.Event.TheVariants.{Connect, Ask, Hit, Send, Read, Write, Deliver, Notice, Lose, Stored, Undecided, Decide, Publish, Hang, Acknowledge, AgentJoin, AgentPut, AgentReply, AgentWithdraw, AgentLeave, Stop, Tell}
 use Rattle.desk_world.specs.declared.events.Half.{Half}
 use Rattle.desk_world.specs.declared.events.Half.TheVariants.{Dial, Enter}
 use Rattle.desk_world.specs.declared.links.Link.{Link}
@@ -164,6 +164,16 @@ adds-answer : (w : World) (number : ℕ) (allowed : Bool) → AddsIf w (answer n
 adds-answer w number allowed =
     where_there w (entry_at w.run number w.entries) _ (λ entry. where_held w _ _ (same w _ refl refl refl))
 
+adds-withdraw_waiting : (w : World) (found : Link) (reading : Reading) → AddsIf w (withdraw_waiting found reading w)
+adds-withdraw_waiting w found Nothing = tt
+adds-withdraw_waiting w found (Ready reply) = tt
+adds-withdraw_waiting w found (Due commit kind metadata) = tt
+adds-withdraw_waiting w found (Waiting commit kind number) =
+    where_there w (entry_at w.run number w.entries) _ (λ entry. where_held w _ _ (same w _ refl refl refl))
+
+adds-withdraw : (w : World) (link : ℕ) → AddsIf w (withdraw link w)
+adds-withdraw w link = where_there w (slice_get w.links link) _ (λ found. adds-withdraw_waiting w found found.reading)
+
 -- ---- each event
 
 adds-connect : (w : World) (half : Half) → AddsIf w (connect half w)
@@ -189,6 +199,7 @@ event-adds w Acknowledge = where_held w _ _ (same w _ refl refl refl)
 event-adds w (AgentJoin kind) = where_held w _ _ (same w _ refl refl refl)
 event-adds w (AgentPut link full) = adds-put w link full
 event-adds w (AgentReply number allowed) = adds-answer w number allowed
+event-adds w (AgentWithdraw link) = adds-withdraw w link
 event-adds w (AgentLeave kind) = where_held w _ _ (same w _ refl refl refl)
 event-adds w (Stop command kept) =
     where_held w _ _ (adds-restarted w (cond kept (under_way command w) None))

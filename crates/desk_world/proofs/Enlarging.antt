@@ -15,18 +15,19 @@ use Rattle.desk_world.specs.World.{World, history, latest, latest_of, last, desk
 use Rattle.desk_world.specs.Clients.{same_question, new_link, dialled, dial, new_ask, asked, send, given as given_to, hit, kept as cached, delivered, deliver, notice, tell}
 use Rattle.desk_world.specs.Links.{enter, is_nothing, reading_of, read, outgoing, write, lose}
 use Rattle.desk_world.specs.Commits.{may_store, stored, undecided, committed, decided, decide, entered_before, hung_up, hang, closed, restarted, under_way, may_stop, stop}
-use Rattle.desk_world.specs.Agents.{has_agent, is_open, join, count_of, fits, new_entry, put_with, put_to, put_due, put, answered, answer, once_stopped, once_left, leave}
+use Rattle.desk_world.specs.Agents.{has_agent, is_open, join, count_of, fits, new_entry, put_with, put_to, put_due, put, ended, answer, withdraw, withdraw_waiting, once_stopped, once_left, leave}
 use Rattle.desk_world.specs.Events.{connect, after}
 use Rattle.desk_world.specs.Grows.{BeginsWith, LinkGrows, LinksGrow, EntryGrows, Grows}
 use Rattle.desk_world.specs.Kept.{IsOrdered, Follows, HasHistory}
 use Rattle.desk_world.specs.Growth.{EachGrows}
 use Rattle.desk_world.specs.declared.agent_entries.AgentEntry.{AgentEntry}
 use Rattle.desk_world.specs.declared.events.Event.{Event}
-use Rattle.desk_world.specs.declared.events.Event.TheVariants.{Connect, Ask, Hit, Send, Read, Write, Deliver, Notice, Lose, Stored, Undecided, Decide, Publish, Hang, Acknowledge, AgentJoin, AgentPut, AgentReply, AgentLeave, Stop, Tell}
+use Rattle.desk_world.specs.declared.events.Event.TheVariants.{Connect, Ask, Hit, Send, Read, Write, Deliver, Notice, Lose, Stored, Undecided, Decide, Publish, Hang, Acknowledge, AgentJoin, AgentPut, AgentReply, AgentWithdraw, AgentLeave, Stop, Tell}
 use Rattle.desk_world.specs.declared.events.Half.{Half}
 use Rattle.desk_world.specs.declared.events.Half.TheVariants.{Dial, Enter}
 use Rattle.desk_world.specs.declared.links.Asked.{Asked}
 use Rattle.desk_world.specs.declared.links.Link.{Link}
+use Rattle.desk_world.specs.declared.agent_entries.EntryState.TheVariants.{Gone, Answered}
 use Rattle.desk_world.specs.declared.links.Reading.{Reading}
 use Rattle.desk_world.specs.declared.links.Reading.TheVariants.{Nothing, Ready, Due, Waiting}
 use Rattle.desk_world.specs.declared.links.Transit.{Transit}
@@ -38,7 +39,7 @@ use Rattle.desk_world.proofs.Growing.{links_same, links_push, links_set, links_m
 use Rattle.desk_world.proofs.Keeping.{cond_each, told_with, told_same}
 use Rattle.desk_world.proofs.Committing.{latest-push, moved_grows, grows_trans}
 use Rattle.desk_world.proofs.Relinking.{relink_grows}
-use Rattle.desk_world.proofs.steps.Agents.{gone_stays, answered_run, answered_number, answered_grows}
+use Rattle.desk_world.proofs.steps.Agents.{gone_stays, ended_run, ended_number, ended_grows, withdraw_tests}
 use Rattle.desk_world.proofs.steps.Hanging.{shut_grows, down_stays}
 use Rattle.desk_world.proofs.steps.Storing.{accepted_follows}
 
@@ -373,10 +374,29 @@ entries-grow w agents f runs numbers each =
 answer-grows : (w next : World) (number : ℕ) (allowed : Bool) → answer number allowed w ≡ Some next → Grows w next
 answer-grows w next number allowed e =
     with_some-tells (entry_at w.run number w.entries) _ next e (λ entry there e.
-    when-tells (Grows w) (is_open entry.state) (record w { entries = map (answered w.run number allowed) w.entries }) next e
+    when-tells (Grows w) (is_open entry.state)
+    (record w { entries = map (ended w.run number (Answered allowed)) w.entries }) next e
     (λ open_still.
-    entries-grow w w.agents (answered w.run number allowed) (answered_run w.run number allowed)
-    (answered_number w.run number allowed) (answered_grows w number allowed entry there open_still)))
+    entries-grow w w.agents (ended w.run number (Answered allowed)) (ended_run w.run number (Answered allowed))
+    (ended_number w.run number (Answered allowed)) (ended_grows w number (Answered allowed) entry there open_still)))
+
+withdraw_waiting-grows : (w next : World) (found : Link) (reading : Reading)
+    → withdraw_waiting found reading w ≡ Some next → Grows w next
+withdraw_waiting-grows w next found (Waiting commit kind number) e =
+    with_some-tells (entry_at w.run number w.entries) _ next e (λ entry there e.
+    when-tells (Grows w) (found.run == w.run && (not found.up && is_open entry.state))
+    (record w { entries = map (ended w.run number Gone) w.entries }) next e
+    (λ tests.
+    entries-grow w w.agents (ended w.run number Gone) (ended_run w.run number Gone) (ended_number w.run number Gone)
+    (ended_grows w number Gone entry there (withdraw_tests found w entry tests))))
+withdraw_waiting-grows w next found Nothing e = absurd (none-some next e)
+withdraw_waiting-grows w next found (Ready reply) e = absurd (none-some next e)
+withdraw_waiting-grows w next found (Due commit kind metadata) e = absurd (none-some next e)
+
+withdraw-grows : (w next : World) (link : ℕ) → withdraw link w ≡ Some next → Grows w next
+withdraw-grows w next link e =
+    with_some-tells (slice_get w.links link) _ next e (λ found there e.
+    withdraw_waiting-grows w next found found.reading e)
 
 leave-grows : (w next : World) (kind : Kind) → leave kind w ≡ Some next → Grows w next
 leave-grows w next kind e =
@@ -447,6 +467,7 @@ event-grows w next order Acknowledge e =
 event-grows w next order (AgentJoin kind) e = join-grows w next kind e
 event-grows w next order (AgentPut link full) e = put-grows w next link full e
 event-grows w next order (AgentReply number allowed) e = answer-grows w next number allowed e
+event-grows w next order (AgentWithdraw link) e = withdraw-grows w next link e
 event-grows w next order (AgentLeave kind) e = leave-grows w next kind e
 event-grows w next order (Stop command kept) e = stop-grows w next order command kept e
 event-grows w next order (Tell client commit) e = tell-grows w next client commit e

@@ -17,3 +17,4 @@ pub mod Roots
 pub mod Becoming
 pub mod Adding
 pub mod Turning
+pub mod Withdrawing

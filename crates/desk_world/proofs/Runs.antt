@@ -11,7 +11,7 @@ use Rattle.desk_world.specs.Sound.{IsSound}
 use Rattle.desk_world.specs.Kept.{IsCurrent, IsLink, IsKept}
 use Rattle.desk_world.specs.declared.agent_entries.AgentEntry.{AgentEntry}
 use Rattle.desk_world.specs.declared.events.Event.{Event}
-use Rattle.desk_world.specs.declared.events.Event.TheVariants.{Connect, Ask, Hit, Send, Read, Write, Deliver, Notice, Lose, Stored, Undecided, Decide, Publish, Hang, Acknowledge, AgentJoin, AgentPut, AgentReply, AgentLeave, Stop, Tell}
+use Rattle.desk_world.specs.declared.events.Event.TheVariants.{Connect, Ask, Hit, Send, Read, Write, Deliver, Notice, Lose, Stored, Undecided, Decide, Publish, Hang, Acknowledge, AgentJoin, AgentPut, AgentReply, AgentWithdraw, AgentLeave, Stop, Tell}
 use Rattle.desk_world.specs.declared.events.Half.{Half}
 use Rattle.desk_world.specs.declared.events.Half.TheVariants.{Dial, Enter}
 use Rattle.desk_world.specs.declared.links.Asked.{Asked}
@@ -31,7 +31,7 @@ use Rattle.desk_world.proofs.steps.Reading.{read-steps}
 use Rattle.desk_world.proofs.steps.Writing.{write-steps}
 use Rattle.desk_world.proofs.steps.Storing.{stored-steps, undecided-steps, decide-steps, publish-steps, acknowledge-steps}
 use Rattle.desk_world.proofs.steps.Hanging.{hang-step, stop-steps}
-use Rattle.desk_world.proofs.steps.Agents.{join-steps, put-steps, answer-steps, leave-steps}
+use Rattle.desk_world.proofs.steps.Agents.{join-steps, put-steps, answer-steps, withdraw-steps, leave-steps}
 
 -- ---- one event
 
@@ -59,6 +59,7 @@ event-steps w next kept Acknowledge e = acknowledge-steps w next kept e
 event-steps w next kept (AgentJoin kind) e = join-steps w next kept kind e
 event-steps w next kept (AgentPut link full) e = put-steps w next kept link full e
 event-steps w next kept (AgentReply number allowed) e = answer-steps w next kept number allowed e
+event-steps w next kept (AgentWithdraw link) e = withdraw-steps w next kept link e
 event-steps w next kept (AgentLeave kind) e = leave-steps w next kept kind e
 event-steps w next kept (Stop command kept_it) e = stop-steps w next kept command kept_it e
 event-steps w next kept (Tell client commit) e = tell-steps w next kept client commit e

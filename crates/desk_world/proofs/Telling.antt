@@ -14,17 +14,18 @@ use Rattle.desk_world.specs.World.{World, history, latest, last, desk_at, root_o
 use Rattle.desk_world.specs.Clients.{same_question, dialled, dial, asked, send, given as given_to, hit, kept as cached, delivered, deliver, notice, tell}
 use Rattle.desk_world.specs.Links.{enter, is_nothing, reading_of, read, outgoing, write, lose}
 use Rattle.desk_world.specs.Commits.{may_store, committed, decided, decide, hang, restarted, under_way, may_stop}
-use Rattle.desk_world.specs.Agents.{has_agent, is_open, fits, put_due, put_with, put_to, put, answered, answer, once_left}
-use Rattle.desk_world.specs.Events.{connect, after, next_of, run_from, run}
+use Rattle.desk_world.specs.Agents.{has_agent, is_open, fits, put_due, put_with, put_to, put, ended, answer, withdraw, withdraw_waiting, once_left}
+use Rattle.desk_world.specs.Events.{connect, after, next_of, run_from}
 use Rattle.desk_world.specs.Headline.{IsVerdict}
 use Rattle.desk_world.specs.Older.{TellsNot, NeverOlder}
 use Rattle.desk_world.specs.Sound.{commit_of}
 use Rattle.desk_world.specs.declared.clients.Slot.{Slot}
 use Rattle.desk_world.specs.declared.events.Event.{Event}
-use Rattle.desk_world.specs.declared.events.Event.TheVariants.{Connect, Ask, Hit, Send, Read, Write, Deliver, Notice, Lose, Stored, Undecided, Decide, Publish, Hang, Acknowledge, AgentJoin, AgentPut, AgentReply, AgentLeave, Stop, Tell}
+use Rattle.desk_world.specs.declared.events.Event.TheVariants.{Connect, Ask, Hit, Send, Read, Write, Deliver, Notice, Lose, Stored, Undecided, Decide, Publish, Hang, Acknowledge, AgentJoin, AgentPut, AgentReply, AgentWithdraw, AgentLeave, Stop, Tell}
 use Rattle.desk_world.specs.declared.events.Half.{Half}
 use Rattle.desk_world.specs.declared.events.Half.TheVariants.{Dial, Enter}
 use Rattle.desk_world.specs.declared.links.Link.{Link}
+use Rattle.desk_world.specs.declared.agent_entries.EntryState.TheVariants.{Gone, Answered}
 use Rattle.desk_world.specs.declared.links.Reading.{Reading}
 use Rattle.desk_world.specs.declared.links.Reading.TheVariants.{Nothing, Ready, Due, Waiting}
 use Rattle.desk_world.specs.declared.links.Transit.{Transit}
@@ -185,7 +186,22 @@ answer-alike : (w next : World) (client number : ℕ) (allowed : Bool) → answe
 answer-alike w next client number allowed e =
     with_some-tells (entry_at w.run number w.entries) _ next e (λ entry there e.
     when-tells (IsToldAlike w client) (is_open entry.state)
-    (record w { entries = map (answered w.run number allowed) w.entries }) next e (λ open_still. refl))
+    (record w { entries = map (ended w.run number (Answered allowed)) w.entries }) next e (λ open_still. refl))
+
+withdraw_waiting-alike : (w next : World) (client : ℕ) (found : Link) (reading : Reading)
+    → withdraw_waiting found reading w ≡ Some next → IsToldAlike w client next
+withdraw_waiting-alike w next client found (Waiting commit kind number) e =
+    with_some-tells (entry_at w.run number w.entries) _ next e (λ entry there e.
+    when-tells (IsToldAlike w client) (found.run == w.run && (not found.up && is_open entry.state))
+    (record w { entries = map (ended w.run number Gone) w.entries }) next e (λ tests. refl))
+withdraw_waiting-alike w next client found Nothing e = absurd (none-some next e)
+withdraw_waiting-alike w next client found (Ready reply) e = absurd (none-some next e)
+withdraw_waiting-alike w next client found (Due commit kind metadata) e = absurd (none-some next e)
+
+withdraw-alike : (w next : World) (client link : ℕ) → withdraw link w ≡ Some next → IsToldAlike w client next
+withdraw-alike w next client link e =
+    with_some-tells (slice_get w.links link) _ next e (λ found there e.
+    withdraw_waiting-alike w next client found found.reading e)
 
 tell-alike : (w next : World) (client other commit : ℕ) → (other ≡ client → ⊥) → tell other commit w ≡ Some next
     → IsToldAlike w client next
@@ -227,6 +243,7 @@ event-alike w next client (AgentJoin kind) not_told e =
     (record w { agents = w.agents ++ kind.0 ∷ [] }) next e (λ may. refl)
 event-alike w next client (AgentPut link full) not_told e = put-alike w next client link full e
 event-alike w next client (AgentReply number allowed) not_told e = answer-alike w next client number allowed e
+event-alike w next client (AgentWithdraw link) not_told e = withdraw-alike w next client link e
 event-alike w next client (AgentLeave kind) not_told e =
     when-tells (IsToldAlike w client) (has_agent kind.0 w)
     (record w {

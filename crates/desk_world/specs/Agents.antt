@@ -1,4 +1,5 @@
--- What agents do: register for a kind, be asked, answer and leave. The log keeps each question that was put to one.
+-- What agents do: register for a kind, be asked, answer and leave; and questions that are withdrawn. The log keeps each
+-- question that was put to an agent.
 use Rattle.std.specs.Prelude.{ℕ, Bool, true, false, not, ◌&&◌, ◌||◌, ◌==◌, nat_le, nat_lt, if◌then◌else◌, List, [], ◌∷◌, ◌++◌, map, filter, Option, Some, None, slice_get}
 use Rattle.std.specs.List.{list_any, count_by}
 use Rattle.cynara_keys.specs.PolicyResult.{is_agent}
@@ -106,14 +107,30 @@ put link full world =
 -- ---- answering
 
 -- the entry stands so from now on, if it is this one
-abbrev pub answered : ℕ → ℕ → Bool → AgentEntry → AgentEntry
-answered run number allowed entry =
-    if entry.run == run && entry.number == number then record entry { state = Answered allowed } else entry
+abbrev pub ended : ℕ → ℕ → EntryState → AgentEntry → AgentEntry
+ended run number state entry =
+    if entry.run == run && entry.number == number then record entry { state = state } else entry
 
 abbrev pub answer : ℕ → Bool → World → Option World
 answer number allowed world =
     with_some (entry_at world.run number world.entries) (λ entry.
-    when (is_open entry.state) (record world { entries = map (answered world.run number allowed) world.entries }))
+    when (is_open entry.state)
+    (record world { entries = map (ended world.run number (Answered allowed)) world.entries }))
+
+-- ---- withdrawing
+
+-- The worker of a link that is closed takes back the question that it waits with. No reply is ever sent on that link.
+abbrev pub withdraw_waiting : Link → Reading → World → Option World
+withdraw_waiting found (Waiting commit kind number) world =
+    with_some (entry_at world.run number world.entries) (λ entry.
+    when (found.run == world.run && (not found.up && is_open entry.state))
+    (record world { entries = map (ended world.run number Gone) world.entries }))
+withdraw_waiting found Nothing world = None
+withdraw_waiting found (Ready reply) world = None
+withdraw_waiting found (Due commit kind metadata) world = None
+
+abbrev pub withdraw : ℕ → World → Option World
+withdraw link world = with_some (slice_get world.links link) (λ found. withdraw_waiting found found.reading world)
 
 -- ---- leaving
 

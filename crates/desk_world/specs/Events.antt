@@ -4,9 +4,9 @@ use Rattle.desk_world.specs.World.{World}
 use Rattle.desk_world.specs.Clients.{dial, asked, hit, send, deliver, notice, tell}
 use Rattle.desk_world.specs.Links.{enter, read, write, lose}
 use Rattle.desk_world.specs.Commits.{stored, undecided, decide, publish, hang, acknowledge, stop}
-use Rattle.desk_world.specs.Agents.{join, put, answer, leave}
+use Rattle.desk_world.specs.Agents.{join, put, answer, withdraw, leave}
 use Rattle.desk_world.specs.declared.events.Event.{Event}
-use Rattle.desk_world.specs.declared.events.Event.TheVariants.{Connect, Ask, Hit, Send, Read, Write, Deliver, Notice, Lose, Stored, Undecided, Decide, Publish, Hang, Acknowledge, AgentJoin, AgentPut, AgentReply, AgentLeave, Stop, Tell}
+use Rattle.desk_world.specs.declared.events.Event.TheVariants.{Connect, Ask, Hit, Send, Read, Write, Deliver, Notice, Lose, Stored, Undecided, Decide, Publish, Hang, Acknowledge, AgentJoin, AgentPut, AgentReply, AgentWithdraw, AgentLeave, Stop, Tell}
 use Rattle.desk_world.specs.declared.events.Half.{Half}
 use Rattle.desk_world.specs.declared.events.Half.TheVariants.{Dial, Enter}
 use Rattle.desk_world.specs.declared.refusals.WorldRefusal.{WorldRefusal}
@@ -35,6 +35,7 @@ after Acknowledge world = acknowledge world
 after (AgentJoin kind) world = join kind world
 after (AgentPut link full) world = put link full world
 after (AgentReply number allowed) world = answer number allowed world
+after (AgentWithdraw link) world = withdraw link world
 after (AgentLeave kind) world = leave kind world
 after (Stop command kept) world = stop command kept world
 after (Tell client commit) world = tell client commit world

@@ -13,4 +13,5 @@ pub mod Growth
 pub mod Headline
 pub mod Older
 pub mod Stops
+pub mod Unanswered
 pub mod parts

@@ -17,7 +17,7 @@ pub struct AgentEntry {
 #[derive(Clone, Copy, Debug, PartialEq, Eq)]
 pub enum EntryState {
     Open,
-    /// The agent left, or the service stopped, before there was an answer.
+    /// The agent left, the question was withdrawn, or the service stopped, before there was an answer.
     Gone,
     Answered(bool),
 }

@@ -2,7 +2,7 @@
 ghost use Rattle.std.specs.Prelude.{◌≡◌, ◌<◌, ◌^◌, ◌&&◌, ◌==◌, [], ◌∷◌, ◌++◌, not, filter, map, length, None, IfOk, IsTrue};
 ghost use Rattle.std.specs.List.{list_any, count_by};
 ghost use Rattle.desk_world.specs.Agents.{join, put, put_to, put_with, put_down, answer, leave, fits, is_open, is_waiting, count_of, waiting_in};
-ghost use Rattle.desk_world.specs.Agents.{answered, gone_if_open, once_stopped, once_left};
+ghost use Rattle.desk_world.specs.Agents.{ended, withdraw, gone_if_open, once_stopped, once_left};
 ghost use Rattle.desk_world.specs.parts.Parts.{world_of, Becomes};
 
 use crate::agent_entries::{AgentEntry, EntryState};
@@ -219,23 +219,49 @@ pub fn answer(world: &mut Parts, number: u32, allowed: bool) -> bool
     if !is_open(entry.state) {
         return false;
     }
-    answer_all(&mut world.entries, run, number, allowed);
+    end_all(
+        &mut world.entries,
+        run,
+        number,
+        EntryState::Answered(allowed),
+    );
     true
 }
 
-fn answer_all(entries: &mut [AgentEntry], run: u32, number: u32, allowed: bool)
-    ensures { entries.new ≡ map (answered run number allowed) entries.old }
+/// The worker of a closed link withdraws the question that it waits with. Says whether that event is enabled.
+pub fn withdraw(world: &mut Parts, link: u32) -> bool
+    ensures { Becomes (withdraw link (world_of world.old)) result (world_of world.new) }
+{
+    let run = world.run;
+    let Some(found) = link_at(&world.links, link) else {
+        return false;
+    };
+    let Reading::Waiting { number, .. } = found.reading else {
+        return false;
+    };
+    let Some(entry) = entry_at(&world.entries, run, number) else {
+        return false;
+    };
+    if found.run != run || found.up || !is_open(entry.state) {
+        return false;
+    }
+    end_all(&mut world.entries, run, number, EntryState::Gone);
+    true
+}
+
+fn end_all(entries: &mut [AgentEntry], run: u32, number: u32, state: EntryState)
+    ensures { entries.new ≡ map (ended run number state) entries.old }
 {
     for entry in entries.iter_mut() {
-        answer_one(entry, run, number, allowed);
+        end_one(entry, run, number, state);
     }
 }
 
-fn answer_one(entry: &mut AgentEntry, run: u32, number: u32, allowed: bool)
-    ensures { entry.new ≡ answered run number allowed entry.old }
+fn end_one(entry: &mut AgentEntry, run: u32, number: u32, state: EntryState)
+    ensures { entry.new ≡ ended run number state entry.old }
 {
     if entry.run == run && entry.number == number {
-        entry.state = EntryState::Answered(allowed);
+        entry.state = state;
     }
 }
 

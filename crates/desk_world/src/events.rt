@@ -78,6 +78,11 @@ pub enum Event {
         number: u32,
         allowed: bool,
     },
+    /// The worker of the link finds it closed, and takes back the question that waits for an agent's answer: the check has
+    /// no reply.
+    AgentWithdraw {
+        link: u32,
+    },
     /// The agent of the kind leaves.
     AgentLeave {
         kind: Kind,

@@ -28,7 +28,7 @@ mod stepping;
 mod worlds;
 
 pub use events::{Event, Half};
-pub use promise::{each_grows, freshness, never_older, recovery};
+pub use promise::{each_grows, freshness, never_older, recovery, withdrawn_is_unanswered};
 pub use refusals::{MOST_ENTRIES, MOST_WAITING, WorldRefusal};
 pub use replies::{Given, Reply};
 pub use worlds::{World, run};

@@ -2,6 +2,7 @@ ghost use Rattle.desk_world.specs.Growth.{EachGrows};
 ghost use Rattle.desk_world.specs.Headline.{Freshness};
 ghost use Rattle.desk_world.specs.Older.{NeverOlder};
 ghost use Rattle.desk_world.specs.Stops.{Recovery};
+ghost use Rattle.desk_world.specs.Unanswered.{Unanswered};
 
 /// The promise of this crate, for every list of events: over every interleaving of checks, commits, hang-ups and stops
 /// each verdict, cached or not, is the bucket evaluation of one committed state no older than any commit acknowledged
@@ -27,4 +28,10 @@ pub fn never_older()
 /// That holds from every world whose numbers are in order and whose states are a chain. Calling it does nothing.
 pub fn each_grows()
     ensures { EachGrows }
+{}
+
+/// A question that was withdrawn has no reply on the connection that it was asked on, whatever happens afterwards, and no
+/// answer of an agent is to it. Calling it does nothing.
+pub fn withdrawn_is_unanswered()
+    ensures { Unanswered }
 {}

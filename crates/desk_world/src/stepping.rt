@@ -74,6 +74,7 @@ pub fn step(world: &mut Parts, event: &Event) -> Result<bool, AllocError>
         Event::AgentReply { number, allowed } => {
             Ok(agent_events::answer(world, *number, *allowed))
         }
+        Event::AgentWithdraw { link } => Ok(agent_events::withdraw(world, *link)),
         Event::AgentLeave { kind } => agent_events::leave(world, *kind),
         Event::Stop { command, kept } => stop(world, command, *kept),
         Event::Tell { client, commit } => client_events::tell(world, *client, *commit),

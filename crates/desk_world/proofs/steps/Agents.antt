@@ -26,7 +26,7 @@ use Rattle.desk_world.proofs.Growing.{links_same, links_set, entries_same, entri
 use Rattle.desk_world.proofs.Monotone.{fresh_still, sound_still, between_still, link_still, links_still, client_still, given_still}
 use Rattle.desk_world.proofs.Keeping.{Step, told_same, serves}
 use Rattle.std.proofs.lemmas.Bool.{cond_both, both_ways}
-use Rattle.desk_world.specs.Agents.{is_open, has_agent, join, count_of, fits, new_entry, put_down, put_with, put_to, put_due, put, gone_if_open, once_stopped, once_left, leave, answered, answer}
+use Rattle.desk_world.specs.Agents.{is_open, has_agent, join, count_of, fits, new_entry, put_down, put_with, put_to, put_due, put, gone_if_open, once_stopped, once_left, leave, ended, answer, withdraw, withdraw_waiting}
 use Rattle.cynara_keys.specs.PolicyResult.{is_agent}
 use Rattle.std.specs.Prelude.{filter}
 use Rattle.std.specs.List.{find}
@@ -258,31 +258,31 @@ find_passes_step : (p : AgentEntry → Bool) (first : AgentEntry) (test : Bool) 
 find_passes_step p first true is rest entry next e = subst (λ entry. p entry ≡ true) (same_Some first entry e) is
 find_passes_step p first false is rest entry next e = next e
 
-find_passes : (p : AgentEntry → Bool) (entries : List AgentEntry) (entry : AgentEntry) → find p entries ≡ Some entry
+pub find_passes : (p : AgentEntry → Bool) (entries : List AgentEntry) (entry : AgentEntry) → find p entries ≡ Some entry
     → p entry ≡ true
 find_passes p [] entry e = absurd (none-some entry e)
 find_passes p (first ∷ entries) entry e =
     find_passes_step p first (p first) refl (find p entries) entry (find_passes p entries entry) e
 
-pub answered_run : (run number : ℕ) (allowed : Bool) (entry : AgentEntry)
-    → (answered run number allowed entry).run ≡ entry.run
-answered_run run number allowed entry =
+pub ended_run : (run number : ℕ) (state : EntryState) (entry : AgentEntry)
+    → (ended run number state entry).run ≡ entry.run
+ended_run run number state entry =
     cond_each (λ (now : AgentEntry). now.run ≡ entry.run) (entry.run == run && entry.number == number)
-    (record entry { state = Answered allowed }) entry refl refl
+    (record entry { state = state }) entry refl refl
 
-pub answered_number : (run number : ℕ) (allowed : Bool) (entry : AgentEntry)
-    → (answered run number allowed entry).number ≡ entry.number
-answered_number run number allowed entry =
+pub ended_number : (run number : ℕ) (state : EntryState) (entry : AgentEntry)
+    → (ended run number state entry).number ≡ entry.number
+ended_number run number state entry =
     cond_each (λ (now : AgentEntry). now.number ≡ entry.number) (entry.run == run && entry.number == number)
-    (record entry { state = Answered allowed }) entry refl refl
+    (record entry { state = state }) entry refl refl
 
 -- the entry of this number is open, and no other is changed that can be found
-pub answered_grows : (w : World) (number : ℕ) (allowed : Bool) (open_one : AgentEntry)
+pub ended_grows : (w : World) (number : ℕ) (state : EntryState) (open_one : AgentEntry)
     → entry_at w.run number w.entries ≡ Some open_one → is_open open_one.state ≡ true
     → (run other : ℕ) (entry : AgentEntry) → entry_at run other w.entries ≡ Some entry
-    → EntryGrows entry (answered w.run number allowed entry)
-answered_grows w number allowed open_one there is_it run other entry e =
-    cond_both (entry.run == w.run && entry.number == number) (record entry { state = Answered allowed }) entry
+    → EntryGrows entry (ended w.run number state entry)
+ended_grows w number state open_one there is_it run other entry e =
+    cond_both (entry.run == w.run && entry.number == number) (record entry { state = state }) entry
     (EntryGrows entry)
     (λ test.
     let this = and_parts (entry.run == w.run) (entry.number == number) test in
@@ -306,10 +306,36 @@ pub answer-steps : (w next : World) → IsKept w → (number : ℕ) (allowed : B
     → Step w next
 answer-steps w next kept number allowed e =
     with_some-tells (entry_at w.run number w.entries) _ next e (λ entry there e.
-    when-tells (Step w) (is_open entry.state) (record w { entries = map (answered w.run number allowed) w.entries }) next e
+    when-tells (Step w) (is_open entry.state)
+    (record w { entries = map (ended w.run number (Answered allowed)) w.entries }) next e
     (λ open_still.
-    change-step w kept w.agents (answered w.run number allowed) (answered_run w.run number allowed)
-    (answered_number w.run number allowed) (answered_grows w number allowed entry there open_still)))
+    change-step w kept w.agents (ended w.run number (Answered allowed)) (ended_run w.run number (Answered allowed))
+    (ended_number w.run number (Answered allowed)) (ended_grows w number (Answered allowed) entry there open_still)))
+
+-- what a link is that may withdraw its question, and the entry that it waits for
+pub withdraw_tests : (found : Link) (w : World) (entry : AgentEntry)
+    → (found.run == w.run && (not found.up && is_open entry.state)) ≡ true → is_open entry.state ≡ true
+withdraw_tests found w entry tests =
+    (and_parts (not found.up) (is_open entry.state)
+    (and_parts (found.run == w.run) (not found.up && is_open entry.state) tests).1).1
+
+withdraw_waiting-steps : (w next : World) → IsKept w → (found : Link) (reading : Reading)
+    → withdraw_waiting found reading w ≡ Some next → Step w next
+withdraw_waiting-steps w next kept found (Waiting commit kind number) e =
+    with_some-tells (entry_at w.run number w.entries) _ next e (λ entry there e.
+    when-tells (Step w) (found.run == w.run && (not found.up && is_open entry.state))
+    (record w { entries = map (ended w.run number Gone) w.entries }) next e
+    (λ tests.
+    change-step w kept w.agents (ended w.run number Gone) (ended_run w.run number Gone) (ended_number w.run number Gone)
+    (ended_grows w number Gone entry there (withdraw_tests found w entry tests))))
+withdraw_waiting-steps w next kept found Nothing e = absurd (none-some next e)
+withdraw_waiting-steps w next kept found (Ready reply) e = absurd (none-some next e)
+withdraw_waiting-steps w next kept found (Due commit kind metadata) e = absurd (none-some next e)
+
+pub withdraw-steps : (w next : World) → IsKept w → (link : ℕ) → withdraw link w ≡ Some next → Step w next
+withdraw-steps w next kept link e =
+    with_some-tells (slice_get w.links link) _ next e (λ found there e.
+    withdraw_waiting-steps w next kept found found.reading e)
 
 pub leave-steps : (w next : World) → IsKept w → (kind : Kind) → leave kind w ≡ Some next → Step w next
 leave-steps w next kept kind e =
