@@ -100,28 +100,13 @@ fn plan<'a>(alloc: Global) -> Result<Command<'a>, AllocError> {
     made.arg(store(alloc))?.arg(place(alloc, "SCRIPT"))
 }
 
-fn level_get<'a>(alloc: Global) -> Result<Command<'a>, AllocError> {
-    let made = bare(alloc, "level-get", "Tells the levels that a user has set");
-    made.arg(store(alloc))?.arg(place(alloc, "UID"))
-}
-
-fn level_set<'a>(alloc: Global) -> Result<Command<'a>, AllocError> {
-    let admin = option(
-        alloc,
-        "admin",
-        "UID",
-        "The administrator who sets it for the user",
-    );
+fn levels<'a>(alloc: Global) -> Result<Command<'a>, AllocError> {
     let made = bare(
         alloc,
-        "level-set",
-        "Sets what an application may do for a user",
+        "levels",
+        "Lists what a user has set that applications may do",
     );
-    made.arg(admin)?
-        .arg(place(alloc, "UID"))?
-        .arg(place(alloc, "CLIENT"))?
-        .arg(place(alloc, "PRIVILEGE"))?
-        .arg(place(alloc, "LEVEL"))
+    made.arg(store(alloc))?.arg(place(alloc, "UID"))
 }
 
 fn import<'a>(alloc: Global) -> Result<Command<'a>, AllocError> {
@@ -191,15 +176,12 @@ fn with_scripts<'a>(alloc: Global, above: Command<'a>) -> Result<Command<'a>, Al
 
 // The orders about levels, and that of the log.
 fn with_levels<'a>(alloc: Global, above: Command<'a>) -> Result<Command<'a>, AllocError> {
-    above
-        .subcommand(level_get(alloc)?)?
-        .subcommand(level_set(alloc)?)?
-        .subcommand(log(alloc)?)
+    above.subcommand(levels(alloc)?)?.subcommand(log(alloc)?)
 }
 
 /// The program, as clap reads its words.
 pub(crate) fn program<'a>(alloc: Global) -> Result<Command<'a>, AllocError> {
-    let asking = with_questions(alloc, top(alloc))?;
+    let asking = with_questions(alloc, top(alloc).bin_name("privctl")?)?;
     let listing = with_listings(alloc, asking)?;
     let writing = with_scripts(alloc, listing)?;
     with_levels(alloc, writing)

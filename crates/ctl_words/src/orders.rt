@@ -71,17 +71,9 @@ pub enum Order<'a> {
         store: Option<&'a str>,
     },
     /// The levels that a user has set.
-    LevelGet {
+    Levels {
         uid: &'a str,
         store: Option<&'a str>,
-    },
-    /// Sets a level for a user, an application's label and a privilege.
-    LevelSet {
-        uid: &'a str,
-        client: &'a str,
-        privilege: &'a str,
-        level: &'a str,
-        admin: Option<&'a str>,
     },
     /// The script that makes what a data base of Cynara has.
     Import {

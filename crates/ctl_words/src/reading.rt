@@ -43,7 +43,6 @@ fn order_of<'a>(matches: &ArgMatches<'a>) -> Option<Order<'a>> {
         "explain" => explain_order(values),
         "who" => who_order(values),
         "plan" => plan_order(values),
-        "level-set" => level_set_order(values),
         "log" => Some(log_order(values)),
         _ => short_order(name, values),
     }
@@ -54,7 +53,7 @@ fn short_order<'a>(name: &str, values: &ArgMatches<'a>) -> Option<Order<'a>> {
     let store = values.get_str("store");
     match name {
         "export" => Some(Order::Export { store }),
-        "level-get" => level_get_order(values),
+        "levels" => levels_order(values),
         "import-cynara" => import_order(values),
         "users" => Some(listing(Subject::Users, store)),
         "packages" => Some(listing(Subject::Packages, store)),
@@ -121,24 +120,10 @@ fn plan_order<'a>(values: &ArgMatches<'a>) -> Option<Order<'a>> {
     Some(Order::Plan { script, store })
 }
 
-fn level_get_order<'a>(values: &ArgMatches<'a>) -> Option<Order<'a>> {
+fn levels_order<'a>(values: &ArgMatches<'a>) -> Option<Order<'a>> {
     let uid = values.get_str("UID")?;
     let store = values.get_str("store");
-    Some(Order::LevelGet { uid, store })
-}
-
-fn level_set_order<'a>(values: &ArgMatches<'a>) -> Option<Order<'a>> {
-    let uid = values.get_str("UID")?;
-    let client = values.get_str("CLIENT")?;
-    let privilege = values.get_str("PRIVILEGE")?;
-    let level = values.get_str("LEVEL")?;
-    Some(Order::LevelSet {
-        uid,
-        client,
-        privilege,
-        level,
-        admin: values.get_str("admin"),
-    })
+    Some(Order::Levels { uid, store })
 }
 
 fn import_order<'a>(values: &ArgMatches<'a>) -> Option<Order<'a>> {
