@@ -3,7 +3,7 @@
 //     dial C     enter L     ask C Q     simple C Q     hit C E     send C     read L N     write L
 //     deliver C     notice C     lose L     tell C N
 //     stored P     undecided P     decide KEEP     publish     hang     acknowledge     stop KEEP [P]
-//     join K     put L [MOST]     reply N ANSWER     leave K
+//     join K     put L [MOST]     reply N ANSWER     withdraw L     leave K
 //
 // with `; ` between them. C is a client, L a link, E an entry of a cache, N a number, K the number of a kind, KEEP is
 // `keep` or `drop`, ANSWER is `allow` or `deny`. Q is a privilege, which the client `c` asks to use for the user `u`.
@@ -165,6 +165,7 @@ fn of_commits(words: &[&str], at: u32) -> Option<Event> {
             number: at,
             allowed: word(words, 2) == "allow",
         },
+        "withdraw" => Event::AgentWithdraw { link: at },
         "leave" => Event::AgentLeave {
             kind: kind(words, 1),
         },
