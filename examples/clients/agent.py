@@ -31,8 +31,8 @@ def serve(link, kind, command):
             (number,) = struct.unpack_from(">I", fields)
             asked = subprocess.run([*command, *names_in(fields, 3)], stdin=subprocess.DEVNULL)
             link.sendall(struct.pack(">IHBIB", 8, number & 0xFFFF, 0x21, number, asked.returncode == 0))
-        # Registered, and a number that nobody waits for any more, want nothing.
-        elif operation not in (0xA0, 0xA3):
+        # Registered, a number that nobody waits for any more, and a question that was withdrawn want nothing.
+        elif operation not in (0xA0, 0xA3, 0xA4):
             raise ValueError("a frame for others")
     return 0
 

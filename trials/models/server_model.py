@@ -145,6 +145,19 @@ class Link:
         self.call()
         self.sent += reply
 
+    def is_up(self):
+        try:
+            return not self.call()
+        except Ended:
+            return False
+
+    def has_come(self):
+        try:
+            self.call()
+        except Ended:
+            return False
+        return True
+
 
 # ---- the policies: a list of (key, kind, metadata) of the root bucket, whose fallback is DENY
 
@@ -176,7 +189,10 @@ class Hall:
         return (otherwise,)
 
 
-OF_ASK, OF_JOIN, OF_NEXT, OF_ANSWER = ("a", "n", "g", "f", "p", "l", "m", "x"), ("j", "jt", "jx", "jm"), ("q", "qx", "qm"), ("k", "ku")
+OF_ASK, OF_JOIN, OF_NEXT = ("a", "n", "g", "f", "p", "l", "m", "x"), ("j", "jt", "jf", "jx", "jm"), ("q", "qx", "qm")
+OF_ANSWER, OF_LOOK = ("k", "ku"), ("o", "w")
+# So many turns an agent has for an answer.
+MOST_TURNS = 600
 
 
 # ---- a client's connection
@@ -240,8 +256,8 @@ def client(policies, commits, answers, link):
 # ---- an agent's connection
 
 
-def agent(answers, link):
-    hall, ear = Hall(answers), Ear("agent")
+def agent(hall, link):
+    ear = Ear("agent")
     counts = dict(joins=0, nexts=0, answers=0, parts=0, stops=0)
     try:
         converse(hall, ear, link, counts)
@@ -262,7 +278,7 @@ def converse(hall, ear, link, counts):
     kind = message[1]
     counts["joins"] = 1
     answer = hall.take(OF_JOIN, "jx")
-    if answer == ("jt",):
+    if answer in (("jt",), ("jf",)):
         link.send(frame(sequence, 0xA1, struct.pack(">H", kind)))
         raise Ended("closed")
     if answer == ("jx",):
@@ -274,6 +290,8 @@ def converse(hall, ear, link, counts):
     link.send(frame(sequence, 0xA0, struct.pack(">H", kind)))
     while True:
         counts["nexts"] += 1
+        if not link.is_up():
+            raise Ended("closed")
         answer = hall.take(OF_NEXT, "qx")
         if answer == ("qx",):
             counts["stops"] += 1
@@ -283,19 +301,29 @@ def converse(hall, ear, link, counts):
         _, number, question, metadata = answer
         fields = struct.pack(">I", number) + b"".join(text(word) for word in question)
         link.send(frame(number % 65536, 0xA2, fields + struct.pack(">H", kind) + text(metadata)))
-        while take_answer(hall, ear, link, counts) != number:
-            pass
+        if not any(is_closed(hall, ear, link, counts, number) for _ in range(MOST_TURNS)):
+            raise Ended("closed")
 
 
-def take_answer(hall, ear, link, counts):
-    """The number that the agent answers. Nobody may wait for its answer any more."""
-    sequence, message = next_message(ear, link)
+def is_closed(hall, ear, link, counts, number):
+    """A turn: an answer that comes in time is handed in, and else it is looked whether the question is open still. Whether it
+    was answered, or is open no more."""
+    found = ear.take()
+    if not found and link.has_come():
+        ear.more(link)
+        found = ear.take()
+    if not found:
+        if hall.take(OF_LOOK, "w") == ("o",):
+            return False
+        link.send(frame(number % 65536, 0xA4, struct.pack(">I", number)))
+        return True
+    sequence, message = found
     if message[0] == "register":
         raise Ended("bad BadOperation(32)")
     counts["answers"] += 1
     if hall.take(OF_ANSWER, "ku") == ("ku",):
         link.send(frame(sequence, 0xA3, struct.pack(">I", message[1])))
-    return message[1]
+    return message[1] == number
 
 
 # ---- random cases
@@ -365,33 +393,57 @@ def client_case(draw):
     return line, client(policies, len(words), answers, link_of(line))
 
 
+class DrawnHall:
+    """A hall that draws its answers as they are asked for; these questions are given in turn."""
+
+    def __init__(self, draw, asked):
+        self.draw, self.asked, self.told = draw, list(asked), []
+        self.left, self.used_up = [], False
+
+    def take(self, words, _):
+        if words == OF_NEXT and self.asked:
+            answer = ("q",) + self.asked.pop(0)
+        elif words == OF_NEXT:
+            answer = self.draw.choice((("qx",), ("qm",)))
+        elif words == OF_JOIN:
+            answer = (self.draw.choice(("j",) * 9 + ("jt", "jf", "jx", "jm")),)
+        elif words == OF_LOOK:
+            answer = (self.draw.choice("ooooow"),)
+        else:
+            answer = (self.draw.choice(words),)
+        self.told.append(answer)
+        return answer
+
+
+def hall_word(answer):
+    if answer[0] == "q":
+        return "q%d:%s:%s" % (answer[1], b"".join(answer[2]).decode(), answer[3].decode())
+    return answer[0]
+
+
 def agent_case(draw):
     number = lambda: draw.choice((0, 1, 2, 65535, 65536, 4294967294))
     stream = frame(draw.randrange(65536), 0x20, struct.pack(">H", draw.choice((10, 11)))) if draw.random() < 0.95 else b""
-    answers, told = [], []
-    join = draw.choice(("j",) * 9 + ("jt", "jx", "jm"))
-    answers.append((join,))
-    told.append(join)
-    if join == "j":
-        for _ in range(draw.randint(0, 3)):
-            asked = (number(), letters(draw), draw.choice((b"", b"m")))
-            answers.append(("q",) + asked)
-            told.append("q%d:%s:%s" % (asked[0], b"".join(asked[1]).decode(), asked[2].decode()))
-            for other in [number() for _ in range(draw.randint(0, 2))] + [asked[0]]:
-                stream += frame(draw.randrange(65536), 0x21, struct.pack(">IB", other, draw.randrange(2)))
-                kept = draw.choice(("k", "ku"))
-                answers.append((kept,))
-                told.append(kept)
-                if other == asked[0]:
-                    break
-        last = draw.choice(("qx", "qm", "q7:cup:"))
-        answers.append((last,) if last != "q7:cup:" else ("q", 7, (b"c", b"u", b"p"), b""))
-        told.append(last)
+    asked = [(number(), letters(draw), draw.choice((b"", b"m"))) for _ in range(draw.randint(0, 3))]
+    for question in asked:
+        for other in [number() for _ in range(draw.randint(0, 2))] + [question[0]]:
+            stream += frame(draw.randrange(65536), 0x21, struct.pack(">IB", other, draw.randrange(2)))
+            if other == question[0]:
+                break
+    if draw.random() < 0.3:
+        asked.append((7, (b"c", b"u", b"p"), b""))
     stream = spoil(draw, stream)
     if draw.random() < 0.1:
         stream += frame(1, 0x20, b"\0\n")
-    line = "agent %s | %s | %s" % (" ".join(told), link_words(draw, len(stream)), stream.hex())
-    return line, agent(answers, link_of(line))
+    words = link_words(draw, len(stream))
+    hall = DrawnHall(draw, asked)
+    agent(hall, link_of("| %s | %s" % (words, stream.hex())))
+    # some lists are too short, and some have an answer to another call
+    answers = hall.told[:draw.randint(0, len(hall.told))] if draw.random() < 0.1 else hall.told
+    if draw.random() < 0.1:
+        answers.insert(draw.randint(0, len(answers)), draw.choice((("k",), ("o",), ("w",), ("qx",))))
+    line = "agent %s | %s | %s" % (" ".join(map(hall_word, answers)), words, stream.hex())
+    return line, agent(Hall(answers), link_of(line))
 
 
 def answer_text(due):
@@ -453,7 +505,7 @@ def with_answer(line):
     front = rest.split("|")[:-2]
     answers = [hall_answer(part) for part in front[-1].split()]
     if word == "agent":
-        return f"{line} => {answer_text(agent(answers, link_of(line)))}"
+        return f"{line} => {answer_text(agent(Hall(answers), link_of(line)))}"
     policies = front[0].split()
     return f"{line} => {answer_text(client(policies_of(policies), len(policies), answers, link_of(line)))}"
 

@@ -1,14 +1,15 @@
 -- A connection around which nothing fails is heeded whole.
-use Rattle.std.proofs.Common.{◌≡◌, ◌∙◌, ◌≤◌, ◌⊎◌, inl, inr, ℕ, List, [], ◌∷◌, ◌++◌, map, length, Result, Ok, Err, refl, sym}
+use Rattle.std.proofs.Common.{◌≡◌, ◌∙◌, ◌≤◌, ◌⊎◌, inl, inr, ℕ, true, List, [], ◌∷◌, ◌++◌, map, length, Result, Ok, Err, refl, sym}
 use Rattle.std.proofs.Common.{ap, subst, append-nil, arith}
 use Rattle.std.proofs.lemmas.List.{append_cancel_left}
 use Rattle.std.specs.List.{flat_map}
 use Rattle.desk_ports.specs.Faults.{next_count, last_count}
 use Rattle.link_ports.specs.Traffic.{Traffic}
+use Rattle.link_ports.specs.LinkMarks.{LinkMarks}
 use Rattle.cynara_keys.specs.declared.results.Kind.{Kind}
 use Rattle.agent_table.specs.declared.table.Asked.{Asked}
 use Rattle.agent_table.specs.declared.refusals.RegisterRefusal.{RegisterRefusal}
-use Rattle.agent_table.specs.declared.refusals.RegisterRefusal.TheVariants.{Stopped as NoneComes, Taken as KindTaken, Memory as NoRoom}
+use Rattle.agent_table.specs.declared.refusals.RegisterRefusal.TheVariants.{Stopped as NoneComes, Taken as KindTaken, Full, Memory as NoRoom}
 use Rattle.wire_messages.specs.Frame.{spelling}
 use Rattle.wire_messages.specs.Message.{operation}
 use Rattle.wire_messages.specs.Operation.{number_of}
@@ -22,10 +23,10 @@ use Rattle.wire_messages.proofs.Hearings.{heard_once}
 use Rattle.server_hall.specs.Tally.{Tally, after_call, after_calls, after_join, after_part, stops_after_ask, stops_after_join}
 use Rattle.server_hall.specs.Tally.{stops_after_next}
 use Rattle.server_hall.specs.declared.calls.HallCall.{HallCall}
-use Rattle.server_hall.specs.declared.calls.HallCall.TheVariants.{Ask, Join, Next, Answer as AnswerCalled}
+use Rattle.server_hall.specs.declared.calls.HallCall.TheVariants.{Ask, Join, Next, Answer as AnswerCalled, Look}
 use Rattle.server_hall.specs.declared.refusals.NextRefusal.{NextRefusal}
-use Rattle.server_hall.specs.declared.refusals.NextRefusal.TheVariants.{Stopped as NoneIsGiven, Memory as NoneForMemory}
-use Rattle.server_hall.specs.declared.refusals.AskRefusal.TheVariants.{Put, Gone, Stopped as AskStopped, Lost}
+use Rattle.server_hall.specs.declared.refusals.NextRefusal.TheVariants.{Stopped as NoneIsGiven, Memory as NoneForMemory, Left}
+use Rattle.server_hall.specs.declared.refusals.AskRefusal.TheVariants.{Put, Gone, Stopped as AskStopped, Lost, Withdrawn}
 use Rattle.server_hall.specs.Call.{AskResult}
 use Rattle.door_frames.proofs.WholeFrames.{nothing_open, right_whole, same_whole, partial_not_whole, carried_so}
 use Rattle.door_frames.specs.Carried.{Carried}
@@ -34,7 +35,7 @@ use Rattle.door_frames.specs.declared.endings.Ended.{Ended}
 use Rattle.door_frames.specs.declared.endings.Ended.TheVariants.{Closed, Cut, Hung, LinkFault, BadFrame, Stopped, Memory, Strayed}
 use Rattle.agent_door.specs.Frame.{register_frame, registered_frame, taken_frame, answer_frame}
 use Rattle.agent_door.specs.Round.{Round, rounds_calls, rounds_frames, rounds_told}
-use Rattle.agent_door.specs.Serving.{AgentSide, Serves, Asks, EndsUnregistered, IsUnjoined, TellsRefusal, EndsHeeding, joined_calls}
+use Rattle.agent_door.specs.Serving.{AgentSide, Serves, Asks, Closes, EndsUnregistered, IsUnjoined, TellsRefusal, EndsHeeding, HasBegun, joined_calls}
 use Rattle.agent_door.specs.Complete.{Stays, IsQuiet, Receives, Sends, HeedsEach, frames_of}
 use Rattle.agent_door.specs.declared.messages.Answer.{Answer}
 use Rattle.agent_door.specs.declared.messages.Registration.{Registration}
@@ -56,23 +57,27 @@ ask_kept (Err (Put refusal)) stops fits = (omega arith, fits)
 ask_kept (Err (Gone number)) stops fits = (omega arith, fits)
 ask_kept (Err AskStopped) stops fits = (omega (arith, fits), omega (arith, fits))
 ask_kept (Err (Lost number)) stops fits = (omega arith, fits)
+ask_kept (Err (Withdrawn number)) stops fits = (omega arith, fits)
 
 join_kept : (result : Result (Unit {0}) RegisterRefusal) (stops : ℕ) → stops ≤ last_count → Kept stops (stops_after_join result stops)
 join_kept (Ok done) stops fits = (omega arith, fits)
 join_kept (Err NoneComes) stops fits = (omega (arith, fits), omega (arith, fits))
 join_kept (Err (KindTaken kind)) stops fits = (omega arith, fits)
+join_kept (Err Full) stops fits = (omega arith, fits)
 join_kept (Err (NoRoom error)) stops fits = (omega arith, fits)
 
 next_kept : (result : Result Asked NextRefusal) (stops : ℕ) → stops ≤ last_count → Kept stops (stops_after_next result stops)
 next_kept (Ok asked) stops fits = (omega arith, fits)
 next_kept (Err NoneIsGiven) stops fits = (omega (arith, fits), omega (arith, fits))
 next_kept (Err (NoneForMemory error)) stops fits = (omega arith, fits)
+next_kept (Err Left) stops fits = (omega arith, fits)
 
 call_kept : (call : HallCall) (tally : Tally) → tally.stops ≤ last_count → Kept tally.stops (after_call call tally).stops
 call_kept (Ask call) tally fits = ask_kept call.result tally.stops fits
 call_kept (Join call) tally fits = join_kept call.result tally.stops fits
 call_kept (Next call) tally fits = next_kept call.result tally.stops fits
 call_kept (AnswerCalled call) tally fits = (omega arith, fits)
+call_kept (Look number is_open) tally fits = (omega arith, fits)
 
 calls_kept : (calls : List HallCall) (tally : Tally) → tally.stops ≤ last_count → Kept tally.stops (after_calls calls tally).stops
 calls_kept [] tally fits = (omega arith, fits)
@@ -209,6 +214,11 @@ refused_so (KindTaken kind) Closed registration sent start now answers is quiet 
 refused_so (KindTaken kind) LinkFault registration sent start now answers is quiet tally rose sends =
     absurd (moves start.faults start.faults now.faults quiet.faults (omega arith) (omega (arith, rose)))
 refused_so (KindTaken kind) Memory registration sent start now answers is quiet tally faults sends = inr refl
+refused_so Full Closed registration sent start now answers is quiet tally faults sends =
+    inl (refl, HeedsEach.taken (sends (taken_frame registration ∷ []) is))
+refused_so Full LinkFault registration sent start now answers is quiet tally rose sends =
+    absurd (moves start.faults start.faults now.faults quiet.faults (omega arith) (omega (arith, rose)))
+refused_so Full Memory registration sent start now answers is quiet tally faults sends = inr refl
 refused_so NoneComes Stopped registration sent start now answers is quiet tally faults sends =
     let rose : now.tally.stops ≡ next_count start.tally.stops = ap (λ (x : Tally). x.stops) tally in
     absurd (moves start.tally.stops start.tally.stops now.tally.stops quiet.stops (omega arith) (omega (arith, rose)))
@@ -242,28 +252,69 @@ stopped_rises kind rounds last start tally counted is still =
     let kept : Kept start.stops before.stops = calls_kept calls start (omega (arith, still.0)) in
     moves start.stops before.stops tally.stops still kept.0 (omega (arith, rose))
 
+-- the frames that were heeded are a front of those that came
+front_of : (bytes : List ℕ) (heeded frames : List Framed) → HasBegun bytes heeded → Hears AtAgent bytes frames []
+    → (unheeded : List Framed) × (heeded ++ unheeded ≡ frames)
+front_of bytes [] frames begun heard = (frames, refl)
+front_of bytes (framed ∷ heeded) [] (more, rest, (behind, some, others)) heard =
+    absurd (partial_not_whole framed behind (sym (nothing_open AtAgent) ∙ (ap (first_of AtAgent) (sym heard) ∙ some)))
+front_of bytes (framed ∷ heeded) (other ∷ frames) (more, rest, (behind, some, others)) (left, first, all) =
+    let same = same_whole framed other behind left (sym some ∙ first) in
+    let back = front_of behind heeded frames (more, rest, others)
+    (subst (λ list. Hears AtAgent list frames []) (sym same.1) all) in
+    (back.0, both framed other (heeded ++ back.0) frames same.0 back.1)
+  where
+    both : (a b : Framed) (x y : List Framed) → a ≡ b → x ≡ y → a ∷ x ≡ b ∷ y
+    both a b x y one two = cc
+
+-- all that was due was sent
+all_sent : (registration : Registration) (start last : AgentSide) (result : Ended) (a : Asks registration start last result)
+    → a.missing ≡ [] → a.sent ≡ registered_frame registration ∷ rounds_told registration.kind (a.rounds ++ a.open_round)
+all_sent registration start last result a none = sym (a.due ∙ (ap (λ list. a.sent ++ list) none ∙ append-nil a.sent))
+
+-- how a connection that ended as `Closed` was heeded
+closed_so : (start last : AgentSide) (told registration : Registration) (answers : List Answer)
+    (a : Asks registration start last Closed) → Receives (frames_of told answers) start last → HeedsEach told answers start last
+closed_so start last told registration answers a r =
+    let heeded : List Framed = register_frame registration ∷ rounds_frames (a.rounds ++ a.open_round) in
+    let heard : Hears AtAgent a.received (frames_of told answers) [] =
+    heard_so start last (frames_of told answers) a.received (flat_map spelling a.sent) r a.carried in
+    let sent = all_sent registration start last Closed a a.missed in
+    let sends : Sends (registered_frame registration ∷ rounds_told registration.kind (a.rounds ++ a.open_round)) start last =
+    sends_so start last (registered_frame registration ∷ rounds_told registration.kind (a.rounds ++ a.open_round)) a.sent a.received
+    (frames_of told answers) r a.carried sent in
+    elim a.asking [
+      | Closes.at_end one none whole mark ↦
+          let same = same_list (register_frame registration) (register_frame told) (rounds_frames (a.rounds ++ a.open_round))
+          (map answer_frame answers)
+          (heard_once AtAgent a.received heeded (frames_of told answers) [] [] whole (nothing_open AtAgent) heard (nothing_open AtAgent)).0 in
+          subst (λ (x : Registration). HeedsEach x answers start last) (same_registration registration told same.0)
+          (HeedsEach.asked a.rounds a.open_round a.whole a.unanswered one same.1 sends)
+      | Closes.too_late one none begun ↦
+          let (unheeded, front) = front_of a.received heeded (frames_of told answers) begun heard in
+          let same = same_list (register_frame registration) (register_frame told)
+          (rounds_frames (a.rounds ++ a.open_round) ++ unheeded) (map answer_frame answers) front in
+          subst (λ (x : Registration). HeedsEach x answers start last) (same_registration registration told same.0)
+          (HeedsEach.too_late a.rounds a.open_round unheeded a.whole a.unanswered one same.1 sends)
+      | Closes.has_left none is begun down ↦
+          let all : a.rounds ++ a.open_round ≡ a.rounds = ap (λ (rounds : List Round). a.rounds ++ rounds) none ∙ append-nil a.rounds in
+          let (unheeded, front) = front_of a.received heeded (frames_of told answers) begun heard in
+          let same = same_list (register_frame registration) (register_frame told)
+          (rounds_frames (a.rounds ++ a.open_round) ++ unheeded) (map answer_frame answers) front in
+          subst (λ (x : Registration). HeedsEach x answers start last) (same_registration registration told same.0)
+          (HeedsEach.has_left a.rounds unheeded a.whole down
+          (ap (λ (rounds : List Round). rounds_frames rounds ++ unheeded) (sym all) ∙ same.1)
+          (subst (λ (rounds : List Round). Sends (registered_frame registration ∷ rounds_told registration.kind rounds) start last) all
+          sends))
+    ]
+
 asked_so : (result : Ended) (start last : AgentSide) (told registration : Registration) (answers : List Answer)
     (a : Asks registration start last result)
     → IsQuiet start last → (r : Receives (frames_of told answers) start last)
     → ((result ≡ Closed) × HeedsEach told answers start last) ⊎ (result ≡ Memory)
-asked_so Closed start last told registration answers a quiet r =
-    let heard : Hears AtAgent a.received (frames_of told answers) [] =
-    heard_so start last (frames_of told answers) a.received (flat_map spelling a.sent) r a.carried in
-    let same = same_list (register_frame registration) (register_frame told) (rounds_frames (a.rounds ++ a.open_round))
-    (map answer_frame answers)
-    (heard_once AtAgent a.received (register_frame registration ∷ rounds_frames (a.rounds ++ a.open_round)) (frames_of told answers) [] []
-    a.bytes (nothing_open AtAgent) heard (nothing_open AtAgent)).0 in
-    let sent : a.sent ≡ registered_frame registration ∷ rounds_told registration.kind (a.rounds ++ a.open_round) =
-    sym (a.due ∙ (ap (λ list. a.sent ++ list) a.missed ∙ append-nil a.sent)) in
-    inl (
-      refl,
-      subst (λ (x : Registration). HeedsEach x answers start last) (same_registration registration told same.0)
-          (HeedsEach.asked a.rounds a.open_round a.whole a.unanswered a.asking.0 same.1
-          (sends_so start last (registered_frame registration ∷ rounds_told registration.kind (a.rounds ++ a.open_round)) a.sent a.received
-          (frames_of told answers) r a.carried sent)),
-    )
+asked_so Closed start last told registration answers a quiet r = inl (refl, closed_so start last told registration answers a r)
 asked_so (Cut count) start last told registration answers a quiet r =
-    let (rest, some, unfinished, length_is, many) = a.bytes in
+    let (one, none, (rest, some, unfinished, length_is, many), mark) = a.asking in
     let heard : Hears AtAgent a.received (frames_of told answers) [] =
     heard_so start last (frames_of told answers) a.received (flat_map spelling a.sent) r a.carried in
     let same = (heard_once AtAgent a.received (register_frame registration ∷ rounds_frames (a.rounds ++ a.open_round))
@@ -271,40 +322,40 @@ asked_so (Cut count) start last told registration answers a quiet r =
     some unfinished heard (nothing_open AtAgent)).1 in
     absurd (omega (arith, sym (ap length same) ∙ length_is, many))
 asked_so LinkFault start last told registration answers a quiet r =
-    let rose : last.faults ≡ next_count start.faults = a.faults in
-    absurd (moves start.faults start.faults last.faults quiet.faults (omega arith) (omega (arith, rose)))
+    let (between, least, rose) = a.faults in
+    absurd (moves start.faults between last.faults quiet.faults least (omega (arith, rose)))
 asked_so (BadFrame (BadOperation number)) start last told registration answers a quiet r =
     absurd (misplaced_later a.received told registration (rounds_frames (a.rounds ++ a.open_round)) answers number
-    (heard_so start last (frames_of told answers) a.received (flat_map spelling a.sent) r a.carried) a.bytes)
+    (heard_so start last (frames_of told answers) a.received (flat_map spelling a.sent) r a.carried) a.asking.2)
 asked_so (BadFrame (TooShort count)) start last told registration answers a quiet r =
-    let (rest, some, wrong, of_bytes) = a.bytes in
+    let (one, none, (rest, some, wrong, of_bytes)) = a.asking in
     absurd (right_whole AtAgent a.received (frames_of told answers)
     (register_frame registration ∷ rounds_frames (a.rounds ++ a.open_round)) rest
     (TooShort count)
     (heard_so start last (frames_of told answers) a.received (flat_map spelling a.sent) r a.carried) some wrong of_bytes)
 asked_so (BadFrame (TooLong count)) start last told registration answers a quiet r =
-    let (rest, some, wrong, of_bytes) = a.bytes in
+    let (one, none, (rest, some, wrong, of_bytes)) = a.asking in
     absurd (right_whole AtAgent a.received (frames_of told answers)
     (register_frame registration ∷ rounds_frames (a.rounds ++ a.open_round)) rest
     (TooLong count)
     (heard_so start last (frames_of told answers) a.received (flat_map spelling a.sent) r a.carried) some wrong of_bytes)
 asked_so (BadFrame (BadField place)) start last told registration answers a quiet r =
-    let (rest, some, wrong, of_bytes) = a.bytes in
+    let (one, none, (rest, some, wrong, of_bytes)) = a.asking in
     absurd (right_whole AtAgent a.received (frames_of told answers)
     (register_frame registration ∷ rounds_frames (a.rounds ++ a.open_round)) rest
     (BadField place)
     (heard_so start last (frames_of told answers) a.received (flat_map spelling a.sent) r a.carried) some wrong of_bytes)
 asked_so (BadFrame (Trailing place)) start last told registration answers a quiet r =
-    let (rest, some, wrong, of_bytes) = a.bytes in
+    let (one, none, (rest, some, wrong, of_bytes)) = a.asking in
     absurd (right_whole AtAgent a.received (frames_of told answers)
     (register_frame registration ∷ rounds_frames (a.rounds ++ a.open_round)) rest
     (Trailing place)
     (heard_so start last (frames_of told answers) a.received (flat_map spelling a.sent) r a.carried) some wrong of_bytes)
 asked_so (BadFrame (NoMemory error)) start last told registration answers a quiet r =
-    let (rest, some, wrong, of_bytes) = a.bytes in
+    let (one, none, (rest, some, wrong, of_bytes)) = a.asking in
     absurd of_bytes
 asked_so Stopped start last told registration answers a quiet r =
-    let (none, is) = a.asking in
+    let (none, is, begun) = a.asking in
     absurd (stopped_rises registration.kind (a.rounds ++ a.open_round) a.last start.tally last.tally a.tally is quiet.stops)
 asked_so Memory start last told registration answers a quiet r = inr refl
 asked_so (Hung entered at) start last told registration answers a quiet r = absurd a.asking
@@ -336,6 +387,9 @@ parted result start now last told answers tally is stops so quiet r =
       heard = r.heard;
     }))
   where
+    marks : now.marks ≡ last.marks
+    marks = ap (λ (x : AgentSide). x.marks) is
+
     sends : (frames : List Framed) → last.traffic ≡ now.traffic → Sends frames start last → Sends frames start now
     sends frames same s = record {
       before = s.before;
@@ -349,6 +403,12 @@ parted result start now last told answers tally is stops so quiet r =
     heeds same (HeedsEach.asked rounds open_round whole unanswered one frames sent) =
         HeedsEach.asked rounds open_round whole unanswered one frames
         (sends (registered_frame told ∷ rounds_told told.kind (rounds ++ open_round)) same sent)
+    heeds same (HeedsEach.too_late rounds open_round unheeded whole unanswered one frames sent) =
+        HeedsEach.too_late rounds open_round unheeded whole unanswered one frames
+        (sends (registered_frame told ∷ rounds_told told.kind (rounds ++ open_round)) same sent)
+    heeds same (HeedsEach.has_left rounds unheeded whole down frames sent) =
+        HeedsEach.has_left rounds unheeded whole (subst (λ (x : LinkMarks). x.is_down ≡ true) (sym marks) down) frames
+        (sends (registered_frame told ∷ rounds_told told.kind rounds) same sent)
     heeds same (HeedsEach.taken sent) = HeedsEach.taken (sends (taken_frame told ∷ []) same sent)
 
     back : ((result ≡ Closed) × HeedsEach told answers start last) ⊎ (result ≡ Memory)

@@ -5,6 +5,7 @@ use Rattle.wire_messages.specs.Frame.{spelling}
 use Rattle.wire_messages.specs.Stream.{Hears, first_of}
 use Rattle.wire_messages.specs.declared.messages.Framed.{Framed}
 use Rattle.wire_messages.specs.declared.operations.Heard.TheVariants.{AtAgent}
+use Rattle.wire_messages.specs.declared.refusals.WireRefusal.{WireRefusal}
 use Rattle.wire_messages.specs.declared.refusals.WireRefusal.TheVariants.{TooShort, TooLong, BadOperation, BadField, Trailing}
 use Rattle.wire_messages.specs.declared.refusals.WireRefusal.TheVariants.{Memory as NoMemory}
 use Rattle.wire_messages.proofs.Hearings.{heard_once}
@@ -14,8 +15,9 @@ use Rattle.door_frames.specs.declared.endings.Ended.{Ended}
 use Rattle.door_frames.specs.declared.endings.Ended.TheVariants.{Closed, Cut, Hung, LinkFault, BadFrame, Stopped, Memory, Strayed}
 use Rattle.agent_door.specs.Frame.{register_frame}
 use Rattle.agent_door.specs.Round.{rounds_frames}
-use Rattle.agent_door.specs.Serving.{AgentSide, Serves, IsUnregistered, EndsUnregistered, EndsHeeding}
+use Rattle.agent_door.specs.Serving.{AgentSide, Serves, Asks, Closes, IsUnregistered, EndsUnregistered, EndsHeeding, HasBegun}
 use Rattle.agent_door.specs.Complete.{IsQuiet, Receives, IsUntold}
+use Rattle.agent_door.specs.declared.messages.Registration.{Registration}
 use Rattle.door_frames.proofs.WholeFrames.{nothing_open, right_whole, partial_not_whole}
 use Rattle.agent_door.proofs.Complete.{moves, heard_so, sends_so}
 
@@ -26,29 +28,46 @@ never_heard bytes framed more rest (behind, some, others) none =
     partial_not_whole framed behind (sym (nothing_open AtAgent) ∙ (ap (first_of AtAgent) (sym none) ∙ some))
 
 -- nor heeded
-never_heeded : (ended : Ended) (bytes : List ℕ) (framed : Framed) (heeded : List Framed) → EndsHeeding bytes (framed ∷ heeded) ended
-    → Hears AtAgent bytes [] [] → ⊥
-never_heeded Closed bytes framed heeded some none = never_heard bytes framed heeded [] some none
-never_heeded (Cut count) bytes framed heeded (rest, some, unfinished, length_is, many) none = never_heard bytes framed heeded rest some none
-never_heeded LinkFault bytes framed heeded (more, rest, some) none = never_heard bytes framed (heeded ++ more) rest some none
-never_heeded Memory bytes framed heeded (more, rest, some) none = never_heard bytes framed (heeded ++ more) rest some none
-never_heeded Stopped bytes framed heeded (more, rest, some) none = never_heard bytes framed (heeded ++ more) rest some none
-never_heeded (Hung entered now) bytes framed heeded (more, rest, some) none = never_heard bytes framed (heeded ++ more) rest some none
-never_heeded (Strayed number found) bytes framed heeded (more, rest, some) none = never_heard bytes framed (heeded ++ more) rest some none
-never_heeded (BadFrame (BadOperation number)) bytes framed heeded (inl (rest, some, wrong, of_bytes)) none =
+never_begun : (bytes : List ℕ) (framed : Framed) (heeded : List Framed) → HasBegun bytes (framed ∷ heeded) → Hears AtAgent bytes [] [] → ⊥
+never_begun bytes framed heeded (more, rest, some) none = never_heard bytes framed (heeded ++ more) rest some none
+
+never_wrong : (refusal : WireRefusal) (bytes : List ℕ) (framed : Framed) (heeded : List Framed)
+    → EndsHeeding bytes (framed ∷ heeded) (BadFrame refusal) → Hears AtAgent bytes [] [] → ⊥
+never_wrong (BadOperation number) bytes framed heeded (inl (rest, some, wrong, of_bytes)) none =
     never_heard bytes framed heeded rest some none
-never_heeded (BadFrame (BadOperation number)) bytes framed heeded (inr (later, more, rest, some, is, place)) none =
+never_wrong (BadOperation number) bytes framed heeded (inr (later, more, rest, some, is, place)) none =
     never_heard bytes framed (heeded ++ later ∷ more) rest some none
-never_heeded (BadFrame (TooShort count)) bytes framed heeded (rest, some, wrong, of_bytes) none =
-    never_heard bytes framed heeded rest some none
-never_heeded (BadFrame (TooLong count)) bytes framed heeded (rest, some, wrong, of_bytes) none =
-    never_heard bytes framed heeded rest some none
-never_heeded (BadFrame (BadField place)) bytes framed heeded (rest, some, wrong, of_bytes) none =
-    never_heard bytes framed heeded rest some none
-never_heeded (BadFrame (Trailing place)) bytes framed heeded (rest, some, wrong, of_bytes) none =
-    never_heard bytes framed heeded rest some none
-never_heeded (BadFrame (NoMemory error)) bytes framed heeded (rest, some, wrong, of_bytes) none =
-    never_heard bytes framed heeded rest some none
+never_wrong (TooShort count) bytes framed heeded (rest, some, wrong, of_bytes) none = never_heard bytes framed heeded rest some none
+never_wrong (TooLong count) bytes framed heeded (rest, some, wrong, of_bytes) none = never_heard bytes framed heeded rest some none
+never_wrong (BadField place) bytes framed heeded (rest, some, wrong, of_bytes) none = never_heard bytes framed heeded rest some none
+never_wrong (Trailing place) bytes framed heeded (rest, some, wrong, of_bytes) none = never_heard bytes framed heeded rest some none
+never_wrong (NoMemory error) bytes framed heeded (rest, some, wrong, of_bytes) none = never_heard bytes framed heeded rest some none
+
+-- so no agent has joined
+never_asked : (ended : Ended) (registration : Registration) (start last : AgentSide) (a : Asks registration start last ended)
+    → Hears AtAgent a.received [] [] → ⊥
+never_asked Closed registration start last a none =
+    elim a.asking [
+      | Closes.at_end one is whole mark ↦
+          never_heard a.received (register_frame registration) (rounds_frames (a.rounds ++ a.open_round)) [] whole none
+      | Closes.too_late one is begun ↦
+          never_begun a.received (register_frame registration) (rounds_frames (a.rounds ++ a.open_round)) begun none
+      | Closes.has_left open_round is begun down ↦
+          never_begun a.received (register_frame registration) (rounds_frames (a.rounds ++ a.open_round)) begun none
+    ]
+never_asked (Cut count) registration start last a none =
+    let (one, is, (rest, some, unfinished, length_is, many), mark) = a.asking in
+    never_heard a.received (register_frame registration) (rounds_frames (a.rounds ++ a.open_round)) rest some none
+never_asked (BadFrame refusal) registration start last a none =
+    never_wrong refusal a.received (register_frame registration) (rounds_frames (a.rounds ++ a.open_round)) a.asking.2 none
+never_asked LinkFault registration start last a none =
+    never_begun a.received (register_frame registration) (rounds_frames (a.rounds ++ a.open_round)) a.asking.1 none
+never_asked Memory registration start last a none =
+    never_begun a.received (register_frame registration) (rounds_frames (a.rounds ++ a.open_round)) a.asking.1 none
+never_asked Stopped registration start last a none =
+    never_begun a.received (register_frame registration) (rounds_frames (a.rounds ++ a.open_round)) a.asking.2 none
+never_asked (Hung entered now) registration start last a none = absurd a.asking
+never_asked (Strayed number found) registration start last a none = absurd a.asking
 
 -- no agent registered
 untold_so : (result : Ended) (start now : AgentSide) (u : IsUnregistered result start now) → IsQuiet start now → (r : Receives [] start now)
@@ -95,8 +114,7 @@ silent result start now serves quiet r =
           absurd (never_heard u.received (register_frame u.registration) more rest some
           (heard_so start now [] u.received (flat_map spelling u.sent) r u.carried))
       | Serves.joined registration last asks is ↦
-          absurd (never_heeded result asks.received (register_frame registration)
-          (rounds_frames (asks.rounds ++ asks.open_round)) asks.bytes
+          absurd (never_asked result registration start last asks
           (heard_so start now [] asks.received (flat_map spelling asks.sent) r
           (subst (λ (x : AgentSide). Carried start.traffic x.traffic asks.received (flat_map spelling asks.sent)) (sym is) asks.carried)))
     ]

@@ -4,7 +4,7 @@ use Rattle.std.specs.List.{flat_map}
 use Rattle.link_ports.specs.Traffic.{Traffic}
 use Rattle.cynara_keys.specs.declared.results.Kind.{Kind}
 use Rattle.agent_table.specs.declared.refusals.RegisterRefusal.{RegisterRefusal}
-use Rattle.agent_table.specs.declared.refusals.RegisterRefusal.TheVariants.{Taken as KindTaken}
+use Rattle.agent_table.specs.declared.refusals.RegisterRefusal.TheVariants.{Taken as KindTaken, Full}
 use Rattle.wire_messages.specs.Frame.{spelling}
 use Rattle.wire_messages.specs.Stream.{Feeding, Hears, BeginsWrong, IsOpen, unfed}
 use Rattle.wire_messages.specs.declared.messages.Framed.{Framed}
@@ -139,33 +139,46 @@ not_joined start new fed registration refusal ended bytes sent between h side to
   ends = same;
 }
 
--- since the kind is taken
-told_taken : (start new : AgentSide) (fed : Feeding) (registration : Registration) (kind : Kind) (ended : Ended)
-    (bytes : List ℕ) (between : Option Traffic) (faults : ℕ)
+-- the refusal is told as `KindTaken`
+record IsToldTaken (registration : Registration) (refusal : RegisterRefusal) : Type 0 where
+  pub closed : TellsRefusal registration refusal Closed (taken_frame registration ∷ [])
+  pub fault : TellsRefusal registration refusal LinkFault []
+  pub memory : TellsRefusal registration refusal Memory []
+
+told_taken : (start new : AgentSide) (fed : Feeding) (registration : Registration) (refusal : RegisterRefusal) (ended : Ended)
+    (bytes : List ℕ) (between : Option Traffic) (faults : ℕ) → IsToldTaken registration refusal
     → HasHeard bytes (register_frame registration ∷ []) fed → fed.heard ≡ AtAgent
     → TellsTaken registration ended between new.traffic faults new.faults → faults ≡ start.faults
     → Carried start.traffic between bytes []
-    → new.tally ≡ after_join (record { kind = registration.kind; result = Err (KindTaken kind) }) start.tally
-    → AppendsCalls start.calls (Join (record { kind = registration.kind; result = Err (KindTaken kind) }) ∷ []) new.calls
+    → new.tally ≡ after_join (record { kind = registration.kind; result = Err refusal }) start.tally
+    → AppendsCalls start.calls (Join (record { kind = registration.kind; result = Err refusal }) ∷ []) new.calls
     → new.marks.ends ≡ start.marks.ends → IsUnjoined ended start new
-told_taken start new fed registration kind Closed bytes between faults h side (sent, now) still one tally calls same =
-    not_joined start new fed registration (KindTaken kind) Closed bytes (taken_frame registration ∷ []) between h side refl one
+told_taken start new fed registration refusal Closed bytes between faults is h side (sent, now) still one tally calls same =
+    not_joined start new fed registration refusal Closed bytes (taken_frame registration ∷ []) between h side is.closed one
     (subst (λ list. Carried between new.traffic [] list) (sym (append-nil (spelling (taken_frame registration)))) sent)
     tally calls (now ∙ still) same
-told_taken start new fed registration kind LinkFault bytes between faults h side (unsent, rose) still one tally calls same =
-    not_joined start new fed registration (KindTaken kind) LinkFault bytes [] between h side refl one unsent
+told_taken start new fed registration refusal LinkFault bytes between faults is h side (unsent, rose) still one tally calls same =
+    not_joined start new fed registration refusal LinkFault bytes [] between h side is.fault one unsent
     tally calls (rose ∙ ap (λ count. faults_after LinkFault count) still) same
-told_taken start new fed registration kind Memory bytes between faults h side (unsent, now) still one tally calls same =
-    not_joined start new fed registration (KindTaken kind) Memory bytes [] between h side refl one unsent
+told_taken start new fed registration refusal Memory bytes between faults is h side (unsent, now) still one tally calls same =
+    not_joined start new fed registration refusal Memory bytes [] between h side is.memory one unsent
     tally calls (now ∙ still) same
-told_taken start new fed registration kind (Cut count) bytes between faults h side (unsent, wrong) still one tally calls same = absurd wrong
-told_taken start new fed registration kind (Hung entered at) bytes between faults h side (unsent, wrong) still one tally calls same =
+told_taken start new fed registration refusal (Cut count) bytes between faults is h side (unsent, wrong) still one tally calls same =
     absurd wrong
-told_taken start new fed registration kind (BadFrame wire) bytes between faults h side (unsent, wrong) still one tally calls same =
+told_taken start new fed registration refusal (Hung entered at) bytes between faults is h side (unsent, wrong) still one tally calls same =
     absurd wrong
-told_taken start new fed registration kind Stopped bytes between faults h side (unsent, wrong) still one tally calls same = absurd wrong
-told_taken start new fed registration kind (Strayed number found) bytes between faults h side (unsent, wrong) still one tally calls same =
+told_taken start new fed registration refusal (BadFrame wire) bytes between faults is h side (unsent, wrong) still one tally calls same =
     absurd wrong
+told_taken start new fed registration refusal Stopped bytes between faults is h side (unsent, wrong) still one tally calls same =
+    absurd wrong
+told_taken start new fed registration refusal (Strayed number found) bytes between faults is h side (unsent, wrong) still one tally calls same =
+    absurd wrong
+
+-- since the kind has an agent
+taken_is_told : (registration : Registration) (refusal : RegisterRefusal) (kind : Kind) → refusal ≡ KindTaken kind
+    → IsToldTaken registration refusal
+taken_is_told registration refusal kind is =
+    subst (λ (r : RegisterRefusal). IsToldTaken registration r) (sym is) (record { closed = refl; fault = refl; memory = refl })
 
 pub kind_is_taken : (start new : AgentSide) (fed : Feeding) (registration : Registration) (kind : Kind) (refusal : RegisterRefusal)
     (ended : Ended)
@@ -177,10 +190,22 @@ pub kind_is_taken : (start new : AgentSide) (fed : Feeding) (registration : Regi
     → AppendsCalls start.calls (Join (record { kind = registration.kind; result = Err refusal }) ∷ []) new.calls
     → new.marks.ends ≡ start.marks.ends → IsUnjoined ended start new
 kind_is_taken start new fed registration kind refusal ended bytes between faults is h side told still one tally calls same =
-    told_taken start new fed registration kind ended bytes between faults h side told still one
-    (subst (λ (r : RegisterRefusal). new.tally ≡ after_join (record { kind = registration.kind; result = Err r }) start.tally) is tally)
-    (subst (λ (r : RegisterRefusal). AppendsCalls start.calls (Join (record { kind = registration.kind; result = Err r }) ∷ []) new.calls)
-    is calls) same
+    told_taken start new fed registration refusal ended bytes between faults (taken_is_told registration refusal kind is) h side told still
+    one tally calls same
+
+-- since as many kinds have one as may
+pub table_is_full : (start new : AgentSide) (fed : Feeding) (registration : Registration) (refusal : RegisterRefusal) (ended : Ended)
+    (bytes : List ℕ) (between : Option Traffic) (faults : ℕ) → refusal ≡ Full
+    → HasHeard bytes (register_frame registration ∷ []) fed → fed.heard ≡ AtAgent
+    → TellsTaken registration ended between new.traffic faults new.faults → faults ≡ start.faults
+    → Carried start.traffic between bytes []
+    → new.tally ≡ after_join (record { kind = registration.kind; result = Err refusal }) start.tally
+    → AppendsCalls start.calls (Join (record { kind = registration.kind; result = Err refusal }) ∷ []) new.calls
+    → new.marks.ends ≡ start.marks.ends → IsUnjoined ended start new
+table_is_full start new fed registration refusal ended bytes between faults is h side told still one tally calls same =
+    told_taken start new fed registration refusal ended bytes between faults
+    (subst (λ (r : RegisterRefusal). IsToldTaken registration r) (sym is) (record { closed = refl; fault = refl; memory = refl }))
+    h side told still one tally calls same
 
 -- ---- it leaves
 

@@ -8,7 +8,7 @@ use Rattle.wire_messages.specs.Message.{operation}
 use Rattle.wire_messages.specs.declared.messages.Framed.{Framed}
 use Rattle.wire_messages.specs.declared.messages.Message.{Message}
 use Rattle.wire_messages.specs.declared.messages.Message.TheVariants.{Register, AgentAnswer, Registered, KindTaken, AgentQuestion}
-use Rattle.wire_messages.specs.declared.messages.Message.TheVariants.{UnknownNumber}
+use Rattle.wire_messages.specs.declared.messages.Message.TheVariants.{UnknownNumber, AgentWithdrawn}
 use Rattle.wire_messages.specs.declared.refusals.WireRefusal.TheVariants.{BadOperation}
 use Rattle.door_frames.specs.declared.endings.Ended.{Ended}
 use Rattle.door_frames.specs.declared.endings.Ended.TheVariants.{BadFrame}
@@ -52,3 +52,7 @@ question_frame kind asked = with_sequence (asked.number % 0x10000)
 
 abbrev pub unknown_frame : Answer → Framed
 unknown_frame answer = with_sequence answer.sequence (UnknownNumber answer.number)
+
+-- that the question of this number is not open any more; its sequence number is that of the question
+abbrev pub withdrawn_frame : ℕ → Framed
+withdrawn_frame number = with_sequence (number % 0x10000) (AgentWithdrawn number)

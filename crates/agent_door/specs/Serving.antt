@@ -1,11 +1,11 @@
 -- What a connection of an agent is told and asked, and how it ends.
-use Rattle.std.specs.Prelude.{◌≡◌, ◌⊎◌, ◌≤◌, ℕ, List, [], ◌∷◌, ◌++◌, length, Option, Ok, Err}
+use Rattle.std.specs.Prelude.{◌≡◌, ◌⊎◌, ◌≤◌, ℕ, true, List, [], ◌∷◌, ◌++◌, length, Option, Ok, Err}
 use Rattle.std.specs.List.{AllByRecursion, flat_map}
 use Rattle.link_ports.specs.Traffic.{Traffic}
 use Rattle.link_ports.specs.LinkMarks.{LinkMarks}
 use Rattle.cynara_keys.specs.declared.results.Kind.{Kind}
 use Rattle.agent_table.specs.declared.refusals.RegisterRefusal.{RegisterRefusal}
-use Rattle.agent_table.specs.declared.refusals.RegisterRefusal.TheVariants.{Stopped as NoneComes, Taken as KindTaken, Memory as NoRoom}
+use Rattle.agent_table.specs.declared.refusals.RegisterRefusal.TheVariants.{Stopped as NoneComes, Taken as KindTaken, Full, Memory as NoRoom}
 use Rattle.wire_messages.specs.Frame.{spelling}
 use Rattle.wire_messages.specs.Operation.{number_of}
 use Rattle.wire_messages.specs.Message.{operation}
@@ -18,13 +18,13 @@ use Rattle.server_hall.specs.Told.{AppendsCalls}
 use Rattle.server_hall.specs.declared.calls.HallCall.{HallCall}
 use Rattle.server_hall.specs.declared.calls.HallCall.TheVariants.{Join, Next}
 use Rattle.server_hall.specs.declared.refusals.NextRefusal.{NextRefusal}
-use Rattle.server_hall.specs.declared.refusals.NextRefusal.TheVariants.{Stopped as NoneIsGiven}
+use Rattle.server_hall.specs.declared.refusals.NextRefusal.TheVariants.{Stopped as NoneIsGiven, Left}
 use Rattle.door_frames.specs.Carried.{Carried}
 use Rattle.door_frames.specs.Ending.{EndsBytes, IsAtEnd, faults_after}
 use Rattle.door_frames.specs.declared.endings.Ended.{Ended}
 use Rattle.door_frames.specs.declared.endings.Ended.TheVariants.{Closed, Cut, Hung, LinkFault, BadFrame, Stopped, Memory, Strayed}
 use Rattle.agent_door.specs.Frame.{register_frame, registered_frame, taken_frame}
-use Rattle.agent_door.specs.Round.{Round, IsWhole, IsOpen, rounds_calls, rounds_frames, rounds_told}
+use Rattle.agent_door.specs.Round.{Round, IsWhole, IsOpen, IsLate, rounds_calls, rounds_frames, rounds_told}
 use Rattle.agent_door.specs.declared.messages.Registration.{Registration}
 
 -- what a connection of an agent is served with: the hall's tally and calls, and the link
@@ -71,25 +71,55 @@ joined_calls kind rounds last = Join (record { kind = kind; result = Ok tt }) �
 
 -- ---- an agent that has joined
 
--- a round in which no answer to the question has come, if there is one
+-- a round whose question is open, if there is one
 abbrev pub IsRound : List Round → Type 0
 IsRound open_round = (round : Round) × (open_round ≡ round ∷ [])
 
--- Which question was not answered, and which call of `next` gave none, where the connection ended so.
-abbrev pub EndsAsking : Kind → Ended → List Round → List HallCall → Type 0
-EndsAsking kind Closed open_round last = IsRound open_round × (last ≡ [])
-EndsAsking kind (Cut count) open_round last = IsRound open_round × (last ≡ [])
-EndsAsking kind (BadFrame refusal) open_round last = IsRound open_round × (last ≡ [])
-EndsAsking kind Stopped open_round last =
-    (open_round ≡ []) × (last ≡ Next (record { kind = kind; result = Err NoneIsGiven }) ∷ [])
-EndsAsking kind LinkFault open_round last = last ≡ []
-EndsAsking kind Memory open_round last =
-    (last ≡ []) ⊎ ((open_round ≡ []) × (refusal : NextRefusal) × (last ≡ Next (record { kind = kind; result = Err refusal }) ∷ []))
-EndsAsking kind (Hung entered now) open_round last = ⊥
-EndsAsking kind (Strayed number found) open_round last = ⊥
+-- and has been for as many turns as an agent is given
+abbrev pub IsLateRound : List Round → Type 0
+IsLateRound open_round = (round : Round) × (open_round ≡ round ∷ []) × IsLate round
 
--- The agent registered and joined; it was asked one question after the other, each of which was answered before the next but
--- for the last; and each answer was handed to the hall.
+-- these frames came first, and more may have come
+abbrev pub HasBegun : List ℕ → List Framed → Type 0
+HasBegun bytes heeded = (more : List Framed) × (rest : List ℕ) × Hears AtAgent bytes (heeded ++ more) rest
+
+-- the call of `next` that gave none
+abbrev pub refused_next : Kind → NextRefusal → List HallCall
+refused_next kind refusal = Next (record { kind = kind; result = Err refusal }) ∷ []
+
+-- Why a connection ended as `Closed`, with these frames heeded of these bytes: the input ended between two frames while a
+-- question was open; the agent had not answered the question in time; or its link was found down while nothing was asked.
+pub data Closes (kind : Kind) (bytes : List ℕ) (heeded : List Framed) (open_round : List Round) (last : List HallCall) (marks : LinkMarks) :
+    Type 0 where
+  at_end : IsRound open_round → last ≡ [] → Hears AtAgent bytes heeded [] → marks.has_ended ≡ true
+      → Closes kind bytes heeded open_round last marks
+  too_late : IsLateRound open_round → last ≡ [] → HasBegun bytes heeded → Closes kind bytes heeded open_round last marks
+  has_left : open_round ≡ [] → last ≡ refused_next kind Left → HasBegun bytes heeded → marks.is_down ≡ true
+      → Closes kind bytes heeded open_round last marks
+
+-- Where the connection ended so: which frames were heeded of the bytes, which question was open, which call of `next` gave
+-- none, and what the link was found to be.
+abbrev pub EndsAsking : Kind → Ended → List ℕ → List Framed → List Round → List HallCall → LinkMarks → Type 0
+EndsAsking kind Closed bytes heeded open_round last marks = Closes kind bytes heeded open_round last marks
+EndsAsking kind (Cut count) bytes heeded open_round last marks =
+    IsRound open_round × (last ≡ []) × EndsHeeding bytes heeded (Cut count) × (marks.has_ended ≡ true)
+EndsAsking kind (BadFrame refusal) bytes heeded open_round last marks =
+    IsRound open_round × (last ≡ []) × EndsHeeding bytes heeded (BadFrame refusal)
+EndsAsking kind Stopped bytes heeded open_round last marks =
+    (open_round ≡ []) × (last ≡ refused_next kind NoneIsGiven) × HasBegun bytes heeded
+EndsAsking kind LinkFault bytes heeded open_round last marks = (last ≡ []) × HasBegun bytes heeded
+EndsAsking kind Memory bytes heeded open_round last marks =
+    ((last ≡ []) ⊎ ((open_round ≡ []) × (refusal : NextRefusal) × (last ≡ refused_next kind refusal))) × HasBegun bytes heeded
+EndsAsking kind (Hung entered now) bytes heeded open_round last marks = ⊥
+EndsAsking kind (Strayed number found) bytes heeded open_round last marks = ⊥
+
+-- A look at the link may raise its count of failures, which never falls. A connection that ended for a failed call was ended by
+-- the last that was counted.
+abbrev pub RaisesFaults : Ended → ℕ → ℕ → Type 0
+RaisesFaults ended before now = (between : ℕ) × (before ≤ between) × (now ≡ faults_after ended between)
+
+-- The agent registered and joined; it was asked one question after the other, each of which was answered or found withdrawn
+-- before the next but for the last; each answer was handed to the hall, and of each withdrawn question the agent was told.
 pub record Asks (registration : Registration) (start now : AgentSide) (ended : Ended) : Type 0 where
   pub received : List ℕ
   pub rounds : List Round
@@ -101,16 +131,15 @@ pub record Asks (registration : Registration) (start now : AgentSide) (ended : E
   pub whole : AllByRecursion IsWhole rounds
   pub unanswered : AllByRecursion IsOpen open_round
   pub one : length open_round ≤ 1
-  pub asking : EndsAsking registration.kind ended open_round last
-  pub bytes : EndsHeeding received (register_frame registration ∷ rounds_frames (rounds ++ open_round)) ended
+  pub asking : EndsAsking registration.kind ended received
+      (register_frame registration ∷ rounds_frames (rounds ++ open_round)) open_round last now.marks
   pub all : ended ≡ LinkFault → missing ≡ [] → HasHeededAll received (register_frame registration ∷ rounds_frames (rounds ++ open_round))
   pub due : registered_frame registration ∷ rounds_told registration.kind (rounds ++ open_round) ≡ sent ++ missing
   pub missed : MayMiss ended missing
   pub carried : Carried start.traffic now.traffic received (flat_map spelling sent)
   pub tally : now.tally ≡ after_calls (joined_calls registration.kind (rounds ++ open_round) last) start.tally
   pub calls : AppendsCalls start.calls (joined_calls registration.kind (rounds ++ open_round) last) now.calls
-  pub faults : now.faults ≡ faults_after ended start.faults
-  pub at_end : IsAtEnd ended now.marks
+  pub faults : RaisesFaults ended start.faults now.faults
   pub ends : now.marks.ends ≡ start.marks.ends
 
 -- ---- a whole connection
@@ -140,6 +169,9 @@ abbrev pub TellsRefusal : Registration → RegisterRefusal → Ended → List Fr
 TellsRefusal registration (KindTaken kind) Closed sent = sent ≡ taken_frame registration ∷ []
 TellsRefusal registration (KindTaken kind) LinkFault sent = sent ≡ []
 TellsRefusal registration (KindTaken kind) Memory sent = sent ≡ []
+TellsRefusal registration Full Closed sent = sent ≡ taken_frame registration ∷ []
+TellsRefusal registration Full LinkFault sent = sent ≡ []
+TellsRefusal registration Full Memory sent = sent ≡ []
 TellsRefusal registration NoneComes Stopped sent = sent ≡ []
 TellsRefusal registration (NoRoom error) Memory sent = sent ≡ []
 TellsRefusal registration refusal ended sent = ⊥

@@ -19,7 +19,9 @@ use std::sync::Wait;
 use wire_messages::{Feeder, Heard, Message};
 
 /// Serves one connection of an agent: it registers for a kind, is given one question of the kind after the other, and each of
-/// its answers is handed to the hall. An agent whose kind is taken is told so, and its connection ends. It may wait.
+/// its answers is handed to the hall. It is told of a question that was withdrawn before it answered. An agent whose kind is
+/// taken, or for which there is no room, is told so, and its connection ends. So does that of an agent that left, and of one
+/// that has not answered a question in 600 turns of a tenth of a second at most. It may wait.
 pub fn agent_loop<R: Wait, A: Hall, L: Link>(
     rt: &R,
     alloc: Global,
@@ -44,6 +46,7 @@ pub fn agent_loop<R: Wait, A: Hall, L: Link>(
     match hall.join(kind) {
         Ok(()) => {}
         Err(RegisterRefusal::Taken(_)) => return tell_taken(link, &mut frame, registered),
+        Err(RegisterRefusal::Full) => return tell_taken(link, &mut frame, registered),
         Err(RegisterRefusal::Stopped) => return Ended::Stopped,
         Err(RegisterRefusal::Memory(_)) => return Ended::Memory,
     }
@@ -100,7 +103,7 @@ fn serve<R: Wait, A: Hall, L: Link>(
         return ended;
     }
     for _ in rt.forever() {
-        if let Err(ended) = round(rt, hall, link, feeder, room, frame, registered) {
+        if let Err(ended) = round(hall, link, feeder, room, frame, registered) {
             return ended;
         }
     }

@@ -8,7 +8,8 @@ ghost use Rattle.agent_door.specs.declared.messages.Answer as answer;
 ghost use Rattle.agent_door.specs.declared.messages.Registration as registration;
 
 /// Where the frames of an agent are right, whole and in their places, no call of the link fails and the hall is not stopped,
-/// each frame is heeded, or those up to a `KindTaken`, and the connection ends `Closed`; or memory was wanting.
+/// each frame is heeded, and the connection ends `Closed`; or those up to a `KindTaken`, up to the last turn of a question that
+/// was not answered in time, or until its link was found down; or memory was wanting.
 pub fn each_frame_of_an_agent_is_heeded()
     ensures { (result : ended.Ended) (start now : AgentSide) (told : registration.Registration) (answers : List answer.Answer)
         → Serves result start now → IsQuiet start now → Receives (frames_of told answers) start now

@@ -1,5 +1,5 @@
-// One question after the other, and the answers to it.
-ghost use Rattle.std.specs.Prelude.{◌≡◌, ◌<◌, ℕ, List, [], ◌∷◌, IsTrue, Some, None, length, MatchResult, OnOk, Result};
+// One question after the other, until it is answered or withdrawn.
+ghost use Rattle.std.specs.Prelude.{◌≡◌, ◌<◌, ◌≤◌, ℕ, List, [], ◌∷◌, Bool, false, not, IsTrue, Some, None, length, MatchResult, OnOk, Result};
 ghost use Rattle.std.specs.List.{flat_map};
 ghost use Rattle.cynara_keys.specs.PolicyResult.{is_agent};
 ghost use Rattle.agent_table.specs.declared.table.Asked as asked_type;
@@ -9,26 +9,30 @@ ghost use Rattle.wire_messages.specs.declared.operations.Heard.TheVariants.{AtAg
 ghost use Rattle.door_frames.specs.Carried.{Carried};
 ghost use Rattle.door_frames.specs.Hearing.{IsSound, HandsOut};
 ghost use Rattle.door_frames.specs.Ending.{EndsSending};
-ghost use Rattle.agent_door.specs.Frame.{answer_frame, question_frame, unknown_frame};
-ghost use Rattle.agent_door.specs.Round.{told_of};
+ghost use Rattle.agent_door.specs.Frame.{answer_frame, question_frame, unknown_frame, withdrawn_frame};
+ghost use Rattle.agent_door.specs.Round.{told_of, told_at};
 ghost use Rattle.agent_door.specs.Serving.{agent_side};
-ghost use Rattle.agent_door.specs.parts.Talk.{Goes, Ends, EndsHearing, HandsIn};
+ghost use Rattle.agent_door.specs.parts.Talk.{Goes, Ends, HandsIn, LooksIn, TakesTurn, waiting_since};
 
-use crate::messages::{Answer, Registration, read_answer};
+use crate::messages::{Answer, Registration};
 use crate::sending::send;
+use crate::waiting::answer_in_time;
 use agent_table::Asked;
 use cynara_keys::{Kind, PolicyResult};
 use desk_ports::Bytes;
-use door_frames::{Ended, next_frame};
+use door_frames::Ended;
 use link_ports::Link;
 use server_hall::{Hall, NextRefusal};
 use std::snapshot::Snapshot;
-use std::sync::Wait;
 use wire_messages::{Feeder, Message};
 
-/// Gives the agent its next question, and waits for the answer to it. It may wait.
-pub(crate) fn round<R: Wait, A: Hall, L: Link>(
-    rt: &R,
+/// How many turns a question may be open, each a tenth of a second at most: an agent that has not answered in this time, a
+/// minute, is treated as one that left.
+pub const MOST_TURNS: u32 = 600;
+
+/// Gives the agent its next question, and waits until that is answered or withdrawn. An agent that left, and one that does
+/// not answer in time, ends its connection. It may wait.
+pub(crate) fn round<A: Hall, L: Link>(
     hall: &mut A,
     link: &mut L,
     feeder: &mut Feeder,
@@ -54,16 +58,17 @@ pub(crate) fn round<R: Wait, A: Hall, L: Link>(
         (agent_side (A.tally hall.new) (A.calls hall.new) (L.traffic link.new) (L.marks link.new) (L.faults link.new))) }
 {
     let kind = registration.kind;
-    let asked = match hall.next(kind) {
+    let asked = match hall.next(kind, link) {
         Ok(asked) => asked,
         Err(NextRefusal::Stopped) => return Err(Ended::Stopped),
+        Err(NextRefusal::Left) => return Err(Ended::Closed),
         Err(NextRefusal::Memory(_)) => return Err(Ended::Memory),
     };
     let number = asked.number;
     if let Err(ended) = send_question(link, frame, kind, asked) {
         return Err(ended);
     }
-    match take_answers(rt, hall, link, feeder, room, frame, registration, number) {
+    match take_turns(hall, link, feeder, room, frame, registration, number) {
         Ok(()) => Ok(()),
         Err(ended) => Err(ended),
     }
@@ -104,9 +109,8 @@ fn send_question<L: Link>(
     }
 }
 
-// Takes answers until one to the question of this number has come.
-fn take_answers<R: Wait, A: Hall, L: Link>(
-    rt: &R,
+// Takes turns until the question of this number is answered or withdrawn.
+fn take_turns<A: Hall, L: Link>(
     hall: &mut A,
     link: &mut L,
     feeder: &mut Feeder,
@@ -121,59 +125,91 @@ fn take_answers<R: Wait, A: Hall, L: Link>(
     requires sound { IsSound feeder.old }
     ensures side { OnOk result (feeder.new.heard ≡ AtAgent) }
     ensures sound { OnOk result (IsSound feeder.new) }
-    ensures answered { (asked : asked_type.Asked) → asked.number ≡ number → MatchResult result
+    ensures closed { (asked : asked_type.Asked) → asked.number ≡ number → MatchResult result
         (λ _. Goes registration
         (agent_side (A.tally hall.old) (A.calls hall.old) (L.traffic link.old) (L.marks link.old) (L.faults link.old))
-        feeder.old (Some asked)
+        feeder.old (Some (waiting_since asked 0))
         (agent_side (A.tally hall.new) (A.calls hall.new) (L.traffic link.new) (L.marks link.new) (L.faults link.new))
         feeder.new None)
         (Ends registration
         (agent_side (A.tally hall.old) (A.calls hall.old) (L.traffic link.old) (L.marks link.old) (L.faults link.old))
-        feeder.old (Some asked)
+        feeder.old (Some (waiting_since asked 0))
         (agent_side (A.tally hall.new) (A.calls hall.new) (L.traffic link.new) (L.marks link.new) (L.faults link.new))) }
 {
-    for _ in rt.forever() {
-        let before = Snapshot::of(feeder);
-        let given = match take_answer(rt, link, feeder, room) {
-            Ok(given) => given,
+    for turn in 0..MOST_TURNS {
+        match take_turn(hall, link, feeder, room, frame, registration, number) {
+            Ok(true) => return Ok(()),
+            Ok(false) => {}
             Err(ended) => return Err(ended),
-        };
-        if let Err(ended) = hand_in(hall, link, frame, registration.kind, given, feeder, before) {
-            return Err(ended);
-        }
-        if given.number == number {
-            return Ok(());
         }
     }
-    unreachable!()
+    Err(Ended::Closed)
 }
 
-// Takes the next answer.
-fn take_answer<R: Wait, L: Link>(
-    rt: &R,
+// Hands in the next answer, if one comes in time, and else looks whether the question of this number is open still. Whether
+// its round is closed.
+fn take_turn<A: Hall, L: Link>(
+    hall: &mut A,
     link: &mut L,
     feeder: &mut Feeder,
     room: &mut [u8],
-) -> Result<Answer, Ended>
+    frame: &mut Bytes,
+    registration: Registration,
+    number: u32,
+) -> Result<bool, Ended>
+    requires agent { IsTrue (is_agent registration.kind.0) }
     requires some { 0 < length room.old }
     requires side { feeder.old.heard ≡ AtAgent }
     requires sound { IsSound feeder.old }
     ensures side { OnOk result (feeder.new.heard ≡ AtAgent) }
     ensures sound { OnOk result (IsSound feeder.new) }
-    ensures taken { MatchResult result
-        (λ answer. (bytes : List ℕ)
-        × Carried (L.traffic link.old) (L.traffic link.new) bytes []
-        × HandsOut bytes (answer_frame answer) feeder.old feeder.new)
-        (EndsHearing feeder.old feeder.new (L.traffic link.old) (L.traffic link.new)
-        (L.marks link.new) (L.faults link.old) (L.faults link.new)) }
-    ensures faults { OnOk result (L.faults link.new ≡ L.faults link.old) }
-    ensures ends { (L.marks link.new).ends ≡ (L.marks link.old).ends }
+    ensures turn { TakesTurn registration number result
+        (agent_side (A.tally hall.old) (A.calls hall.old) (L.traffic link.old) (L.marks link.old) (L.faults link.old))
+        feeder.old
+        (agent_side (A.tally hall.new) (A.calls hall.new) (L.traffic link.new) (L.marks link.new) (L.faults link.new))
+        feeder.new }
 {
-    match next_frame(rt, link, feeder, room) {
-        Ok(framed) => match read_answer(framed) {
-            Ok(given) => Ok(given),
-            Err(ended) => Err(ended),
+    let before = Snapshot::of(feeder);
+    match answer_in_time(link, feeder, room) {
+        Ok(Some(given)) => {
+            let kind = registration.kind;
+            if let Err(ended) = hand_in(hall, link, frame, kind, given, feeder, before) {
+                return Err(ended);
+            }
+            return Ok(given.number == number);
+        }
+        Ok(None) => match look(hall, link, frame, number) {
+            Ok(is_closed) => return Ok(is_closed),
+            Err(ended) => return Err(ended),
         },
+        Err(ended) => return Err(ended),
+    }
+}
+
+// Looks whether the question of the number is open still, and tells the agent where it is not. Whether it told so.
+fn look<A: Hall, L: Link>(
+    hall: &mut A,
+    link: &mut L,
+    frame: &mut Bytes,
+    number: u32,
+) -> Result<bool, Ended>
+    ensures looked { (is_open : Bool)
+        × LooksIn number is_open (A.tally hall.old) (A.calls hall.old) (A.tally hall.new) (A.calls hall.new)
+        × MatchResult result
+        (λ is_closed. (is_closed ≡ not is_open)
+        × Carried (L.traffic link.old) (L.traffic link.new) [] (flat_map spelling (told_at number is_open))
+        × (L.faults link.new ≡ L.faults link.old))
+        (λ ended. (is_open ≡ false)
+        × EndsSending ended (L.faults link.old) (L.faults link.new)
+        × Carried (L.traffic link.old) (L.traffic link.new) [] []) }
+    ensures marks { L.marks link.new ≡ L.marks link.old }
+{
+    if hall.is_open(number) {
+        return Ok(false);
+    }
+    let sequence = (number % 0x1_0000) as u16;
+    match send(link, frame, sequence, Message::AgentWithdrawn { number }) {
+        Ok(()) => Ok(true),
         Err(ended) => Err(ended),
     }
 }

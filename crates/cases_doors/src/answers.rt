@@ -60,6 +60,8 @@ fn of_word(alloc: Global, word: &str) -> Result<HallAnswer, Failure> {
         "qm" => Ok(HallAnswer::Next(Err(NextRefusal::Memory(AllocError)))),
         "k" => Ok(HallAnswer::Answer(Ok(()))),
         "ku" => Ok(HallAnswer::Answer(Err(AnswerRefusal::UnknownNumber(0)))),
+        "o" => Ok(HallAnswer::Look(true)),
+        "w" => Ok(HallAnswer::Look(false)),
         _ => of_name(alloc, word),
     }
 }
@@ -80,6 +82,7 @@ fn of_name(alloc: Global, word: &str) -> Result<HallAnswer, Failure> {
         "x" => Ok(HallAnswer::Ask(Err(AskRefusal::Stopped))),
         "j" => Ok(HallAnswer::Join(Ok(()))),
         "jt" => Ok(HallAnswer::Join(Err(RegisterRefusal::Taken(Kind(10))))),
+        "jf" => Ok(HallAnswer::Join(Err(RegisterRefusal::Full))),
         "jx" => Ok(HallAnswer::Join(Err(RegisterRefusal::Stopped))),
         "jm" => Ok(HallAnswer::Join(Err(RegisterRefusal::Memory(AllocError)))),
         _ => Err(Failure::Words),

@@ -8,9 +8,10 @@
 //! `POLICIES` are words `CUP=KIND:METADATA`, each of which sets a policy of the root bucket by one command: a letter for the
 //! client, the user and the privilege, or `*`. `ANSWERS` are those of the hall, in turn: to `ask` `aN+CUP` and `aN-CUP` (the
 //! question CUP was found under the number N, allowed or denied), `n` (no agent), `f` (full), `p` (spent), `m` (memory), `gN`
-//! (gone), `lN` (lost), `x` (stopped); to `join` `j`, `jt` (taken), `jx` (stopped), `jm`; to `next` `qN:CUP:METADATA`, `qx`,
-//! `qm`; to `answer` `k` and `ku` (unknown number). `LINK` is after how many calls the link reads as closed, which calls fail,
-//! and into which sizes the bytes are cut, each with commas, or `-` for none. `BYTES` are those of frames.
+//! (gone), `lN` (lost), `x` (stopped); to `join` `j`, `jt` (taken), `jf` (full), `jx` (stopped), `jm`; to `next`
+//! `qN:CUP:METADATA`, `qx`, `qm`; to `answer` `k` and `ku` (unknown number); to `is_open` `o` (open) and `w` (withdrawn). `LINK` is
+//! after how many calls the link reads as closed, which calls fail, and into which sizes the bytes are cut, each with commas, or
+//! `-` for none; `ask` and `next` look at the link once. `BYTES` are those of frames.
 //!
 //! The answer is how the connection ended, the frames that were sent, and what the hall counts.
 #![tactic(auto)]

@@ -6,7 +6,7 @@ use Rattle.server_hall.specs.Tally.{after_part}
 use Rattle.door_frames.proofs.Carrying.{carried_same}
 use Rattle.door_frames.specs.declared.endings.Ended.TheVariants.{Stopped, Memory}
 use Rattle.agent_door.specs.Serving.{agent_side, Serves, TellsRefusal}
-use Rattle.agent_door.proofs.Whole.{none_heard, none_in_place, registers, not_joined, kind_is_taken, parts}
+use Rattle.agent_door.proofs.Whole.{none_heard, none_in_place, registers, not_joined, kind_is_taken, table_is_full, parts}
 use Rattle.agent_door.proofs.agent_loops.agent_loop.Goals as goal
 
 pub returns-in-Err : goal.returns-in-Err
@@ -54,6 +54,25 @@ returns-in-Err-Taken g c =
     (c.next_frame.ensures.side ∙ ap (λ (feeder : Feeding). feeder.heard) c.new-feeder.ensures)
     c.tell_taken.ensures.told c.in-Ok.ensures.faults framed.1 c.in-Err-Taken.ensures.tally c.in-Err-Taken.ensures.calls
     (ap (λ (marks : LinkMarks). marks.ends) c.tell_taken.ensures.marks ∙ c.next_frame.ensures.ends))
+
+pub returns-in-Err-Full : goal.returns-in-Err-Full
+returns-in-Err-Full g c =
+    let framed = c.in-Ok.ensures.framed in
+    let registration = c.in-Ok-read_registration.registered in
+    Serves.unjoined
+    (table_is_full
+    (agent_side (g.A.Hall.tally c.args.hall.now) (g.A.Hall.calls c.args.hall.now) (g.L.Link.traffic c.args.link.now)
+    (g.L.Link.marks c.args.link.now)
+    (g.L.Link.faults c.args.link.now))
+    (agent_side (g.A.Hall.tally c.join.new.self) (g.A.Hall.calls c.join.new.self) (g.L.Link.traffic c.tell_taken-in-Err-Full.new.link)
+    (g.L.Link.marks c.tell_taken-in-Err-Full.new.link) (g.L.Link.faults c.tell_taken-in-Err-Full.new.link))
+    c.next_frame.new.feeder registration c.in-Err-Full.field-0 c.tell_taken-in-Err-Full.result framed.0
+    (g.L.Link.traffic c.next_frame.new.link) (g.L.Link.faults c.next_frame.new.link) c.in-Err-Full.field-0-is
+    (registers framed.0 c.in-Ok.framed registration c.new-feeder.result c.next_frame.new.feeder c.new-feeder.ensures
+    c.in-Ok-read_registration.ensures.0 framed.2)
+    (c.next_frame.ensures.side ∙ ap (λ (feeder : Feeding). feeder.heard) c.new-feeder.ensures)
+    c.tell_taken-in-Err-Full.ensures.told c.in-Ok.ensures.faults framed.1 c.in-Err-Full.ensures.tally c.in-Err-Full.ensures.calls
+    (ap (λ (marks : LinkMarks). marks.ends) c.tell_taken-in-Err-Full.ensures.marks ∙ c.next_frame.ensures.ends))
 
 pub returns-in-Err-Stopped : goal.returns-in-Err-Stopped
 returns-in-Err-Stopped g c =
