@@ -222,6 +222,9 @@ def client(policies, commits, answers, link):
             return frame(sequence, 0x83, of_kind)
         flush()
         counts["asks"] += 1
+        if not link.is_up():
+            # the question is withdrawn
+            raise Ended("closed")
         answer = hall.take(OF_ASK, "x")
         if answer[0] == "a":
             if answer[2] != question:

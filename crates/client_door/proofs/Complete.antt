@@ -1,5 +1,5 @@
 -- A connection around which nothing fails is answered whole.
-use Rattle.std.proofs.Common.{◌≡◌, ◌∙◌, ◌≤◌, ◌⊎◌, inl, inr, ℕ, List, [], ◌∷◌, ◌++◌, length, Option, Some, None, Ok, Err, refl, sym, ap}
+use Rattle.std.proofs.Common.{◌≡◌, ◌∙◌, ◌≤◌, ◌⊎◌, inl, inr, ℕ, true, false, List, [], ◌∷◌, ◌++◌, length, Option, Some, None, Ok, Err, refl, sym, ap}
 use Rattle.std.proofs.Common.{subst, arith}
 use Rattle.std.proofs.lemmas.List.{append_cancel_left}
 use Rattle.desk_ports.specs.Faults.{next_count, last_count}
@@ -13,7 +13,7 @@ use Rattle.wire_messages.specs.declared.operations.Heard.TheVariants.{AtClient}
 use Rattle.wire_messages.proofs.Hearings.{heard_once}
 use Rattle.server_hall.specs.Call.{AskResult, AskMade, LeaveMade}
 use Rattle.server_hall.specs.Tally.{Tally, after_ask, after_leave, stops_after_ask, losses_after_ask}
-use Rattle.server_hall.specs.declared.refusals.AskRefusal.TheVariants.{Put, Gone, Stopped as AskStopped, Lost}
+use Rattle.server_hall.specs.declared.refusals.AskRefusal.TheVariants.{Put, Gone, Stopped as AskStopped, Lost, Withdrawn}
 use Rattle.door_frames.proofs.WholeFrames.{nothing_open, right_whole, carried_so}
 use Rattle.door_frames.specs.Carried.{Carried}
 use Rattle.door_frames.specs.declared.endings.Ended.{Ended}
@@ -21,7 +21,9 @@ use Rattle.door_frames.specs.declared.endings.Ended.TheVariants.{Closed, Cut, Hu
 use Rattle.door_frames.proofs.Carrying.{carried_more}
 use Rattle.client_door.specs.Asking.{Strays}
 use Rattle.client_door.specs.Answered.{Answered, frames_of, replies_bytes, calls_for, after_asks}
-use Rattle.client_door.specs.Serving.{ClientSide, Serves, Served, Talks, ended_by_leaving, IsUnbegun}
+use Rattle.client_door.specs.Serving.{ClientSide, Serves, Served, Cause, ended_for, EndsAnswered, EndsAsking, IsFoundSo, CountsFaults}
+use Rattle.client_door.specs.Serving.{ended_by_leaving, IsUnbegun}
+use Rattle.client_door.specs.Serving.Cause.{Came, Withdrew}
 use Rattle.client_door.specs.Complete.{Stays, IsQuiet, Gives, GivesItsQuestion, Receives, AnswersEach}
 use Rattle.client_door.proofs.Calls.{after_asks_more}
 
@@ -41,6 +43,7 @@ stops_kept (Err (Put refusal)) stops fits = (omega arith, fits)
 stops_kept (Err (Gone number)) stops fits = (omega arith, fits)
 stops_kept (Err AskStopped) stops fits = (omega (arith, fits), omega (arith, fits))
 stops_kept (Err (Lost number)) stops fits = (omega arith, fits)
+stops_kept (Err (Withdrawn number)) stops fits = (omega arith, fits)
 
 losses_kept : (result : AskResult) (losses : ℕ) → losses ≤ last_count → Kept losses (losses_after_ask result losses)
 losses_kept (Ok answered) losses fits = (omega arith, fits)
@@ -48,6 +51,7 @@ losses_kept (Err (Put refusal)) losses fits = (omega arith, fits)
 losses_kept (Err (Gone number)) losses fits = (omega arith, fits)
 losses_kept (Err AskStopped) losses fits = (omega arith, fits)
 losses_kept (Err (Lost number)) losses fits = (omega (arith, fits), omega (arith, fits))
+losses_kept (Err (Withdrawn number)) losses fits = (omega arith, fits)
 
 asks_stops : (calls : List AskMade) (tally : Tally) → tally.stops ≤ last_count → Kept tally.stops (after_asks calls tally).stops
 asks_stops [] tally fits = (omega arith, fits)
@@ -89,61 +93,72 @@ strays_elsewhere question number found (Ok answered) (same, is, other) gives = o
 strays_elsewhere question number found (Err refusal) wrong gives = absurd wrong
 
 -- Where nothing was counted, the answering ends between frames with all of them answered, or for want of memory.
-talked : (first last : ClientSide) (inner : Ended) (bytes : List ℕ) (frames : List Framed) (faults stops losses : ℕ)
-    → (t : Talks first last inner) → t.received ≡ bytes → Hears AtClient bytes frames []
+talked : (first last : ClientSide) (cause : Cause) (received : List ℕ) (answered : List Answered) (asked : List AskMade)
+    (bytes : List ℕ) (frames : List Framed) (faults stops losses : ℕ)
+    → EndsAnswered cause received (frames_of answered) → EndsAsking cause asked → CountsFaults cause first.faults last.faults
+    → IsFoundSo cause last.marks → last.tally ≡ after_asks (calls_for answered ++ asked) first.tally
+    → received ≡ bytes → Hears AtClient bytes frames []
     → Stays faults last.faults → first.faults ≡ faults
     → Stays stops last.tally.stops → first.tally.stops ≡ stops
     → Stays losses last.tally.losses → first.tally.losses ≡ losses
+    → last.marks.is_down ≡ false
     → GivesItsQuestion last.tally.last_ask
-    → ((inner ≡ Closed) × (frames_of t.answered ≡ frames)) ⊎ (inner ≡ Memory)
-talked first last Closed bytes frames faults stops losses t is heard still_f is_f still_s is_s still_l is_l gives =
+    → ((ended_for cause ≡ Closed) × (frames_of answered ≡ frames)) ⊎ (ended_for cause ≡ Memory)
+talked first last (Came Closed) received answered asked bytes frames faults stops losses all none count found tally is heard still_f is_f
+    still_s is_s still_l is_l up gives =
     inl (
       refl,
-      (heard_once AtClient bytes (frames_of t.answered) frames [] []
-          (subst (λ list. Hears AtClient list (frames_of t.answered) []) is t.bytes) (nothing_open AtClient) heard
+      (heard_once AtClient bytes (frames_of answered) frames [] []
+          (subst (λ list. Hears AtClient list (frames_of answered) []) is all) (nothing_open AtClient) heard
           (nothing_open AtClient)).0,
     )
-talked first last (Cut count) bytes frames faults stops losses t is heard still_f is_f still_s is_s still_l is_l gives =
-    let (rest, some, unfinished, length_is, many) = t.bytes in
-    let same = heard_once AtClient bytes (frames_of t.answered) frames rest []
-    (subst (λ list. Hears AtClient list (frames_of t.answered) rest) is some) unfinished heard (nothing_open AtClient) in
+talked first last (Came (Cut count)) received answered asked bytes frames faults stops losses (rest, some, unfinished, length_is, many)
+    none counts found tally is heard still_f is_f still_s is_s still_l is_l up gives =
+    let same = heard_once AtClient bytes (frames_of answered) frames rest []
+    (subst (λ list. Hears AtClient list (frames_of answered) rest) is some) unfinished heard (nothing_open AtClient) in
     absurd (omega (arith, sym (ap length same.1) ∙ length_is, many))
-talked first last (BadFrame refusal) bytes frames faults stops losses t is heard still_f is_f still_s is_s still_l is_l gives =
-    let (rest, some, wrong, of_bytes) = t.bytes in
-    absurd (right_whole AtClient bytes frames (frames_of t.answered) rest refusal heard
-    (subst (λ list. Hears AtClient list (frames_of t.answered) rest) is some) wrong of_bytes)
-talked first last LinkFault bytes frames faults stops losses t is heard still_f is_f still_s is_s still_l is_l gives =
-    let rose : last.faults ≡ next_count first.faults = t.faults in
+talked first last (Came (BadFrame refusal)) received answered asked bytes frames faults stops losses (rest, some, wrong, of_bytes)
+    none counts found tally is heard still_f is_f still_s is_s still_l is_l up gives =
+    absurd (right_whole AtClient bytes frames (frames_of answered) rest refusal heard
+    (subst (λ list. Hears AtClient list (frames_of answered) rest) is some) wrong of_bytes)
+talked first last (Came LinkFault) received answered asked bytes frames faults stops losses more few rose found tally is heard still_f is_f
+    still_s is_s still_l is_l up gives =
     absurd (moves faults first.faults last.faults still_f (omega (arith, is_f)) (omega (arith, rose)))
-talked first last Stopped bytes frames faults stops losses t is heard still_f is_f still_s is_s still_l is_l gives =
-    let (call, only, stop) = t.asking in
-    let before : Tally = after_asks (calls_for t.answered) first.tally in
-    let counted : last.tally ≡ after_ask call before = t.tally
-    ∙ (ap (λ (list : List AskMade). after_asks (calls_for t.answered ++ list) first.tally) only
-    ∙ after_asks_more (calls_for t.answered) (call ∷ []) first.tally) in
+talked first last (Came Stopped) received answered asked bytes frames faults stops losses more (call, only, stop) counts found tally is
+    heard still_f is_f still_s is_s still_l is_l up gives =
+    let before : Tally = after_asks (calls_for answered) first.tally in
+    let counted : last.tally ≡ after_ask call before = tally
+    ∙ (ap (λ (list : List AskMade). after_asks (calls_for answered ++ list) first.tally) only
+    ∙ after_asks_more (calls_for answered) (call ∷ []) first.tally) in
     let rose : last.tally.stops ≡ next_count before.stops = ap (λ (x : Tally). x.stops) counted ∙ found_stop call before.stops stop in
-    let kept : Kept first.tally.stops before.stops = asks_stops (calls_for t.answered) first.tally (omega (arith, is_s, still_s.0)) in
+    let kept : Kept first.tally.stops before.stops = asks_stops (calls_for answered) first.tally (omega (arith, is_s, still_s.0)) in
     absurd (moves stops before.stops last.tally.stops still_s (omega (arith, is_s, kept.0)) (omega (arith, rose)))
-talked first last (Strayed number None) bytes frames faults stops losses t is heard still_f is_f still_s is_s still_l is_l gives =
-    let (call, only, lost) = t.asking in
-    let before : Tally = after_asks (calls_for t.answered) first.tally in
-    let counted : last.tally ≡ after_ask call before = t.tally
-    ∙ (ap (λ (list : List AskMade). after_asks (calls_for t.answered ++ list) first.tally) only
-    ∙ after_asks_more (calls_for t.answered) (call ∷ []) first.tally) in
+talked first last (Came (Strayed number None)) received answered asked bytes frames faults stops losses more (call, only, lost) counts found
+    tally is heard still_f is_f still_s is_s still_l is_l up gives =
+    let before : Tally = after_asks (calls_for answered) first.tally in
+    let counted : last.tally ≡ after_ask call before = tally
+    ∙ (ap (λ (list : List AskMade). after_asks (calls_for answered ++ list) first.tally) only
+    ∙ after_asks_more (calls_for answered) (call ∷ []) first.tally) in
     let rose : last.tally.losses ≡ next_count before.losses =
     ap (λ (x : Tally). x.losses) counted ∙ lost_none call before.stops before.losses number lost in
-    let kept : Kept first.tally.losses before.losses = asks_losses (calls_for t.answered) first.tally (omega (arith, is_l, still_l.0)) in
+    let kept : Kept first.tally.losses before.losses = asks_losses (calls_for answered) first.tally (omega (arith, is_l, still_l.0)) in
     absurd (moves losses before.losses last.tally.losses still_l (omega (arith, is_l, kept.0)) (omega (arith, rose)))
-talked first last (Strayed number (Some found)) bytes frames faults stops losses t is heard still_f is_f still_s is_s still_l is_l gives =
-    let (call, only, strays) = t.asking in
-    let called : last.tally.last_ask ≡ Some call = ap (λ (x : Tally). x.last_ask) t.tally
-    ∙ (ap (λ (list : List AskMade). (after_asks (calls_for t.answered ++ list) first.tally).last_ask) only
-    ∙ last_called (calls_for t.answered) call first.tally) in
+talked first last (Came (Strayed number (Some found))) received answered asked bytes frames faults stops losses more (call, only, strays)
+    counts at tally is heard still_f is_f still_s is_s still_l is_l up gives =
+    let called : last.tally.last_ask ≡ Some call = ap (λ (x : Tally). x.last_ask) tally
+    ∙ (ap (λ (list : List AskMade). (after_asks (calls_for answered ++ list) first.tally).last_ask) only
+    ∙ last_called (calls_for answered) call first.tally) in
     absurd (strays_elsewhere call.question number found call.result strays
     (subst (λ (made : Option AskMade). GivesItsQuestion made) called gives))
-talked first last (Hung entered now) bytes frames faults stops losses t is heard still_f is_f still_s is_s still_l is_l gives =
-    absurd t.asking
-talked first last Memory bytes frames faults stops losses t is heard still_f is_f still_s is_s still_l is_l gives = inr refl
+talked first last (Came (Hung entered now)) received answered asked bytes frames faults stops losses more wrong counts found tally is heard
+    still_f is_f still_s is_s still_l is_l up gives = absurd wrong
+talked first last (Came Memory) received answered asked bytes frames faults stops losses more few counts found tally is heard still_f is_f
+    still_s is_s still_l is_l up gives = inr refl
+talked first last (Withdrew number) received answered asked bytes frames faults stops losses more call counts down tally is heard still_f
+    is_f still_s is_s still_l is_l up gives = absurd (apart (sym down ∙ up))
+  where
+    apart : true ≡ false → ⊥
+    apart is = cc
 
 -- ---- the whole connection
 
@@ -191,8 +206,8 @@ left_so result start now frames s Still is quiet gives r =
     r.told_now in
     let bytes : s.talks.received ≡ r.bytes =
     append_cancel_left r.before.received s.talks.received r.bytes (sym (ap (λ (x : Traffic). x.received) at) ∙ r.received) in
-    ends_so result s.inner start now frames s.talks.answered
-    (s.result_is ∙ ap (λ (left : Left). ended_by_leaving s.entered left s.inner) is)
+    ends_so result (ended_for s.talks.cause) start now frames s.talks.answered
+    (s.result_is ∙ (ap (λ (left : Left). ended_by_leaving s.entered left s.inner) is ∙ s.talks.ended_is))
     (λ all. record {
       answered = s.talks.answered;
       right = s.talks.right;
@@ -203,10 +218,12 @@ left_so result start now frames s Still is quiet gives r =
       told_now = r.told_now;
       sent = ap (λ (x : Traffic). x.sent) at;
     })
-    (talked s.first s.last s.inner r.bytes frames start.faults start.tally.stops start.tally.losses s.talks bytes r.heard
+    (talked s.first s.last s.talks.cause s.talks.received s.talks.answered s.talks.last r.bytes frames start.faults start.tally.stops
+    start.tally.losses s.talks.bytes s.talks.asking s.talks.faults s.talks.at_end s.talks.tally bytes r.heard
     (subst (λ (x : ClientSide). Stays start.faults x.faults) leaving quiet.faults) s.faults
     (subst (λ (x : ClientSide). Stays start.tally.stops x.tally.stops) leaving quiet.stops) (ap (λ (x : Tally). x.stops) s.entry)
     (subst (λ (x : ClientSide). Stays start.tally.losses x.tally.losses) leaving quiet.losses) (ap (λ (x : Tally). x.losses) s.entry)
+    (subst (λ (x : ClientSide). x.marks.is_down ≡ false) leaving quiet.up)
     (subst (λ (x : ClientSide). GivesItsQuestion x.tally.last_ask) leaving gives))
 
 -- no hang end was to be had

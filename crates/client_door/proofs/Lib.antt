@@ -6,4 +6,5 @@ pub mod Reading
 pub mod Steps
 pub mod Unsent
 pub mod Ending
+pub mod InPlace
 pub mod Complete

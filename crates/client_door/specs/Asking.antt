@@ -1,5 +1,6 @@
 -- What comes of a question that the policies of a commit leave to the agent of a kind.
 use Rattle.std.specs.Prelude.{◌≡◌, ℕ, true, false, List, [], ◌∷◌, Option, Some, None, Ok, Err}
+use Rattle.link_ports.specs.LinkMarks.{LinkMarks}
 use Rattle.cynara_keys.specs.Key.{Question}
 use Rattle.cynara_keys.specs.declared.results.Kind.{Kind}
 use Rattle.agent_table.specs.declared.refusals.PutRefusal.{PutRefusal}
@@ -13,11 +14,12 @@ use Rattle.desk_world.specs.declared.links.Reading.TheVariants.{Ready}
 use Rattle.server_hall.specs.Call.{AskResult, AskMade}
 use Rattle.server_hall.specs.Tally.{Tally, after_ask}
 use Rattle.server_hall.specs.Told.{AppendsCalls}
+use Rattle.server_hall.specs.Found.{found_down, MayCount}
 use Rattle.server_hall.specs.declared.calls.HallCall.{HallCall}
 use Rattle.server_hall.specs.declared.calls.HallCall.TheVariants.{Ask}
-use Rattle.server_hall.specs.declared.refusals.AskRefusal.TheVariants.{Put, Gone, Stopped as AskStopped, Lost}
+use Rattle.server_hall.specs.declared.refusals.AskRefusal.TheVariants.{Put, Gone, Stopped as AskStopped, Lost, Withdrawn}
 use Rattle.door_frames.specs.declared.endings.Ended.{Ended}
-use Rattle.door_frames.specs.declared.endings.Ended.TheVariants.{Stopped, Memory, Strayed}
+use Rattle.door_frames.specs.declared.endings.Ended.TheVariants.{Closed, Stopped, Memory, Strayed}
 use Rattle.client_door.specs.Check.{reply_of}
 use Rattle.client_door.specs.declared.agent_replies.AgentReply.{AgentReply}
 
@@ -48,6 +50,10 @@ Strays question number (Some found) (Ok answered) =
     (answered.0 ≡ number) × (found ≡ answered.1.question) × (found ≡ question → ⊥)
 Strays question number (Some found) (Err refusal) = ⊥
 
+-- the call found the asker's link down, and took the question of the number away
+abbrev pub IsWithdrawn : ℕ → AskResult → Type 0
+IsWithdrawn number result = result ≡ Err (Withdrawn number)
+
 -- ---- one call
 
 abbrev pub ask_made : Kind → Question → List ℕ → AskResult → AskMade
@@ -67,8 +73,9 @@ AsksOnce commit kind question metadata tally calls tally_after calls_after reply
     × Asked (ask_made kind question metadata result) tally calls tally_after calls_after
     × LeadsTo commit kind question result (reply_of reply)
 
--- why no reply comes of it
+-- why no reply comes of it; as closed a connection ends whose question was withdrawn
 abbrev pub IsInVain : Question → AskResult → Ended → Type 0
+IsInVain question result Closed = (number : ℕ) × IsWithdrawn number result
 IsInVain question result Stopped = FindsStop result
 IsInVain question result Memory = Unit {0}
 IsInVain question result (Strayed number found) = Strays question number found result
@@ -81,3 +88,10 @@ pub data AsksInVain (kind : Kind) (question : Question) (metadata : List ℕ) (t
       → AsksInVain kind question metadata tally calls tally_after calls_after ended
   vain : (result : AskResult) → Asked (ask_made kind question metadata result) tally calls tally_after calls_after
       → IsInVain question result ended → AsksInVain kind question metadata tally calls tally_after calls_after ended
+
+-- The asker's link stands as before, unless the question was withdrawn, which closes the connection: then it was found down, for
+-- which its count of failures may have risen by one.
+abbrev pub LooksAtLink : Ended → LinkMarks → ℕ → LinkMarks → ℕ → Type 0
+LooksAtLink Closed marks faults marks_after faults_after =
+    (marks_after ≡ found_down marks) × MayCount faults faults_after
+LooksAtLink ended marks faults marks_after faults_after = (marks_after ≡ marks) × (faults_after ≡ faults)

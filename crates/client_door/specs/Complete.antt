@@ -1,5 +1,5 @@
 -- What a connection of a client is answered where nothing around it fails.
-use Rattle.std.specs.Prelude.{◌≡◌, ◌<◌, ℕ, List, [], ◌++◌, Option, Some, None, Ok, Err}
+use Rattle.std.specs.Prelude.{◌≡◌, ◌<◌, ℕ, false, List, [], ◌++◌, Option, Some, None, Ok, Err}
 use Rattle.std.specs.List.{AllByRecursion}
 use Rattle.cynara_keys.specs.Key.{Question}
 use Rattle.desk_ports.specs.Faults.{last_count}
@@ -15,9 +15,10 @@ use Rattle.client_door.specs.Serving.{ClientSide}
 abbrev pub Stays : ℕ → ℕ → Type 0
 Stays before after = (before < last_count) × (after ≡ before)
 
--- no call of the link failed, and the hall counted no stop, no hang-up and no lost question
+-- no call of the link failed and none found it down, and the hall counted no stop, no hang-up and no lost question
 pub record IsQuiet (start now : ClientSide) : Type 0 where
   pub faults : Stays start.faults now.faults
+  pub up : now.marks.is_down ≡ false
   pub stops : Stays start.tally.stops now.tally.stops
   pub hangs : Stays start.tally.hangs now.tally.hangs
   pub losses : Stays start.tally.losses now.tally.losses

@@ -1,6 +1,7 @@
 pub mod Check
 pub mod Asking
 pub mod Reading
+pub mod InPlace
 pub mod Answered
 pub mod Recording
 pub mod Message

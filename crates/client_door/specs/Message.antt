@@ -91,7 +91,7 @@ IsRefused reading question tally calls tally_after calls_after ended =
     ⊎ ((commit : ℕ) × (kind : Kind) × (metadata : List ℕ) × (reading ≡ IsDue commit kind metadata)
     × AsksInVain kind question metadata tally calls tally_after calls_after ended)
 
--- The message has no answer: memory was wanting, the hall is stopped, or the question was lost.
+-- The message has no answer: memory was wanting, the hall is stopped, or the question was lost or withdrawn.
 pub record RefusesCheck (asked : Message) (seat : SeatState) (tally : Tally) (calls : Option (List HallCall))
     (tally_after : Tally) (calls_after : Option (List HallCall)) (ended : Ended) : Type 0 where
   pub question : Question

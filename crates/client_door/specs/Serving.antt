@@ -1,5 +1,5 @@
 -- What a connection of a client is answered, and how it ends.
-use Rattle.std.specs.Prelude.{◌≡◌, ◌≤◌, ℕ, List, [], ◌∷◌, ◌++◌, map, length, Option, None, Ok, Err, IsTrue}
+use Rattle.std.specs.Prelude.{◌≡◌, ◌≤◌, ℕ, true, List, [], ◌∷◌, ◌++◌, map, length, Option, None, Ok, Err, IsTrue}
 use Rattle.std.specs.List.{AllByRecursion}
 use Rattle.desk_ports.specs.Faults.{next_count}
 use Rattle.link_ports.specs.Traffic.{Traffic}
@@ -7,7 +7,7 @@ use Rattle.link_ports.specs.LinkMarks.{LinkMarks, with_end_taken}
 use Rattle.desk_state.specs.DeskState.{DeskState}
 use Rattle.desk_world.specs.Links.{may_read}
 use Rattle.desk_world.specs.declared.links.Reading.TheVariants.{Due}
-use Rattle.live_desk.specs.History.{GoesOn, last_commit}
+use Rattle.live_desk.specs.History.{GoesOn, Rises, last_commit}
 use Rattle.live_desk.specs.Seat.{SeatState, with_note}
 use Rattle.live_roll.specs.declared.answers.Left.{Left}
 use Rattle.live_roll.specs.declared.answers.Left.TheVariants.{Still, Hung as LeftHung, Stopped as LeftStopped}
@@ -18,6 +18,7 @@ use Rattle.wire_messages.specs.declared.operations.Heard.TheVariants.{AtClient}
 use Rattle.server_hall.specs.Call.{AskMade}
 use Rattle.server_hall.specs.Tally.{Tally, after_enter, after_leave, IsRaised}
 use Rattle.server_hall.specs.Told.{AppendsCalls}
+use Rattle.server_hall.specs.Found.{MayCount}
 use Rattle.server_hall.specs.declared.calls.HallCall.{HallCall}
 use Rattle.server_hall.specs.declared.calls.HallCall.TheVariants.{Ask}
 use Rattle.door_frames.specs.Carried.{Carried}
@@ -27,7 +28,7 @@ use Rattle.door_frames.specs.declared.endings.Ended.TheVariants.{Closed, Cut, Hu
 use Rattle.client_door.specs.Check.{framed_of}
 use Rattle.client_door.specs.Reading.{reading}
 use Rattle.client_door.specs.declared.checks.Check.{Check}
-use Rattle.client_door.specs.Asking.{FindsStop, Strays}
+use Rattle.client_door.specs.Asking.{FindsStop, Strays, IsWithdrawn}
 use Rattle.client_door.specs.Answered.{Answered, IsRight, frames_of, replies_bytes, calls_for, after_asks, StandsIn, AreReadIn, read_up_to}
 use Rattle.client_door.specs.Recording.{Recording, judged_in, HasRecorded}
 
@@ -63,18 +64,47 @@ with_link side traffic marks faults = record side { traffic = traffic; marks = m
 
 -- ---- a connection that has entered
 
+-- Why the answering ended: as the connection then ends; or the question of this number was withdrawn, since the link was found
+-- down while an agent was waited for.
+pub data Cause : Type 0 where
+  Came : Ended → Cause
+  Withdrew : ℕ → Cause
+
+-- how the connection ends for it
+abbrev pub ended_for : Cause → Ended
+ended_for (Came ended) = ended
+ended_for (Withdrew number) = Closed
+
+-- The bytes that were received, of which these frames were answered: where the input ended or was wrong each whole frame before was;
+-- else some may not be, so of the question that was withdrawn.
+abbrev pub EndsAnswered : Cause → List ℕ → List Framed → Type 0
+EndsAnswered (Came ended) received answered = EndsBytes AtClient received answered ended
+EndsAnswered (Withdrew number) received answered =
+    (more : List Framed) × (rest : List ℕ) × Hears AtClient received (answered ++ more) rest
+
 -- Which calls of `ask` were made for checks whose replies were not sent, where the answering ended so: none where the input
--- ended or was wrong; the one that found the hall stopped, or lost its question; and else one at most.
-abbrev pub EndsAsking : Ended → List AskMade → Type 0
-EndsAsking Closed last = last ≡ []
-EndsAsking (Cut count) last = last ≡ []
-EndsAsking (BadFrame refusal) last = last ≡ []
-EndsAsking Stopped last = (call : AskMade) × (last ≡ call ∷ []) × FindsStop call.result
-EndsAsking (Strayed number found) last =
+-- ended or was wrong; the one that found the hall stopped, lost its question, or withdrew it; and else one at most.
+abbrev pub EndsAsking : Cause → List AskMade → Type 0
+EndsAsking (Came Closed) last = last ≡ []
+EndsAsking (Came (Cut count)) last = last ≡ []
+EndsAsking (Came (BadFrame refusal)) last = last ≡ []
+EndsAsking (Came Stopped) last = (call : AskMade) × (last ≡ call ∷ []) × FindsStop call.result
+EndsAsking (Came (Strayed number found)) last =
     (call : AskMade) × (last ≡ call ∷ []) × Strays call.question number found call.result
-EndsAsking LinkFault last = length last ≤ 1
-EndsAsking Memory last = length last ≤ 1
-EndsAsking (Hung entered now) last = ⊥
+EndsAsking (Came LinkFault) last = length last ≤ 1
+EndsAsking (Came Memory) last = length last ≤ 1
+EndsAsking (Came (Hung entered now)) last = ⊥
+EndsAsking (Withdrew number) last = (call : AskMade) × (last ≡ call ∷ []) × IsWithdrawn number call.result
+
+-- what the link tells where the answering ended so: that the input has ended, or that it was found down
+abbrev pub IsFoundSo : Cause → LinkMarks → Type 0
+IsFoundSo (Came ended) marks = IsAtEnd ended marks
+IsFoundSo (Withdrew number) marks = marks.is_down ≡ true
+
+-- its count of failures, which may have risen by one where it was found down
+abbrev pub CountsFaults : Cause → ℕ → ℕ → Type 0
+CountsFaults (Came ended) before after = after ≡ faults_after ended before
+CountsFaults (Withdrew number) before after = MayCount before after
 
 -- A call that was made for a check whose reply was not sent: one that came behind those that were answered, read as due at a
 -- state that the seat has seen, no older than its note and than those at which the answered ones were read.
@@ -95,22 +125,27 @@ pub record Talks (start now : ClientSide) (ended : Ended) : Type 0 where
   pub received : List ℕ
   pub answered : List Answered
   pub last : List AskMade
+  -- why it ended
+  pub cause : Cause
+  pub ended_is : ended ≡ ended_for cause
   -- the replies are right, and are those to the first frames received
   pub right : AllByRecursion IsRight answered
-  pub bytes : EndsBytes AtClient received (frames_of answered) ended
+  pub bytes : EndsAnswered cause received (frames_of answered)
   pub carried : Carried start.traffic now.traffic received (replies_bytes answered)
   -- each was read at a state that the seat has seen, no older than its note
   pub read : AreReadIn now.seat.seen now.seat.note answered
   pub seen : GoesOn start.seat.seen now.seat.seen
+  -- the commits of the states that the seat has seen rise, where they did at the start
+  pub rising : Rises start.seat.seen → Rises now.seat.seen
   pub same_seat : now.seat ≡ record start.seat { seen = now.seat.seen }
   -- the calls that were made on the hall
   pub tally : now.tally ≡ after_asks (calls_for answered ++ last) start.tally
   pub calls : AppendsCalls start.calls (map Ask (calls_for answered ++ last)) now.calls
-  pub asking : EndsAsking ended last
+  pub asking : EndsAsking cause last
   pub for_checks : AllByRecursion (IsCallFor now.seat received answered) last
   -- the link
-  pub faults : now.faults ≡ faults_after ended start.faults
-  pub at_end : IsAtEnd ended now.marks
+  pub faults : CountsFaults cause start.faults now.faults
+  pub at_end : IsFoundSo cause now.marks
   pub ends : now.marks.ends ≡ start.marks.ends
   -- the judged checks of those that were answered were recorded, each once
   pub recorded : HasRecorded start.recording (judged_in answered) now.recording

@@ -1,5 +1,6 @@
 ghost use Rattle.std.specs.Prelude.{◌≡◌, IsSome, MatchResult};
 ghost use Rattle.desk_state.specs.DeskState.{DeskState};
+ghost use Rattle.link_ports.specs.Told.{KeepsTold};
 ghost use Rattle.live_desk.specs.History.{GoesOn};
 ghost use Rattle.client_door.specs.Message.{check_in, AnswersCheck, RefusesCheck, SeesOf, SeesAtLast};
 ghost use Rattle.client_door.specs.Message.{read_at, IsSeenLast, AnswersQuestion, IsRefused};
@@ -7,6 +8,7 @@ ghost use Rattle.client_door.specs.Message.{read_at, IsSeenLast, AnswersQuestion
 use crate::asking::ask_agent;
 use cynara_keys::{Kind, Metadata, Question};
 use door_frames::Ended;
+use link_ports::Link;
 use live_desk::{BorrowedVerdict, Seat};
 use server_hall::Hall;
 use std::alloc::Global;
@@ -29,38 +31,47 @@ pub(crate) enum Seen {
     Memory,
 }
 
-/// Answers one message of a client, `Check` or `SimpleCheck`, as a connection does. It may wait.
-pub fn answer_check<R: Wait, A: Hall>(
+/// Answers one message of a client, `Check` or `SimpleCheck`, as a connection over the link does, which it does not use but to
+/// see whether it stands while an agent is waited for. It may wait.
+pub fn answer_check<R: Wait, A: Hall, L: Link>(
     rt: &R,
     alloc: Global,
     seat: &mut Seat,
     hall: &mut A,
+    link: &mut L,
     message: &Message,
 ) -> Result<Message, Ended>
     requires { IsSome (check_in message.now) }
     ensures same { seat.new ≡ record seat.old { seen = seat.new.seen } }
     ensures seen { GoesOn seat.old.seen seat.new.seen }
+    ensures kept { KeepsTold (L.traffic link.old) (L.traffic link.new) }
     ensures answer { MatchResult result
         (AnswersCheck message.now seat.new (A.tally hall.old) (A.calls hall.old) (A.tally hall.new) (A.calls hall.new))
         (RefusesCheck message.now seat.new (A.tally hall.old) (A.calls hall.old) (A.tally hall.new) (A.calls hall.new)) }
 {
     match message {
-        Message::Check { question } => answer_question(rt, alloc, seat, hall, question, false),
-        Message::SimpleCheck { question } => answer_question(rt, alloc, seat, hall, question, true),
+        Message::Check { question } => answer_question(
+            rt, alloc, seat, hall, link, question, false,
+        ),
+        Message::SimpleCheck { question } => {
+            answer_question(rt, alloc, seat, hall, link, question, true)
+        }
         _ => unreachable!(),
     }
 }
 
-fn answer_question<R: Wait, A: Hall>(
+fn answer_question<R: Wait, A: Hall, L: Link>(
     rt: &R,
     alloc: Global,
     seat: &mut Seat,
     hall: &mut A,
+    link: &mut L,
     question: &Question,
     simple: bool,
 ) -> Result<Message, Ended>
     ensures same { seat.new ≡ record seat.old { seen = seat.new.seen } }
     ensures seen { GoesOn seat.old.seen seat.new.seen }
+    ensures kept { KeepsTold (L.traffic link.old) (L.traffic link.new) }
     ensures answer { (desk : DeskState) × IsSeenLast desk seat.new
         × MatchResult result
         (AnswersQuestion (read_at desk question.now simple) question.now
@@ -75,7 +86,7 @@ fn answer_question<R: Wait, A: Hall>(
             commit,
             kind,
             metadata,
-        } => match ask_agent(hall, commit, kind, question, metadata) {
+        } => match ask_agent(hall, link, commit, kind, question, metadata) {
             Ok(reply) => Ok(reply.message()),
             Err(ended) => Err(ended),
         },

@@ -2,33 +2,40 @@ ghost use Rattle.std.specs.Prelude.{◌≡◌, IsTrue, MatchResult};
 ghost use Rattle.door_frames.specs.declared.endings.Ended.TheVariants.{Memory};
 ghost use Rattle.client_door.specs.Check.{reply_of};
 ghost use Rattle.cynara_keys.specs.PolicyResult.{is_agent};
-ghost use Rattle.client_door.specs.Asking.{AsksOnce, AsksInVain, LeadsToReply};
+ghost use Rattle.link_ports.specs.Told.{KeepsTold};
+ghost use Rattle.client_door.specs.Asking.{AsksOnce, AsksInVain, LeadsToReply, LooksAtLink};
 
 use crate::AgentReply;
 use agent_table::{MOST_NUMBERS, MOST_OPEN, PutRefusal};
 use cynara_keys::{Kind, Metadata, Question};
 use door_frames::Ended;
+use link_ports::Link;
 use server_hall::{AskRefusal, Hall};
 
 /// Puts a question to the agent of the kind, which the policies of the commit leave to it, and waits for what comes of it.
-/// Ends where the hall is stopped, where the question was lost or another one was found in its place, and for want of
-/// memory.
-pub(crate) fn ask_agent<A: Hall>(
+/// Ends where the hall is stopped, where the question was lost or another one was found in its place, for want of memory, and
+/// as `Closed` where the asker's link was found down, so that the question was withdrawn.
+pub(crate) fn ask_agent<A: Hall, L: Link>(
     hall: &mut A,
+    link: &mut L,
     commit: u64,
     kind: Kind,
     question: &Question,
     metadata: Metadata,
 ) -> Result<AgentReply, Ended>
     requires { IsTrue (is_agent kind.0) }
-    ensures { MatchResult result
+    ensures asked { MatchResult result
         (AsksOnce commit kind question.now metadata (A.tally hall.old) (A.calls hall.old) (A.tally hall.new) (A.calls hall.new))
         (AsksInVain kind question.now metadata (A.tally hall.old) (A.calls hall.old) (A.tally hall.new) (A.calls hall.new)) }
+    ensures link { MatchResult result
+        (λ _. (L.marks link.new ≡ L.marks link.old) × (L.faults link.new ≡ L.faults link.old))
+        (λ ended. LooksAtLink ended (L.marks link.old) (L.faults link.old) (L.marks link.new) (L.faults link.new)) }
+    ensures kept { KeepsTold (L.traffic link.old) (L.traffic link.new) }
 {
     let Ok(put) = question.copy() else {
         return Err(Ended::Memory);
     };
-    match hall.ask(kind, put, metadata) {
+    match hall.ask(kind, put, metadata, link) {
         Ok((number, taken)) => {
             if taken.question == *question {
                 Ok(AgentReply::FromAgent {
@@ -49,6 +56,7 @@ pub(crate) fn ask_agent<A: Hall>(
             Err(ended) => Err(ended),
         },
         Err(AskRefusal::Gone(number)) => Ok(AgentReply::AgentGone { commit, number }),
+        Err(AskRefusal::Withdrawn(_)) => Err(Ended::Closed),
         Err(AskRefusal::Stopped) => Err(Ended::Stopped),
         Err(AskRefusal::Lost(number)) => Err(Ended::Strayed {
             number,

@@ -11,6 +11,7 @@ mod asking;
 mod checks;
 mod client_loops;
 mod judgements;
+mod judging;
 mod laws;
 mod outboxes;
 mod readings;

@@ -2,19 +2,30 @@ ghost use Rattle.std.specs.Prelude.{◌≡◌, ◌++◌, [], MatchResult, OnOk, 
 ghost use Rattle.desk_ports.specs.Faults.{next_count};
 ghost use Rattle.link_ports.specs.Told.{ChangesTold};
 ghost use Rattle.client_door.specs.Recording.{Leads, with_all_recorded};
+ghost use Rattle.client_door.specs.InPlace.{check_read, Rules};
+ghost use Rattle.client_door.specs.Reading.{reading};
+ghost use Rattle.client_door.specs.parts.Talk.{IsReadNow};
+ghost use Rattle.desk_state.specs.DeskState.{DeskState};
+ghost use Rattle.live_desk.specs.History.{GoesOn};
 ghost use Rattle.door_frames.specs.Carried.{Carried};
 ghost use Rattle.door_frames.specs.declared.endings.Ended.TheVariants.{LinkFault};
 
 use crate::Records;
+use crate::judging::{Judged, Ruling, judge_check};
+use core::mem::replace;
 use desk_ports::Bytes;
 use door_frames::Ended;
 use link_ports::{Gate, GateStep, Link};
+use live_desk::Seat;
 use std::alloc::{AllocError, Global};
 use std::marker::Model;
+use std::sync::Wait;
+use wire_messages::LentCheck;
 
 /// Replies that wait to be sent together. Contracts see their bytes.
 #[derive(Drop)]
 pub(crate) struct Outbox {
+    alloc: Global,
     bytes: Bytes,
     replies: u32,
 }
@@ -33,9 +44,25 @@ impl Outbox {
         ensures { result ≡ [] }
     {
         Outbox {
+            alloc,
             bytes: Bytes::new(alloc),
             replies: 0,
         }
+    }
+
+    /// Puts the reply to a check that is read where it stands behind those that wait, if the policies judge it at the last
+    /// state that the seat has then seen. It may wait.
+    pub fn judge<R: Wait>(&mut self, rt: &R, seat: &mut Seat, check: &LentCheck<'_>) -> Ruling
+        ensures same { seat.new ≡ record seat.old { seen = seat.new.seen } }
+        ensures seen { GoesOn seat.old.seen seat.new.seen }
+        ensures read { (desk : DeskState) × IsReadNow desk seat.new
+            × Rules check.now.sequence (reading desk (check_read check.now)) self.old self.new result }
+    {
+        let frames = replace(&mut self.bytes, Bytes::new(self.alloc));
+        let Judged { frames, ruling } = judge_check(rt, seat, check, frames);
+        self.bytes = frames;
+        self.replies = self.replies.saturating_add(ruling.replies());
+        ruling
     }
 
     /// Puts a reply behind those that wait.

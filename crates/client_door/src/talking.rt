@@ -1,5 +1,6 @@
 // The checks of a connection, answered in turn.
-ghost use Rattle.std.specs.Prelude.{◌≡◌, ◌<◌, ◌∷◌, [], ◌++◌, length, IsTrue, MatchResult, IfErr, OnOk, OnErr};
+ghost use Rattle.std.specs.Prelude.{◌≡◌, ◌<◌, ◌≤◌, ℕ, List, ◌∷◌, [], ◌++◌, length, take, None, if◌then◌else◌, IsTrue};
+ghost use Rattle.std.specs.Prelude.{MatchResult, IfOk, IfErr, OnOk, OnErr};
 ghost use Rattle.cynara_keys.specs.PolicyResult.{is_agent};
 ghost use Rattle.desk_state.specs.DeskState.{DeskState};
 ghost use Rattle.desk_world.specs.declared.links.Reading.TheVariants.{Due as IsDue};
@@ -7,32 +8,34 @@ ghost use Rattle.live_desk.specs.History.{GoesOn};
 ghost use Rattle.live_desk.specs.Seat.{SeatState};
 ghost use Rattle.wire_messages.specs.declared.operations.Heard.TheVariants.{AtClient};
 ghost use Rattle.wire_messages.specs.Frame.{spelling, with_sequence};
-ghost use Rattle.wire_messages.specs.Stream.{unfed};
+ghost use Rattle.wire_messages.specs.Stream.{unfed, first_of, Whole};
 ghost use Rattle.door_frames.specs.Hearing.{IsSound};
 ghost use Rattle.door_frames.specs.declared.endings.Ended.TheVariants.{Memory};
-ghost use Rattle.client_door.specs.Check.{message_of, reply_of};
+ghost use Rattle.client_door.specs.Check.{framed_of, message_of, reply_of};
+ghost use Rattle.client_door.specs.InPlace.{check_read};
 ghost use Rattle.client_door.specs.Reading.{reading, Finds};
 ghost use Rattle.link_ports.specs.Told.{ChangesTold};
 ghost use Rattle.client_door.specs.Recording.{Leads, with_noted};
-ghost use Rattle.client_door.specs.Serving.{ClientSide, recorded_side};
-ghost use Rattle.client_door.specs.parts.Talk.{Goes, Ends, IsReadNow, with_sent};
+ghost use Rattle.client_door.specs.Serving.{ClientSide, Talks, recorded_side};
+ghost use Rattle.client_door.specs.parts.Talk.{Goes, Ends, Stands, HasPiece, Reads, EndsReading, IsReadNow, with_sent, with_read};
 
 use crate::asking::ask_agent;
 use crate::checks::{Check, take_check};
+use crate::judging::Ruling;
 use crate::outboxes::Outbox;
 use crate::readings::{Found, Read, read_check};
 use crate::spelling::spell;
-use crate::{AgentReply, Judgement, Records};
+use crate::{AgentReply, Records};
 use core::mem::replace;
-use cynara_keys::{Kind, Metadata};
+use cynara_keys::{Kind, Metadata, Question};
 use desk_ports::Bytes;
-use door_frames::{Ended, receive_more};
+use door_frames::{Ended, hear_piece, receive_piece};
 use link_ports::{Gate, Link};
 use live_desk::Seat;
 use server_hall::Hall;
 use std::alloc::Global;
 use std::sync::Wait;
-use wire_messages::{Feeder, Heard};
+use wire_messages::{Feeder, Heard, LentCheck, check_in_front};
 
 /// What a connection has heard and not answered yet, and the replies that are not sent yet.
 #[derive(Drop)]
@@ -89,12 +92,15 @@ impl Talk {
             return Err(ended);
         }
         match self.send_and_receive(link, seat.number(), gate, recorder, room) {
-            Ok(()) => Ok(()),
+            Ok(count) => match self.meet(rt, seat, recorder, &room[..count]) {
+                Ok(()) => Ok(()),
+                Err(ended) => Err(ended),
+            },
             Err(ended) => Err(ended),
         }
     }
 
-    // Sends the replies that wait, and receives more.
+    // Sends the replies that wait, and receives a piece, which is not heard yet: how many bytes it has.
     fn send_and_receive<L: Link, G: Gate, M: Records>(
         &mut self,
         link: &mut L,
@@ -102,18 +108,21 @@ impl Talk {
         gate: &G,
         recorder: &mut M,
         room: &mut [u8],
-    ) -> Result<(), Ended>
+    ) -> Result<usize, Ended>
         requires some { 0 < length room.old }
         requires all { self.old.feeder.waiting ≡ [] }
         requires side { self.old.feeder.heard ≡ AtClient }
         requires sound { IsSound self.old.feeder }
-        ensures side { self.new.feeder.heard ≡ AtClient }
-        ensures sound { OnOk result (IsSound self.new.feeder) }
+        ensures within { IfOk result (λ count. count ≤ length room.new) }
+        ensures failed { OnOk result (self.new.feeder.failed ≡ None) }
+        ensures feeder { OnOk result (self.new.feeder ≡ self.old.feeder) }
+        ensures sent { OnOk result (self.new.outbox ≡ []) }
         ensures talk { (side : ClientSide) → MatchResult result
-            (λ _. Leads (M.fits recorder.old) (M.fits recorder.new) (λ before after. Goes (with_sent side (L.traffic link.old) (L.marks link.old) (L.faults link.old) before)
-            (record { feeder = self.old.feeder; waiting = self.old.outbox; taken = [] })
-            (with_sent side (L.traffic link.new) (L.marks link.new) (L.faults link.new) after)
-            (record { feeder = self.new.feeder; waiting = self.new.outbox; taken = [] })))
+            (λ count. Leads (M.fits recorder.old) (M.fits recorder.new) (λ before after. (start : ClientSide)
+            → Stands start (with_sent side (L.traffic link.old) (L.marks link.old) (L.faults link.old) before)
+            self.old.feeder self.old.outbox []
+            → HasPiece start (with_sent side (L.traffic link.new) (L.marks link.new) (L.faults link.new) after)
+            self.new.feeder (take count room.new)))
             (λ ended. Leads (M.fits recorder.old) (M.fits recorder.new) (λ before after. Ends (with_sent side (L.traffic link.old) (L.marks link.old) (L.faults link.old) before)
             (record { feeder = self.old.feeder; waiting = self.old.outbox; taken = [] })
             (with_sent side (L.traffic link.new) (L.marks link.new) (L.faults link.new) after) ended)) }
@@ -121,9 +130,102 @@ impl Talk {
         if let Err(ended) = self.outbox.flush(link, seat, gate, recorder) {
             return Err(ended);
         }
-        match receive_more(link, &mut self.feeder, room) {
-            Ok(()) => Ok(()),
+        match receive_piece(link, &mut self.feeder, room) {
+            Ok(count) => Ok(count),
             Err(ended) => Err(ended),
+        }
+    }
+
+    // Answers the checks that stand whole at the front of a piece, as far as the policies judge them, and hears the rest. Where a
+    // frame is begun, the whole piece is heard.
+    fn meet<R: Wait, M: Records>(
+        &mut self,
+        rt: &R,
+        seat: &mut Seat,
+        recorder: &mut M,
+        piece: &[u8],
+    ) -> Result<(), Ended>
+        requires sent { self.old.outbox ≡ [] }
+        requires all { self.old.feeder.waiting ≡ [] }
+        requires side { self.old.feeder.heard ≡ AtClient }
+        requires sound { IsSound self.old.feeder }
+        requires failed { self.old.feeder.failed ≡ None }
+        ensures side { OnOk result (self.new.feeder.heard ≡ AtClient) }
+        ensures sound { OnOk result (IsSound self.new.feeder) }
+        ensures talk { (side : ClientSide) → MatchResult result
+            (λ _. Leads (M.fits recorder.old) (M.fits recorder.new) (λ before after. (start : ClientSide)
+            → HasPiece start (with_read side seat.old before) self.old.feeder piece.now
+            → Stands start (with_read side seat.new after) self.new.feeder self.new.outbox []))
+            (λ ended. Leads (M.fits recorder.old) (M.fits recorder.new) (λ before after. (start : ClientSide)
+            → HasPiece start (with_read side seat.old before) self.old.feeder piece.now
+            → Talks start (with_read side seat.new after) ended)) }
+    {
+        if self.feeder.rest() != 0 {
+            hear_piece(&mut self.feeder, piece);
+            return Ok(());
+        }
+        match self.answer_piece(rt, seat, recorder, piece) {
+            Ok(rest) => {
+                hear_piece(&mut self.feeder, rest);
+                Ok(())
+            }
+            Err(ended) => Err(ended),
+        }
+    }
+
+    // Answers the checks that stand whole at the front of a piece, each where it stands, up to one that the policies leave to an
+    // agent. Gives what is behind them.
+    fn answer_piece<'a, R: Wait, M: Records>(
+        &mut self,
+        rt: &R,
+        seat: &mut Seat,
+        recorder: &mut M,
+        piece: &'a [u8],
+    ) -> Result<&'a [u8], Ended>
+        ensures feeder { self.new.feeder ≡ self.old.feeder }
+        ensures talk { (side : ClientSide) → MatchResult result
+            (λ rest. Leads (M.fits recorder.old) (M.fits recorder.new) (λ before after.
+            Reads (with_read side seat.old before) piece.now self.old.outbox (with_read side seat.new after) rest.now self.new.outbox))
+            (λ ended. Leads (M.fits recorder.old) (M.fits recorder.new) (λ before after.
+            EndsReading (with_read side seat.old before) piece.now self.old.outbox (with_read side seat.new after) ended)) }
+    {
+        let mut rest = piece;
+        while let Some(check) = check_in_front(rest) {
+            match self.answer_front(rt, seat, recorder, &check) {
+                Ok(true) => rest = &rest[check.size..],
+                Ok(false) => return Ok(rest),
+                Err(ended) => return Err(ended),
+            }
+        }
+        Ok(rest)
+    }
+
+    // Answers a check where it stands, if the policies judge it: whether they do.
+    fn answer_front<R: Wait, M: Records>(
+        &mut self,
+        rt: &R,
+        seat: &mut Seat,
+        recorder: &mut M,
+        check: &LentCheck<'_>,
+    ) -> Result<bool, Ended>
+        ensures feeder { self.new.feeder ≡ self.old.feeder }
+        ensures talk { (side : ClientSide) (ahead behind : List ℕ)
+            → first_of AtClient ahead ≡ Whole (framed_of (check_read check.now)) behind → MatchResult result
+            (λ judged. Leads (M.fits recorder.old) (M.fits recorder.new) (λ before after.
+            Reads (with_read side seat.old before) ahead self.old.outbox
+            (with_read side seat.new after) (if judged then behind else ahead) self.new.outbox))
+            (λ ended. Leads (M.fits recorder.old) (M.fits recorder.new) (λ before after.
+            EndsReading (with_read side seat.old before) ahead self.old.outbox (with_read side seat.new after) ended)) }
+    {
+        match self.outbox.judge(rt, seat, check) {
+            Ruling::Ruled { commit, allowed } => {
+                match recorder.note(&check.question, commit, allowed) {
+                    Ok(()) => Ok(true),
+                    Err(_) => Err(Ended::Memory),
+                }
+            }
+            Ruling::Left => Ok(false),
+            Ruling::Memory => Err(Ended::Memory),
         }
     }
 
@@ -187,13 +289,9 @@ impl Talk {
     {
         match self.read(rt, seat, &check) {
             Found::Judged { commit, allowed } => {
-                let question = check.question;
-                let judgement = Judgement {
-                    question,
-                    commit,
-                    allowed,
-                };
-                match self.put_judged(recorder, judgement) {
+                let put = self.put_judged(recorder, &check.question, commit, allowed);
+                drop(check);
+                match put {
                     Ok(()) => Ok(()),
                     Err(ended) => Err(ended),
                 }
@@ -273,7 +371,7 @@ impl Talk {
         if let Err(ended) = self.outbox.flush(link, seat, gate, recorder) {
             return Err(ended);
         }
-        match ask_agent(hall, commit, kind, &check.question, metadata) {
+        match ask_agent(hall, link, commit, kind, &check.question, metadata) {
             Ok(reply) => match self.tell(check.sequence, reply) {
                 Ok(()) => Ok(()),
                 Err(ended) => Err(ended),
@@ -299,19 +397,22 @@ impl Talk {
     fn put_judged<M: Records>(
         &mut self,
         recorder: &mut M,
-        judgement: Judgement,
+        question: &Question,
+        commit: u64,
+        allowed: bool,
     ) -> Result<(), Ended>
         ensures feeder { self.new.feeder ≡ self.old.feeder }
         ensures put { OnOk result (self.new.outbox ≡ self.old.outbox ++ self.old.frame) }
         ensures noted { OnOk result
-            (Leads (M.fits recorder.old) (M.fits recorder.new) (λ before after. ChangesTold before (with_noted judgement) after)) }
+            (Leads (M.fits recorder.old) (M.fits recorder.new) (λ before after. ChangesTold before
+            (with_noted (record { question = question.now; commit = commit; allowed = allowed })) after)) }
         ensures ended { IfErr result (λ ended. ended ≡ Memory) }
         ensures kept { OnErr result (Leads (M.fits recorder.old) (M.fits recorder.new) (λ before after. after ≡ before)) }
     {
         if let Err(ended) = self.put_reply() {
             return Err(ended);
         }
-        match recorder.note(judgement) {
+        match recorder.note(&question.borrowed(), commit, allowed) {
             Ok(()) => Ok(()),
             Err(_) => Err(Ended::Memory),
         }

@@ -6,5 +6,5 @@ mod receiving;
 mod sending;
 
 pub use endings::Ended;
-pub use receiving::{MOST_PIECE, next_frame, receive_more};
+pub use receiving::{MOST_PIECE, hear_piece, next_frame, receive_more, receive_piece};
 pub use sending::send_message;

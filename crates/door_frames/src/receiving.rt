@@ -1,4 +1,4 @@
-ghost use Rattle.std.specs.Prelude.{◌≡◌, ◌<◌, ◌++◌, ℕ, List, [], length, None, IfOk, IfErr, OnOk, OnErr};
+ghost use Rattle.std.specs.Prelude.{◌≡◌, ◌<◌, ◌≤◌, ◌++◌, ℕ, List, [], length, take, None, IfOk, IfErr, OnOk, OnErr};
 ghost use Rattle.wire_messages.specs.Hearing.{IsHeard};
 ghost use Rattle.door_frames.specs.Carried.{Carried};
 ghost use Rattle.door_frames.specs.Hearing.{IsSound, IsRefused, HearsMore, HandsOut};
@@ -12,6 +12,53 @@ use wire_messages::{Feeder, Framed, WireRefusal, pieces_do_not_matter};
 
 /// How many bytes a door receives at once, at most.
 pub const MOST_PIECE: usize = 4096;
+
+/// Receives the next bytes of a link into the room, once all frames that were heard are taken, and says how many there are.
+/// They are not fed: `hear_piece` does that. Ends where the input has ended, where a call of the link failed, and where the
+/// feeder has failed. It may wait for bytes.
+pub fn receive_piece<L: Link>(
+    link: &mut L,
+    feeder: &mut Feeder,
+    room: &mut [u8],
+) -> Result<usize, Ended>
+    requires some { 0 < length room.old }
+    requires taken { feeder.old.waiting ≡ [] }
+    requires sound { IsSound feeder.old }
+    ensures came { IfOk result (λ count. (0 < count) × (count ≤ length room.new)
+        × Carried (L.traffic link.old) (L.traffic link.new) (take count room.new) []) }
+    ensures still { OnOk result ((feeder.old.failed ≡ None) × (feeder.new ≡ feeder.old)) }
+    ensures heard { OnErr result (Carried (L.traffic link.old) (L.traffic link.new) [] [] × HearsMore [] feeder.old feeder.new) }
+    ensures sound { IsSound feeder.new }
+    ensures side { feeder.new.heard ≡ feeder.old.heard }
+    ensures faults { OnOk result (L.faults link.new ≡ L.faults link.old) }
+    ensures ended { IfErr result
+        (λ ended. EndsReading ended feeder.new (L.marks link.new) (L.faults link.old) (L.faults link.new)) }
+    ensures empty { feeder.new.waiting ≡ [] }
+    ensures ends { (L.marks link.new).ends ≡ (L.marks link.old).ends }
+{
+    if let Err(refusal) = still_sound(feeder) {
+        return Err(ended_by(refusal));
+    }
+    match link.receive(room) {
+        Ok(0) => Err(at_the_end(feeder)),
+        Ok(count) => Ok(count),
+        Err(Failed) => Err(Ended::LinkFault),
+    }
+}
+
+/// Hears a piece that was received. What is wrong with it shows at the next call.
+pub fn hear_piece(feeder: &mut Feeder, piece: &[u8])
+    requires { feeder.old.failed ≡ None }
+    ensures heard { HearsMore piece.now feeder.old feeder.new }
+    ensures sound { IsSound feeder.new }
+    ensures side { feeder.new.heard ≡ feeder.old.heard }
+{
+    pieces_do_not_matter();
+    match feeder.feed(piece) {
+        Ok(()) => {}
+        Err(_) => {}
+    }
+}
 
 /// Receives the next bytes of a link into the room and feeds them, once all frames that were heard are taken. What is wrong
 /// with them shows at the next call. Ends where the input has ended, where a call of the link failed, and where the feeder
@@ -37,16 +84,12 @@ pub fn receive_more<L: Link>(
     ensures empty { OnErr result (feeder.new.waiting ≡ []) }
     ensures ends { (L.marks link.new).ends ≡ (L.marks link.old).ends }
 {
-    if let Err(refusal) = still_sound(feeder) {
-        return Err(ended_by(refusal));
-    }
-    match link.receive(room) {
-        Ok(0) => Err(at_the_end(feeder)),
+    match receive_piece(link, feeder, room) {
         Ok(count) => {
-            hear(feeder, &room[..count]);
+            hear_piece(feeder, &room[..count]);
             Ok(())
         }
-        Err(Failed) => Err(Ended::LinkFault),
+        Err(ended) => Err(ended),
     }
 }
 
@@ -96,20 +139,6 @@ fn still_sound(feeder: &mut Feeder) -> Result<(), WireRefusal>
     match feeder.feed(&[]) {
         Ok(()) => Ok(()),
         Err(refusal) => Err(refusal),
-    }
-}
-
-// Hears a piece. What is wrong with it the feeder keeps.
-fn hear(feeder: &mut Feeder, piece: &[u8])
-    requires { feeder.old.failed ≡ None }
-    ensures heard { HearsMore piece.now feeder.old feeder.new }
-    ensures sound { IsSound feeder.new }
-    ensures side { feeder.new.heard ≡ feeder.old.heard }
-{
-    pieces_do_not_matter();
-    match feeder.feed(piece) {
-        Ok(()) => {}
-        Err(_) => {}
     }
 }
 

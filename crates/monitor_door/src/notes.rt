@@ -4,6 +4,7 @@ ghost use Rattle.monitor_door.specs.Monitoring.{RecordsEach};
 
 use check_monitor::Recorder;
 use client_door::{Judgement, Records};
+use cynara_keys::{BorrowedQuestion, Question};
 use std::alloc::{AllocError, Global};
 use std::sync::Wait;
 
@@ -45,8 +46,13 @@ impl<'a, R: Wait + Drop> Records for Notes<'a, R> {
     ghost fits = { λ notes start told. (notes.recorder.ghost_name ≡ start.recorder.ghost_name)
         × HasRecorded start.recorder.now notes.noted.items notes.recorder.now told };
 
-    fn note(&mut self, judgement: Judgement) -> Result<(), AllocError> {
-        match push(&mut self.noted, judgement) {
+    fn note(
+        &mut self,
+        question: &BorrowedQuestion<'_>,
+        commit: u64,
+        allowed: bool,
+    ) -> Result<(), AllocError> {
+        match push(&mut self.noted, question, commit, allowed) {
             Ok(()) => Ok(()),
             Err(error) => Err(error),
         }
@@ -58,11 +64,29 @@ impl<'a, R: Wait + Drop> Records for Notes<'a, R> {
     }
 }
 
-fn push(noted: &mut Vec<Judgement>, judgement: Judgement) -> Result<(), AllocError>
-    ensures pushed { OnOk result (noted.new.items ≡ noted.old.items ++ judgement ∷ []) }
+// Keeps a check until its reply was sent. Its names are copied.
+fn push(
+    noted: &mut Vec<Judgement>,
+    question: &BorrowedQuestion<'_>,
+    commit: u64,
+    allowed: bool,
+) -> Result<(), AllocError>
+    ensures pushed { OnOk result (noted.new.items ≡ noted.old.items
+        ++ record { question = question.now; commit = commit; allowed = allowed } ∷ []) }
     ensures kept { OnErr result (noted.new.items ≡ noted.old.items) }
 {
-    noted.push(judgement)?;
+    let alloc = *noted.allocator();
+    let question = Question::of(
+        alloc,
+        question.client(),
+        question.user(),
+        question.privilege(),
+    )?;
+    noted.push(Judgement {
+        question,
+        commit,
+        allowed,
+    })?;
     Ok(())
 }
 

@@ -1,5 +1,5 @@
 -- How the answering of checks stands between two calls.
-use Rattle.std.specs.Prelude.{◌≡◌, ◌≤◌, ℕ, List, ◌++◌, map, length, Option, Some}
+use Rattle.std.specs.Prelude.{◌≡◌, ◌≤◌, ℕ, List, [], ◌++◌, map, length, Option, Some, None}
 use Rattle.std.specs.List.{AllByRecursion}
 use Rattle.link_ports.specs.LinkMarks.{LinkMarks}
 use Rattle.link_ports.specs.Told.{ChangesTold}
@@ -8,11 +8,13 @@ use Rattle.live_desk.specs.History.{GoesOn, IsLast, Rises}
 use Rattle.live_desk.specs.Seat.{SeatState}
 use Rattle.desk_state.specs.DeskState.{DeskState}
 use Rattle.door_frames.specs.declared.endings.Ended.{Ended}
-use Rattle.wire_messages.specs.Stream.{Feeding}
+use Rattle.wire_messages.specs.Stream.{Feeding, Hears}
+use Rattle.wire_messages.specs.declared.messages.Framed.{Framed}
+use Rattle.wire_messages.specs.declared.operations.Heard.TheVariants.{AtClient}
 use Rattle.server_hall.specs.Told.{AppendsCalls}
 use Rattle.server_hall.specs.declared.calls.HallCall.TheVariants.{Ask}
 use Rattle.door_frames.specs.Carried.{Carried}
-use Rattle.door_frames.specs.Hearing.{HasHeard}
+use Rattle.door_frames.specs.Hearing.{HasHeard, IsSound}
 use Rattle.client_door.specs.Answered.{Answered, IsRight, frames_of, replies_bytes, calls_for, after_asks, AreReadIn}
 use Rattle.client_door.specs.Check.{framed_of}
 use Rattle.client_door.specs.declared.judgements.Judgement.{Judgement}
@@ -36,17 +38,20 @@ with_sent side traffic marks faults recording =
     record side { traffic = traffic; marks = marks; faults = faults; recording = recording }
 
 -- Since the start some checks were answered, of which the replies to the first were sent and those to the others wait; of
--- the latter one at most was answered by way of an agent. These checks were taken behind them.
-pub record Stands (start now : ClientSide) (feeder : Feeding) (waiting : List ℕ) (taken : List Check) : Type 0 where
+-- the latter one at most was answered by way of an agent. These checks were taken behind them. `Has` says what was heard: of the
+-- bytes that were received, up to the frames that were answered or taken.
+pub record StandsBy (start now : ClientSide) (Has : List ℕ → List Framed → Type 0) (waiting : List ℕ) (taken : List Check)
+    : Type 0 where
   pub received : List ℕ
   pub sent : List Answered
   pub unsent : List Answered
   pub right : AllByRecursion IsRight (sent ++ unsent)
-  pub heard : HasHeard received (frames_of (sent ++ unsent) ++ map framed_of taken) feeder
+  pub heard : Has received (frames_of (sent ++ unsent) ++ map framed_of taken)
   pub carried : Carried start.traffic now.traffic received (replies_bytes sent)
   pub waits : waiting ≡ replies_bytes unsent
   pub read : AreReadIn now.seat.seen now.seat.note (sent ++ unsent)
   pub seen : GoesOn start.seat.seen now.seat.seen
+  pub rising : Rises start.seat.seen → Rises now.seat.seen
   pub same_seat : now.seat ≡ record start.seat { seen = now.seat.seen }
   pub tally : now.tally ≡ after_asks (calls_for (sent ++ unsent)) start.tally
   pub calls : AppendsCalls start.calls (map Ask (calls_for (sent ++ unsent))) now.calls
@@ -54,6 +59,13 @@ pub record Stands (start now : ClientSide) (feeder : Feeding) (waiting : List �
   pub kept : IsKept start.recording (judged_in sent) (judged_in unsent) now.recording
   pub faults : now.faults ≡ start.faults
   pub ends : now.marks.ends ≡ start.marks.ends
+
+-- the feeder has heard the bytes, of which these frames were taken
+abbrev pub HeardBy : Feeding → List ℕ → List Framed → Type 0
+HeardBy feeder bytes frames = HasHeard bytes frames feeder
+
+abbrev pub Stands : ClientSide → ClientSide → Feeding → List ℕ → List Check → Type 0
+Stands start now feeder waiting taken = StandsBy start now (HeardBy feeder) waiting taken
 
 -- How it stands: the feeder, the bytes of the replies that wait, and the checks that were taken.
 pub record Standing : Type 0 where
@@ -77,3 +89,38 @@ pub record IsReadNow (desk : DeskState) (seat : SeatState) : Type 0 where
   pub last : IsLast seat.seen desk
   pub rising : Rises seat.seen
   pub fresh : seat.note ≤ desk.commit
+
+-- ---- a piece that was received
+
+-- The frames stand at the front of the bytes, and these bytes are behind them.
+abbrev pub HeardUpTo : List ℕ → List ℕ → List Framed → Type 0
+HeardUpTo ahead bytes frames = Hears AtClient bytes frames ahead
+
+-- All frames that came before were answered, and these bytes of the piece are not read yet.
+abbrev pub Meets : ClientSide → ClientSide → List ℕ → List ℕ → Type 0
+Meets start now ahead waiting = StandsBy start now (HeardUpTo ahead) waiting []
+
+-- It stood so before the piece was received, with all replies sent, and nothing else happened.
+abbrev pub HasPiece : ClientSide → ClientSide → Feeding → List ℕ → Type 0
+HasPiece start now feeder piece = (told : Option Traffic)
+    × Stands start (record now { traffic = told }) feeder [] [] × Carried told now.traffic piece []
+
+-- no frame is begun, and none waits
+pub record IsClean (feeder : Feeding) : Type 0 where
+  pub side : feeder.heard ≡ AtClient
+  pub waiting : feeder.waiting ≡ []
+  pub partial : feeder.partial ≡ []
+  pub failed : feeder.failed ≡ None
+  pub sound : IsSound feeder
+
+-- with what was seen and noted since
+abbrev pub with_read : ClientSide → SeatState → Option Recording → ClientSide
+with_read side seat recording = record side { seat = seat; recording = recording }
+
+-- from whatever start it met these bytes before, it meets those after
+abbrev pub Reads : ClientSide → List ℕ → List ℕ → ClientSide → List ℕ → List ℕ → Type 0
+Reads old ahead waiting new rest after = (start : ClientSide) → Meets start old ahead waiting → Meets start new rest after
+
+-- from whatever start it met these bytes before, the talk has ended so
+abbrev pub EndsReading : ClientSide → List ℕ → List ℕ → ClientSide → Ended → Type 0
+EndsReading old ahead waiting new ended = (start : ClientSide) → Meets start old ahead waiting → Talks start new ended

@@ -42,7 +42,7 @@ returns-in-NotResolved-clause-answer g c =
 pub returns-in-Ok-clause-answer : goal.returns-in-Ok-clause-answer
 returns-in-Ok-clause-answer g c =
     let read = c.in-Due.ensures.read in
-    let asked = c.in-Ok.ensures in (
+    let asked = c.in-Ok.ensures.asked in (
       read.0,
       read.1,
       record {
@@ -60,4 +60,4 @@ returns-in-Ok-clause-answer g c =
 pub returns-in-Err-clause-answer : goal.returns-in-Err-clause-answer
 returns-in-Err-clause-answer g c =
     let read = c.in-Due.ensures.read in
-    (read.0, read.1, inr (c.in-Due.commit, c.in-Due.kind, c.in-Due.metadata, read.2, c.in-Err.ensures))
+    (read.0, read.1, inr (c.in-Due.commit, c.in-Due.kind, c.in-Due.metadata, read.2, c.in-Err.ensures.asked))

@@ -26,19 +26,20 @@ returns-in-Ok-tell-clause-talk g c reader desk now_read is since before fits =
       told.1,
       λ start s. subst (λ (feeder : Feeding). Stands start
           (recorded_side reader (g.A.Hall.tally c.ask_agent.new.hall) (g.A.Hall.calls c.ask_agent.new.hall)
-          (g.L.Link.traffic c.flush.new.link) (g.L.Link.marks c.flush.new.link)
-          (g.L.Link.faults c.flush.new.link) told.0) feeder c.tell.new.self.outbox []) (sym c.tell.ensures.feeder)
+          (g.L.Link.traffic c.ask_agent.new.link) (g.L.Link.marks c.ask_agent.new.link)
+          (g.L.Link.faults c.ask_agent.new.link) told.0) feeder c.tell.new.self.outbox []) (sym c.tell.ensures.feeder)
           (sends_and_asks
           (recorded_side reader (g.A.Hall.tally c.args.hall.now) (g.A.Hall.calls c.args.hall.now) (g.L.Link.traffic c.args.link.now)
           (g.L.Link.marks c.args.link.now)
           (g.L.Link.faults c.args.link.now) before)
           (g.L.Link.traffic c.flush.new.link) (g.L.Link.marks c.flush.new.link) (g.L.Link.faults c.flush.new.link) told.0
           (g.A.Hall.tally c.ask_agent.new.hall) (g.A.Hall.calls c.ask_agent.new.hall)
+          (g.L.Link.traffic c.ask_agent.new.link) (g.L.Link.marks c.ask_agent.new.link) (g.L.Link.faults c.ask_agent.new.link)
           c.args.self.now.feeder c.args.self.now.outbox c.flush.new.self [] c.tell.new.self.outbox c.args.check.now desk c.args.commit
           c.args.kind c.args.metadata
           c.in-Ok.reply c.in_default.ensures.sent c.flush.ensures.marks c.in_default.ensures.faults told.2 c.in_default.ensures.empty
           now_read is
-          c.in-Ok.ensures c.in-Ok-tell.ensures.put start s),
+          c.in-Ok.ensures.asked c.ask_agent.ensures.kept c.in-Ok.ensures.link.0 c.in-Ok.ensures.link.1 c.in-Ok-tell.ensures.put start s),
     )
 
 pub returns-in-Err-tell-clause-talk : goal.returns-in-Err-tell-clause-talk
@@ -52,10 +53,12 @@ returns-in-Err-tell-clause-talk g c reader desk now_read is since before fits =
           (g.L.Link.faults c.args.link.now) before)
           (g.L.Link.traffic c.flush.new.link) (g.L.Link.marks c.flush.new.link) (g.L.Link.faults c.flush.new.link) told.0
           (g.A.Hall.tally c.ask_agent.new.hall) (g.A.Hall.calls c.ask_agent.new.hall)
+          (g.L.Link.traffic c.ask_agent.new.link) (g.L.Link.marks c.ask_agent.new.link) (g.L.Link.faults c.ask_agent.new.link)
           c.args.self.now.feeder c.args.self.now.outbox c.args.check.now desk c.args.commit c.args.kind c.args.metadata
           c.in-Ok.reply c.in-Err-tell.ended c.in_default.ensures.sent c.flush.ensures.marks c.in_default.ensures.faults told.2
           c.in-Err-tell.ensures.put.0
-          c.requires.side now_read is c.in-Ok.ensures start s,
+          c.requires.side now_read is c.in-Ok.ensures.asked c.ask_agent.ensures.kept c.in-Ok.ensures.link.0 c.in-Ok.ensures.link.1
+          start s,
     )
 
 pub returns-in-Err-ask_agent-clause-talk : goal.returns-in-Err-ask_agent-clause-talk
@@ -69,7 +72,8 @@ returns-in-Err-ask_agent-clause-talk g c reader desk now_read is since before fi
           (g.L.Link.faults c.args.link.now) before)
           (g.L.Link.traffic c.flush.new.link) (g.L.Link.marks c.flush.new.link) (g.L.Link.faults c.flush.new.link) told.0
           (g.A.Hall.tally c.ask_agent.new.hall) (g.A.Hall.calls c.ask_agent.new.hall)
+          (g.L.Link.traffic c.ask_agent.new.link) (g.L.Link.marks c.ask_agent.new.link) (g.L.Link.faults c.ask_agent.new.link)
           c.args.self.now.feeder c.args.self.now.outbox c.args.check.now desk c.args.commit c.args.kind c.args.metadata
           c.in-Err-ask_agent.ended c.in_default.ensures.sent c.flush.ensures.marks c.in_default.ensures.faults told.2
-          c.requires.side now_read is c.in-Err-ask_agent.ensures start s,
+          c.requires.side now_read is c.in-Err-ask_agent.ensures.asked c.ask_agent.ensures.kept c.in-Err-ask_agent.ensures.link start s,
     )

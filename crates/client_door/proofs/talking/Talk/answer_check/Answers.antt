@@ -18,8 +18,8 @@ returns-in-Ok-clause-talk g c since before fits =
       λ start s. subst (λ (feeder : Feeding). Stands start
           (recorded_side c.read.new.seat (g.A.Hall.tally c.args.hall.now) (g.A.Hall.calls c.args.hall.now)
           (g.L.Link.traffic c.args.link.now) (g.L.Link.marks c.args.link.now)
-          (g.L.Link.faults c.args.link.now) told.0) feeder c.put_judged.new.self.outbox [])
-          (sym (c.put_judged.ensures.feeder ∙ c.read.ensures.feeder))
+          (g.L.Link.faults c.args.link.now) told.0) feeder c.put_judged-put.new.self.outbox [])
+          (sym (c.put_judged-put.ensures.feeder ∙ c.read.ensures.feeder))
           (reads_and_puts
           (recorded_side c.args.seat.now (g.A.Hall.tally c.args.hall.now) (g.A.Hall.calls c.args.hall.now)
           (g.L.Link.traffic c.args.link.now) (g.L.Link.marks c.args.link.now)
@@ -27,7 +27,7 @@ returns-in-Ok-clause-talk g c since before fits =
           (recorded_side c.read.new.seat (g.A.Hall.tally c.args.hall.now) (g.A.Hall.calls c.args.hall.now)
           (g.L.Link.traffic c.args.link.now) (g.L.Link.marks c.args.link.now)
           (g.L.Link.faults c.args.link.now) told.0)
-          c.read.new.seat told.0 c.args.self.now.feeder c.args.self.now.outbox c.read.new.self.frame c.put_judged.new.self.outbox
+          c.read.new.seat told.0 c.args.self.now.feeder c.args.self.now.outbox c.read.new.self.frame c.put_judged-put.new.self.outbox
           c.args.check
           read.0 (Judged verdict) c.read.ensures.same c.read.ensures.seen refl read.1 is spelled
           (notes_judged before told.0 c.args.check.question verdict c.in-Judged.commit c.in-Judged.allowed at allowed told.2)
@@ -39,7 +39,7 @@ returns-in-Err-clause-talk g c since before fits =
     let read = c.in-Judged.ensures.read in
     let told = c.in-Err.ensures.kept since before fits in (
       before,
-      subst (λ (recording : Option Recording). g.M.Records.fits c.put_judged.new.recorder since recording) told.2 told.1,
+      subst (λ (recording : Option Recording). g.M.Records.fits c.put_judged-put.new.recorder since recording) told.2 told.1,
       reads_for_nothing
           (recorded_side c.args.seat.now (g.A.Hall.tally c.args.hall.now) (g.A.Hall.calls c.args.hall.now)
           (g.L.Link.traffic c.args.link.now) (g.L.Link.marks c.args.link.now)

@@ -1,6 +1,7 @@
-use Rattle.std.proofs.Common.{◌∙◌, [], refl, sym, ap, subst}
+use Rattle.std.proofs.Common.{◌∙◌, [], take, refl, sym, ap, subst}
 use Rattle.link_ports.specs.LinkMarks.{LinkMarks}
-use Rattle.client_door.specs.parts.Talk.{Stands, with_sent}
+use Rattle.wire_messages.specs.Stream.{Feeding}
+use Rattle.client_door.specs.parts.Talk.{HasPiece, with_sent}
 use Rattle.client_door.proofs.Ending.{ends_for_fault, sends_and_receives, sends_and_ends}
 use Rattle.client_door.proofs.talking.Talk.send_and_receive.Goals as goal
 
@@ -17,35 +18,34 @@ returns-in-Err-clause-talk g c side since before fits = (
 
 pub returns-in-Ok-clause-talk : goal.returns-in-Ok-clause-talk
 returns-in-Ok-clause-talk g c side since before fits =
-    let heard = c.receive_more.ensures.heard in
     let told = c.in_default.ensures.recorded since before fits in (
       told.0,
       told.1,
-      λ start s. subst (λ list. Stands start
-          (with_sent side (g.L.Link.traffic c.receive_more.new.link) (g.L.Link.marks c.receive_more.new.link)
-          (g.L.Link.faults c.receive_more.new.link) told.0)
-          c.receive_more.new.feeder list []) (sym c.in_default.ensures.empty)
+      λ start s. subst (λ (feeder : Feeding). HasPiece start
+          (with_sent side (g.L.Link.traffic c.receive_piece.new.link) (g.L.Link.marks c.receive_piece.new.link)
+          (g.L.Link.faults c.receive_piece.new.link) told.0)
+          feeder (take c.in-Ok.count c.receive_piece.new.room)) (sym c.in-Ok.ensures.still.1)
           (sends_and_receives side
           (g.L.Link.traffic c.args.link.now) (g.L.Link.marks c.args.link.now) (g.L.Link.faults c.args.link.now) before told.0
           (g.L.Link.traffic c.flush.new.link) (g.L.Link.marks c.flush.new.link) (g.L.Link.faults c.flush.new.link)
-          (g.L.Link.traffic c.receive_more.new.link) (g.L.Link.marks c.receive_more.new.link) (g.L.Link.faults c.receive_more.new.link)
-          c.args.self.now.feeder c.receive_more.new.feeder c.args.self.now.outbox heard.0
+          (g.L.Link.traffic c.receive_piece.new.link) (g.L.Link.marks c.receive_piece.new.link) (g.L.Link.faults c.receive_piece.new.link)
+          c.args.self.now.feeder c.args.self.now.outbox (take c.in-Ok.count c.receive_piece.new.room)
           c.in_default.ensures.sent c.flush.ensures.marks c.in_default.ensures.faults told.2
-          heard.1 heard.2 c.receive_more.ensures.ends c.in-Ok.ensures.faults start s),
+          c.in-Ok.ensures.came.2 c.receive_piece.ensures.ends c.in-Ok.ensures.faults start s),
     )
 
-pub returns-in-Err-receive_more-clause-talk : goal.returns-in-Err-receive_more-clause-talk
-returns-in-Err-receive_more-clause-talk g c side since before fits =
-    let heard = c.receive_more.ensures.heard in
+pub returns-in-Err-receive_piece-clause-talk : goal.returns-in-Err-receive_piece-clause-talk
+returns-in-Err-receive_piece-clause-talk g c side since before fits =
+    let heard = c.in-Err-receive_piece.ensures.heard in
     let told = c.in_default.ensures.recorded since before fits in (
       told.0,
       told.1,
       λ start s. sends_and_ends side
           (g.L.Link.traffic c.args.link.now) (g.L.Link.marks c.args.link.now) (g.L.Link.faults c.args.link.now) before told.0
           (g.L.Link.traffic c.flush.new.link) (g.L.Link.marks c.flush.new.link) (g.L.Link.faults c.flush.new.link)
-          (g.L.Link.traffic c.receive_more.new.link) (g.L.Link.marks c.receive_more.new.link) (g.L.Link.faults c.receive_more.new.link)
-          c.args.self.now.feeder c.receive_more.new.feeder c.args.self.now.outbox heard.0 c.in-Err-receive_more.ended
+          (g.L.Link.traffic c.receive_piece.new.link) (g.L.Link.marks c.receive_piece.new.link) (g.L.Link.faults c.receive_piece.new.link)
+          c.args.self.now.feeder c.receive_piece.new.feeder c.args.self.now.outbox [] c.in-Err-receive_piece.ended
           c.in_default.ensures.sent c.flush.ensures.marks c.in_default.ensures.faults told.2
-          heard.1 heard.2 c.receive_more.ensures.ends (c.receive_more.ensures.side ∙ c.requires.side) c.in-Err-receive_more.ensures.empty
-          c.in-Err-receive_more.ensures.ended start s,
+          heard.0 heard.1 c.receive_piece.ensures.ends (c.receive_piece.ensures.side ∙ c.requires.side) c.receive_piece.ensures.empty
+          c.in-Err-receive_piece.ensures.ended start s,
     )

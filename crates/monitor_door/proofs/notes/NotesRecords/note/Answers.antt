@@ -7,7 +7,7 @@ use Rattle.monitor_door.proofs.notes.NotesRecords.note.Goals as goal
 pub returns-in-Ok : goal.returns-in-Ok
 returns-in-Ok g c since before fits =
     let told = notes_next since.recorder.now c.args.self.now.recorder.now c.args.self.now.noted.items c.push.new.noted.items
-    c.args.judgement
+    (record { question = c.args.question.now; commit = c.args.commit; allowed = c.args.allowed })
     before c.in-Ok.ensures.pushed fits.1 in
     (told.0, (fits.0, told.1), told.2)
 
