@@ -1,4 +1,5 @@
 pub mod Finding
+pub mod Parting
 pub mod Showing
 pub mod Answering
 pub mod Adding

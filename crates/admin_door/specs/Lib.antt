@@ -1,5 +1,6 @@
 pub mod Side
 pub mod Reply
+pub mod State
 pub mod Settling
 pub mod Answering
 pub mod Adding

@@ -27,6 +27,7 @@ ghost use Rattle.admin_door.specs.parts.Showing.{Shows, IsUnshown};
 use crate::publishing::show;
 use crate::questions::{check_replies, list_replies, one};
 use crate::settling::{Unsettled, settle};
+use crate::states::state_replies;
 use desk_keeper::{Keeper, PreparedCommit};
 use desk_ports::Disk;
 use desk_state::{Command, Refusal};
@@ -141,6 +142,7 @@ fn answer_question<D: Disk, A: Hall>(
             recursive,
             question,
         } => check_replies(alloc, keeper.desk(), bucket, *recursive, question),
+        Message::ReadState => state_replies(alloc, keeper.desk()),
         Message::Stop => stop(alloc, keeper.desk().commit(), hall),
         _ => unreachable!(),
     }

@@ -11,6 +11,7 @@ mod laws;
 mod publishing;
 mod questions;
 mod settling;
+mod states;
 
 pub use admin_loops::admin_loop;
 pub use commands::answer_command;

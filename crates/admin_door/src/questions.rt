@@ -121,7 +121,7 @@ pub(crate) fn one(alloc: Global, message: Message) -> Result<Vec<Message>, Ended
 
 // The list with one more behind it. It goes by value and is of any type, so that no proof goes through the variants of a
 // message.
-fn with_one<T: Drop>(list: Vec<T>, last: T) -> Result<Vec<T>, Ended>
+pub(crate) fn with_one<T: Drop>(list: Vec<T>, last: T) -> Result<Vec<T>, Ended>
     ensures { MatchResult result (λ longer. longer.items ≡ list.items ++ last ∷ []) (λ ended. ended ≡ Memory) }
 {
     let mut list = list;
