@@ -147,7 +147,7 @@ class Agents(Door):
     def __init__(self, folder, words, draw):
         path = folder / "agent.socket"
         super().__init__(path, [*words, "agent", path, str(MILLISECONDS)], draw, ["questions"])
-        self.is_registered, self.asked, self.coming = False, None, []
+        self.is_registered, self.asked, self.coming, self.is_withdrawn = False, None, [], False
 
     def over(self):
         self.is_registered, self.asked, self.coming = False, None, []
@@ -202,7 +202,7 @@ class Agents(Door):
             self.give(framed(1, 0xA3, number(5, 4)))
         if self.asked is not None and not self.is_withdrawn and not self.coming and self.draw.random() < 0.3:
             self.give(framed(self.asked % 65536, 0xA4, number(self.asked, 4)))
-            self.is_withdrawn = self.is_told = True
+            self.is_withdrawn = True
             self.say("next 5000")
             return self.hear(f"{WITHDRAWN} {self.asked}")
         if not self.coming and self.draw.random() < 0.2:
@@ -213,7 +213,7 @@ class Agents(Door):
         if not self.coming:
             self.say(f"next {self.draw.choice((0, 30))}")
             return self.hear(str(TIMEOUT))
-        self.asked = self.coming.pop(0)
+        self.asked, self.is_withdrawn = self.coming.pop(0), False
         self.say("next 5000")
         return self.hear(f"{OK} {self.asked} 10 c u p ask")
 
@@ -225,9 +225,9 @@ class Agents(Door):
         self.say(f"{word} {asked or 0}")
         if asked is None or not self.is_registered:
             return self.hear(str(INVALID if self.is_registered else ENDED))
-        self.asked = None
         if not self.is_withdrawn:
             self.take(framed(asked % 65536, 0x21, number(asked, 4) + bytes([word == "allow"])))
+        self.asked, self.is_withdrawn = None, False
         return self.hear(str(OK))
 
     def withdrawn(self):
@@ -243,7 +243,7 @@ class Agents(Door):
                 self.give(framed(self.asked % 65536, 0xA4, number(self.asked, 4)))
             time.sleep(0.01)
             self.is_withdrawn = True
-        elif what < 0.4:
+        elif what < 0.4 and not self.is_withdrawn:
             self.hang_up()
             self.say(f"withdrawn {self.asked}")
             self.over()
@@ -262,10 +262,7 @@ class Agents(Door):
             call = self.draw.choice((self.next, self.next, self.answer, self.answer, self.withdrawn))
             if not self.is_registered and self.draw.random() < 0.7 or self.draw.random() < 0.03:
                 call = self.register
-            self.is_told = False
             call()
-            if call in (self.next, self.register, self.answer) and not self.is_told:
-                self.is_withdrawn = False if call != self.answer or self.asked is None else self.is_withdrawn
         self.end()
 
 
