@@ -81,7 +81,7 @@ fn parts_of(steps: &str) -> (&str, &str, &str) {
 }
 
 // A run of the service, by 1 to 64 workers of clients.
-fn service<R: Threads + Wait + Sync + Clock, D: Disk, N: Net, G: Gate + Sync>(
+fn service<R: Threads + Wait + Clock + Sync, D: Disk, N: Net + Send, G: Gate + Sync>(
     rt: &R,
     alloc: Global,
     workers: u32,

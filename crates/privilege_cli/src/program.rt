@@ -28,6 +28,7 @@ use std::alloc::Global;
 use std::env::Env;
 use std::sync::Wait;
 use std::thread::Threads;
+use std::time::Clock;
 use watch_runs::run_watch;
 
 /// Runs the command that the words name, writes the last line that belongs to the way in which the run ends, and answers
@@ -40,11 +41,11 @@ use watch_runs::run_watch;
 /// the disk and the net as they were; memory may run out in reading them, but where one begins with `-`. `is_typed` says
 /// whether a person types what the source gives, who is then told what is read. It may wait.
 pub fn run<
-    R: Threads + Wait + Sync,
+    R: Threads + Wait + Clock + Sync,
     S: Source,
-    K: Sink,
+    K: Sink + Send,
     D: Disk,
-    N: Net,
+    N: Net + Send,
     G: Gate + Sync,
     T: Notes + Sync,
 >(
@@ -81,11 +82,11 @@ where
 
 // Runs the command that the words name, up to its last line.
 fn run_words<
-    R: Threads + Wait + Sync,
+    R: Threads + Wait + Clock + Sync,
     S: Source,
-    K: Sink,
+    K: Sink + Send,
     D: Disk,
-    N: Net,
+    N: Net + Send,
     G: Gate + Sync,
     T: Notes + Sync,
 >(
@@ -166,11 +167,11 @@ fn greet<T: Notes>(is_typed: bool, line: &str, notes: &T) {
 /// nothing is read, written, mounted, dialled or served. It may wait.
 pub fn run_on<
     E: Env,
-    R: Threads + Wait + Sync,
+    R: Threads + Wait + Clock + Sync,
     S: Source,
-    K: Sink,
+    K: Sink + Send,
     D: Disk,
-    N: Net,
+    N: Net + Send,
     G: Gate + Sync,
     T: Notes + Sync,
 >(

@@ -2,25 +2,41 @@
 ghost use Rattle.std.specs.Prelude.{◌≡◌};
 ghost use Rattle.monitor_journal.specs.declared.writing.Writing.TheVariants.{GoesOn};
 
-use check_monitor::Reader;
+use crate::misses::Misses;
+use check_monitor::{Alarm, Reader};
 use desk_ports::{Bytes, Sink};
-use door_workers::Chore;
+use door_workers::Notes;
 use monitor_journal::{Writing, hand_on};
+use serve_runs::{Chore, Turn};
 use std::alloc::Global;
 use std::sync::Wait;
+use std::time::Clock;
 
-/// The reader of what was recorded, how the writing stands, the sink that takes the lines, and room for them.
+/// Behind a turn that wrote so many bytes more lines may wait than one turn writes.
+const MUCH: usize = 16_384;
+
+/// The reader of what was recorded, how the writing stands, the sink that takes the lines, and room for them; and who is told of
+/// checks that were missed.
 #[derive(Drop)]
-pub(crate) struct Journal<'k, K: Sink> {
+pub(crate) struct Journal<'k, K: Sink, T: Notes> {
     pub reader: Reader,
     pub room: Bytes,
     pub writing: Writing,
     pub sink: &'k mut K,
+    alarm: &'k Alarm,
+    notes: &'k T,
+    misses: Misses,
 }
 
-impl<'k, K: Sink> Journal<'k, K> {
+impl<'k, K: Sink, T: Notes> Journal<'k, K, T> {
     /// Nothing was written. Takes no memory.
-    pub fn new(alloc: Global, reader: Reader, sink: &'k mut K) -> Journal<'k, K>
+    pub fn new(
+        alloc: Global,
+        reader: Reader,
+        alarm: &'k Alarm,
+        notes: &'k T,
+        sink: &'k mut K,
+    ) -> Journal<'k, K, T>
         ensures reader { result.reader ≡ reader }
         ensures writing { result.writing ≡ GoesOn }
         ensures sink { result.sink.now ≡ sink.old }
@@ -31,6 +47,9 @@ impl<'k, K: Sink> Journal<'k, K> {
             room: Bytes::new(alloc),
             writing: Writing::GoesOn,
             sink,
+            alarm,
+            notes,
+            misses: Misses::new(),
         }
     }
 
@@ -51,19 +70,19 @@ impl<'k, K: Sink> Journal<'k, K> {
     }
 }
 
-/// Behind each connection of an administrator what was recorded is written, at most 1,024 lines.
-impl<'k, K: Sink> Chore for Journal<'k, K> {
+/// In each turn what was recorded is written, at most 1,024 lines.
+impl<'k, K: Sink, T: Notes> Chore for Journal<'k, K, T> {
     ghost use Rattle.std.specs.Prelude.{◌≡◌, refl};
     ghost use Rattle.std.proofs.Common.{◌∙◌};
     ghost use Rattle.run_endings.specs.Outside.{sink_seen};
     ghost use Rattle.monitor_journal.specs.Journal.{Journals};
     ghost use Rattle.monitor_journal.proofs.Writes.{journals_none, journals_then};
 
-    ghost goes = { λ old new. (new.sink.ghost_name ≡ old.sink.ghost_name)
-        × Journals old.reader new.reader old.writing new.writing (sink_seen K.taken K.faults old.sink.now)
+    ghost goes = { λ old turns new. (new.sink.ghost_name ≡ old.sink.ghost_name)
+        × Journals turns old.reader new.reader old.writing new.writing (sink_seen K.taken K.faults old.sink.now)
         (sink_seen K.taken K.faults new.sink.now) };
 
-    fn turn<R: Wait>(&mut self, rt: &R) {
+    fn turn<R: Wait + Clock>(&mut self, rt: &R) -> Turn {
         self.writing = hand_on(
             rt,
             &mut self.room,
@@ -71,10 +90,23 @@ impl<'k, K: Sink> Chore for Journal<'k, K> {
             &mut self.reader,
             self.sink,
         );
+        self.misses.tell(rt, self.alarm, self.notes);
+        turn_of(self.room.len())
     }
 
     ghost stays = { λ journal. (refl, journals_none _ _ _) };
 
-    ghost goes_further = { λ first between last one then.
-        (then.0 ∙ one.0, journals_then _ _ _ _ _ _ _ _ _ one.1 then.1) };
+    ghost goes_further = { λ first between last some more one then.
+        (then.0 ∙ one.0, journals_then some more _ _ _ _ _ _ _ _ _ one.1 then.1) };
+}
+
+// What a turn met that wrote so many bytes.
+fn turn_of(written: usize) -> Turn {
+    if written == 0 {
+        return Turn::Idle;
+    }
+    if written < MUCH {
+        return Turn::Done;
+    }
+    Turn::Full
 }
