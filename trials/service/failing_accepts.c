@@ -27,12 +27,15 @@ static int fails(int listener)
 int accept4(int listener, struct sockaddr *peer, socklen_t *length, int flags)
 {
     static int (*real)(int, struct sockaddr *, socklen_t *, int);
-    int taken;
+    int taken, met;
     if (!real)
         real = (int (*)(int, struct sockaddr *, socklen_t *, int))dlsym(RTLD_NEXT, "accept4");
     taken = real(listener, peer, length, flags);
-    if (!fails(listener))
+    met = errno;
+    if (!fails(listener)) {
+        errno = met;
         return taken;
+    }
     if (taken >= 0)
         fclose(fdopen(taken, "r"));
     errno = EPERM;

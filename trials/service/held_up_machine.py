@@ -140,7 +140,7 @@ def threads_that_cannot_be_made(service):
     """With so little address space that some workers have no thread: it ends with 1 and says so, and serves nobody."""
     service.stop()
     found = []
-    for size in 16, 24, 32, 48, 64, 96, 128, 192, 256, 384, 512:
+    for size in 16, 32, 64, 128, 256, 384, 512, 640, 768, 1024, 2048:
         words = ["prlimit", f"--as={size << 20}", service.path, "serve", "64"]
         kept = {**os.environ, "PRIVILEGE_DIR": str(service.folder)}
         run = subprocess.Popen(words, env=kept, stdin=subprocess.DEVNULL, stdout=subprocess.DEVNULL, stderr=subprocess.PIPE, text=True)
