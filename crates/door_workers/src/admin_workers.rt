@@ -73,14 +73,7 @@ fn stop_behind<A: Hall>(hall: &mut A, end: WorkerEnd)
 }
 
 // The same, but for the stop of the service where the door accepts none.
-fn serve_administrators<
-    R: Wait + Clock,
-    D: Disk,
-    H: HangEnd,
-    L: Link,
-    E: Door<Link = L>,
-    T: Notes,
->(
+fn serve_administrators<R: Wait + Clock, D: Disk, H: HangEnd, L: Link, E: Door<Link = L>, T: Notes>(
     rt: &R,
     alloc: Global,
     keeper: &mut Keeper<'_, D>,

@@ -6,10 +6,10 @@ ghost use Rattle.serve_runs.specs.Crew.{kind_for};
 ghost use Rattle.serve_runs.specs.parts.Crews.{duty_at, duty_of, post_at, stations_with, lacked, worker_lacked, WorksAt, HasWorked};
 ghost use Rattle.serve_runs.specs.declared.crews.Station.TheVariants.{Agents};
 
+use crate::endings::lacks_memory;
 use crate::musters::Muster;
 use crate::telling::{note_alone, note_end};
 use check_monitor::Alarm;
-use crate::endings::lacks_memory;
 use door_workers::{ClientDuty, Notes, WorkerEnd, work_for_agents};
 use link_ports::{Door, DoorKind, Gate, HangEnd, Link};
 use live_desk::Seat;

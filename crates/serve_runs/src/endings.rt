@@ -60,6 +60,7 @@ pub(crate) fn is_alone(end: WorkerEnd) -> bool
 {
     match end {
         WorkerEnd::Alone => true,
-        WorkerEnd::Stopped | WorkerEnd::DoorFailed | WorkerEnd::Memory | WorkerEnd::Unstarted => false,
+        WorkerEnd::Stopped | WorkerEnd::DoorFailed | WorkerEnd::Memory | WorkerEnd::Unstarted =>
+            false,
     }
 }

@@ -34,15 +34,7 @@ pub fn run_serve<
     N: Net + Send,
     G: Gate + Sync,
     T: Notes + Sync,
->(
-    rt: &R,
-    alloc: Global,
-    workers: u32,
-    disk: &mut D,
-    net: &mut N,
-    gate: &G,
-    notes: &T,
-) -> Ending
+>(rt: &R, alloc: Global, workers: u32, disk: &mut D, net: &mut N, gate: &G, notes: &T) -> Ending
 where
     N::Door: Send,
     <N::Door as Door>::Link: Send,

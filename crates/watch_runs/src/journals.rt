@@ -2,10 +2,8 @@
 ghost use Rattle.std.specs.Prelude.{◌≡◌};
 ghost use Rattle.monitor_journal.specs.declared.writing.Writing.TheVariants.{GoesOn};
 
-use crate::misses::Misses;
-use check_monitor::{Alarm, Reader};
+use check_monitor::Reader;
 use desk_ports::{Bytes, Sink};
-use door_workers::Notes;
 use monitor_journal::{Writing, hand_on};
 use serve_runs::{Chore, Turn};
 use std::alloc::Global;
@@ -15,28 +13,18 @@ use std::time::Clock;
 /// Behind a turn that wrote so many bytes more lines may wait than one turn writes.
 const MUCH: usize = 16_384;
 
-/// The reader of what was recorded, how the writing stands, the sink that takes the lines, and room for them; and who is told of
-/// checks that were missed.
+/// The reader of what was recorded, how the writing stands, the sink that takes the lines, and room for them.
 #[derive(Drop)]
-pub(crate) struct Journal<'k, K: Sink, T: Notes> {
+pub(crate) struct Journal<'k, K: Sink> {
     pub reader: Reader,
     pub room: Bytes,
     pub writing: Writing,
     pub sink: &'k mut K,
-    alarm: &'k Alarm,
-    notes: &'k T,
-    misses: Misses,
 }
 
-impl<'k, K: Sink, T: Notes> Journal<'k, K, T> {
+impl<'k, K: Sink> Journal<'k, K> {
     /// Nothing was written. Takes no memory.
-    pub fn new(
-        alloc: Global,
-        reader: Reader,
-        alarm: &'k Alarm,
-        notes: &'k T,
-        sink: &'k mut K,
-    ) -> Journal<'k, K, T>
+    pub fn new(alloc: Global, reader: Reader, sink: &'k mut K) -> Journal<'k, K>
         ensures reader { result.reader ≡ reader }
         ensures writing { result.writing ≡ GoesOn }
         ensures sink { result.sink.now ≡ sink.old }
@@ -47,9 +35,6 @@ impl<'k, K: Sink, T: Notes> Journal<'k, K, T> {
             room: Bytes::new(alloc),
             writing: Writing::GoesOn,
             sink,
-            alarm,
-            notes,
-            misses: Misses::new(),
         }
     }
 
@@ -71,7 +56,7 @@ impl<'k, K: Sink, T: Notes> Journal<'k, K, T> {
 }
 
 /// In each turn what was recorded is written, at most 1,024 lines.
-impl<'k, K: Sink, T: Notes> Chore for Journal<'k, K, T> {
+impl<'k, K: Sink> Chore for Journal<'k, K> {
     ghost use Rattle.std.specs.Prelude.{◌≡◌, refl};
     ghost use Rattle.std.proofs.Common.{◌∙◌};
     ghost use Rattle.run_endings.specs.Outside.{sink_seen};
@@ -90,7 +75,6 @@ impl<'k, K: Sink, T: Notes> Chore for Journal<'k, K, T> {
             &mut self.reader,
             self.sink,
         );
-        self.misses.tell(rt, self.alarm, self.notes);
         turn_of(self.room.len())
     }
 

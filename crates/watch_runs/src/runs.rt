@@ -13,6 +13,7 @@ ghost use Rattle.watch_runs.specs.Watching.{Journaled, ending_with};
 
 use crate::endings::ending_with;
 use crate::journals::Journal;
+use crate::misses::TellingGate;
 use check_monitor::{Alarm, MOST_ROOM, Reader, Recorder, open};
 use desk_ports::{Disk, Sink};
 use door_workers::Notes;
@@ -139,7 +140,8 @@ where
     ensures undone { IfErr result (λ ending. IsUndone ending) }
     ensures untouched { IfErr result (λ ending. sink.new ≡ sink.old) }
 {
-    let mut journal = Journal::new(alloc, reader, alarm, notes, sink);
+    let telling = TellingGate::new(rt, gate, alarm, notes);
+    let mut journal = Journal::new(alloc, reader, sink);
     let run = run_service(
         rt,
         alloc,
@@ -147,7 +149,7 @@ where
         recorders,
         disk,
         net,
-        gate,
+        &telling,
         notes,
         alarm,
         &mut journal,
