@@ -50,8 +50,8 @@ returns-in-Some-clause-worked g c first start given count told (frames, so_far, 
           frames more runs keeps,
     )
 
-pub returns-in-None-clause-worked : goal.returns-in-None-clause-worked
-returns-in-None-clause-worked g c first start given count told (frames, so_far, runs) =
+pub returns-clause-worked : goal.returns-clause-worked
+returns-clause-worked g c first start given count told (frames, so_far, runs) =
     let visit : Visit g.row.L.Denot =
     record { accepted = c.in-Ok.link; returned = c.serve_admin-ended.new.link; ended = c.serve_admin-ended.result } in
     let (tally, served, adds) = c.serve_admin-ended.ensures.served in
