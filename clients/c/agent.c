@@ -55,7 +55,8 @@ enum privilege_error privilege_agent_register(struct privilege_agent *agent, uin
     return error;
 }
 
-/* Reads on until there is a question: PRIVILEGE_OK; else why there is none. */
+/* Reads on until there is a question, PRIVILEGE_OK, or the one that was given last is withdrawn, PRIVILEGE_WITHDRAWN; else
+ * why there is none. */
 static enum privilege_error read_on(struct privilege_agent *agent, bool waits) {
     struct end *end = &agent->end;
     for (;;) {
@@ -65,8 +66,10 @@ static enum privilege_error read_on(struct privilege_agent *agent, bool waits) {
             return PRIVILEGE_OK;
         case PRIVILEGE_CORE_UNKNOWN:
         case PRIVILEGE_CORE_WITHDRAWN:
-            if (agent->is_open && end->said.number == agent->number) agent->is_withdrawn = true;
-            break;
+            /* Of a question that was answered meanwhile nobody is told. */
+            if (!agent->is_open || agent->is_withdrawn || end->said.number != agent->number) break;
+            agent->is_withdrawn = true;
+            return PRIVILEGE_WITHDRAWN;
         case PRIVILEGE_CORE_WAIT:
             return PRIVILEGE_TIMEOUT;
         case PRIVILEGE_CORE_UNAVAILABLE:
@@ -100,6 +103,7 @@ enum privilege_error privilege_agent_next(
     if (agent->has_next) error = PRIVILEGE_OK;
     while (error == PRIVILEGE_TIMEOUT && link_waits(&end->link)) error = read_on(agent, false);
     if (error == PRIVILEGE_OK) give(agent, question);
+    if (error == PRIVILEGE_WITHDRAWN && question) question->number = agent->number;
     end_give(end);
     return error;
 }

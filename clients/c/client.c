@@ -16,6 +16,9 @@ struct question {
     size_t count[4];
 };
 
+/* Four names of 255 bytes, and a space between each two. */
+enum { MOST_TEXT = 1023 };
+
 static int code_errno(uint8_t code) {
     return code == PRIVILEGE_CORE_NO_MEMORY ? ENOMEM : EINVAL;
 }
@@ -76,6 +79,28 @@ static bool read_texts(struct question *question) {
     return true;
 }
 
+/* What is kept for the question, where the connection stands: PRIVILEGE_CORE_ANSWER with what it says. */
+static uint8_t recall(struct end *end, const struct question *question) {
+    uint8_t text[MOST_TEXT];
+    size_t length = 0;
+    for (int at = 0; at < 4; at++) {
+        if (question->count[at] > 255) return PRIVILEGE_CORE_IDLE;
+        if (at) text[length++] = ' ';
+        memcpy(text + length, question->text[at], question->count[at]);
+        length += question->count[at];
+    }
+    return privilege_core_client_recall(&end->core, text, length, &end->said);
+}
+
+/* Asks the core. A kept answer costs no more than a look at the connection. */
+static uint8_t begin(struct end *end, const struct question *question, bool simple) {
+    const uint8_t *const *text = (const uint8_t *const *)question->text;
+    const size_t *count = question->count;
+    if (end_looks(end) && recall(end, question) == PRIVILEGE_CORE_ANSWER) return PRIVILEGE_CORE_ANSWER;
+    return privilege_core_client_ask(
+        &end->core, text[0], count[0], text[1], count[1], text[2], count[2], text[3], count[3], simple, &end->said);
+}
+
 static enum privilege_error ask(
     struct privilege *client, struct question *question, bool simple, bool waits, struct privilege_verdict *verdict) {
     if (!client || !read_texts(question)) {
@@ -92,11 +117,7 @@ static enum privilege_error ask(
         end_give(end);
         return PRIVILEGE_BUSY;
     }
-    const uint8_t *const *text = (const uint8_t *const *)question->text;
-    const size_t *count = question->count;
-    uint8_t code = privilege_core_client_ask(
-        &end->core, text[0], count[0], text[1], count[1], text[2], count[2], text[3], count[3], simple, &end->said);
-    return conclude(client, end_drive(end, code, waits), verdict);
+    return conclude(client, end_drive(end, begin(end, question, simple), waits), verdict);
 }
 
 enum privilege_error privilege_check(struct privilege *client, const char *name, const char *session,

@@ -51,6 +51,11 @@ bool end_stands(const struct end *end) {
     return end->from == end->to && link_stands(&end->link);
 }
 
+bool end_looks(struct end *end) {
+    end->is_up = end_stands(end);
+    return end->is_up;
+}
+
 static uint8_t dial(struct end *end) {
     hang_up(end);
     enum outcome outcome = link_dial(&end->link);
@@ -101,7 +106,8 @@ uint8_t end_drive(struct end *end, uint8_t code, bool waits) {
             code = dial(end);
             break;
         case PRIVILEGE_CORE_LOOK:
-            code = privilege_core_client_looked(&end->core, end_stands(end), &end->said);
+            /* It was looked at when the call began. */
+            code = privilege_core_client_looked(&end->core, end->is_up, &end->said);
             break;
         case PRIVILEGE_CORE_SEND:
             code = end_send(end);

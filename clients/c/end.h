@@ -16,6 +16,7 @@ struct end {
     struct link link;
     atomic_flag is_used; /* a call is under way */
     bool reads_ahead;    /* whether it may receive more than the core wants next */
+    bool is_up;          /* whether the connection stood when it was looked at in the call under way */
     bool is_sent;        /* whether a frame of the call under way was begun to be sent */
     int trouble;         /* why the last dial of the call under way failed, an errno; 0: it did not */
     size_t from, to;     /* of the room: what was received ahead */
@@ -38,6 +39,8 @@ uint8_t end_drive(struct end *end, uint8_t code, bool waits);
 uint8_t end_send(struct end *end);
 /* Whether the connection stands between two questions. */
 bool end_stands(const struct end *end);
+/* The same, as the answer to the core where it asks in this call whether the connection is up. */
+bool end_looks(struct end *end);
 /* Closes the connection, and tells the core so. What was under way is over. */
 void end_leave(struct end *end);
 

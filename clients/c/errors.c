@@ -44,6 +44,8 @@ const char *privilege_error_text(enum privilege_error error) {
         return "the command is longer than a frame may be";
     case PRIVILEGE_WAITING:
         return "the reply has not come yet";
+    case PRIVILEGE_WITHDRAWN:
+        return "nobody waits for the answer to the question any more";
     }
     return "no error of this library";
 }

@@ -40,7 +40,8 @@ enum privilege_error {
     PRIVILEGE_KIND_TAKEN = 17,    /* another agent of this kind is registered */
     PRIVILEGE_ENDED = 18,         /* the service ended the agent's connection */
     PRIVILEGE_TOO_LONG = 19,      /* the command would be longer than 1,048,576 bytes; nothing was sent */
-    PRIVILEGE_WAITING = 20        /* privilege_ask and privilege_hear: the reply has not come yet */
+    PRIVILEGE_WAITING = 20,       /* privilege_ask and privilege_hear: the reply has not come yet */
+    PRIVILEGE_WITHDRAWN = 21      /* privilege_agent_next: the question that was given last is withdrawn */
 };
 
 /* The error in a few words of English, without a full stop; never NULL. */
@@ -189,7 +190,8 @@ struct privilege_question {
 };
 
 /* Waits so long for the next question; PRIVILEGE_TIMEOUT leaves the agent registered. On PRIVILEGE_ENDED register
- * again. */
+ * again. PRIVILEGE_WITHDRAWN: no question, but nobody waits any more for the answer to the one that was given last, and
+ * `question->number` has its number; it is told once. */
 enum privilege_error privilege_agent_next(
     struct privilege_agent *, int milliseconds, struct privilege_question *question);
 
@@ -197,7 +199,8 @@ enum privilege_error privilege_agent_next(
 enum privilege_error privilege_agent_answer(struct privilege_agent *, uint32_t number, bool allow);
 
 /* Whether nobody waits any more for the answer to the question of this number, by what has come so far; it does not
- * wait. Look when privilege_agent_fd becomes readable while the user is asked. */
+ * wait. Look when privilege_agent_fd becomes readable while the user is asked. A withdrawal that it met is not told by
+ * privilege_agent_next. */
 bool privilege_agent_withdrawn(struct privilege_agent *, uint32_t number);
 
 /* The connection, or -1: readable when a question or a withdrawal has come, or the service has ended it. */

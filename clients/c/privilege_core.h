@@ -90,6 +90,8 @@ size_t privilege_core_wanted(struct privilege_core *core);
 uint8_t privilege_core_client_ask(struct privilege_core *core, const uint8_t *session, size_t session_count,
     const uint8_t *client, size_t client_count, const uint8_t *user, size_t user_count, const uint8_t *privilege,
     size_t privilege_count, bool simple, struct privilege_core_said *said);
+uint8_t privilege_core_client_recall(
+    struct privilege_core *core, const uint8_t *text, size_t count, struct privilege_core_said *said);
 uint8_t privilege_core_client_looked(struct privilege_core *core, bool is_up, struct privilege_core_said *said);
 uint8_t privilege_core_client_tell(struct privilege_core *core, uint64_t commit);
 uint64_t privilege_core_client_told(struct privilege_core *core);

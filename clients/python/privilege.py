@@ -21,7 +21,7 @@ from ctypes import c_uint8, c_uint16, c_uint32, c_uint64
 
 __all__ = [
     *("Admin", "Agent", "Client", "Error", "Key", "NotNow", "Policy", "PrivilegeError", "Question", "Refused"),
-    *("Result", "Row", "Verdict"),
+    *("Result", "Row", "Verdict", "Withdrawn"),
 ]
 
 
@@ -58,6 +58,7 @@ class Error(enum.IntEnum):
     ENDED = 18
     TOO_LONG = 19
     WAITING = 20
+    WITHDRAWN = 21
 
 
 class PrivilegeError(Exception):
@@ -126,6 +127,13 @@ class Row:
     key: Key
     result: int
     metadata: str
+
+
+@dataclasses.dataclass(frozen=True)
+class Withdrawn:
+    """Nobody waits any more for the answer to the question of this number."""
+
+    number: int
 
 
 @dataclasses.dataclass(frozen=True)
@@ -433,11 +441,14 @@ class Agent(_Handle):
             raise
 
     def next(self, seconds=None):
-        """The next question, or None where none came in that time. `PrivilegeError` of ENDED: make another agent."""
+        """The next question; or `Withdrawn`, where nobody waits any more for the answer to the last one; or None where
+        nothing came in that time. `PrivilegeError` of ENDED: make another agent."""
         question = _Question()
         error = _library.privilege_agent_next(self._handle, _milliseconds(seconds), question)
         if error == Error.TIMEOUT:
             return None
+        if error == Error.WITHDRAWN:
+            return Withdrawn(question.number)
         _asked(error)
         return question.value()
 

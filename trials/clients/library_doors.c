@@ -53,6 +53,7 @@ static void talk(struct privilege_agent *agent, const char *word, unsigned numbe
             printf(" %u %u %s %s %s %s", question.number, question.kind, question.key.client, question.key.user, question.key.privilege,
                 question.metadata);
         }
+        if (error == PRIVILEGE_WITHDRAWN) printf(" %u", question.number);
         puts("");
     }
 }

@@ -20,6 +20,7 @@ from library_door import Door, Wrong, driver_of, run_all, words_of
 
 MILLISECONDS = 400
 OK, INVALID, UNAVAILABLE, TIMEOUT, BAD_REPLY, REFUSED, FAULT, DAMAGED, UNKNOWN, TAKEN, ENDED = 0, 1, 4, 6, 7, 13, 14, 15, 16, 17, 18
+WITHDRAWN = 21
 
 
 def texts(*words):
@@ -190,7 +191,7 @@ class Agents(Door):
         self.coming.append(asked)
 
     def next(self):
-        """Asks for a question. One that comes while another is open takes its place."""
+        """Asks for a question. One that comes while another is open takes its place, and a withdrawal is told once."""
         if not self.is_registered:
             self.say("next 0")
             return self.hear(str(ENDED))
@@ -199,6 +200,11 @@ class Agents(Door):
         if self.draw.random() < 0.2:
             # That a number is unknown is read, and nothing follows.
             self.give(framed(1, 0xA3, number(5, 4)))
+        if self.asked is not None and not self.is_withdrawn and not self.coming and self.draw.random() < 0.3:
+            self.give(framed(self.asked % 65536, 0xA4, number(self.asked, 4)))
+            self.is_withdrawn = self.is_told = True
+            self.say("next 5000")
+            return self.hear(f"{WITHDRAWN} {self.asked}")
         if not self.coming and self.draw.random() < 0.2:
             self.hang_up()
             self.say("next 5000")
@@ -231,7 +237,10 @@ class Agents(Door):
             return self.hear("1")
         what = self.draw.random()
         if what < 0.3 and not self.is_withdrawn:
-            self.question()
+            if what < 0.15:
+                self.question()
+            else:
+                self.give(framed(self.asked % 65536, 0xA4, number(self.asked, 4)))
             time.sleep(0.01)
             self.is_withdrawn = True
         elif what < 0.4:
@@ -253,8 +262,9 @@ class Agents(Door):
             call = self.draw.choice((self.next, self.next, self.answer, self.answer, self.withdrawn))
             if not self.is_registered and self.draw.random() < 0.7 or self.draw.random() < 0.03:
                 call = self.register
+            self.is_told = False
             call()
-            if call in (self.next, self.register, self.answer):
+            if call in (self.next, self.register, self.answer) and not self.is_told:
                 self.is_withdrawn = False if call != self.answer or self.asked is None else self.is_withdrawn
         self.end()
 

@@ -40,6 +40,10 @@ def unknown(number, sequence=0):
     return frame(sequence, 0xA3, number.to_bytes(4, "big"))
 
 
+def withdrawn(number):
+    return frame(number % 65536, 0xA4, number.to_bytes(4, "big"))
+
+
 class Fields:
     """The fields of a frame, read from the front."""
 
@@ -91,7 +95,7 @@ def message(data):
         values = (fields.number(2),)
     elif operation == 0xA2:
         values = (fields.number(4), fields.name(), fields.name(), fields.name(), fields.result())
-    elif operation == 0xA3:
+    elif operation in (0xA3, 0xA4):
         values = (fields.number(4),)
     else:
         raise End(9)
@@ -174,7 +178,7 @@ def talk(kind, allowed, link, sink):
             number, client, user, privilege, result = values
             sink.write(f"question {number} {client} {user} {privilege} {result}\n".encode())
             link.send(frame(sequence, 0x21, number.to_bytes(4, "big") + bytes([allowed])))
-        elif operation != 0xA3:
+        elif operation not in (0xA3, 0xA4):
             raise End(9)
 
 
@@ -253,7 +257,7 @@ def cases():
         yield case(one, taken(), sink=call)
     yield case(taken(), sink=1)
     yield "# messages out of their places"
-    for first in (question(0), unknown(9)):
+    for first in (question(0), unknown(9), withdrawn(9)):
         yield case(first)
         yield case(first, registered())
     for later in (registered(), taken(), registered(11)):
@@ -262,6 +266,8 @@ def cases():
         yield case(registered(), unknown(3), later)
     yield "# a number that is unknown is read, and nothing follows"
     yield case(registered(), unknown(4294967295), question(7), unknown(7), question(8))
+    yield "# nor does anything where a question was withdrawn"
+    yield case(registered(), withdrawn(4294967295), question(7), withdrawn(7), unknown(7), question(8))
     yield "# nothing is read behind the message that the kind is taken"
     yield case(taken(), one)
     yield case(taken(), b"\0\0\0\1")

@@ -266,28 +266,43 @@ def told(kind, operation, fields):
         wanted("what a client is told:", False, hex(operation))
 
 
-def look(service):
-    """Eight kinds, as many as have an agent at once, are registered and answer."""
-    for kinds in KINDS[:8], KINDS[8:]:
-        links = {}
-        for kind in kinds:
-            until = time.monotonic() + 5
-            while kind not in links and time.monotonic() < until:
-                link = Link(service.folder, "agent", PATIENCE)
-                if link.ask(frame(0, REGISTER, struct.pack(">H", kind)))[1] == REGISTERED:
-                    links[kind] = link
-                else:
-                    link.close()
-                    time.sleep(0.05)
-            wanted("an agent is registered at the end:", kind in links, kind)
-        for kind, link in links.items():
-            with Link(service.folder, "client", PATIENCE) as one:
-                one.send(check((b"kind%d" % kind, b"u", b"p")))
-                _, operation, fields = link.read()
-                wanted("a question at the end:", operation == QUESTION, hex(operation))
-                link.send(frame(0, ANSWER, fields[:4] + b"\1"))
-                wanted("an answer at the end:", one.read()[1] == FROM_AGENT, kind)
+def registered(folder, kind):
+    """An agent of the kind, within five seconds, or None."""
+    until = time.monotonic() + 5
+    while time.monotonic() < until:
+        try:
+            link = Link(folder, "agent", 2)
+            if link.ask(frame(0, REGISTER, struct.pack(">H", kind)))[1] == REGISTERED:
+                return link
             link.close()
+        except (HungUp, TimeoutError):
+            pass
+        time.sleep(0.05)
+    return None
+
+
+def answers(folder, kind, agent):
+    """Whether a client that asks the agent is told its answer."""
+    try:
+        with Link(folder, "client", 5) as client:
+            client.send(check((b"kind%d" % kind, b"u", b"p")))
+            _, operation, fields = agent.read()
+            agent.send(frame(0, ANSWER, fields[:4] + b"\1"))
+            return operation == QUESTION and client.read()[1] == FROM_AGENT
+    except (HungUp, TimeoutError):
+        return False
+
+
+def look(service):
+    """Eight kinds, as many as have an agent at once, are registered and answer; and then the others."""
+    for kinds in KINDS[:8], KINDS[8:]:
+        links = {kind: registered(service.folder, kind) for kind in kinds}
+        for kind, link in links.items():
+            wanted("an agent is registered at the end:", link is not None, kind)
+            wanted("it answers at the end:", link is None or answers(service.folder, kind, link), kind)
+        for link in links.values():
+            if link is not None:
+                link.close()
 
 
 def tried(service, options):

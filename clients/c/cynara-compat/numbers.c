@@ -28,6 +28,7 @@ int number_of(enum privilege_error error) {
     case PRIVILEGE_AGENT_FULL:
     case PRIVILEGE_BUSY:
     case PRIVILEGE_WAITING:
+    case PRIVILEGE_WITHDRAWN:
         return CYNARA_API_MAX_PENDING_REQUESTS;
     case PRIVILEGE_REFUSED:
     case PRIVILEGE_KIND_TAKEN:

@@ -6,6 +6,7 @@ use Rattle.line_script.specs.Answers.{question_text, taken_text}
 use Rattle.wire_messages.specs.declared.messages.Framed.{Framed}
 use Rattle.wire_messages.specs.declared.messages.Message.{Message}
 use Rattle.wire_messages.specs.declared.messages.Message.TheVariants.{Register, AgentAnswer, Registered, KindTaken, AgentQuestion, UnknownNumber}
+use Rattle.wire_messages.specs.declared.messages.Message.TheVariants.{AgentWithdrawn}
 use Rattle.wire_messages.specs.declared.operations.Heard.TheVariants.{AgentReplies}
 use Rattle.wire_messages.specs.declared.refusals.WireRefusal.{WireRefusal}
 use Rattle.wire_messages.specs.Frame.{spelling, with_sequence}
@@ -62,10 +63,12 @@ abbrev pub IsQuestion : Message → Type 0
 IsQuestion (AgentQuestion number question result) = Unit {0}
 IsQuestion message = ⊥
 
--- it may come behind the registration
+-- It may come behind the registration. That a number is unknown, or that a question was withdrawn, is read, and nothing follows:
+-- a question is answered as soon as it is heard, so the answer was on its way.
 abbrev pub IsTurn : Message → Type 0
 IsTurn (AgentQuestion number question result) = Unit {0}
 IsTurn (UnknownNumber number) = Unit {0}
+IsTurn (AgentWithdrawn number) = Unit {0}
 IsTurn message = ⊥
 
 abbrev pub AreTurns : List Framed → Type 0

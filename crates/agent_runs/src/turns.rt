@@ -21,8 +21,8 @@ pub(crate) struct Room {
     pub frame: Bytes,
 }
 
-/// Follows a message to a registered agent: of a question the line is written, and then this answer is sent. Refuses, with
-/// `Reply`, a message that may not come there.
+/// Follows a message to a registered agent: of a question the line is written, and then this answer is sent. Nothing follows
+/// where a number is unknown or a question was withdrawn. Refuses, with `Reply`, a message that may not come there.
 pub(crate) fn follow<L: Link, K: Sink>(
     room: &mut Room,
     allowed: bool,
@@ -51,6 +51,7 @@ pub(crate) fn follow<L: Link, K: Sink>(
             answer(room, &line, framed.sequence, *number, allowed, link, sink)
         }
         Message::UnknownNumber { .. } => Ok(()),
+        Message::AgentWithdrawn { .. } => Ok(()),
         _ => {
             note_misplaced(sink);
             Err(Ending::Reply)

@@ -13,8 +13,8 @@ use Rattle.cynara_keys.specs.Name.{name_fault}
 use Rattle.cynara_keys.specs.parts.Named.{HasNames}
 use Rattle.cynara_keys.proofs.Order.{same_text-≡, ≡-same_text}
 use Rattle.bucket_eval.specs.declared.answers.Verdict.{Verdict}
-use Rattle.answer_cache.specs.Cache.{Asked, same_asked, if_not_older}
-use Rattle.answer_cache.specs.parts.Keys.{key_text, asked_of, entries_of}
+use Rattle.answer_cache.specs.Cache.{Asked, same_asked, key_text, if_not_older}
+use Rattle.answer_cache.specs.parts.Keys.{asked_of, entries_of}
 use Rattle.answer_cache.proofs.Seen.{lookup-seen, remove_entry-seen, promoted-seen}
 use Rattle.answer_cache.proofs.Naming.{same_key}
 
@@ -40,14 +40,14 @@ not_there : {X : Type 0} (b : Bool) (x : X) (rest : Option X) → cond b (Some x
 not_there true x rest h = cc
 not_there false x rest h = (refl, h)
 
-no_entry : {K V : Type 0} (test : K → Bool) (es : List (K × V)) → lookup test es ≡ None → lookup_entry test es ≡ None
+pub no_entry : {K V : Type 0} (test : K → Bool) (es : List (K × V)) → lookup test es ≡ None → lookup_entry test es ≡ None
 no_entry test [] h = refl
 no_entry test (e ∷ es) h =
     let parts = not_there (test e.0) e.1 (lookup test es) h in
     ap (λ b. cond b (Some e) (lookup_entry test es)) parts.0 ∙ no_entry test es parts.1
 
 -- what is the same is equal
-same_asked-≡ : (a b : Asked) → same_asked a b ≡ true → a ≡ b
+pub same_asked-≡ : (a b : Asked) → same_asked a b ≡ true → a ≡ b
 same_asked-≡ a b h =
     let one = both (same_text a.session b.session) _ h in
     let two = both (same_text a.question.client b.question.client) _ one.1 in

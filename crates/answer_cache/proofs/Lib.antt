@@ -1,3 +1,5 @@
 mod Seen
 mod Naming
 mod Held
+mod Recalling
+pub mod Using

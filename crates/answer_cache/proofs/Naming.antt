@@ -9,8 +9,8 @@ use Rattle.cynara_keys.specs.Key.{Question}
 use Rattle.cynara_keys.specs.declared.names.NameRefusal.{NameRefusal}
 use Rattle.cynara_keys.specs.declared.names.NameRefusal.TheVariants.{Empty, TooLong, Reserved}
 use Rattle.cynara_keys.specs.parts.Named.{HasNames}
-use Rattle.answer_cache.specs.Cache.{Asked, same_asked}
-use Rattle.answer_cache.specs.parts.Keys.{key_text, front, behind, asked_of}
+use Rattle.answer_cache.specs.Cache.{Asked, same_asked, key_text}
+use Rattle.answer_cache.specs.parts.Keys.{front, behind, asked_of}
 
 -- ---- names
 

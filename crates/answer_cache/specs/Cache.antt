@@ -1,9 +1,11 @@
 -- What a client keeps of the answers that it was given.
-use Rattle.std.specs.Prelude.{ℕ, Bool, ◌-◌, ◌&&◌, nat_le, if◌then◌else◌, List, [], ◌∷◌, take, Option, Some, None}
+use Rattle.std.specs.Prelude.{◌≡◌, ℕ, Bool, true, false, ◌-◌, ◌&&◌, nat_le, if◌then◌else◌, List, [], ◌∷◌, ◌++◌, take, Option, Some, None}
 use Rattle.std.specs.Map.{lookup, remove_entry}
 use Rattle.lru.specs.LruCache.{promoted}
 use Rattle.cynara_keys.specs.Text.{same_text}
 use Rattle.cynara_keys.specs.Key.{Question, same_question}
+use Rattle.cynara_keys.specs.Name.{name_fault}
+use Rattle.cynara_keys.specs.parts.Named.{HasNames}
 use Rattle.bucket_eval.specs.declared.answers.Verdict.{Verdict}
 
 -- what an entry answers: a question, asked in a session
@@ -17,6 +19,16 @@ asked_in session question = record { session = session; question = question }
 -- the same question in the same session
 abbrev pub same_asked : Asked → Asked → Bool
 same_asked asked other = same_text asked.session other.session && same_question asked.question other.question
+
+-- four names
+pub record IsOfNames (asked : Asked) : Type 0 where
+  pub session : name_fault asked.session ≡ None
+  pub question : HasNames asked.question
+
+-- The four names as one text, with a space between each two. No name has a space in it.
+abbrev pub key_text : Asked → List ℕ
+key_text asked =
+    asked.session ++ (32 ∷ (asked.question.client ++ (32 ∷ (asked.question.user ++ (32 ∷ asked.question.privilege)))))
 
 -- The entries, the most recently used first; how many there may be; and the greatest commit that the client was told of.
 pub record Cache : Type 0 where
@@ -42,6 +54,23 @@ answer_in asked cache = if_not_older cache.told (lookup (same_asked asked) cache
 -- the entry is the most recently used
 abbrev pub used : Asked → Cache → Cache
 used asked cache = with_entries (promoted (same_asked asked) cache.entries) cache
+
+-- the verdict of the entry that was used last
+abbrev pub first_verdict : List (Asked × Verdict) → Option Verdict
+first_verdict [] = None
+first_verdict (entry ∷ entries) = Some entry.1
+
+abbrev pub newest : Cache → Option Verdict
+newest cache = first_verdict cache.entries
+
+-- What is kept under the text of four names is found and used; or nothing is kept under it that is not older than what the
+-- client was told.
+abbrev pub Recalls : Bool → List ℕ → Cache → Cache → Type 0
+Recalls true text old new =
+    (asked : Asked) × IsOfNames asked × (text ≡ key_text asked) × ((verdict : Verdict) × (answer_in asked old ≡ Some verdict))
+    × (new ≡ used asked old)
+Recalls false text old new =
+    (new ≡ old) × ((asked : Asked) → IsOfNames asked → text ≡ key_text asked → answer_in asked old ≡ None)
 
 -- there is no entry for it
 abbrev pub without : Asked → Cache → Cache

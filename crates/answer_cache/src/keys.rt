@@ -4,8 +4,7 @@ ghost use Rattle.std.specs.Prelude.{◌≡◌, ◌≤◌, ◌+◌, ◌∷◌, []
 ghost use Rattle.cynara_keys.specs.Name.{name_fault};
 ghost use Rattle.cynara_keys.specs.parts.Named.{HasNames};
 ghost use Rattle.arrayvec.specs.ArrayVec.{array_vec_len};
-ghost use Rattle.answer_cache.specs.Cache.{asked_in};
-ghost use Rattle.answer_cache.specs.parts.Keys.{key_text};
+ghost use Rattle.answer_cache.specs.Cache.{asked_in, key_text};
 
 use arrayvec::ArrayVec;
 use cynara_keys::{Name, Question};

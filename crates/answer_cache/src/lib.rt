@@ -6,6 +6,7 @@
 #![tactic(auto)]
 
 mod caches;
+mod hashing;
 mod keys;
 mod limits;
 

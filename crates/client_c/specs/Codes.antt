@@ -17,6 +17,7 @@ message_code (message.Registered kind) = 7
 message_code (message.KindTaken kind) = 38
 message_code (message.AgentQuestion number question result) = 8
 message_code (message.UnknownNumber number) = 9
+message_code (message.AgentWithdrawn number) = 10
 message_code other = 5
 
 -- there is no answer, and the connection is to be closed
@@ -34,7 +35,7 @@ code_of step.Dial = 1
 code_of step.Look = 2
 code_of step.Send = 3
 code_of step.Wait = 4
-code_of (step.Kept verdict) = 5
+code_of step.Kept = 5
 code_of (step.Reply message) = message_code message
 code_of (step.Row message) = 6
 code_of (step.Over fault) = fault_code fault

@@ -13,12 +13,12 @@ use Rattle.client_core.specs.declared.machines.Machine.{Machine}
 use Rattle.client_core.specs.declared.machines.Machine.TheVariants.{Client, Admin, Agent}
 use Rattle.client_core.specs.declared.steps.Step.{Step}
 use Rattle.client_c.specs.Codes.{code_of}
-use Rattle.client_c.specs.Seen.{Says}
+use Rattle.client_c.specs.Seen.{Says, newest_in, says_kept}
 use Rattle.client_c.specs.declared.said.Said.{Said}
 
--- the answer of a step: its code, and what is said
-abbrev pub Tells : Step → ℕ → Said → Said → Type 0
-Tells answer code said after = (code ≡ code_of answer) × Says answer said after
+-- the answer of a step that made this machine: its code, and what is said
+abbrev pub Tells : Step → Machine → ℕ → Said → Said → Type 0
+Tells answer machine code said after = (code ≡ code_of answer) × Says answer machine said after
 
 -- this code is answered, and nothing is said
 abbrev pub IsSilent : ℕ → ℕ → Said → Said → Type 0
@@ -31,7 +31,7 @@ On does refused (Some old) new = (machine : Machine) × (new ≡ Some machine) �
 
 -- the machine made this step, and it is told
 abbrev pub Did : (Step → Machine → Machine → Type 0) → ℕ → Said → Said → Machine → Machine → Type 0
-Did does code said after old new = (answer : Step) × does answer old new × Tells answer code said after
+Did does code said after old new = (answer : Step) × does answer old new × Tells answer new code said after
 
 abbrev pub Drives : (Step → Machine → Machine → Type 0) → Option Machine → Option Machine → ℕ → Said → Said → Type 0
 Drives does old new code said after = On (Did does code said after) (IsSilent 64 code said after) old new
@@ -119,6 +119,20 @@ LooksOne is_up code said after old new = IsOther code said after old new
 
 abbrev pub Looks : Bool → Option Machine → Option Machine → ℕ → Said → Said → Type 0
 Looks is_up old new code said after = On (LooksOne is_up code said after) (IsSilent 64 code said after) old new
+
+-- What is kept under the text is told, and the machine did what it does where it finds it; or it found nothing.
+abbrev pub recalls_client : Bool → List ℕ → Machine → Machine → Type 0
+recalls_client found text (Client old) (Client new) = client.Recalls found text old new
+recalls_client found text old new = ⊥
+
+abbrev pub RecallsOne : List ℕ → ℕ → Said → Said → Machine → Machine → Type 0
+RecallsOne text code said after (Client old) new =
+    ((code ≡ 5) × recalls_client true text (Client old) new × says_kept (newest_in new) said after)
+    ⊎ (IsSilent 0 code said after × recalls_client false text (Client old) new)
+RecallsOne text code said after old new = IsOther code said after old new
+
+abbrev pub Recalls : List ℕ → Option Machine → Option Machine → ℕ → Said → Said → Type 0
+Recalls text old new code said after = On (RecallsOne text code said after) (IsSilent 64 code said after) old new
 
 -- a client is told of a commit
 abbrev pub HearsOne : ℕ → ℕ → Machine → Machine → Type 0

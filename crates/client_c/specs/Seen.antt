@@ -16,6 +16,9 @@ use Rattle.wire_messages.specs.declared.messages.Message.{Message}
 use Rattle.wire_messages.specs.declared.messages.Message.TheVariants as message
 use Rattle.wire_messages.specs.declared.refusals.WireRefusal.{WireRefusal}
 use Rattle.wire_messages.specs.declared.refusals.WireRefusal.TheVariants as wire
+use Rattle.answer_cache.specs.Cache.{newest}
+use Rattle.client_core.specs.declared.machines.Machine.{Machine}
+use Rattle.client_core.specs.declared.machines.Machine.TheVariants.{Client}
 use Rattle.client_core.specs.declared.steps.Step.{Step}
 use Rattle.client_core.specs.declared.steps.Step.TheVariants as step
 use Rattle.client_core.specs.declared.steps.Fault.{Fault}
@@ -162,6 +165,7 @@ numbers (message.StoreDamaged file line) said = record said { text = short file;
 numbers (message.Registered kind) said = record said { kind = kind.0 }
 numbers (message.KindTaken kind) said = record said { kind = kind.0 }
 numbers (message.UnknownNumber number) said = record said { number = number }
+numbers (message.AgentWithdrawn number) said = record said { number = number }
 numbers other said = said
 
 abbrev pub message_seen : Message → Seen
@@ -190,11 +194,20 @@ fault_seen (fault.Sequence sent got) = record nothing { number = got }
 fault_seen (fault.Operation operation) = record nothing { number = operation }
 fault_seen (fault.Memory error) = nothing
 
--- what is said of a step, and nothing of most
-abbrev pub Says : Step → Said → Said → Type 0
-Says (step.Kept verdict) old new = seen new ≡ verdict_seen verdict
-Says (step.Reply message) old new = seen new ≡ message_seen message
-Says (step.Row message) old new = seen new ≡ message_seen message
-Says (step.Over fault) old new = seen new ≡ fault_seen fault
-Says (step.Unfit refusal) old new = seen new ≡ refusal_seen refusal
-Says answer old new = new ≡ old
+-- the verdict that a client used last
+abbrev pub newest_in : Machine → Option Verdict
+newest_in (Client side) = newest side.cache
+newest_in other = None
+
+abbrev pub says_kept : Option Verdict → Said → Said → Type 0
+says_kept (Some verdict) old new = seen new ≡ verdict_seen verdict
+says_kept None old new = new ≡ old
+
+-- what is said of a step that made this machine, and nothing of most
+abbrev pub Says : Step → Machine → Said → Said → Type 0
+Says step.Kept machine old new = says_kept (newest_in machine) old new
+Says (step.Reply message) machine old new = seen new ≡ message_seen message
+Says (step.Row message) machine old new = seen new ≡ message_seen message
+Says (step.Over fault) machine old new = seen new ≡ fault_seen fault
+Says (step.Unfit refusal) machine old new = seen new ≡ refusal_seen refusal
+Says answer machine old new = new ≡ old

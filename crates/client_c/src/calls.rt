@@ -3,10 +3,10 @@ ghost use Rattle.std.specs.Prelude.{◌≡◌, None};
 ghost use Rattle.client_c.specs.Exports as exports;
 ghost use Rattle.client_c.specs.Exports.{Opens, Copies};
 
-use crate::codes::{IDLE, NO_MEMORY, WRONG_ROLE};
+use crate::codes::{ANSWER, IDLE, NO_MEMORY, WRONG_ROLE};
 use crate::handles::put;
 use crate::questions::{Unread, asking_of};
-use crate::telling::{code_of_step, told};
+use crate::telling::{code_of_step, say_kept, told};
 use crate::{Handle, Said};
 use client_core::Machine;
 use std::alloc::Global;
@@ -43,7 +43,10 @@ pub(crate) fn ask(
         return WRONG_ROLE;
     };
     match asking_of(alloc, session, client, user, privilege) {
-        Ok(asking) => told(asker.ask(asking.session, asking.question, simple), said),
+        Ok(asking) => {
+            let step = asker.ask(asking.session, asking.question, simple);
+            told(machine, step, said)
+        }
         Err(Unread::Memory) => {
             asker.leave();
             NO_MEMORY
@@ -56,10 +59,25 @@ pub(crate) fn ask(
 pub(crate) fn look(machine: &mut Machine, is_up: bool, said: &mut Said) -> u8
     ensures { exports.LooksOne is_up result said.old said.new machine.old machine.new }
 {
-    match machine {
-        Machine::Client(client) => told(client.looked(is_up), said),
-        _ => WRONG_ROLE,
+    let Machine::Client(client) = machine else {
+        return WRONG_ROLE;
+    };
+    let step = client.looked(is_up);
+    told(machine, step, said)
+}
+
+/// A client's caller looked, and the connection is up.
+pub(crate) fn recall(machine: &mut Machine, text: &[u8], said: &mut Said) -> u8
+    ensures { exports.RecallsOne text.now result said.old said.new machine.old machine.new }
+{
+    let Machine::Client(client) = machine else {
+        return WRONG_ROLE;
+    };
+    if !client.recall(text) {
+        return IDLE;
     }
+    say_kept(machine, said);
+    ANSWER
 }
 
 /// A client is told of a commit.
@@ -89,10 +107,11 @@ pub(crate) fn told_by(machine: &Machine) -> u64
 pub(crate) fn send(machine: &mut Machine, operation: u8, fields: &[u8], said: &mut Said) -> u8
     ensures { exports.SendsOne operation fields.now result said.old said.new machine.old machine.new }
 {
-    match machine {
-        Machine::Admin(admin) => told(admin.send(operation, fields), said),
-        _ => WRONG_ROLE,
-    }
+    let Machine::Admin(admin) = machine else {
+        return WRONG_ROLE;
+    };
+    let step = admin.send(operation, fields);
+    told(machine, step, said)
 }
 
 /// An agent answers.
@@ -100,7 +119,12 @@ pub(crate) fn answer(machine: &mut Machine, number: u32, allowed: bool) -> u8
     ensures { exports.AnswersOne number allowed result machine.old machine.new }
 {
     match machine {
-        Machine::Agent(agent) => code_of_step(agent.answer(number, allowed)),
+        Machine::Agent(agent) => {
+            let step = agent.answer(number, allowed);
+            let code = code_of_step(&step);
+            drop(step);
+            code
+        }
         _ => WRONG_ROLE,
     }
 }

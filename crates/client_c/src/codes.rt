@@ -18,8 +18,10 @@ pub const ROW: u8 = 6;
 pub const REGISTERED: u8 = 7;
 /// The agent is asked.
 pub const QUESTION: u8 = 8;
-/// Nobody waits for the answer to a question any more.
+/// Nobody waited for an answer that was given.
 pub const UNKNOWN: u8 = 9;
+/// A question is to be answered no more.
+pub const WITHDRAWN: u8 = 10;
 
 /// An agent would have to be asked.
 pub const NOT_RESOLVED: u8 = 16;

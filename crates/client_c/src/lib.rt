@@ -19,7 +19,7 @@ ghost use Rattle.client_core.specs.declared.machines.Machine.TheVariants.{Admin}
 ghost use Rattle.client_c.specs.Exports as exports;
 ghost use Rattle.client_c.specs.Exports.{Drives, Opens, OpensClient, OpensAgent, Copies};
 
-use calls::{answer, ask, copy_from, look, open, send, tell, told_by};
+use calls::{answer, ask, copy_from, look, open, recall, send, tell, told_by};
 use client_core::{AdminMachine, AgentMachine, ClientMachine, Machine};
 use codes::*;
 use cynara_keys::Kind;
@@ -87,8 +87,9 @@ pub extern "C" fn privilege_core_dialled(alloc: Global, handle: &mut Handle, sai
         return NO_CORE;
     };
     let step = boxed.dialled();
+    let code = told(&boxed, step, said);
     put(handle, boxed);
-    told(step, said)
+    code
 }
 
 /// The connection ended, or could not be made.
@@ -100,8 +101,9 @@ pub extern "C" fn privilege_core_down(alloc: Global, handle: &mut Handle, said: 
         return NO_CORE;
     };
     let step = boxed.down();
+    let code = told(&boxed, step, said);
     put(handle, boxed);
-    told(step, said)
+    code
 }
 
 /// These bytes came.
@@ -118,8 +120,9 @@ pub extern "C" fn privilege_core_came(
         return NO_CORE;
     };
     let step = boxed.came(piece);
+    let code = told(&boxed, step, said);
     put(handle, boxed);
-    told(step, said)
+    code
 }
 
 /// The caller gave the connection up: what was under way is over.
@@ -190,6 +193,26 @@ pub extern "C" fn privilege_core_client_ask(
     let code = ask(
         alloc, &mut boxed, session, client, user, privilege, simple, said,
     );
+    put(handle, boxed);
+    code
+}
+
+/// A client's caller looked, and the connection stands: is what is kept under this text the answer, a session, a client, a
+/// user and a privilege with a space between each two? 5 with what it says; 0 where nothing is kept: then the client is to
+/// be asked.
+#[unsafe(no_mangle)]
+pub extern "C" fn privilege_core_client_recall(
+    alloc: Global,
+    handle: &mut Handle,
+    text: &[u8],
+    said: &mut Said,
+) -> u8
+    ensures { exports.Recalls text.now handle.old.held.value handle.new.held.value result said.old said.new }
+{
+    let Some(mut boxed) = taken(alloc, handle) else {
+        return NO_CORE;
+    };
+    let code = recall(&mut boxed, text, said);
     put(handle, boxed);
     code
 }

@@ -32,35 +32,29 @@ impl Text {
     ghost use Rattle.client_c.specs.Seen.{held};
 
     /// No bytes.
-    pub(crate) fn empty() -> Text
-        ensures { held result ≡ [] }
+    pub(crate) fn clear(&mut self)
+        ensures { held self.new ≡ [] }
     {
-        Text {
-            count: 0,
-            bytes: [0; 255],
-        }
+        self.count = 0;
     }
 
     /// A copy of the bytes, or of the first 255 where there are more.
-    pub(crate) fn of(bytes: &[u8]) -> Text
-        ensures { held result ≡ take 255 bytes.now }
+    pub(crate) fn put(&mut self, bytes: &[u8])
+        ensures { held self.new ≡ take 255 bytes.now }
     {
         if bytes.len() > 255 {
-            return Text::short(&bytes[..255]);
+            self.put_short(&bytes[..255]);
+            return;
         }
-        Text::short(bytes)
+        self.put_short(bytes);
     }
 
-    fn short(bytes: &[u8]) -> Text
+    fn put_short(&mut self, bytes: &[u8])
         requires { length bytes.now ≤ 255 }
-        ensures { held result ≡ bytes.now }
+        ensures { held self.new ≡ bytes.now }
     {
-        let mut array = [0; 255];
-        array[..bytes.len()].copy_from_slice(bytes);
-        Text {
-            count: bytes.len() as u8,
-            bytes: array,
-        }
+        self.bytes[..bytes.len()].copy_from_slice(bytes);
+        self.count = bytes.len() as u8;
     }
 }
 
@@ -68,24 +62,22 @@ impl Said {
     ghost use Rattle.std.specs.Prelude.{◌≡◌};
     ghost use Rattle.client_c.specs.Seen.{seen, nothing};
 
-    /// Nothing is said.
-    pub(crate) fn nothing() -> Said
-        ensures { seen result ≡ nothing }
+    /// Nothing is said. What the texts held behind their counts stays.
+    pub(crate) fn clear(&mut self)
+        ensures { seen self.new ≡ nothing }
     {
-        Said {
-            commit: 0,
-            value: 0,
-            number: 0,
-            kind: 0,
-            operation: 0,
-            rule: 0,
-            allowed: false,
-            has_key: false,
-            metadata: Text::empty(),
-            text: Text::empty(),
-            client: Text::empty(),
-            user: Text::empty(),
-            privilege: Text::empty(),
-        }
+        self.commit = 0;
+        self.value = 0;
+        self.number = 0;
+        self.kind = 0;
+        self.operation = 0;
+        self.rule = 0;
+        self.allowed = false;
+        self.has_key = false;
+        self.metadata.clear();
+        self.text.clear();
+        self.client.clear();
+        self.user.clear();
+        self.privilege.clear();
     }
 }

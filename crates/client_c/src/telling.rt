@@ -5,48 +5,47 @@ ghost use Rattle.client_c.specs.Codes as codes;
 ghost use Rattle.client_c.specs.Seen as words;
 ghost use Rattle.client_c.specs.Seen.{seen};
 
+use crate::Said;
 use crate::codes::*;
-use crate::{Said, Text};
-use bucket_eval::Verdict;
-use client_core::{Fault, Step};
+use client_core::{Fault, Machine, Step};
 use cynara_keys::{Counted, Kind, Policy, PolicyResult, Question};
 use desk_state::Refusal;
 use wire_messages::{BorrowedRow, Message, PackedVerdict, WireRefusal};
 
-/// What a step comes to: its code, and what is said. What a step says nothing of is left as it was.
-pub(crate) fn told(step: Step, said: &mut Said) -> u8
+/// What a step of the machine comes to: its code, and what is said. What a step says nothing of is left as it was.
+pub(crate) fn told(machine: &Machine, step: Step, said: &mut Said) -> u8
     ensures code { result ≡ codes.code_of step }
-    ensures says { words.Says step said.old said.new }
+    ensures says { words.Says step machine.now said.old said.new }
 {
     match step {
-        Step::Idle => IDLE,
-        Step::Dial => DIAL,
-        Step::Look => LOOK,
-        Step::Send => SEND,
-        Step::Wait => WAIT,
-        Step::Kept(verdict) => {
-            *said = said_by_verdict(&verdict);
+        Step::Kept => {
+            say_kept(machine, said);
             ANSWER
         }
         Step::Reply(message) => {
-            *said = said_by(&message);
+            say_message(said, &message);
             let code = code_of(&message);
             drop(message);
             code
         }
         Step::Row(message) => {
-            *said = said_by(&message);
+            say_message(said, &message);
             drop(message);
             ROW
         }
         Step::Over(fault) => {
-            *said = said_by_fault(fault);
+            say_fault(said, fault);
             code_of_fault(fault)
         }
         Step::Unfit(refusal) => {
-            *said = said_by_refusal(refusal);
+            say_refusal(said, refusal);
             BAD_MESSAGE
         }
+        Step::Idle => IDLE,
+        Step::Dial => DIAL,
+        Step::Look => LOOK,
+        Step::Send => SEND,
+        Step::Wait => WAIT,
         Step::TooLong => TOO_LONG,
         Step::WrongNumber => WRONG_NUMBER,
         Step::NotNow => WRONG_ORDER,
@@ -54,12 +53,39 @@ pub(crate) fn told(step: Step, said: &mut Said) -> u8
     }
 }
 
-/// The code of a step that says nothing more.
-pub(crate) fn code_of_step(step: Step) -> u8
-    ensures { result ≡ codes.code_of step }
+/// The code of a step.
+pub(crate) fn code_of_step(step: &Step) -> u8
+    ensures { result ≡ codes.code_of step.now }
 {
-    let mut said = Said::nothing();
-    told(step, &mut said)
+    match step {
+        Step::Kept => ANSWER,
+        Step::Reply(message) => code_of(message),
+        Step::Row(_) => ROW,
+        Step::Over(fault) => code_of_fault(*fault),
+        Step::Unfit(_) => BAD_MESSAGE,
+        Step::Idle => IDLE,
+        Step::Dial => DIAL,
+        Step::Look => LOOK,
+        Step::Send => SEND,
+        Step::Wait => WAIT,
+        Step::TooLong => TOO_LONG,
+        Step::WrongNumber => WRONG_NUMBER,
+        Step::NotNow => WRONG_ORDER,
+        Step::BadCount => BAD_COUNT,
+    }
+}
+
+/// The verdict that a client used last.
+pub(crate) fn say_kept(machine: &Machine, said: &mut Said)
+    ensures { words.says_kept (words.newest_in machine.now) said.old said.new }
+{
+    let Machine::Client(client) = machine else {
+        return;
+    };
+    match client.newest() {
+        Some(verdict) => say_verdict(said, verdict),
+        None => {}
+    }
 }
 
 // What it comes to that this was said.
@@ -75,6 +101,7 @@ fn code_of(message: &Message) -> u8
         Message::KindTaken { .. } => KIND_TAKEN,
         Message::AgentQuestion { .. } => QUESTION,
         Message::UnknownNumber { .. } => UNKNOWN,
+        Message::AgentWithdrawn { .. } => WITHDRAWN,
         _ => ANSWER,
     }
 }
@@ -93,26 +120,25 @@ fn code_of_fault(fault: Fault) -> u8
 }
 
 // The numbers behind a fault.
-fn said_by_fault(fault: Fault) -> Said
-    ensures { seen result ≡ words.fault_seen fault }
+fn say_fault(said: &mut Said, fault: Fault)
+    ensures { seen said.new ≡ words.fault_seen fault }
 {
-    let mut said = Said::nothing();
+    said.clear();
     match fault {
         Fault::Unavailable => {}
         Fault::Older { got, .. } => said.commit = got,
-        Fault::Frame(refusal) => return said_by_refusal(refusal),
+        Fault::Frame(refusal) => say_refusal(said, refusal),
         Fault::Sequence { got, .. } => said.number = u32::from(got),
         Fault::Operation(operation) => said.number = u32::from(operation),
         Fault::Memory(_) => {}
     }
-    said
 }
 
 // Why bytes are no frame, and the number behind it.
-fn said_by_refusal(refusal: WireRefusal) -> Said
-    ensures { seen result ≡ words.refusal_seen refusal }
+fn say_refusal(said: &mut Said, refusal: WireRefusal)
+    ensures { seen said.new ≡ words.refusal_seen refusal }
 {
-    let mut said = Said::nothing();
+    said.clear();
     match refusal {
         WireRefusal::TooShort(length) => {
             said.value = 1;
@@ -136,47 +162,22 @@ fn said_by_refusal(refusal: WireRefusal) -> Said
         }
         WireRefusal::Memory(_) => {}
     }
-    said
 }
 
-// A verdict by value, as a client keeps it.
-fn said_by_verdict(verdict: &Verdict) -> Said
-    ensures { seen result ≡ words.verdict_seen verdict.now }
+fn say_verdict(said: &mut Said, verdict: &PackedVerdict)
+    ensures { seen said.new ≡ words.verdict_seen verdict.now }
 {
-    let mut said = Said::nothing();
-    said.operation = 0x81;
-    said.commit = verdict.commit;
-    said.kind = verdict.answer.kind.0;
-    said.allowed = verdict.answer.kind == Kind::ALLOW;
-    said.metadata = Text::of(verdict.answer.metadata.as_slice());
-    said.text = Text::of(verdict.answer.cause.bucket.as_slice());
-    match &verdict.answer.cause.row {
-        Some(row) => put_key(
-            &mut said,
-            row.client.as_slice(),
-            row.user.as_slice(),
-            row.privilege.as_slice(),
-        ),
-        None => {}
-    }
-    said
-}
-
-fn said_by_packed(verdict: &PackedVerdict) -> Said
-    ensures { seen result ≡ words.verdict_seen verdict.now }
-{
-    let mut said = Said::nothing();
+    said.clear();
     said.operation = 0x81;
     said.commit = verdict.commit();
     said.kind = verdict.kind().0;
     said.allowed = verdict.kind() == Kind::ALLOW;
-    said.metadata = Text::of(verdict.metadata());
-    said.text = Text::of(verdict.bucket());
+    said.metadata.put(verdict.metadata());
+    said.text.put(verdict.bucket());
     match verdict.row() {
-        Some(row) => put_row(&mut said, &row),
+        Some(row) => put_row(said, &row),
         None => {}
     }
-    said
 }
 
 fn put_row(said: &mut Said, row: &BorrowedRow<'_>)
@@ -195,28 +196,27 @@ fn put_key(said: &mut Said, client: &[u8], user: &[u8], privilege: &[u8])
 fn put_names(said: &mut Said, client: &[u8], user: &[u8], privilege: &[u8])
     ensures { seen said.new ≡ words.with_names client.now user.now privilege.now (seen said.old) }
 {
-    said.client = Text::of(client);
-    said.user = Text::of(user);
-    said.privilege = Text::of(privilege);
+    said.client.put(client);
+    said.user.put(user);
+    said.privilege.put(privilege);
 }
 
 // What the message says.
-pub(crate) fn said_by(message: &Message) -> Said
-    ensures { seen result ≡ words.message_seen message.now }
+pub(crate) fn say_message(said: &mut Said, message: &Message)
+    ensures { seen said.new ≡ words.message_seen message.now }
 {
     match message {
-        Message::Judged { verdict } => said_by_packed(verdict),
-        Message::Refused { refusal } => said_by_rule(refusal),
-        Message::ListRow { policy } => said_by_policy(policy),
+        Message::Judged { verdict } => say_verdict(said, verdict),
+        Message::Refused { refusal } => say_rule(said, refusal),
+        Message::ListRow { policy } => say_policy(said, policy),
         Message::AgentQuestion {
             number,
             question,
             result: outcome,
-        } => said_by_question(*number, question, outcome),
+        } => say_question(said, *number, question, outcome),
         other => {
-            let mut said = operation_said(other.operation());
-            put_numbers(&mut said, other);
-            said
+            say_operation(said, other.operation());
+            put_numbers(said, other);
         }
     }
 }
@@ -260,94 +260,89 @@ fn put_numbers(said: &mut Said, message: &Message)
         }
         Message::ListEnd { count } => said.number = *count,
         Message::StoreDamaged { file, line } => {
-            said.text = Text::of(file.as_slice());
+            said.text.put(file.as_slice());
             said.number = *line;
         }
         Message::Registered { kind } => said.kind = kind.0,
         Message::KindTaken { kind } => said.kind = kind.0,
         Message::UnknownNumber { number } => said.number = *number,
+        Message::AgentWithdrawn { number } => said.number = *number,
         _ => {}
     }
 }
 
-fn said_by_policy(policy: &Policy) -> Said
-    ensures { seen result ≡ words.policy_seen policy.now }
+fn say_policy(said: &mut Said, policy: &Policy)
+    ensures { seen said.new ≡ words.policy_seen policy.now }
 {
-    let mut said = Said::nothing();
-    said.operation = 0x92;
-    put_result(&mut said, &policy.result);
+    say_operation(said, 0x92);
+    put_result(said, &policy.result);
     put_key(
-        &mut said,
+        said,
         policy.key.client(),
         policy.key.user(),
         policy.key.privilege(),
     );
-    said
 }
 
-fn said_by_question(number: u32, question: &Question, outcome: &PolicyResult) -> Said
-    ensures { seen result ≡ words.question_seen number question.now outcome.now }
+fn say_question(said: &mut Said, number: u32, question: &Question, outcome: &PolicyResult)
+    ensures { seen said.new ≡ words.question_seen number question.now outcome.now }
 {
-    let mut said = Said::nothing();
-    said.operation = 0xa2;
+    say_operation(said, 0xa2);
     said.number = number;
-    put_result(&mut said, outcome);
+    put_result(said, outcome);
     put_names(
-        &mut said,
+        said,
         question.client(),
         question.user(),
         question.privilege(),
     );
-    said
 }
 
 fn put_result(said: &mut Said, outcome: &PolicyResult)
     ensures { seen said.new ≡ words.with_result outcome.now (seen said.old) }
 {
     said.kind = outcome.kind().0;
-    said.metadata = Text::of(outcome.metadata().as_slice());
+    said.metadata.put(outcome.metadata().as_slice());
 }
 
 // A refusal by a rule: the rule's number, its text and its value.
-fn said_by_rule(refusal: &Refusal) -> Said
-    ensures { seen result ≡ words.refused_seen refusal.now }
+fn say_rule(said: &mut Said, refusal: &Refusal)
+    ensures { seen said.new ≡ words.refused_seen refusal.now }
 {
     match refusal {
-        Refusal::Reserved(bucket) => rule_said(1, bucket.as_slice(), 0),
-        Refusal::LayoutThere => rule_said(2, b"", 0),
-        Refusal::NoLayout => rule_said(3, b"", 0),
-        Refusal::NoBucket(bucket) => rule_said(4, bucket.as_slice(), 0),
-        Refusal::RootBucket => rule_said(5, b"", 0),
-        Refusal::BadKind(kind) => rule_said(6, b"", u64::from(kind.0)),
-        Refusal::UnknownUser(uid) => rule_said(7, b"", u64::from(*uid)),
-        Refusal::OtherPackage(name) => rule_said(8, name.as_slice(), 0),
-        Refusal::OtherAuthor(Some(author)) => rule_said(9, author.as_slice(), 0),
-        Refusal::OtherAuthor(None) => rule_said(9, b"", 0),
-        Refusal::NotInstalled => rule_said(10, b"", 0),
-        Refusal::Limit(counted, limit) => rule_said(11, counted_text(*counted), *limit),
-        Refusal::Cycle(bucket) => rule_said(12, bucket.as_slice(), 0),
-        Refusal::OtherHybrid(hybrid) => rule_said(14, b"", u64::from(*hybrid)),
+        Refusal::Reserved(bucket) => say_broken(said, 1, bucket.as_slice(), 0),
+        Refusal::LayoutThere => say_broken(said, 2, b"", 0),
+        Refusal::NoLayout => say_broken(said, 3, b"", 0),
+        Refusal::NoBucket(bucket) => say_broken(said, 4, bucket.as_slice(), 0),
+        Refusal::RootBucket => say_broken(said, 5, b"", 0),
+        Refusal::BadKind(kind) => say_broken(said, 6, b"", u64::from(kind.0)),
+        Refusal::UnknownUser(uid) => say_broken(said, 7, b"", u64::from(*uid)),
+        Refusal::OtherPackage(name) => say_broken(said, 8, name.as_slice(), 0),
+        Refusal::OtherAuthor(Some(author)) => say_broken(said, 9, author.as_slice(), 0),
+        Refusal::OtherAuthor(None) => say_broken(said, 9, b"", 0),
+        Refusal::NotInstalled => say_broken(said, 10, b"", 0),
+        Refusal::Limit(counted, limit) => say_broken(said, 11, counted_text(*counted), *limit),
+        Refusal::Cycle(bucket) => say_broken(said, 12, bucket.as_slice(), 0),
+        Refusal::OtherHybrid(hybrid) => say_broken(said, 14, b"", u64::from(*hybrid)),
         // No frame tells it.
-        Refusal::Memory(_) => operation_said(0x91),
+        Refusal::Memory(_) => say_operation(said, 0x91),
     }
 }
 
-fn operation_said(operation: u8) -> Said
-    ensures { seen result ≡ record words.nothing { operation = operation } }
+fn say_operation(said: &mut Said, operation: u8)
+    ensures { seen said.new ≡ record words.nothing { operation = operation } }
 {
-    let mut said = Said::nothing();
+    said.clear();
     said.operation = operation;
-    said
 }
 
-fn rule_said(rule: u8, text: &[u8], value: u64) -> Said
-    ensures { seen result ≡ words.rule_seen rule text.now value }
+fn say_broken(said: &mut Said, rule: u8, text: &[u8], value: u64)
+    ensures { seen said.new ≡ words.rule_seen rule text.now value }
 {
-    let mut said = operation_said(0x91);
+    say_operation(said, 0x91);
     said.rule = rule;
-    said.text = Text::of(text);
+    said.text.put(text);
     said.value = value;
-    said
 }
 
 // What a limit counts, as a frame spells it.

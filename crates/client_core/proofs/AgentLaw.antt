@@ -1,6 +1,6 @@
 -- What the calls of an agent keep, and what it sends.
 use Rattle.std.proofs.Common.{◌≡◌, ℕ, Bool, true, false, List, [], ◌∷◌, ◌++◌, Option, Some, None, refl, sym, ap, ◌∙◌, subst, inl, inr, arith}
-use Rattle.std.specs.Prelude.{◌==◌}
+use Rattle.std.specs.Prelude.{◌==◌, if◌then◌else◌}
 use Rattle.cynara_keys.specs.declared.results.Kind.{Kind}
 use Rattle.wire_messages.specs.Frame.{spelling, with_sequence}
 use Rattle.wire_messages.specs.declared.messages.Framed.{Framed}
@@ -10,7 +10,7 @@ use Rattle.client_core.specs.Listening.{Listening, is_fit}
 use Rattle.client_core.specs.Hearing.{HearsPiece, fault_by}
 use Rattle.client_core.specs.Agent.{Agent, fresh, cut, First, Turn, first_of, turn_of, is_open}
 use Rattle.client_core.specs.Agent as does
-use Rattle.client_core.specs.AgentCalls.{Call, Does, Ran, open_in, opened, IsAnswer, Means}
+use Rattle.client_core.specs.AgentCalls.{Call, Does, Ran, open_in, opened, closed_by, IsAnswer, Means}
 use Rattle.client_core.specs.declared.ears.Piece.{Piece}
 use Rattle.client_core.specs.declared.ears.Piece.TheVariants as piece
 use Rattle.client_core.specs.declared.stages.Open.{Open}
@@ -135,12 +135,34 @@ module _ (kind : Kind) where
       stays (Some question) ear next is = is
       stays None ear next is = tt
 
+      -- a question that is withdrawn is open no more
+      closes_if : (same : Bool) (question : Open) (before : Option ℕ) (number : ℕ) → (question.number == number) ≡ same
+          → before ≡ Some question.number → IsAt (does.listening (if same then None else Some question)) (closed_by number before)
+      closes_if true question before number same is = tt
+      closes_if false question before number same is =
+          ap (closed_by number) is ∙ ap (λ (b : Bool). if b then None else Some question.number) same
+
+      closes : (asked : Option Open) (ear : Listening) (number : ℕ) → IsAt (stage.Listening asked ear) (open_in calls)
+          → IsAt (does.listening (does.still_open number asked)) (closed_by number (open_in calls))
+      closes (Some question) ear number is = closes_if (question.number == number) question (open_in calls) number refl is
+      closes None ear number is = tt
+
       turns : (turn : Turn) (framed : Framed) (asked : Option Open) (ear : Listening) → turn_of framed.message ≡ turn
           → before.stage ≡ stage.Listening asked ear → (answer : Step) (after : Agent)
           → does.turns turn framed.sequence framed.message asked answer before after → Both comes calls answer after
       turns (Turn.Asks number) framed asked ear turn is answer after d =
           reach comes calls answer (step.Reply framed.message) after _ d.0 d.1
           (record { kind_is = holds.kind_is; stage_is = ap (λ (t : Turn). opened t (open_in calls)) turn }, tt)
+      turns (Turn.Withdraws number) framed asked ear turn is answer after d =
+          let stands : IsAt (does.listening (does.still_open number asked)) (closed_by number (open_in calls)) =
+          closes asked ear number (at (stage.Listening asked ear) is) in
+          reach comes calls answer (step.Reply framed.message) after _ d.0 d.1 (
+            record {
+              kind_is = holds.kind_is;
+              stage_is = subst (λ (t : Turn). IsAt (does.listening (does.still_open number asked)) (opened t (open_in calls))) (sym turn) stands;
+            },
+            tt,
+          )
       turns Turn.Passes framed asked ear turn is answer after d =
           let stands : IsAt (does.listening asked) (open_in calls) = stays asked ear _ (at (stage.Listening asked ear) is) in
           reach comes calls answer (step.Reply framed.message) after _ d.0 d.1 (

@@ -14,6 +14,7 @@ use Rattle.wire_messages.specs.Stream.{Hears}
 use Rattle.wire_messages.specs.declared.messages.Framed.{Framed}
 use Rattle.wire_messages.specs.declared.messages.Message.{Message}
 use Rattle.wire_messages.specs.declared.operations.Heard.TheVariants.{Replies}
+use Rattle.answer_cache.proofs.Using.{newest_used}
 use Rattle.client_core.specs.Listening.{Listening, is_fit}
 use Rattle.client_core.specs.Hearing.{HearsPiece, fault_by}
 use Rattle.client_core.specs.Client.{Client, fresh, forgotten, raised, asked_by, frame_of, waiting, with_tries}
@@ -143,13 +144,16 @@ module _ (calls : List Call) (before : Client) (holds : Holds calls before) wher
   fresh_in told (Some v) verdict is = fresh_if (nat_le told v.commit) told v verdict refl is
 
   kept_answer : (asking : Asking) (verdict : Verdict) → question_in calls ≡ Some (put_of asking)
-      → answer_in (asked_by asking) before.cache ≡ Some verdict → IsKeptAnswer (Call.Looks true (step.Kept verdict)) calls verdict
+      → answer_in (asked_by asking) before.cache ≡ Some verdict
+      → IsKeptAnswer (Call.Looks true step.Kept) calls (record before { cache = used (asked_by asking) before.cache; stage = stage.Idle })
   kept_answer asking verdict asked is =
       let found = fresh_in before.cache.told (lookup (same_asked (asked_by asking)) before.cache.entries) verdict is in
       let entry = Contains-lookup (same_asked (asked_by asking)) before.cache.entries verdict found.0 in
       let said = holds.entries (entry.0, verdict) entry.1 in
       record {
         looked = refl;
+        verdict = verdict;
+        is = newest_used (asked_by asking) before.cache verdict is;
         put = put_of asking;
         asked = asked;
         entry = entry.0;
@@ -162,7 +166,7 @@ module _ (calls : List Call) (before : Client) (holds : Holds calls before) wher
   finds : (asking : Asking) → question_in calls ≡ Some (put_of asking) → (found : Option Verdict)
       → answer_in (asked_by asking) before.cache ≡ found → (answer : Step) (after : Client)
       → does.finds found asking answer before after → Both (Call.Looks true) calls before answer after
-  finds asking asked (Some verdict) is answer after d = reach (Call.Looks true) calls before answer (step.Kept verdict) after _ d.0 d.1 (
+  finds asking asked (Some verdict) is answer after d = reach (Call.Looks true) calls before answer step.Kept after _ d.0 d.1 (
     record {
       told = holds.told;
       entries = λ e has. holds.entries e (Contains-promoted (same_asked (asked_by asking)) before.cache.entries e has);

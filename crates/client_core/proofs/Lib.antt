@@ -3,3 +3,4 @@ mod AdminLaw
 mod ClientLaw
 mod Hearing
 mod Staging
+mod Recalling

@@ -117,6 +117,7 @@ module _ (kind : Kind) (frame : List ℕ) (s t : AgentStage) (answer : Step) (ne
         → agent_does.turns turn framed.sequence framed.message asked answer (agent kind frame s) new
         → agent_does.turns turn framed.sequence framed.message asked answer (agent kind frame t) new
     same_turns framed (Turn.Asks number) d = d
+    same_turns framed (Turn.Withdraws number) d = d
     same_turns framed Turn.Passes d = d
     same_turns framed Turn.HasNoPlace d = d
 

@@ -1,5 +1,5 @@
 -- An agent's side of a connection: what it keeps, and what its calls do and answer.
-use Rattle.std.specs.Prelude.{◌≡◌, ◌⊎◌, ◌==◌, ℕ, Bool, true, false, List, [], ◌∷◌, ◌++◌, length, Option, Some, None}
+use Rattle.std.specs.Prelude.{◌≡◌, ◌⊎◌, ◌==◌, ℕ, Bool, true, false, if◌then◌else◌, List, [], ◌∷◌, ◌++◌, length, Option, Some, None}
 use Rattle.std.specs.declared.alloc.AllocError.{AllocError}
 use Rattle.cynara_keys.specs.declared.results.Kind.{Kind}
 use Rattle.wire_messages.specs.Operation.{number_of}
@@ -8,7 +8,7 @@ use Rattle.wire_messages.specs.Frame.{spelling, with_sequence}
 use Rattle.wire_messages.specs.Stream.{wanted}
 use Rattle.wire_messages.specs.declared.messages.Framed.{Framed}
 use Rattle.wire_messages.specs.declared.messages.Message.{Message}
-use Rattle.wire_messages.specs.declared.messages.Message.TheVariants.{Register, AgentAnswer, Registered, KindTaken, AgentQuestion, UnknownNumber}
+use Rattle.wire_messages.specs.declared.messages.Message.TheVariants.{Register, AgentAnswer, Registered, KindTaken, AgentQuestion, AgentWithdrawn, UnknownNumber}
 use Rattle.wire_messages.specs.declared.operations.Heard.TheVariants.{AgentReplies}
 use Rattle.client_core.specs.Listening.{Listening, unheard, is_fit}
 use Rattle.client_core.specs.Hearing.{HearsPiece, fault_by}
@@ -63,6 +63,10 @@ abbrev pub is_open : ℕ → Option Open → Bool
 is_open number (Some question) = question.number == number
 is_open number None = false
 
+-- the question of this number is to be answered no more
+abbrev pub still_open : ℕ → Option Open → Option Open
+still_open number asked = if is_open number asked then None else asked
+
 -- the question of this number, as it was asked, is answered; and it is not to be answered again
 abbrev pub answers : Bool → Option Open → Listening → ℕ → Bool → Step → Agent → Agent → Type 0
 answers true (Some question) ear number allowed answer old new =
@@ -112,14 +116,16 @@ begins Strays message answer old new = IsMisplaced message answer old new
 abbrev pub Begins : Message → Step → Agent → Agent → Type 0
 Begins message answer old new = begins (first_of message) message answer old new
 
--- What a further message says: it asks the question of a number, or it says that nobody waits for the answer to one.
+-- What a further message says: it asks the question of a number, or withdraws it, or it says that nobody waited for an answer.
 pub data Turn : Type 0 where
   Asks : ℕ → Turn
+  Withdraws : ℕ → Turn
   Passes : Turn
   HasNoPlace : Turn
 
 abbrev pub turn_of : Message → Turn
 turn_of (AgentQuestion number question result) = Asks number
+turn_of (AgentWithdrawn number) = Withdraws number
 turn_of (UnknownNumber number) = Passes
 turn_of other = HasNoPlace
 
@@ -127,6 +133,8 @@ abbrev pub turns : Turn → ℕ → Message → Option Open → Step → Agent �
 turns (Asks number) sequence message asked answer old new =
     (answer ≡ step.Reply message)
     × (new ≡ record old { stage = listening (Some (record { number = number; sequence = sequence })) })
+turns (Withdraws number) sequence message asked answer old new =
+    (answer ≡ step.Reply message) × (new ≡ record old { stage = listening (still_open number asked) })
 turns Passes sequence message asked answer old new =
     (answer ≡ step.Reply message) × (new ≡ record old { stage = listening asked })
 turns HasNoPlace sequence message asked answer old new = IsMisplaced message answer old new

@@ -1,5 +1,5 @@
 -- What an agent was asked and answered, call by call, and what follows from it.
-use Rattle.std.specs.Prelude.{◌≡◌, ℕ, Bool, List, [], ◌∷◌, Option, Some, None}
+use Rattle.std.specs.Prelude.{◌≡◌, ◌==◌, ℕ, Bool, if◌then◌else◌, List, [], ◌∷◌, Option, Some, None}
 use Rattle.cynara_keys.specs.declared.results.Kind.{Kind}
 use Rattle.wire_messages.specs.Frame.{spelling, with_sequence}
 use Rattle.wire_messages.specs.declared.messages.Message.TheVariants.{Register, AgentAnswer}
@@ -32,8 +32,13 @@ Ran kind (call ∷ calls) agent = (before : Agent) × Ran kind calls before × D
 
 -- ---- which question is open, by the calls alone, the last one first
 
+abbrev pub closed_by : ℕ → Option ℕ → Option ℕ
+closed_by number (Some asked) = if asked == number then None else Some asked
+closed_by number None = None
+
 abbrev pub opened : Turn → Option ℕ → Option ℕ
 opened (Turn.Asks number) before = Some number
+opened (Turn.Withdraws number) before = closed_by number before
 opened other before = before
 
 abbrev pub open_by_message : Step → Option ℕ → Option ℕ
@@ -50,7 +55,7 @@ abbrev pub open_by_dial : Step → Option ℕ → Option ℕ
 open_by_dial step.NotNow before = before
 open_by_dial answer before = None
 
--- the number of the question that was asked last on the connection that stands, and that was not answered since
+-- the number of the question that was asked last on the connection that stands, and that was neither answered nor withdrawn since
 abbrev pub open_in : List Call → Option ℕ
 open_in [] = None
 open_in (Dials answer ∷ calls) = open_by_dial answer (open_in calls)

@@ -5,7 +5,7 @@ use Rattle.std.specs.declared.alloc.AllocError.{AllocError}
 use Rattle.bucket_eval.specs.declared.answers.Verdict.{Verdict}
 use Rattle.cynara_keys.specs.Key.{Question}
 use Rattle.cynara_keys.specs.PolicyResult.{is_agent}
-use Rattle.answer_cache.specs.Cache.{Asked, Cache, answer_in, used, kept, without}
+use Rattle.answer_cache.specs.Cache.{Asked, IsOfNames, key_text, Cache, answer_in, used, kept, without}
 use Rattle.wire_messages.specs.Operation.{number_of}
 use Rattle.wire_messages.specs.Message.{operation}
 use Rattle.wire_messages.specs.Stream.{Hears, BeginsWrong, IsOpen, wanted}
@@ -42,6 +42,10 @@ Spells asking next stage answer old new =
 abbrev pub Dials : Asking → Step → Client → Client → Type 0
 Dials asking answer old new = Spells asking step.Dial (stage.Dialling asking) answer (forgotten old) new
 
+abbrev pub is_idle : Stage → Bool
+is_idle stage.Idle = true
+is_idle other = false
+
 -- ---- a question is asked
 
 -- three dials or connections may fail
@@ -66,7 +70,7 @@ Asks session question simple answer old new = asks_at old.stage (first_try sessi
 -- an entry that is not older than what the client was told is the answer, and is the first from now on
 abbrev pub finds : Option Verdict → Asking → Step → Client → Client → Type 0
 finds (Some verdict) asking answer old new =
-    (answer ≡ step.Kept verdict) × (new ≡ record old { cache = used (asked_by asking) old.cache; stage = stage.Idle })
+    (answer ≡ step.Kept) × (new ≡ record old { cache = used (asked_by asking) old.cache; stage = stage.Idle })
 finds None asking answer old new = Spells asking step.Send (waiting asking) answer (record old { stage = stage.Idle }) new
 
 abbrev pub Finds : Asking → Step → Client → Client → Type 0
@@ -86,6 +90,22 @@ looks_at other is_up answer old new = IsNotNow answer old new
 
 abbrev pub Looks : Bool → Step → Client → Client → Type 0
 Looks is_up answer old new = looks_at old.stage is_up answer old new
+
+-- ---- the caller looked, and the connection is up; and nothing but what is kept is asked for
+
+-- the client may answer from what is kept
+abbrev pub is_ready : Client → Bool
+is_ready client = if client.is_linked then is_idle client.stage else false
+
+-- What a question and then a look come to, where that is what is kept under this text; or nothing is kept under it, and
+-- nothing changes.
+abbrev pub Recalls : Bool → List ℕ → Client → Client → Type 0
+Recalls true text old new =
+    (asked : Asked) × IsOfNames asked × (text ≡ key_text asked)
+    × ((mid : Client) × Asks asked.session asked.question false step.Look old mid × Looks true step.Kept mid new)
+Recalls false text old new =
+    (new ≡ old)
+    × ((asked : Asked) → IsOfNames asked → text ≡ key_text asked → is_ready old ≡ true → answer_in asked old.cache ≡ None)
 
 -- ---- the service was dialled
 

@@ -4,7 +4,7 @@ use Rattle.std.specs.Prelude.{Option, Some, None}
 use Rattle.bucket_eval.specs.declared.answers.Verdict.{Verdict}
 use Rattle.cynara_keys.specs.Key.{Question}
 use Rattle.cynara_keys.specs.PolicyResult.{is_agent}
-use Rattle.answer_cache.specs.Cache.{Asked, asked_in, same_asked}
+use Rattle.answer_cache.specs.Cache.{Asked, asked_in, same_asked, newest}
 use Rattle.answer_cache.specs.Limits.{most_entries}
 use Rattle.wire_messages.specs.Frame.{spelling, with_sequence}
 use Rattle.wire_messages.specs.Lent.{asks}
@@ -128,10 +128,12 @@ said_in (Leaves ∷ calls) = []
 
 -- ---- what follows
 
--- The caller just said that the connection is up. The service gave this verdict on this connection, to this very question; it
--- is no older than what the client was told, and no agent's.
-pub record IsKeptAnswer (call : Call) (calls : List Call) (verdict : Verdict) : Type 0 where
-  pub looked : call ≡ Looks true (step.Kept verdict)
+-- The caller just said that the connection is up. The verdict that was used last is the answer: the service gave it on this
+-- connection, to this very question; it is no older than what the client was told, and no agent's.
+pub record IsKeptAnswer (call : Call) (calls : List Call) (after : Client) : Type 0 where
+  pub looked : call ≡ Looks true step.Kept
+  pub verdict : Verdict
+  pub is : newest after.cache ≡ Some verdict
   pub put : Put
   pub asked : question_in calls ≡ Some put
   pub entry : Asked
@@ -163,7 +165,7 @@ pub record IsSent (calls : List Call) (after : Client) : Type 0 where
 
 -- what an answer means, behind these calls
 abbrev pub Means : Step → Call → List Call → Client → Client → Type 0
-Means (step.Kept verdict) call calls before after = IsKeptAnswer call calls verdict
+Means step.Kept call calls before after = IsKeptAnswer call calls after
 Means (step.Reply message) call calls before after = IsReply call calls before message
 Means step.Send call calls before after = IsSent calls after
 Means answer call calls before after = Unit {0}

@@ -94,7 +94,8 @@ impl AgentMachine {
         self.stage = AgentStage::Dialling;
     }
 
-    /// Answers the question of this number. `WrongNumber` where it is not the one that was asked last, or was answered.
+    /// Answers the question of this number. `WrongNumber` where it is not the one that was asked last, or was answered or
+    /// withdrawn.
     pub fn answer(&mut self, number: u32, allowed: bool) -> Step
         ensures { does.Answers number allowed result self.old self.new }
     {
@@ -115,8 +116,9 @@ impl AgentMachine {
     }
 
     /// These bytes came: some, and no more than are wanted. `Wait` where the message is not whole with them; `Reply` with the
-    /// message, which first says that the agent is registered or that the kind is taken, and then asks, or says that a number
-    /// is unknown; or `Over`. Where the kind is taken the connection is to be closed.
+    /// message, which first says that the agent is registered or that the kind is taken, and then asks, or says that a
+    /// question is withdrawn, which is to be answered no more, or that a number is unknown; or `Over`. Where the kind is
+    /// taken the connection is to be closed.
     pub fn came(&mut self, piece: &[u8]) -> Step
         ensures { does.Comes piece.now result self.old self.new }
     {
@@ -240,6 +242,10 @@ impl AgentMachine {
                 }));
                 Step::Reply(framed.message)
             }
+            Message::AgentWithdrawn { number } => {
+                self.listen(still_open(*number, asked));
+                Step::Reply(framed.message)
+            }
             Message::UnknownNumber { .. } => {
                 self.listen(asked);
                 Step::Reply(framed.message)
@@ -252,6 +258,21 @@ impl AgentMachine {
         ensures { self.new ≡ record self.old { stage = listening asked } }
     {
         self.stage = AgentStage::Listening(asked, Ear::new(self.alloc, Heard::AgentReplies));
+    }
+}
+
+// The question that is to be answered, once that of this number is to be answered no more.
+fn still_open(number: u32, asked: Option<Open>) -> Option<Open>
+    ensures { result ≡ does.still_open number asked }
+{
+    match asked {
+        Some(question) => {
+            if question.number == number {
+                return None;
+            }
+            Some(question)
+        }
+        None => None,
     }
 }
 

@@ -1,5 +1,7 @@
 ghost use Rattle.std.specs.Prelude.{◌≡◌, ◌<◌, ◌≤◌, [], IfOk};
 ghost use Rattle.std.specs.Prelude.{OnOk, OnErr, true};
+ghost use Rattle.std.specs.Option.{option_copied};
+ghost use Rattle.answer_cache.specs.Cache.{newest};
 ghost use Rattle.answer_cache.specs.Limits.{most_entries};
 ghost use Rattle.client_core.specs.Listening.{is_fit};
 ghost use Rattle.client_core.specs.Hearing as hearing;
@@ -17,7 +19,7 @@ use desk_ports::Bytes;
 use std::alloc::{AllocError, Global};
 use std::marker::Model;
 use std::mem;
-use wire_messages::{Framed, Heard, Message, WireRefusal, encode_check_into};
+use wire_messages::{Framed, Heard, Message, PackedVerdict, WireRefusal, encode_check_into};
 
 /// Dials or connections that may fail in one question.
 const MOST_TRIES: u32 = 3;
@@ -116,6 +118,36 @@ impl ClientMachine {
             return Step::Look;
         }
         self.dial_first(asking)
+    }
+
+    /// The caller just looked, and the connection is up: whether what is kept under this text is the answer. The text is a
+    /// session, a client, a user and a privilege, with a space between each two; one that is not made so has no answer. It
+    /// does what `ask` and then `looked` do where they come to `Kept`, and nothing else; takes no memory, copies nothing.
+    pub fn recall(&mut self, text: &[u8]) -> bool
+        ensures { does.Recalls result text.now self.old self.new }
+    {
+        if !self.is_ready() {
+            return false;
+        }
+        self.cache.recall(text)
+    }
+
+    // Whether it may answer from what is kept, once the connection was looked at.
+    fn is_ready(&self) -> bool
+        ensures { result ≡ does.is_ready self.now }
+    {
+        if !self.is_linked {
+            return false;
+        }
+        matches!(self.stage, Stage::Idle)
+    }
+
+    /// The verdict that was kept or used last: behind `Kept`, and where `recall` found one, it is the answer. None where
+    /// nothing is kept.
+    pub fn newest(&self) -> Option<&PackedVerdict>
+        ensures { option_copied result ≡ newest self.now.cache }
+    {
+        self.cache.newest()
     }
 
     /// The caller looked whether the connection is up. Where it is, a kept answer is `Kept`, and else the frame is to be
@@ -276,15 +308,15 @@ impl ClientMachine {
         requires { self.old.stage ≡ stage_is.Idle }
         ensures { does.Finds asking result self.old self.new }
     {
-        match self.cache.answer(&asking.session, &asking.question) {
-            Some(verdict) => Step::Kept(verdict),
-            None => match self.spell(&asking) {
-                Ok(()) => self.send(asking),
-                Err(error) => {
-                    self.forget();
-                    Step::Over(Fault::Memory(error))
-                }
-            },
+        if self.cache.has_answer(&asking.session, &asking.question) {
+            return Step::Kept;
+        }
+        match self.spell(&asking) {
+            Ok(()) => self.send(asking),
+            Err(error) => {
+                self.forget();
+                Step::Over(Fault::Memory(error))
+            }
         }
     }
 
@@ -347,8 +379,7 @@ impl ClientMachine {
                 if verdict.kind().is_agent() {
                     return;
                 }
-                self.cache
-                    .keep(&asking.session, &asking.question, &verdict.verdict());
+                self.cache.keep(&asking.session, &asking.question, verdict);
             }
             _ => {}
         }

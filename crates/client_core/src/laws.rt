@@ -34,7 +34,7 @@ pub fn what_an_administrators_answer_means()
 }
 
 /// What an agent sends, whatever calls were made before: behind a dial its registration; and else the answer that is given, to
-/// the number of the question that was asked last on this connection, and that was not answered since.
+/// the number of the question that was asked last on this connection, and that was neither answered nor withdrawn since.
 pub fn what_an_agent_sends()
     ensures { (kind : kind_type.Kind) (calls : List AgentCall) (call : AgentCall) (before after : Agent)
         → AgentRan kind calls before → AgentDoes call before after → agents.Means kind call calls after }

@@ -1,6 +1,5 @@
 // What a machine answers its caller.
 
-use bucket_eval::Verdict;
 use std::alloc::AllocError;
 use wire_messages::{Message, WireRefusal};
 
@@ -17,8 +16,8 @@ pub enum Step {
     Send,
     /// As many bytes are to be received as are wanted.
     Wait,
-    /// The verdict was kept, and nothing is sent.
-    Kept(Verdict),
+    /// A kept verdict is the answer, and nothing is sent. It is the newest one that is kept.
+    Kept,
     /// The service said this, and nothing more of it is to come.
     Reply(Message),
     /// The service said this, and more of the answer is to come.

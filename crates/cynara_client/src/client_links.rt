@@ -304,7 +304,7 @@ impl<N: Dial> ClientLink<N> {
         if verdict.answer.kind.is_agent() {
             return;
         }
-        if self.cache.keep(session, question, verdict) {
+        if self.cache.keep_verdict(session, question, verdict) {
             return;
         }
     }

@@ -1,5 +1,5 @@
 -- One more connection of a worker.
-use Rattle.std.proofs.Common.{◌≡◌, ◌∙◌, ◌⊎◌, ℕ, Bool, true, false, List, [], ◌∷◌, ◌++◌, map, Option, Some, inl, inr, refl, sym, ap, subst}
+use Rattle.std.proofs.Common.{◌≡◌, ◌∙◌, ◌⊎◌, ℕ, Bool, true, false, List, [], ◌∷◌, ◌++◌, map, Option, inl, inr, refl, sym, ap, subst}
 use Rattle.std.proofs.Common.{append_assoc, append-nil}
 use Rattle.std.proofs.lemmas.List.{map-append}
 use Rattle.std.specs.Bool.{OnTrue, OnFalse}
@@ -7,10 +7,9 @@ use Rattle.std.specs.List.{AllByRecursion}
 use Rattle.link_ports.specs.LinkMarks.{LinkMarks}
 use Rattle.link_ports.specs.Told.{AppendsTold}
 use Rattle.door_frames.specs.declared.endings.Ended.{Ended}
-use Rattle.door_frames.specs.declared.endings.Ended.TheVariants.{Stopped as EndedByStop}
 use Rattle.server_hall.specs.StopNews.{StopsTold, told_on, told_so}
 use Rattle.admin_door.specs.Serving.{AdminTalk, Exchange, Serves}
-use Rattle.door_workers.specs.Visit.{Visit, IsFresh, InTurn, GivesBack, GoesOn, AllGoOn, Works, IsOver, IsNotOver, told_each, GoesOnTold}
+use Rattle.door_workers.specs.Visit.{Visit, IsFresh, InTurn, GivesBack, GoesOn, Works, IsOver, IsNotOver, told_each, GoesOnTold}
 use Rattle.door_workers.specs.Visit.{EndsWorking, door_faults_after}
 use Rattle.door_workers.specs.Administrators.{EndsBehind, EndsOffice}
 use Rattle.door_workers.specs.declared.workers.WorkerEnd.{WorkerEnd}

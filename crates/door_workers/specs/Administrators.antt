@@ -1,5 +1,5 @@
 -- A connection of an administrator.
-use Rattle.std.specs.Prelude.{◌≡◌, ◌++◌, ◌∷◌, [], ℕ, Bool, true, List, Option, None}
+use Rattle.std.specs.Prelude.{◌≡◌, ◌++◌, ◌∷◌, [], ℕ, Bool, List, Option, None}
 use Rattle.link_ports.specs.Traffic.{Traffic, IsSilent}
 use Rattle.link_ports.specs.LinkMarks.{LinkMarks}
 use Rattle.desk_state.specs.DeskState.{DeskState}

@@ -18,7 +18,7 @@ use door_workers::Notes;
 use folder_runs::run_load;
 use host_notes::{COMMANDS_ARE_READ, RULES_ARE_READ};
 use host_ports::host_words;
-use link_ports::{Door, Gate, Link, Net};
+use link_ports::{Dial, Door, Gate, Link, Net};
 use local_runs::run_local;
 use run_endings::Ending;
 use sample_runs::run_sample;
@@ -64,6 +64,8 @@ where
     N::Door: Send,
     <N::Door as Door>::Link: Send,
     <<N::Door as Door>::Link as Link>::End: Send,
+    <N as Dial>::Link: Send,
+    <<N as Dial>::Link as Link>::End: Send,
     ensures run { Ends N.Dial N.Link.Link N.closed N.Door.Door N.Door.Link.Link (command_of words.now) result
         (seen_of S.Source K.Sink D.Disk N.Dial source.old sink.old disk.old net.old)
         (seen_of S.Source K.Sink D.Disk N.Dial source.new sink.new disk.new net.new) net.old net.new }
@@ -105,6 +107,8 @@ where
     N::Door: Send,
     <N::Door as Door>::Link: Send,
     <<N::Door as Door>::Link as Link>::End: Send,
+    <N as Dial>::Link: Send,
+    <<N as Dial>::Link as Link>::End: Send,
     ensures run { (said : Said)
         × RunsCommand N.Dial N.Link.Link N.closed N.Door.Door N.Door.Link.Link said result
         (source_seen S.left S.faults source.old) (source_seen S.left S.faults source.new)
@@ -190,6 +194,8 @@ where
     N::Door: Send,
     <N::Door as Door>::Link: Send,
     <<N::Door as Door>::Link as Link>::End: Send,
+    <N as Dial>::Link: Send,
+    <<N as Dial>::Link as Link>::End: Send,
     ensures { ((words : List (String Global))
         × Ends N.Dial N.Link.Link N.closed N.Door.Door N.Door.Link.Link (command_of words) result
         (seen_of S.Source K.Sink D.Disk N.Dial source.old sink.old disk.old net.old)

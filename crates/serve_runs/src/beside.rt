@@ -12,7 +12,7 @@ use check_monitor::Alarm;
 use desk_keeper::Keeper;
 use desk_ports::Disk;
 use door_workers::{Notes, WorkerEnd, work_for_administrators};
-use link_ports::{Door, DoorKind, HangEnd, Link, Net};
+use link_ports::{Dial, Door, DoorKind, HangEnd, Link, Net};
 use live_desk::Publisher;
 use live_roll::Roll;
 use server_hall::{Locked, QuestionDesk, StopNews};
@@ -53,6 +53,12 @@ pub(crate) fn beside<
     notes: &T,
     chore: &mut C,
 ) -> WorkerEnd
+where
+    N::Door: Send,
+    <N::Door as Door>::Link: Send,
+    <<N::Door as Door>::Link as Link>::End: Send,
+    <N as Dial>::Link: Send,
+    <<N as Dial>::Link as Link>::End: Send,
     requires workers { F.IsAlwaysCallable each.now }
     requires behind { last_commit 0 publisher.old ≤ keeper.old.desk.commit }
     ensures officiates { Officiates D.faults D.state D.moment D.left_since L.traffic L.marks L.faults
@@ -126,6 +132,12 @@ fn attend<
     notes: &T,
     chore: &mut C,
 ) -> WorkerEnd
+where
+    N::Door: Send,
+    <N::Door as Door>::Link: Send,
+    <<N::Door as Door>::Link as Link>::End: Send,
+    <N as Dial>::Link: Send,
+    <<N as Dial>::Link as Link>::End: Send,
     requires { last_commit 0 publisher.old ≤ keeper.old.desk.commit }
     ensures officiates { Officiates D.faults D.state D.moment D.left_since L.traffic L.marks L.faults
         E.given_back E.faults E.kind result

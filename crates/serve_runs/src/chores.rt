@@ -1,4 +1,6 @@
 // What is done while a service goes on, beside its connections.
+ghost use Rattle.std.specs.Prelude.{◌+◌, ℕ};
+
 use std::sync::Wait;
 use std::time::Clock;
 

@@ -14,7 +14,7 @@ use desk_keeper::{Keeper, KeptDesk};
 use desk_ports::Disk;
 use door_workers::{ClientDuty, Notes, Unrecorded};
 use folder_runs::ending_of_mount;
-use link_ports::{Door, Gate, Link, Net};
+use link_ports::{Dial, Door, Gate, Link, Net};
 use run_endings::Ending;
 use std::alloc::{AllocError, Global};
 use std::sync::Wait;
@@ -39,6 +39,8 @@ where
     N::Door: Send,
     <N::Door as Door>::Link: Send,
     <<N::Door as Door>::Link as Link>::End: Send,
+    <N as Dial>::Link: Send,
+    <<N as Dial>::Link as Link>::End: Send,
     requires some { 0 < workers }
     requires most { workers ≤ 64 }
     ensures { RunsServe N.Door.Link.traffic N.Door.Link.marks N.Door.Link.faults N.Door.given_back N.Door.faults N.Door.kind
@@ -108,6 +110,8 @@ where
     N::Door: Send,
     <N::Door as Door>::Link: Send,
     <<N::Door as Door>::Link as Link>::End: Send,
+    <N as Dial>::Link: Send,
+    <<N as Dial>::Link as Link>::End: Send,
     requires some { 0 < workers }
     requires most { workers ≤ 64 }
     requires duties { length duties.items ≡ workers }

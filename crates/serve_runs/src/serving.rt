@@ -18,7 +18,7 @@ use check_monitor::Alarm;
 use desk_keeper::Keeper;
 use desk_ports::Disk;
 use door_workers::{ClientDuty, Notes, WorkerEnd};
-use link_ports::{Door, DoorKind, Gate, Link, Net};
+use link_ports::{Dial, Door, DoorKind, Gate, Link, Net};
 use live_desk::{Publisher, Seat, start};
 use live_roll::Roll;
 use run_endings::Ending;
@@ -63,6 +63,8 @@ where
     N::Door: Send,
     <N::Door as Door>::Link: Send,
     <<N::Door as Door>::Link as Link>::End: Send,
+    <N as Dial>::Link: Send,
+    <<N as Dial>::Link as Link>::End: Send,
     requires some { 0 < workers }
     requires most { workers ≤ 64 }
     requires duties { length duties.items ≡ workers }
@@ -129,6 +131,8 @@ where
     N::Door: Send,
     <N::Door as Door>::Link: Send,
     <<N::Door as Door>::Link as Link>::End: Send,
+    <N as Dial>::Link: Send,
+    <<N as Dial>::Link as Link>::End: Send,
     requires published { publisher.old ≡ keeper.old.desk ∷ [] }
     requires seats { length duties.items ≡ length seats.items }
     ensures served { MatchResult result
@@ -187,6 +191,8 @@ where
     N::Door: Send,
     <N::Door as Door>::Link: Send,
     <<N::Door as Door>::Link as Link>::End: Send,
+    <N as Dial>::Link: Send,
+    <<N as Dial>::Link as Link>::End: Send,
     requires published { publisher.old ≡ keeper.old.desk ∷ [] }
     requires nobody { crew.items ≡ [] }
     requires places { length stations.items ≤ vec_capacity crew }
@@ -255,6 +261,11 @@ fn serve<
 where
     E::Link: Send,
     <E::Link as Link>::End: Send,
+    N::Door: Send,
+    <N::Door as Door>::Link: Send,
+    <<N::Door as Door>::Link as Link>::End: Send,
+    <N as Dial>::Link: Send,
+    <<N as Dial>::Link as Link>::End: Send,
     requires { last_commit 0 publisher.old ≤ keeper.old.desk.commit }
     ensures officiates { Officiates D.faults D.state D.moment D.left_since E.Link.traffic E.Link.marks E.Link.faults
         E.given_back E.faults E.kind result

@@ -17,7 +17,11 @@ use crate::misses::TellingGate;
 use check_monitor::{Alarm, MOST_ROOM, Reader, Recorder, open};
 use desk_ports::{Disk, Sink};
 use door_workers::Notes;
+<<<<<<< HEAD
 use link_ports::{Door, Gate, Link, Net};
+=======
+use link_ports::{Dial, Door, Gate, Link, Net};
+>>>>>>> origin/shape/RUNS
 use monitor_journal::{Writing, write_end};
 use run_endings::Ending;
 use serve_runs::{ServiceRun, run_service};
@@ -51,6 +55,8 @@ where
     N::Door: Send,
     <N::Door as Door>::Link: Send,
     <<N::Door as Door>::Link as Link>::End: Send,
+    <N as Dial>::Link: Send,
+    <<N as Dial>::Link as Link>::End: Send,
     requires some { 0 < workers }
     requires most { workers ≤ 64 }
     ensures { (met : Ending) × (writing : Writing)
@@ -119,6 +125,8 @@ where
     N::Door: Send,
     <N::Door as Door>::Link: Send,
     <<N::Door as Door>::Link as Link>::End: Send,
+    <N as Dial>::Link: Send,
+    <<N as Dial>::Link as Link>::End: Send,
     requires some { 0 < workers }
     requires most { workers ≤ 64 }
     requires recorders { length recorders.items ≡ workers }
