@@ -17,11 +17,7 @@ use crate::misses::TellingGate;
 use check_monitor::{Alarm, MOST_ROOM, Reader, Recorder, open};
 use desk_ports::{Disk, Sink};
 use door_workers::Notes;
-<<<<<<< HEAD
-use link_ports::{Door, Gate, Link, Net};
-=======
 use link_ports::{Dial, Door, Gate, Link, Net};
->>>>>>> origin/shape/RUNS
 use monitor_journal::{Writing, write_end};
 use run_endings::Ending;
 use serve_runs::{ServiceRun, run_service};
