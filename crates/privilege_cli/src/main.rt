@@ -43,7 +43,10 @@ impl Notes for ErrorNotes<'_> {
 }
 
 // Runs the program on standard input and output, on its folder and on the sockets beside it. How it ends.
-fn run_on_host<T: Threads + Wait + Clock + Sync>(rt: &HostRuntime, threads: &T) -> Result<u8, AllocError> {
+fn run_on_host<T: Threads + Wait + Clock + Sync>(
+    rt: &HostRuntime,
+    threads: &T,
+) -> Result<u8, AllocError> {
     take_descriptors(rt);
     let directory = directory_path(rt, rt.alloc())?;
     let folder = folder_path(rt.alloc(), &directory)?;
