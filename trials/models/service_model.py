@@ -13,7 +13,7 @@ from frame_model import bytes_in
 from server_model import Fault, read
 from set_model import Damaged
 
-AGENT_WORKERS = 8
+AGENT_WORKERS = 9
 
 
 def is_agent(kind):

@@ -3,22 +3,22 @@
 Each case has a service of its own with 4 workers of clients, in which peers hold all workers of a door in one way; meanwhile an honest
 client, agent or administrator comes and is to be answered within two seconds (and a quarter, for what the machine takes), or within a
 tenth of one where no worker is held. A limit that lets an honest peer go too early fails, too. NAME is a part of a case's name. Two
-minutes; with --long also the sixty seconds of an administrator who says nothing, and a minute of a thousand peers. It shows what each
+minutes; with --long also the sixty seconds of an administrator who says nothing and of an agent that never answers, a minute of a
+thousand peers, a thousand agents, and a million checks while descriptors run out. It shows what each
 case took, and ends with status 1 where one is not as wanted. Linux alone.
 
-Not tried here, since no limit of the sockets ends them: a question to an agent whose asker has left, an agent that leaves while it is
-asked nothing or never answers, threads that cannot be made, and lines of `watch` that wait for an administrator."""
+With --stops N it stops so many services instead, each in one of the states of the doors, eight at a time."""
 
 import argparse
 import os
-import pathlib
-import resource
-import socket
 import subprocess
 import sys
 import threading
 import time
 
+import held_up_agents
+import held_up_machine
+import held_up_stops
 from held_up_peers import (
     AGENT_WORKERS,
     ASKED,
@@ -46,7 +46,6 @@ from service import (
     QUESTION,
     REGISTER,
     REGISTERED,
-    STOP,
     HungUp,
     Link,
     Service,
@@ -303,181 +302,6 @@ def agent_whose_dialog_stays_open(service):
         return start
 
 
-# The machine
-
-
-def want_of_descriptors(service):
-    limits = resource.prlimit(service.process.pid, resource.RLIMIT_NOFILE)
-    for _ in range(3):
-        used = len(os.listdir(f"/proc/{service.process.pid}/fd"))
-        resource.prlimit(service.process.pid, resource.RLIMIT_NOFILE, (used, limits[1]))
-        waiting = [Link(service.folder, door) for door in ("client",) * 2 * WORKERS + ("agent",) * AGENT_WORKERS + ("admin",)]
-        time.sleep(0.5)
-        resource.prlimit(service.process.pid, resource.RLIMIT_NOFILE, limits)
-        for link in waiting:
-            link.close()
-        time.sleep(0.3)
-        # Each worker works: each is held once.
-        kept = [Link(service.folder, "client", 5) for _ in range(WORKERS)]
-        wanted("each worker answers", all(link.ask(check(ASKED))[1] == JUDGED for link in kept))
-        for link in kept:
-            link.close()
-        agents = [Link(service.folder, "agent", 5) for _ in range(AGENT_WORKERS)]
-        kinds = [agent.ask(frame(1, REGISTER, bytes([1, at])))[1] for at, agent in enumerate(agents)]
-        wanted("each worker of agents answers", kinds == [REGISTERED] * AGENT_WORKERS, kinds)
-        # An agent that left is noticed at the next question of its kind: no more than one turn of agents is tried.
-        wanted("an administrator is answered", obeyed(service.folder))
-        break
-    honest_client = timed("honest client", FREE, lambda: answered(service.folder))
-    wanted("a client is answered", honest_client)
-
-
-def idle_cost(service):
-    """64 workers of clients, all held by idle links or none, and 8 of agents, that wait."""
-    service.stop()
-    service = Service(service.folder, service.path, 64).start()
-    try:
-        for name, count in ("no link", 0), ("63 idle links", 63), ("64 idle links", 64):
-            kept = asked_once(service, count)
-            time.sleep(2.5)
-            start, used = time.monotonic(), spent(service)
-            time.sleep(5)
-            part = (spent(service) - used) / (time.monotonic() - start)
-            print(f"  {name}: {part * 100:.3f} of 100 of a processor")
-            wanted(f"{name}: a thousandth", part <= 0.001, f"{part:.5f}")
-            for link in kept:
-                link.close()
-            time.sleep(0.3)
-    finally:
-        service.stop()
-
-
-def spent(service):
-    """The processor time of all its threads, in seconds."""
-    tasks = pathlib.Path(f"/proc/{service.process.pid}/task").iterdir()
-    return sum(int((task / "schedstat").read_text().split()[0]) for task in tasks) / 1e9
-
-
-# Sockets of others
-
-
-def link_in_place_of_the_private_folder(service):
-    service.stop()
-    elsewhere = service.folder / "elsewhere"
-    elsewhere.mkdir()
-    (elsewhere / "s").write_text("kept")
-    (service.folder / ".sockets").symlink_to(elsewhere)
-    status = refused(service)
-    wanted("it is refused", status == 7, status)
-    wanted("nothing was removed", (elsewhere / "s").read_text() == "kept" and (service.folder / ".sockets").is_symlink())
-
-
-def refused(service):
-    kept = {**os.environ, "PRIVILEGE_DIR": str(service.folder)}
-    words = [service.path, "serve", str(WORKERS)]
-    try:
-        return subprocess.run(words, env=kept, stdin=subprocess.DEVNULL, capture_output=True, timeout=20).returncode
-    except subprocess.TimeoutExpired:
-        return None
-
-
-def socket_of_another_program_at_the_start(service):
-    service.stop()
-    path = service.folder / "client.socket"
-    with socket.socket(socket.AF_UNIX) as other:
-        other.bind(str(path))
-        other.listen()
-        status = refused(service)
-        wanted("it is refused", status == 7, status)
-        with socket.socket(socket.AF_UNIX) as peer:
-            peer.connect(str(path))
-    wanted("it stays", path.is_socket())
-
-
-def socket_of_another_program_at_the_stop(service):
-    path = service.folder / "client.socket"
-    path.unlink()
-    with socket.socket(socket.AF_UNIX) as other:
-        other.bind(str(path))
-        other.listen()
-        wanted("it ends", timed("stop", HELD, lambda: ended(service)) == 0)
-        with socket.socket(socket.AF_UNIX) as peer:
-            peer.connect(str(path))
-    wanted("it stays", path.is_socket())
-
-
-# Stops
-
-
-def ended(service):
-    with Link(service.folder, "admin") as link:
-        link.ask(frame(1, STOP))
-    try:
-        return service.process.wait(20)
-    except subprocess.TimeoutExpired:
-        return None
-
-
-def stops(name, hold):
-    def case(service):
-        kept = hold(service)
-        time.sleep(0.2)
-        wanted("it ends with 0", timed("stop", HELD, lambda: ended(service)) == 0)
-        wanted("no socket is left", not service.left(), service.left())
-        del kept
-
-    case.__name__ = f"stop_with_{name}"
-    return case
-
-
-def lines(door, count, data=b""):
-    def hold(service):
-        links = [Link(service.folder, door) for _ in range(count)]
-        for link in links:
-            if data:
-                link.send(data)
-        return links
-
-    return hold
-
-
-def unread(service):
-    kept = [Link(service.folder, "client") for _ in range(WORKERS)]
-    for link in kept:
-        fill(link, check(ASKED), 1)
-    return kept
-
-
-def agent_that_is_asked(service):
-    service.command(setting(b"", ASKED, 10))
-    agent, client = Link(service.folder, "agent"), Link(service.folder, "client")
-    agent.ask(frame(1, REGISTER, b"\0\x0a"))
-    client.send(check(ASKED))
-    agent.read()
-    return agent, client
-
-
-def agents_that_registered(service):
-    kept = [Link(service.folder, "agent") for _ in range(AGENT_WORKERS)]
-    for at, agent in enumerate(kept):
-        agent.ask(frame(1, REGISTER, bytes([1, at])))
-    return kept
-
-
-STOPS = [
-    stops("nothing", lambda service: None),
-    stops("clients_that_stay", lambda service: asked_once(service, WORKERS)),
-    stops("clients_that_say_nothing", lines("client", WORKERS)),
-    stops("clients_within_a_frame", lines("client", WORKERS, check(ASKED)[:9])),
-    stops("clients_that_do_not_read", unread),
-    stops("a_line_of_clients", lines("client", 100)),
-    stops("an_agent_that_says_nothing", lines("agent", 1)),
-    stops("agents_within_a_frame", lines("agent", AGENT_WORKERS, frame(1, REGISTER, b"\0\x0a")[:7])),
-    stops("a_line_of_agents", lines("agent", 30)),
-    stops("agents_that_registered", agents_that_registered),
-    stops("an_agent_that_is_asked", agent_that_is_asked),
-    stops("an_administrator_that_says_nothing", lines("admin", 1)),
-]
 CASES = [
     clients_with_a_cache_that_nobody_waits_for,
     clients_with_a_cache,
@@ -501,14 +325,11 @@ CASES = [
     agents_that_say_nothing,
     agents_within_a_frame,
     agent_whose_dialog_stays_open,
-    want_of_descriptors,
-    link_in_place_of_the_private_folder,
-    socket_of_another_program_at_the_start,
-    socket_of_another_program_at_the_stop,
-    idle_cost,
-    *STOPS,
+    *held_up_agents.CASES,
+    *held_up_machine.CASES,
+    *held_up_stops.CASES,
 ]
-LONG = [a_thousand_clients_that_stay, administrator_for_a_minute]
+LONG = [a_thousand_clients_that_stay, administrator_for_a_minute, *held_up_agents.LONG, *held_up_machine.LONG]
 
 
 def tried(case, path):
@@ -527,9 +348,12 @@ def tried(case, path):
 def main():
     words = argparse.ArgumentParser()
     words.add_argument("--long", action="store_true")
+    words.add_argument("--stops", type=int)
     words.add_argument("--program")
     words.add_argument("names", nargs="*")
     given = words.parse_args()
+    if given.stops:
+        sys.exit(1 if held_up_stops.many(given.stops, given.program) else 0)
     failed = 0
     cases = [*CASES, *LONG] if given.long else CASES
     cases = [case for case in cases if not given.names or any(name in case.__name__ for name in given.names)]

@@ -7,7 +7,7 @@ import time
 from service import ALLOW, DONE, JUDGED, REGISTER, REGISTERED, HungUp, Link, check, frame, number, setting
 
 WORKERS = 4
-AGENT_WORKERS = 8
+AGENT_WORKERS = 9
 ASKED = (b"c", b"u", b"p")
 HELD, FREE = 2.25, 0.1
 # How long a peer that is to be let go by a limit of five seconds is waited for.

@@ -7,7 +7,7 @@ use cases_words::{Failure, fails, files, first_number, first_word, put_word};
 use desk_ports::{Disk, MemDisk};
 use door_workers::Unheard;
 use joined_net::JoinedNet;
-use link_ports::{Door, Gate, Link, Net};
+use link_ports::{Dial, Door, Gate, Link, Net};
 use run_endings::Ending;
 use serve_runs::{MOST_CLIENT_WORKERS, run_serve};
 use std::alloc::Global;
@@ -81,7 +81,7 @@ fn parts_of(steps: &str) -> (&str, &str, &str) {
 }
 
 // A run of the service, by 1 to 64 workers of clients.
-fn service<R: Threads + Wait + Sync + Clock, D: Disk, N: Net, G: Gate + Sync>(
+fn service<R: Threads + Wait + Clock + Sync, D: Disk, N: Net + Send, G: Gate + Sync>(
     rt: &R,
     alloc: Global,
     workers: u32,
@@ -93,6 +93,8 @@ where
     N::Door: Send,
     <N::Door as Door>::Link: Send,
     <<N::Door as Door>::Link as Link>::End: Send,
+    <N as Dial>::Link: Send,
+    <<N as Dial>::Link as Link>::End: Send,
 {
     if workers == 0 || workers > MOST_CLIENT_WORKERS {
         return Ending::Words;

@@ -1,6 +1,7 @@
 ghost use Rattle.std.specs.Prelude.{◌≡◌, ◌<◌, ◌≤◌, IfOk, OnOk};
 ghost use Rattle.check_monitor.specs.Monitor.{new_reader_of, new_recorders, AreAll};
 
+use crate::alarms::Alarm;
 use crate::readers::Reader;
 use crate::recorders::Recorder;
 use crate::running::Line;
@@ -24,7 +25,8 @@ pub fn open(alloc: Global, workers: u32, room: u32) -> Result<(Vec<Recorder>, Re
 {
     let (queue, pass) = Line::ruled(alloc, room as usize)?;
     let queue = Arc::new(alloc, queue)?;
-    let mut reader = Reader::of(queue, pass);
+    let alarm = Arc::new(alloc, Alarm::new())?;
+    let mut reader = Reader::of(queue, pass, alarm);
     let recorders = recorders_of(alloc, &mut reader, workers)?;
     Ok((recorders, reader))
 }

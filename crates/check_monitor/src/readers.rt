@@ -4,11 +4,12 @@ ghost use Rattle.crossbeam_queue.specs.Passes.{view, IsPassOf, ruled_capacity};
 ghost use Rattle.monitor_rule.specs.Steps.{new_reader, AreKnown};
 ghost use Rattle.check_monitor.specs.Monitor.{HandsOut, AreOf, Cover, AreWhole, new_reader_of, new_recorder_of, with_one_recorder, with_joined_all};
 
+use crate::alarms::Alarm;
 use crate::recorders::Recorder;
 use crate::rest::Settled;
 use crate::running::{Joins, Line, LinePass, Makes, Takes, TakesLast};
 use monitor_rule::Entry;
-use std::alloc::AllocError;
+use std::alloc::{AllocError, Global};
 use std::marker::Model;
 use std::sync::{Arc, Wait};
 
@@ -17,6 +18,7 @@ use std::sync::{Arc, Wait};
 pub struct Reader {
     queue: Arc<Line>,
     pass: LinePass,
+    alarm: Arc<Alarm, Global>,
 }
 
 impl Model for Reader {
@@ -42,12 +44,12 @@ impl Model for Reader {
 
 impl Reader {
     /// The reader of a new queue.
-    pub(crate) fn of(queue: Arc<Line>, pass: LinePass) -> Reader
+    pub(crate) fn of(queue: Arc<Line>, pass: LinePass, alarm: Arc<Alarm, Global>) -> Reader
         requires pass { IsPassOf (arc_value queue) pass }
         requires view { view pass ≡ new_reader }
         ensures { result ≡ new_reader_of pass.table_id (ruled_capacity (arc_value queue)) 0 }
     {
-        Reader { queue, pass }
+        Reader { queue, pass, alarm }
     }
 
     /// A further recorder, for the next worker.
@@ -57,8 +59,14 @@ impl Reader {
         ensures made { OnOk result (self.new ≡ with_one_recorder self.old) }
     {
         let queue = Arc::try_clone(&self.queue)?;
+        let alarm = Arc::try_clone(&self.alarm)?;
         let pass = self.queue.another::<Makes>(&mut self.pass);
-        Ok(Recorder::of(queue, pass, worker))
+        Ok(Recorder::of(queue, pass, worker, alarm))
+    }
+
+    /// What the recorders wake the reader's thread by. Fails for want of memory alone.
+    pub fn alarm(&self) -> Result<Arc<Alarm, Global>, AllocError> {
+        Arc::try_clone(&self.alarm)
     }
 
     /// The oldest entry in the queue: of a worker that has a recorder, with the count of its worker's entries that were handed
@@ -79,7 +87,8 @@ impl Reader {
         ensures whole { AreWhole (self.handed ++ result) recorders.items }
         ensures known { AreKnown self.made result }
     {
-        let Reader { queue, pass } = self;
+        let Reader { queue, pass, alarm } = self;
+        drop(alarm);
         let mut pass = joined(&queue, pass, recorders);
         match queue.pop_as::<TakesLast, R>(rt, &mut pass) {
             Some(entry) => Settled::behind(queue, pass, entry),

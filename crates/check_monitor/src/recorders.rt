@@ -5,11 +5,13 @@ ghost use Rattle.monitor_rule.specs.Entries.{entry_of};
 ghost use Rattle.monitor_rule.specs.Steps.{account_of, new_recorder};
 ghost use Rattle.check_monitor.specs.Monitor.{IsDecided, IsSame, Records, account_in, entry_at, new_recorder_of, with_miss};
 
+use crate::alarms::Alarm;
 use crate::recording::Recorded;
 use crate::running::{Line, LinePass, Puts};
 use bucket_eval::Verdict;
 use cynara_keys::{Kind, Question, Short};
 use monitor_rule::Entry;
+use std::alloc::Global;
 use std::marker::Model;
 use std::sync::{Arc, Wait};
 
@@ -24,6 +26,7 @@ pub struct Recorder {
     worker: u32,
     made: u64,
     missed: u64,
+    alarm: Arc<Alarm, Global>,
 }
 
 impl Model for Recorder {
@@ -51,7 +54,12 @@ impl Model for Recorder {
 
 impl Recorder {
     /// A recorder that put nothing.
-    pub(crate) fn of(queue: Arc<Line>, pass: LinePass, worker: u32) -> Recorder
+    pub(crate) fn of(
+        queue: Arc<Line>,
+        pass: LinePass,
+        worker: u32,
+        alarm: Arc<Alarm, Global>,
+    ) -> Recorder
         requires pass { IsPassOf (arc_value queue) pass }
         requires view { view pass ≡ new_recorder worker }
         ensures { result ≡ new_recorder_of pass.table_id (ruled_capacity (arc_value queue)) worker }
@@ -62,13 +70,14 @@ impl Recorder {
             worker,
             made: 0,
             missed: 0,
+            alarm,
         }
     }
 
     /// Records a check whose verdict is DENY or ALLOW: puts its entry, with the count of what was put before as its number;
     /// or counts it as missed, where the queue held as many entries as it may at a moment of the call, or where the
-    /// recorder has put 72,057,594,037,927,936 entries. Takes no memory. Waits for nobody but for threads that are within
-    /// a step of the queue.
+    /// recorder has put 72,057,594,037,927,936 entries. It wakes the reader's thread where that waits. Takes no memory.
+    /// Waits for nobody but for threads that are within a step of the queue.
     pub fn record<R: Wait>(&mut self, rt: &R, question: &Question, verdict: &Verdict) -> Recorded
         requires { IsDecided verdict.now }
         ensures recorded { Records self.old (entry_of self.old.worker (length self.old.put) question.now verdict.now) result self.new }
@@ -98,6 +107,7 @@ impl Recorder {
         match self.queue.push_as::<Puts, R>(rt, &mut self.pass, entry) {
             Ok(()) => {
                 self.made = number + 1;
+                self.alarm.ring();
                 Recorded::Put(number)
             }
             Err(_) => {
@@ -144,6 +154,7 @@ impl Recorder {
         ensures counted { self.new ≡ with_miss self.old }
     {
         self.missed = self.missed.saturating_add(1);
+        self.alarm.miss();
         self.missed
     }
 }

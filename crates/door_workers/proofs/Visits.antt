@@ -1,5 +1,5 @@
 -- One more connection of a worker.
-use Rattle.std.proofs.Common.{◌≡◌, ◌∙◌, ◌⊎◌, ℕ, Bool, true, false, List, [], ◌∷◌, ◌++◌, map, Option, Some, inl, inr, refl, sym, ap, subst}
+use Rattle.std.proofs.Common.{◌≡◌, ◌∙◌, ◌⊎◌, ℕ, Bool, true, false, List, [], ◌∷◌, ◌++◌, map, Option, inl, inr, refl, sym, ap, subst}
 use Rattle.std.proofs.Common.{append_assoc, append-nil}
 use Rattle.std.proofs.lemmas.List.{map-append}
 use Rattle.std.specs.Bool.{OnTrue, OnFalse}
@@ -7,14 +7,13 @@ use Rattle.std.specs.List.{AllByRecursion}
 use Rattle.link_ports.specs.LinkMarks.{LinkMarks}
 use Rattle.link_ports.specs.Told.{AppendsTold}
 use Rattle.door_frames.specs.declared.endings.Ended.{Ended}
-use Rattle.door_frames.specs.declared.endings.Ended.TheVariants.{Stopped as EndedByStop}
 use Rattle.server_hall.specs.StopNews.{StopsTold, told_on, told_so}
 use Rattle.admin_door.specs.Serving.{AdminTalk, Exchange, Serves}
-use Rattle.door_workers.specs.Visit.{Visit, IsFresh, InTurn, GivesBack, GoesOn, AllGoOn, Works, IsOver, IsNotOver, told_each, GoesOnTold}
+use Rattle.door_workers.specs.Visit.{Visit, IsFresh, InTurn, GivesBack, GoesOn, Works, IsOver, IsNotOver, told_each, GoesOnTold}
 use Rattle.door_workers.specs.Visit.{EndsWorking, door_faults_after}
-use Rattle.door_workers.specs.Administrators.{EndsOffice}
+use Rattle.door_workers.specs.Administrators.{EndsBehind, EndsOffice}
 use Rattle.door_workers.specs.declared.workers.WorkerEnd.{WorkerEnd}
-use Rattle.door_workers.specs.declared.workers.WorkerEnd.TheVariants.{Stopped, DoorFailed, Memory}
+use Rattle.door_workers.specs.declared.workers.WorkerEnd.TheVariants.{Stopped, DoorFailed, Memory, Alone, Unstarted}
 use Rattle.door_workers.specs.parts.Turn.{SoFar, RefusesLink}
 
 -- ---- lists
@@ -110,19 +109,31 @@ refused_told told told_now end (inr is) visits goes = subst (λ (e : WorkerEnd).
 
 -- ---- administrators
 
-pub goes_office : {L : Type 0} (visit : Visit L) → GoesOn visit.ended → (visits : List (Visit L)) → AllGoOn visits
-    → AllGoOn (visits ++ visit ∷ [])
-goes_office {L} visit on visits all = all_more (λ (v : Visit L). GoesOn v.ended) visits visit all on
+-- it made a stop, or is told that the service is stopped
+pub ends_office : {L : Type 0} (told was is : StopsTold) (end : WorkerEnd) (visit : Visit L) → EndsBehind end visit.ended was is
+    → (visits : List (Visit L)) → GoesOnTold told was visits → EndsOffice told is end (visits ++ visit ∷ [])
+ends_office told was is Stopped visit behind visits (all, so) =
+    (visits, visit, refl, all, subst (λ (t : StopsTold). EndsBehind Stopped visit.ended t is) so behind)
+ends_office told was is Alone visit behind visits (all, so) =
+    (visits, visit, refl, all, subst (λ (t : StopsTold). EndsBehind Alone visit.ended t is) so behind)
+ends_office told was is DoorFailed visit behind visits goes = absurd behind
+ends_office told was is Memory visit behind visits goes = absurd behind
+ends_office told was is Unstarted visit behind visits goes = absurd behind
 
--- the stop was made
-pub stops_office : {L : Type 0} (visit : Visit L) → visit.ended ≡ EndedByStop → (visits : List (Visit L)) → AllGoOn visits
-    → EndsOffice Stopped (visits ++ visit ∷ [])
-stops_office visit by_stop visits all = (visits, visit, refl, all, by_stop)
+-- its door counts nothing then
+pub behind_counts : (end : WorkerEnd) (ended : Ended) (told told_now : StopsTold) → EndsBehind end ended told told_now → (n : ℕ)
+    → door_faults_after end n ≡ n
+behind_counts Stopped ended told told_now behind n = refl
+behind_counts Alone ended told told_now behind n = refl
+behind_counts DoorFailed ended told told_now behind n = absurd behind
+behind_counts Memory ended told told_now behind n = absurd behind
+behind_counts Unstarted ended told told_now behind n = absurd behind
 
-pub refused_office : {L : Type 0} (end : WorkerEnd) → (end ≡ DoorFailed) ⊎ (end ≡ Memory) → (visits : List (Visit L)) → AllGoOn visits
-    → EndsOffice end visits
-refused_office end (inl is) visits all = subst (λ (e : WorkerEnd). EndsOffice e visits) (sym is) all
-refused_office end (inr is) visits all = subst (λ (e : WorkerEnd). EndsOffice e visits) (sym is) all
+-- its door accepts none
+pub refused_office : {L : Type 0} (told told_now : StopsTold) (end : WorkerEnd) → (end ≡ DoorFailed) ⊎ (end ≡ Memory)
+    → (visits : List (Visit L)) → GoesOnTold told told_now visits → EndsOffice told told_now end visits
+refused_office told told_now end (inl is) visits goes = subst (λ (e : WorkerEnd). EndsOffice told told_now e visits) (sym is) goes
+refused_office told told_now end (inr is) visits goes = subst (λ (e : WorkerEnd). EndsOffice told told_now e visits) (sym is) goes
 
 -- ---- turns
 
@@ -156,21 +167,31 @@ module _ {S L : Type 0} (step : S → Visit L → S → Type 0) (marks : L → L
       counted = same ∙ so_far.counted;
     }
 
-    -- it ends as stopped behind one
-    pub stops : (ends : WorkerEnd → List (Visit L) → Type 0) → SoFar step was marks faults start old given given_old count count_old
+    -- it ends so behind one, and its door counts nothing
+    pub stops_as : (end : WorkerEnd) (ends : WorkerEnd → List (Visit L) → Type 0)
+        → SoFar step was marks faults start old given given_old count count_old
         → IsFresh marks faults visit → step old visit now
-        → ((visits : List (Visit L)) → was visits → ends Stopped (visits ++ visit ∷ []))
+        → ((visits : List (Visit L)) → was visits → ends end (visits ++ visit ∷ []))
+        → ((n : ℕ) → door_faults_after end n ≡ n)
         → given_kept ≡ given_old → AppendsTold given_kept visit.returned given_now → count_now ≡ count_old
-        → Works step ends marks faults Stopped start now given given_now count count_now
-    stops ends so_far fresh one over kept appends same = record {
+        → Works step ends marks faults end start now given given_now count count_now
+    stops_as end ends so_far fresh one over uncounted kept appends same = record {
       visits = so_far.visits ++ visit ∷ [];
       fresh = all_more (IsFresh marks faults) so_far.visits visit so_far.fresh fresh;
       in_turn = in_turn_more step start old now so_far.visits visit so_far.in_turn one;
       ending = over so_far.visits so_far.go_on;
       given_back = gives_more given given_old given_now so_far.visits visit so_far.given_back
           (subst (λ (told : Option (List L)). AppendsTold told visit.returned given_now) kept appends);
-      counted = same ∙ so_far.counted;
+      counted = same ∙ (so_far.counted ∙ sym (uncounted count));
     }
+
+    -- it ends as stopped behind one
+    pub stops : (ends : WorkerEnd → List (Visit L) → Type 0) → SoFar step was marks faults start old given given_old count count_old
+        → IsFresh marks faults visit → step old visit now
+        → ((visits : List (Visit L)) → was visits → ends Stopped (visits ++ visit ∷ []))
+        → given_kept ≡ given_old → AppendsTold given_kept visit.returned given_now → count_now ≡ count_old
+        → Works step ends marks faults Stopped start now given given_now count count_now
+    stops ends so_far fresh one over kept appends same = stops_as Stopped ends so_far fresh one over (λ n. refl) kept appends same
 
   -- the door accepts no link
   pub refused : (start now : S) (given given_old given_now : Option (List L)) (count count_old count_now : ℕ) (end : WorkerEnd)

@@ -1,18 +1,19 @@
 -- A connection of an administrator.
-use Rattle.std.specs.Prelude.{◌≡◌, ◌++◌, ◌∷◌, [], ℕ, Bool, true, List, Option, None}
+use Rattle.std.specs.Prelude.{◌≡◌, ◌++◌, ◌∷◌, [], ℕ, Bool, List, Option, None}
 use Rattle.link_ports.specs.Traffic.{Traffic, IsSilent}
 use Rattle.link_ports.specs.LinkMarks.{LinkMarks}
 use Rattle.desk_state.specs.DeskState.{DeskState}
 use Rattle.desk_keeper.specs.Keeper.{disk_of}
 use Rattle.desk_keeper.specs.declared.keeper.Keeper.{Keeper}
 use Rattle.server_hall.specs.Tally.{Tally, no_calls, after_stop}
+use Rattle.server_hall.specs.StopNews.{StopsTold, told_stop}
 use Rattle.door_frames.specs.declared.endings.Ended.{Ended}
 use Rattle.door_frames.specs.declared.endings.Ended.TheVariants.{Stopped as EndedByStop}
 use Rattle.admin_door.specs.Side.{AdminSide, decided_of}
 use Rattle.admin_door.specs.Serving.{Exchange, talk_of, Serves}
-use Rattle.door_workers.specs.Visit.{Visit, AllGoOn}
+use Rattle.door_workers.specs.Visit.{Visit, GoesOn, AllGoOn, GoesOnTold, told_each}
 use Rattle.door_workers.specs.declared.workers.WorkerEnd.{WorkerEnd}
-use Rattle.door_workers.specs.declared.workers.WorkerEnd.TheVariants.{Stopped}
+use Rattle.door_workers.specs.declared.workers.WorkerEnd.TheVariants.{Stopped, DoorFailed, Memory, Alone, Unstarted}
 
 -- What one connection of an administrator leaves to the next: the last state that is known to be kept, and whether it is
 -- known what the folder keeps now; the states that were published; the count of the disk's faults; and the frames that came so
@@ -58,13 +59,24 @@ abbrev pub VisitsOffice : {L : Type 0} → (L → Option Traffic) → (L → Lin
 VisitsOffice traffic marks faults office visit office_now =
     IsSilent (traffic visit.accepted) × ServesAdmin traffic marks faults visit.ended office visit.accepted office_now visit.returned
 
--- A worker of administrators ends as stopped exactly behind a connection that made a stop.
-abbrev pub EndsOffice : {L : Type 0} → WorkerEnd → List (Visit L) → Type 0
-EndsOffice {L} Stopped visits = (front : List (Visit L)) × (last : Visit L)
-    × (visits ≡ front ++ last ∷ []) × AllGoOn front × (last.ended ≡ EndedByStop)
-EndsOffice end visits = AllGoOn visits
+-- How a worker of administrators ends behind a connection that ended so: as stopped where that made a stop; and alone where it made
+-- none, and the worker is told that the service is stopped.
+abbrev pub EndsBehind : WorkerEnd → Ended → StopsTold → StopsTold → Type 0
+EndsBehind Stopped ended told told_now = (ended ≡ EndedByStop) × (told_now ≡ told)
+EndsBehind Alone ended told told_now = GoesOn ended × (told_now ≡ told_stop told)
+EndsBehind end ended told told_now = ⊥
 
--- what its own hall counts behind a worker of administrators: it stopped the service itself, unless a connection had
+-- It goes on behind each connection that made no stop, where it is told that the service is not stopped. So it ends behind the first
+-- one of which that does not hold, or where its door accepts none; and unstarted it served none.
+abbrev pub EndsOffice : {L : Type 0} → StopsTold → StopsTold → WorkerEnd → List (Visit L) → Type 0
+EndsOffice told told_now DoorFailed visits = GoesOnTold told told_now visits
+EndsOffice told told_now Memory visits = GoesOnTold told told_now visits
+EndsOffice told told_now Unstarted visits = (visits ≡ []) × (told_now ≡ told)
+EndsOffice {L} told told_now end visits = (front : List (Visit L)) × (last : Visit L)
+    × (visits ≡ front ++ last ∷ []) × AllGoOn front × EndsBehind end last.ended (told_each front told) told_now
+
+-- what its own hall counts behind a worker of administrators: it stopped the service itself where its door accepts none
 abbrev pub tally_behind : WorkerEnd → Tally → Tally
-tally_behind Stopped tally = tally
-tally_behind end tally = after_stop tally
+tally_behind DoorFailed tally = after_stop tally
+tally_behind Memory tally = after_stop tally
+tally_behind end tally = tally

@@ -8,7 +8,7 @@ use Rattle.server_hall.specs.StopNews.{StopsTold, told_on, told_stop}
 use Rattle.door_frames.specs.declared.endings.Ended.{Ended}
 use Rattle.door_frames.specs.declared.endings.Ended.TheVariants.{Stopped as EndedByStop}
 use Rattle.door_workers.specs.declared.workers.WorkerEnd.{WorkerEnd}
-use Rattle.door_workers.specs.declared.workers.WorkerEnd.TheVariants.{Stopped, DoorFailed, Memory}
+use Rattle.door_workers.specs.declared.workers.WorkerEnd.TheVariants.{Stopped, DoorFailed, Alone, Unstarted}
 
 -- a connection: its link as the door accepted it, and as it was given back to the door; and how it ended
 pub record Visit (L : Type 0) : Type 0 where
@@ -64,10 +64,12 @@ abbrev pub GoesOnTold : {L : Type 0} → StopsTold → StopsTold → List (Visit
 GoesOnTold told told_now visits = AllGoOn visits × (told_now ≡ told_each visits told)
 
 -- A worker that serves until the service is stopped ends as stopped exactly behind the first connection where that is over. Else
--- its door accepts none.
+-- its door accepts none; or it was not started, and served none.
 abbrev pub EndsWorking : {L : Type 0} → StopsTold → StopsTold → WorkerEnd → List (Visit L) → Type 0
 EndsWorking {L} told told_now Stopped visits = (front : List (Visit L)) × (last : Visit L)
     × (visits ≡ front ++ last ∷ []) × AllGoOn front × IsOver last.ended (told_each front told) told_now
+EndsWorking told told_now Unstarted visits = (visits ≡ []) × (told_now ≡ told)
+EndsWorking told told_now Alone visits = ⊥
 EndsWorking told told_now end visits = GoesOnTold told told_now visits
 
 -- What a worker did, with a step for each connection, and what its end says of them.

@@ -1,30 +1,30 @@
 // The worker of administrators.
-ghost use Rattle.std.specs.Prelude.{◌≡◌, ◌≤◌, List, []};
+ghost use Rattle.std.specs.Prelude.{◌≡◌, ◌≤◌, List, [], IfSome, IfNone};
 ghost use Rattle.desk_keeper.specs.Keeper.{IsSameDisk};
 ghost use Rattle.live_desk.specs.History.{last_commit};
-ghost use Rattle.door_workers.specs.Visit.{Works};
+ghost use Rattle.door_workers.specs.Visit.{Works, IsNotOver};
 ghost use Rattle.admin_door.specs.Serving.{Exchange};
 ghost use Rattle.admin_door.specs.Running.{RunsOver};
-ghost use Rattle.door_workers.specs.Administrators.{office_of, VisitsOffice, EndsOffice, tally_behind};
+ghost use Rattle.door_workers.specs.Administrators.{office_of, VisitsOffice, EndsOffice, EndsBehind, tally_behind};
 ghost use Rattle.door_workers.specs.parts.Turn.{TurnsOffice};
 
-use crate::chores::Chore;
-use crate::notes::{Notes, note_store};
+use crate::notes::{Notes, note_stop, note_store};
 use crate::workers::{WorkerEnd, accept, is_stop};
 use desk_keeper::Keeper;
 use desk_ports::Disk;
 use desk_server::serve_admin;
+use door_frames::Ended;
 use link_ports::{Door, HangEnd, Link};
 use live_desk::Publisher;
 use live_roll::Roll;
-use server_hall::{Hall, QuestionDesk};
+use server_hall::{Hall, QuestionDesk, StopNews};
 use std::alloc::Global;
 use std::sync::{Mutex, Wait};
 use std::time::Clock;
 
-/// Serves connections of administrators, one after the other, and does the chore behind each, until one of them has stopped the
-/// service. Where its door accepts none it stops the service itself, by way of its own hall. What a stop at any moment may
-/// leave in the folder is told of the frames that came (`RunsOver`). It may wait.
+/// Serves connections of administrators, one after the other, until one of them has stopped the service, or it is told behind
+/// one that the service is stopped. Where its door accepts none it stops the service itself, by way of its own hall. What a
+/// stop at any moment may leave in the folder is told of the frames that came (`RunsOver`). It may wait.
 pub fn work_for_administrators<
     R: Wait + Clock,
     D: Disk,
@@ -33,7 +33,6 @@ pub fn work_for_administrators<
     E: Door<Link = L>,
     A: Hall,
     T: Notes,
-    C: Chore,
 >(
     rt: &R,
     alloc: Global,
@@ -44,46 +43,37 @@ pub fn work_for_administrators<
     door: &mut E,
     hall: &mut A,
     notes: &T,
-    chore: &mut C,
+    news: &mut StopNews,
 ) -> WorkerEnd
     requires behind { last_commit 0 publisher.old ≤ keeper.old.desk.commit }
     ensures worked { (frames : List Exchange)
-        × Works (VisitsOffice L.traffic L.marks L.faults) EndsOffice L.marks L.faults result
+        × Works (VisitsOffice L.traffic L.marks L.faults) (EndsOffice news.old news.new) L.marks L.faults result
         (office_of D.faults keeper.old publisher.old []) (office_of D.faults keeper.new publisher.new frames)
         (E.given_back door.old) (E.given_back door.new) (E.faults door.old) (E.faults door.new)
         × RunsOver D.state D.moment D.left_since keeper.old keeper.new frames }
     ensures same_disk { IsSameDisk keeper.old keeper.new }
     ensures kind { E.kind door.new ≡ E.kind door.old }
     ensures stopped { A.tally hall.new ≡ tally_behind result (A.tally hall.old) }
-    ensures chore { C.goes chore.old chore.new }
 {
     let end = serve_administrators(
-        rt, alloc, keeper, publisher, roll, questions, door, notes, chore,
+        rt, alloc, keeper, publisher, roll, questions, door, notes, news,
     );
     stop_behind(hall, end);
     end
 }
 
-// Stops the service behind a worker of administrators, where none of its connections made a stop.
+// Stops the service behind a worker of administrators whose door accepts none.
 fn stop_behind<A: Hall>(hall: &mut A, end: WorkerEnd)
     ensures { A.tally hall.new ≡ tally_behind end (A.tally hall.old) }
 {
     match end {
-        WorkerEnd::Stopped => {}
+        WorkerEnd::Stopped | WorkerEnd::Alone | WorkerEnd::Unstarted => {}
         WorkerEnd::DoorFailed | WorkerEnd::Memory => hall.stop(),
     }
 }
 
 // The same, but for the stop of the service where the door accepts none.
-fn serve_administrators<
-    R: Wait + Clock,
-    D: Disk,
-    H: HangEnd,
-    L: Link,
-    E: Door<Link = L>,
-    T: Notes,
-    C: Chore,
->(
+fn serve_administrators<R: Wait + Clock, D: Disk, H: HangEnd, L: Link, E: Door<Link = L>, T: Notes>(
     rt: &R,
     alloc: Global,
     keeper: &mut Keeper<'_, D>,
@@ -92,21 +82,20 @@ fn serve_administrators<
     questions: &QuestionDesk,
     door: &mut E,
     notes: &T,
-    chore: &mut C,
+    news: &mut StopNews,
 ) -> WorkerEnd
     requires behind { last_commit 0 publisher.old ≤ keeper.old.desk.commit }
     ensures worked { (frames : List Exchange)
-        × Works (VisitsOffice L.traffic L.marks L.faults) EndsOffice L.marks L.faults result
+        × Works (VisitsOffice L.traffic L.marks L.faults) (EndsOffice news.old news.new) L.marks L.faults result
         (office_of D.faults keeper.old publisher.old []) (office_of D.faults keeper.new publisher.new frames)
         (E.given_back door.old) (E.given_back door.new) (E.faults door.old) (E.faults door.new)
         × RunsOver D.state D.moment D.left_since keeper.old keeper.new frames }
     ensures same_disk { IsSameDisk keeper.old keeper.new }
     ensures kind { E.kind door.new ≡ E.kind door.old }
-    ensures chore { C.goes chore.old chore.new }
 {
     for _ in rt.forever() {
         if let Err(end) = serve_next(
-            rt, alloc, keeper, publisher, roll, questions, door, notes, chore,
+            rt, alloc, keeper, publisher, roll, questions, door, notes, news,
         ) {
             return end;
         }
@@ -115,7 +104,7 @@ fn serve_administrators<
 }
 
 // Serves the next administrator, and says whether the worker ends behind it.
-fn serve_next<R: Wait + Clock, D: Disk, H: HangEnd, L: Link, E: Door<Link = L>, T: Notes, C: Chore>(
+fn serve_next<R: Wait + Clock, D: Disk, H: HangEnd, L: Link, E: Door<Link = L>, T: Notes>(
     rt: &R,
     alloc: Global,
     keeper: &mut Keeper<'_, D>,
@@ -124,16 +113,15 @@ fn serve_next<R: Wait + Clock, D: Disk, H: HangEnd, L: Link, E: Door<Link = L>, 
     questions: &QuestionDesk,
     door: &mut E,
     notes: &T,
-    chore: &mut C,
+    news: &mut StopNews,
 ) -> Result<(), WorkerEnd>
     requires behind { last_commit 0 publisher.old ≤ keeper.old.desk.commit }
     ensures worked { TurnsOffice D.faults D.state D.moment D.left_since L.traffic L.marks L.faults result
-        keeper.old publisher.old (E.given_back door.old) (E.faults door.old)
-        keeper.new publisher.new (E.given_back door.new) (E.faults door.new) }
+        keeper.old publisher.old (E.given_back door.old) (E.faults door.old) news.old
+        keeper.new publisher.new (E.given_back door.new) (E.faults door.new) news.new }
     ensures behind { last_commit 0 publisher.new ≤ keeper.new.desk.commit }
     ensures same_disk { IsSameDisk keeper.old keeper.new }
     ensures kind { E.kind door.new ≡ E.kind door.old }
-    ensures chore { C.goes chore.old chore.new }
 {
     let mut link = match accept(door) {
         Ok(link) => link,
@@ -143,9 +131,37 @@ fn serve_next<R: Wait + Clock, D: Disk, H: HangEnd, L: Link, E: Door<Link = L>, 
     let ended = serve_admin(rt, alloc, keeper, publisher, roll, questions, &mut link);
     note_store(notes, was_decided, keeper.is_decided());
     door.give_back(link);
-    chore.turn(rt);
-    if is_stop(&ended) {
-        return Err(WorkerEnd::Stopped);
+    match end_behind(rt, questions, news, &ended) {
+        Some(end) => {
+            note_made_stop(notes, end);
+            Err(end)
+        }
+        None => Ok(()),
     }
-    Ok(())
+}
+
+// Tells of a stop that a connection made.
+fn note_made_stop<T: Notes>(notes: &T, end: WorkerEnd) {
+    if end == WorkerEnd::Stopped {
+        note_stop(notes);
+    }
+}
+
+// How the worker of administrators ends behind a connection that ended so, if it does: it made a stop, or the service is stopped.
+fn end_behind<R: Wait>(
+    rt: &R,
+    questions: &QuestionDesk,
+    news: &mut StopNews,
+    ended: &Ended,
+) -> Option<WorkerEnd>
+    ensures over { IfSome result (λ end. EndsBehind end ended.now news.old news.new) }
+    ensures on { IfNone result (IsNotOver ended.now news.old news.new) }
+{
+    if is_stop(ended) {
+        return Some(WorkerEnd::Stopped);
+    }
+    if news.is_stopped(rt, questions) {
+        return Some(WorkerEnd::Alone);
+    }
+    None
 }

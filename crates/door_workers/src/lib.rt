@@ -5,14 +5,12 @@
 #![tactic(auto)]
 
 mod admin_workers;
-mod chores;
 mod duties;
 mod monitored_workers;
 mod notes;
 mod workers;
 
 pub use admin_workers::work_for_administrators;
-pub use chores::{Chore, NoChore};
 pub use duties::{ClientDuty, Unrecorded};
 pub use monitored_workers::work_for_monitored_clients;
 pub use notes::{Notes, Unheard};

@@ -14,6 +14,11 @@ impl Notes for Unheard {
     fn note(&self, _line: &str) {}
 }
 
+/// An administrator stopped the service.
+pub(crate) fn note_stop<T: Notes>(notes: &T) {
+    notes.note("privilege: an administrator stopped the service");
+}
+
 /// Of a connection of an administrator, by whether it was known before it and behind it what the folder keeps.
 pub(crate) fn note_store<T: Notes>(notes: &T, before: bool, after: bool) {
     if before && !after {

@@ -31,6 +31,10 @@ pub enum WorkerEnd {
     DoorFailed,
     /// An `accept` of its door found no memory.
     Memory,
+    /// Of administrators: the service is stopped, and by none of them, since no worker of clients is left.
+    Alone,
+    /// Not all workers of its service had threads, so it served nobody.
+    Unstarted,
 }
 
 /// Serves connections of clients, one after the other, in the place of the seat. It ends behind one that ended for a stop, or

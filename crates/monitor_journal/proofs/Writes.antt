@@ -115,28 +115,31 @@ writes_none OutOfMemory sink = (refl, refl)
 -- ---- journals
 
 -- nothing was handed out
-pub journals_none : (reader : ReaderState) (writing : Writing) (sink : SinkSeen) → Journals reader reader writing writing sink sink
+pub journals_none : (reader : ReaderState) (writing : Writing) (sink : SinkSeen) → Journals 0 reader reader writing writing sink sink
 journals_none reader writing sink =
     record {
       entries = [];
+      few = omega arith;
       known = tt;
       handed = ap (λ list. record reader { handed = list }) (sym (append-nil reader.handed));
       written = writes_none writing sink;
     }
 
--- at most so many were handed out
-pub journals_few : (most : ℕ) (reader now : ReaderState) (writing next : Writing) (before after : SinkSeen)
-    → HandsOn most reader now writing next before after → Journals reader now writing next before after
-journals_few most reader now writing next before after hands =
-    record { entries = hands.entries; known = hands.known; handed = hands.handed; written = hands.written }
+-- in one turn
+pub journals_once : (reader now : ReaderState) (writing next : Writing) (before after : SinkSeen)
+    → HandsOn 1024 reader now writing next before after → Journals 1 reader now writing next before after
+journals_once reader now writing next before after hands =
+    record { entries = hands.entries; few = hands.few; known = hands.known; handed = hands.handed; written = hands.written }
 
-pub journals_then : (a b c : ReaderState) (first second third : Writing) (before between after : SinkSeen)
-    → Journals a b first second before between → Journals b c second third between after → Journals a c first third before after
-journals_then a b c first second third before between after one then =
+pub journals_then : (some more : ℕ) (a b c : ReaderState) (first second third : Writing) (before between after : SinkSeen)
+    → Journals some a b first second before between → Journals more b c second third between after
+    → Journals (some + more) a c first third before after
+journals_then some more a b c first second third before between after one then =
     let text : entries_text (one.entries ++ then.entries) ≡ entries_text one.entries ++ entries_text then.entries =
     flat_map-append entry_text one.entries then.entries in
     record {
       entries = one.entries ++ then.entries;
+      few = (let long = length-append one.entries then.entries in omega (arith, long, one.few, then.few));
       known = known-more a.made one.entries then.entries one.known
           (subst (λ (n : ℕ). AreKnown n then.entries) (ap (λ (r : ReaderState). r.made) one.handed) then.known);
       handed = then.handed ∙ (ap (λ (r : ReaderState). record r { handed = r.handed ++ then.entries }) one.handed

@@ -1,5 +1,5 @@
 -- The lines that a run of `watch` writes, and how their writing stands.
-use Rattle.std.specs.Prelude.{◌≡◌, ◌≤◌, ℕ, List, ◌++◌, length, take}
+use Rattle.std.specs.Prelude.{◌≡◌, ◌≤◌, ◌*◌, ℕ, List, ◌++◌, length, take}
 use Rattle.std.specs.List.{flat_map}
 use Rattle.desk_ports.specs.Content.{Appended, AppendedPart}
 use Rattle.desk_ports.specs.Faults.{next_count}
@@ -32,9 +32,11 @@ pub record HandsOn (most : ℕ) (reader reader_now : ReaderState) (writing now :
   pub handed : reader_now ≡ record reader { handed = reader.handed ++ entries }
   pub written : Writes writing (entries_text entries) before now after
 
--- Some entries were handed out meanwhile, each of a worker that has a recorder, and their lines were to be written.
-pub record Journals (reader reader_now : ReaderState) (writing now : Writing) (before after : SinkSeen) : Type 0 where
+-- Entries were handed out in so many turns, at most 1,024 in each, each of a worker that has a recorder, and their lines were to be
+-- written.
+pub record Journals (turns : ℕ) (reader reader_now : ReaderState) (writing now : Writing) (before after : SinkSeen) : Type 0 where
   pub entries : List Entry
+  pub few : length entries ≤ 1024 * turns
   pub known : AreKnown reader.made entries
   pub handed : reader_now ≡ record reader { handed = reader.handed ++ entries }
   pub written : Writes writing (entries_text entries) before now after

@@ -17,6 +17,7 @@ use std::io::IsTerminal;
 use std::process::ExitCode;
 use std::sync::Wait;
 use std::thread::Threads;
+use std::time::Clock;
 
 /// The status of a run that found no memory.
 const NO_MEMORY: u8 = 1;
@@ -42,7 +43,10 @@ impl Notes for ErrorNotes<'_> {
 }
 
 // Runs the program on standard input and output, on its folder and on the sockets beside it. How it ends.
-fn run_on_host<T: Threads + Wait + Sync>(rt: &HostRuntime, threads: &T) -> Result<u8, AllocError> {
+fn run_on_host<T: Threads + Wait + Clock + Sync>(
+    rt: &HostRuntime,
+    threads: &T,
+) -> Result<u8, AllocError> {
     take_descriptors(rt);
     let directory = directory_path(rt, rt.alloc())?;
     let folder = folder_path(rt.alloc(), &directory)?;

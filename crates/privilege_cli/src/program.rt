@@ -18,7 +18,7 @@ use door_workers::Notes;
 use folder_runs::run_load;
 use host_notes::{COMMANDS_ARE_READ, RULES_ARE_READ};
 use host_ports::host_words;
-use link_ports::{Door, Gate, Link, Net};
+use link_ports::{Dial, Door, Gate, Link, Net};
 use local_runs::run_local;
 use run_endings::Ending;
 use sample_runs::run_sample;
@@ -28,6 +28,7 @@ use std::alloc::Global;
 use std::env::Env;
 use std::sync::Wait;
 use std::thread::Threads;
+use std::time::Clock;
 use watch_runs::run_watch;
 
 /// Runs the command that the words name, writes the last line that belongs to the way in which the run ends, and answers
@@ -40,11 +41,11 @@ use watch_runs::run_watch;
 /// the disk and the net as they were; memory may run out in reading them, but where one begins with `-`. `is_typed` says
 /// whether a person types what the source gives, who is then told what is read. It may wait.
 pub fn run<
-    R: Threads + Wait + Sync,
+    R: Threads + Wait + Clock + Sync,
     S: Source,
-    K: Sink,
+    K: Sink + Send,
     D: Disk,
-    N: Net,
+    N: Net + Send,
     G: Gate + Sync,
     T: Notes + Sync,
 >(
@@ -63,6 +64,8 @@ where
     N::Door: Send,
     <N::Door as Door>::Link: Send,
     <<N::Door as Door>::Link as Link>::End: Send,
+    <N as Dial>::Link: Send,
+    <<N as Dial>::Link as Link>::End: Send,
     ensures run { Ends N.Dial N.Link.Link N.closed N.Door.Door N.Door.Link.Link (command_of words.now) result
         (seen_of S.Source K.Sink D.Disk N.Dial source.old sink.old disk.old net.old)
         (seen_of S.Source K.Sink D.Disk N.Dial source.new sink.new disk.new net.new) net.old net.new }
@@ -81,11 +84,11 @@ where
 
 // Runs the command that the words name, up to its last line.
 fn run_words<
-    R: Threads + Wait + Sync,
+    R: Threads + Wait + Clock + Sync,
     S: Source,
-    K: Sink,
+    K: Sink + Send,
     D: Disk,
-    N: Net,
+    N: Net + Send,
     G: Gate + Sync,
     T: Notes + Sync,
 >(
@@ -104,6 +107,8 @@ where
     N::Door: Send,
     <N::Door as Door>::Link: Send,
     <<N::Door as Door>::Link as Link>::End: Send,
+    <N as Dial>::Link: Send,
+    <<N as Dial>::Link as Link>::End: Send,
     ensures run { (said : Said)
         × RunsCommand N.Dial N.Link.Link N.closed N.Door.Door N.Door.Link.Link said result
         (source_seen S.left S.faults source.old) (source_seen S.left S.faults source.new)
@@ -166,11 +171,11 @@ fn greet<T: Notes>(is_typed: bool, line: &str, notes: &T) {
 /// nothing is read, written, mounted, dialled or served. It may wait.
 pub fn run_on<
     E: Env,
-    R: Threads + Wait + Sync,
+    R: Threads + Wait + Clock + Sync,
     S: Source,
-    K: Sink,
+    K: Sink + Send,
     D: Disk,
-    N: Net,
+    N: Net + Send,
     G: Gate + Sync,
     T: Notes + Sync,
 >(
@@ -189,6 +194,8 @@ where
     N::Door: Send,
     <N::Door as Door>::Link: Send,
     <<N::Door as Door>::Link as Link>::End: Send,
+    <N as Dial>::Link: Send,
+    <<N as Dial>::Link as Link>::End: Send,
     ensures { ((words : List (String Global))
         × Ends N.Dial N.Link.Link N.closed N.Door.Door N.Door.Link.Link (command_of words) result
         (seen_of S.Source K.Sink D.Disk N.Dial source.old sink.old disk.old net.old)

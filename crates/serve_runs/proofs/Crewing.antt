@@ -1,6 +1,6 @@
 -- The workers of a service, from their stations to their ends.
 use Rattle.std.proofs.Common.{◌≡◌, ◌∙◌, ◌<◌, ◌+◌, ℕ, zero, suc, ◌||◌, List, [], ◌∷◌, ◌++◌, length, map, slice_index_or, replicate, Option, Some}
-use Rattle.std.proofs.Common.{None, refl, sym, ap, subst, arith, append_assoc}
+use Rattle.std.proofs.Common.{None, Bool, true, false, refl, sym, ap, subst, arith, append_assoc, append-nil}
 use Rattle.std.proofs.lemmas.List.{length-append, map-append, replicate_more}
 use Rattle.std.specs.List.{AllZip, AllByRecursion, list_any}
 use Rattle.std.specs.Option.{option_to_list}
@@ -13,8 +13,8 @@ use Rattle.door_workers.specs.Visit.{Works, EndsWorking, door_faults_after}
 use Rattle.door_workers.specs.Clients.{VisitsClients}
 use Rattle.door_workers.specs.Agents.{VisitsAgents}
 use Rattle.door_workers.specs.declared.workers.WorkerEnd.{WorkerEnd}
-use Rattle.door_workers.specs.declared.workers.WorkerEnd.TheVariants.{DoorFailed}
-use Rattle.serve_runs.specs.Crew.{EndedWorker, ends_of, doors_of, lacks_memory, posts_with, WorksFor, Serves}
+use Rattle.door_workers.specs.declared.workers.WorkerEnd.TheVariants.{Stopped, DoorFailed, Memory, Alone, Unstarted}
+use Rattle.serve_runs.specs.Crew.{EndedWorker, ends_of, doors_of, lacks_memory, is_alone, is_deserted, posts_with, WorksFor, Serves}
 use Rattle.serve_runs.specs.Serving.{HasRisen}
 use Rattle.serve_runs.specs.declared.crews.Station.{Station}
 use Rattle.serve_runs.specs.declared.crews.Station.TheVariants.{Clients, Agents}
@@ -104,6 +104,30 @@ doors_push {E} {X} crew worker = map-append (λ (w : Worker E X). door_of w) cre
 
 module _ {L E X : Type 0} (traffic : L → Option Traffic) (marks : L → LinkMarks) (faults : L → ℕ)
     (given_back : E → Option (List L)) (door_faults : E → ℕ) (kind : E → Option DoorKind) (goes : X → X → Type 0) where
+  -- A worker that is not started leaves its station and its door as they were.
+  pub unstarted : (station : Station X) (door : E) (told : StopsTold) → ((duty : X) → goes duty duty)
+      → WorksAt traffic marks faults given_back door_faults goes Unstarted station station door door told told
+  unstarted (Clients seat duty) door told stays = (
+    record {
+      visits = [];
+      fresh = tt;
+      in_turn = refl;
+      ending = (refl, refl);
+      given_back = λ after is. (after, is, sym (append-nil after));
+      counted = refl;
+    },
+    stays duty,
+  )
+  unstarted Agents door told stays =
+      record {
+        visits = [];
+        fresh = tt;
+        in_turn = refl;
+        ending = (refl, refl);
+        given_back = λ after is. (after, is, sym (append-nil after));
+        counted = refl;
+      }
+
   works_for : (station now : Station X) (end : WorkerEnd) (door door_now : E) (told : StopsTold) → door_faults door ≡ 0
       → WorksAt traffic marks faults given_back door_faults goes end station now door door_now unasked told
       → WorksFor traffic marks faults given_back door_faults kind (post_at station) end told (given_back door) door_now
@@ -168,6 +192,11 @@ module _ {L E X : Type 0} (traffic : L → Option Traffic) (marks : L → LinkMa
             o.door w.door unasked worked.told) stands.station_is worked.works) rest.duties;
       }
 
+-- by the worker of administrators alone
+pub alone_first : (alone first rest : Bool) → alone ≡ first → rest ≡ false → alone ≡ first || rest
+alone_first alone true rest is none = is
+alone_first alone false rest is none = is ∙ sym none
+
 -- ---- doors that failed
 
 module _ {L E : Type 0} (traffic : L → Option Traffic) (marks : L → LinkMarks) (faults : L → ℕ)
@@ -176,6 +205,24 @@ module _ {L E : Type 0} (traffic : L → Option Traffic) (marks : L → LinkMark
       → WorksFor traffic marks faults given_back door_faults kind post end told given door → door_faults door ≡ door_faults_after end 0
   counted (Some seat) end told given door (seat_now, works) = works.counted
   counted None end told given door works = works.counted
+
+  never_alone : (post : Option SeatState) (end : WorkerEnd) (told : StopsTold) (given : Option (List L)) (door : E)
+      → WorksFor traffic marks faults given_back door_faults kind post end told given door → is_alone end ≡ false
+  never_alone (Some seat) Alone told given door (seat_now, works) = absurd works.ending
+  never_alone None Alone told given door works = absurd works.ending
+  never_alone post Stopped told given door works = refl
+  never_alone post DoorFailed told given door works = refl
+  never_alone post Memory told given door works = refl
+  never_alone post Unstarted told given door works = refl
+
+  -- no worker of clients or of agents ends alone
+  pub none_alone : (posts : List (Option SeatState)) (crew : List (EndedWorker E))
+      → AllZip (Serves traffic marks faults given_back door_faults kind) posts crew → is_deserted (ends_of crew) ≡ false
+  none_alone [] [] serve = refl
+  none_alone [] (w ∷ crew) serve = absurd serve
+  none_alone (post ∷ posts) [] serve = absurd serve
+  none_alone (post ∷ posts) (w ∷ crew) (serves, serve) =
+      λ i. never_alone post w.end serves.told serves.given w.door serves.works i || none_alone posts crew serve i
 
   -- Each door of a worker that ended since its door failed raised the count of its net.
   pub failed_all : (posts : List (Option SeatState)) (crew : List (EndedWorker E))

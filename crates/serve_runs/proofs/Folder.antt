@@ -15,8 +15,8 @@ use Rattle.link_ports.specs.Traffic.{Traffic}
 use Rattle.link_ports.specs.LinkMarks.{LinkMarks}
 use Rattle.admin_door.specs.Serving.{Exchange}
 use Rattle.admin_door.specs.Running.{LeadsTo, ComesFrom, IsReached, RunsOver}
-use Rattle.door_workers.specs.Visit.{Works}
-use Rattle.door_workers.specs.Administrators.{Office, VisitsOffice, EndsOffice}
+use Rattle.door_workers.specs.Visit.{Visit, Works}
+use Rattle.door_workers.specs.Administrators.{Office, VisitsOffice}
 use Rattle.door_workers.specs.declared.workers.WorkerEnd.{WorkerEnd}
 use Rattle.door_workers.proofs.Offices.{office-holds}
 use Rattle.run_endings.specs.Outside.{DiskSeen, disk_seen}
@@ -88,10 +88,10 @@ module _ (mounted : DiskState) (start : DeskState) (alone : (map : FileMap) → 
 -- each state that a service published is what the first few of its frames made of the state that was mounted
 module _ {L : Type 0} (traffic : L → Option Traffic) (marks : L → LinkMarks) (faults : L → ℕ) where
   pub published-made : (entry : DiskState) (before after : DiskSeen) (start : DeskState) (last : Office) (disk : ℕ) (end : WorkerEnd)
-      (given given_now : Option (List L)) (count : ℕ)
-      → Works (VisitsOffice traffic marks faults) EndsOffice marks faults end (opening start disk) last given given_now 0 count
+      (ends : WorkerEnd → List (Visit L) → Type 0) (given given_now : Option (List L)) (count : ℕ)
+      → Works (VisitsOffice traffic marks faults) ends marks faults end (opening start disk) last given given_now 0 count
       → KeepsService entry before after start last.frames → AreMadeBy start last.frames last.published
-  published-made entry before after start last disk end given given_now count works keeps =
+  published-made entry before after start last disk end ends given given_now count works keeps =
       let holds = office-holds traffic marks faults keeps.mounted start (start ∷ []) last.frames keeps.tells (opening start disk)
       works.visits last [] works.in_turn (sym (append-nil last.frames))
       (record { comes = inl refl; more = []; published_is = refl; each = tt }) in

@@ -12,16 +12,16 @@ use Rattle.door_workers.specs.Visit.{Works, EndsWorking}
 use Rattle.door_workers.specs.Clients.{VisitsClients}
 use Rattle.door_workers.specs.Agents.{VisitsAgents}
 use Rattle.door_workers.specs.declared.workers.WorkerEnd.{WorkerEnd}
-use Rattle.door_workers.specs.declared.workers.WorkerEnd.TheVariants.{Memory as LacksMemory}
+use Rattle.door_workers.specs.declared.workers.WorkerEnd.TheVariants.{Memory as LacksMemory, Alone, Unstarted}
 
 -- Whom a worker serves: clients in the place of a seat; or, without one, agents.
 abbrev pub kind_for : Option SeatState → DoorKind
 kind_for (Some seat) = Client
 kind_for None = Agent
 
--- those of the workers with these seats, and then eight for agents
+-- those of the workers with these seats, and then nine for agents
 abbrev pub posts_with : List SeatState → List (Option SeatState)
-posts_with seats = map Some seats ++ replicate 8 None
+posts_with seats = map Some seats ++ replicate 9 None
 
 -- The posts of a service by so many workers of clients: their seats have seen no state, and were told of no entry.
 abbrev pub posts : ℕ → List (Option SeatState)
@@ -38,13 +38,22 @@ ends_of {E} crew = map (λ (worker : EndedWorker E). worker.end) crew
 abbrev pub doors_of : {E : Type 0} → List (EndedWorker E) → List E
 doors_of {E} crew = map (λ (worker : EndedWorker E). worker.door) crew
 
--- an `accept` of a worker that ended so found no memory
+-- an `accept` of a worker that ended so found no memory, or it had no thread
 abbrev pub is_lacking : WorkerEnd → Bool
 is_lacking LacksMemory = true
+is_lacking Unstarted = true
 is_lacking end = false
 
 abbrev pub lacks_memory : List WorkerEnd → Bool
 lacks_memory ends = list_any is_lacking ends
+
+-- a worker that ended so was told that the service is stopped, and by no administrator
+abbrev pub is_alone : WorkerEnd → Bool
+is_alone Alone = true
+is_alone end = false
+
+abbrev pub is_deserted : List WorkerEnd → Bool
+is_deserted ends = list_any is_alone ends
 
 module _ {L E : Type 0} (traffic : L → Option Traffic) (marks : L → LinkMarks) (faults : L → ℕ)
     (given_back : E → Option (List L)) (door_faults : E → ℕ) (kind : E → Option DoorKind) where
@@ -57,7 +66,8 @@ module _ {L E : Type 0} (traffic : L → Option Traffic) (marks : L → LinkMark
   WorksFor None end told given door =
       Works (VisitsAgents traffic marks faults) (EndsWorking unasked told) marks faults end tt tt given (given_back door) 0 (door_faults door)
 
-  -- A worker of this post served at a door of its kind, to which no link had been given back, and has ended.
+  -- A worker of this post served at a door of its kind, to which no link had been given back, and has ended. Where it was unstarted it
+  -- served nobody.
   pub record Serves (post : Option SeatState) (worker : EndedWorker E) : Type 0 where
     pub told : StopsTold
     pub given : Option (List L)

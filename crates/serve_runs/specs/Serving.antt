@@ -8,13 +8,14 @@ use Rattle.link_ports.specs.LinkMarks.{LinkMarks}
 use Rattle.link_ports.specs.declared.door_kinds.DoorKind.{DoorKind}
 use Rattle.link_ports.specs.declared.door_kinds.DoorKind.TheVariants.{Admin}
 use Rattle.desk_state.specs.DeskState.{DeskState}
+use Rattle.server_hall.specs.StopNews.{StopsTold, unasked}
 use Rattle.door_workers.specs.Visit.{Works}
 use Rattle.door_workers.specs.Administrators.{Office, VisitsOffice, EndsOffice}
 use Rattle.door_workers.specs.declared.workers.WorkerEnd.{WorkerEnd}
 use Rattle.door_workers.specs.declared.workers.WorkerEnd.TheVariants.{Stopped}
 use Rattle.run_endings.specs.declared.endings.Ending.{Ending}
 use Rattle.run_endings.specs.declared.endings.Ending.TheVariants.{Done, Memory, Disk, Net}
-use Rattle.serve_runs.specs.Crew.{EndedWorker, ends_of, doors_of, lacks_memory, posts, Serves}
+use Rattle.serve_runs.specs.Crew.{EndedWorker, ends_of, doors_of, lacks_memory, is_deserted, posts, Serves}
 
 -- ---- counts
 
@@ -27,13 +28,15 @@ HasNotRisen before after = after < next_count before
 
 -- ---- endings
 
--- How a run ends that has served, by how its workers ended and by the counts of the disk and of the net: for want of memory where an
--- `accept` of one of them found none; and as done only where each of them ended since the service was stopped, the one of
--- administrators behind a `Stop` that was made, and no call of the two failed.
+-- How a run ends whose doors were opened, by how its workers ended and by the counts of the disk and of the net: for want of memory
+-- where an `accept` of one of them found none, or one had no thread; and as done only where each of them ended since the service was
+-- stopped, the one of administrators behind a `Stop` that was made, and no call of the two failed. Where the service was stopped by no
+-- administrator, and for no failing call, it ends for want of memory too.
 abbrev pub EndsService : Ending → List WorkerEnd → ℕ → ℕ → ℕ → ℕ → Type 0
 EndsService Done ends disk disk_now net net_now =
     AllByRecursion (λ (end : WorkerEnd). end ≡ Stopped) ends × HasNotRisen disk disk_now × HasNotRisen net net_now
-EndsService Memory ends disk disk_now net net_now = lacks_memory ends ≡ true
+EndsService Memory ends disk disk_now net net_now = (lacks_memory ends ≡ true)
+    ⊎ ((is_deserted ends ≡ true) × HasNotRisen disk disk_now × HasNotRisen net net_now)
 EndsService Disk ends disk disk_now net net_now = (lacks_memory ends ≡ false) × HasRisen disk disk_now
 EndsService Net ends disk disk_now net net_now =
     (lacks_memory ends ≡ false) × HasNotRisen disk disk_now × HasRisen net net_now
@@ -66,7 +69,8 @@ ClosesOpened {E} kind closed closed_now = (closed_now ≡ closed)
     ⊎ ((door : E) × (others : List E) × (kind door ≡ Some Admin) × ClosesDoors closed (door ∷ others) closed_now)
 
 -- A service served administrators, one connection after the other, each from the state that the one before it left. Beside them so
--- many workers of clients, and eight of agents, served at doors of their own, and all have ended. It closed all its doors: first
+-- many workers of clients, and nine of agents, served at doors of their own, and all have ended. A worker that was unstarted served
+-- nobody: so it is with that of administrators where not all workers had threads. It closed all its doors: first
 -- that for administrators, and then those of the workers in their order. Each has its links back.
 pub record ServesAll {L E : Type 0} (traffic : L → Option Traffic) (marks : L → LinkMarks) (faults : L → ℕ)
     (given_back : E → Option (List L)) (door_faults : E → ℕ) (kind : E → Option DoorKind) (workers : ℕ)
@@ -77,7 +81,8 @@ pub record ServesAll {L E : Type 0} (traffic : L → Option Traffic) (marks : L 
   pub door : E
   pub is_theirs : kind door ≡ Some Admin
   pub unused : IfTold given (λ links. links ≡ [])
-  pub works : Works (VisitsOffice traffic marks faults) EndsOffice marks faults end (opening start disk) last
+  pub told : StopsTold
+  pub works : Works (VisitsOffice traffic marks faults) (EndsOffice unasked told) marks faults end (opening start disk) last
       given (given_back door) 0 (door_faults door)
   pub counted : disk_now ≡ last.faults
   pub crew : List (EndedWorker E)

@@ -1,35 +1,41 @@
 // The workers on threads, beside the administrators on the calling one.
-ghost use Rattle.std.specs.Prelude.{◌≤◌};
+ghost use Rattle.std.specs.Prelude.{◌≤◌, ℕ};
 ghost use Rattle.live_desk.specs.History.{last_commit};
 ghost use Rattle.serve_runs.specs.parts.Crews.{HaveWorked};
-ghost use Rattle.serve_runs.specs.parts.Officiating.{Officiates};
+ghost use Rattle.serve_runs.specs.parts.Officiating.{Knocks, Officiates};
 
-use crate::doors::knock_all;
+use crate::chores::Chore;
+use crate::musters::Muster;
+use crate::telling::{note_end, note_ready, note_short};
+use crate::watches::keep_watch;
+use check_monitor::Alarm;
 use desk_keeper::Keeper;
 use desk_ports::Disk;
-use door_workers::{Chore, Notes, WorkerEnd, work_for_administrators};
-use link_ports::{Door, HangEnd, Link, Net};
+use door_workers::{Notes, WorkerEnd, work_for_administrators};
+use link_ports::{Dial, Door, DoorKind, HangEnd, Link, Net};
 use live_desk::Publisher;
 use live_roll::Roll;
-use server_hall::{Locked, QuestionDesk};
+use server_hall::{Locked, QuestionDesk, StopNews};
 use std::alloc::Global;
 use std::sync::{Mutex, Wait};
 use std::thread;
 use std::thread::{Threads, join_mut};
+use std::time::Clock;
 
-/// Has each worker do its work on a thread of its own, and serves administrators on the calling one. Once these are served, it
-/// wakes all workers that wait at their doors, so many of clients among them, and returns when all are done.
+/// Has each worker do its work on a thread of its own, and serves administrators on the calling one. One more thread does the
+/// chore, and wakes all workers that wait at their doors once the service is stopped, so many of clients among them. Returns when
+/// all are done. Where not all threads can be made, nobody is served.
 pub(crate) fn beside<
-    R: Threads + Wait + Sync,
+    R: Threads + Wait + Clock + Sync,
     K: Send,
     F: Fn(usize, &mut K) + Sync,
     D: Disk,
     H: HangEnd,
     L: Link,
     E: Door<Link = L>,
-    N: Net,
+    N: Net + Send,
     T: Notes,
-    C: Chore,
+    C: Chore + Send,
 >(
     rt: &R,
     alloc: Global,
@@ -40,36 +46,47 @@ pub(crate) fn beside<
     publisher: &mut Publisher,
     roll: &Mutex<Roll<H>>,
     questions: &QuestionDesk,
+    muster: &Muster,
+    alarm: &Alarm,
     net: &mut N,
     door: &mut E,
     notes: &T,
     chore: &mut C,
 ) -> WorkerEnd
+where
+    N::Door: Send,
+    <N::Door as Door>::Link: Send,
+    <<N::Door as Door>::Link as Link>::End: Send,
+    <N as Dial>::Link: Send,
+    <<N as Dial>::Link as Link>::End: Send,
     requires workers { F.IsAlwaysCallable each.now }
     requires behind { last_commit 0 publisher.old ≤ keeper.old.desk.commit }
     ensures officiates { Officiates D.faults D.state D.moment D.left_since L.traffic L.marks L.faults
-        E.given_back E.faults E.kind N.faults N.closed result
-        keeper.old keeper.new publisher.old publisher.new door.old door.new net.old net.new }
-    ensures chore { C.goes chore.old chore.new }
+        E.given_back E.faults E.kind result
+        keeper.old keeper.new publisher.old publisher.new door.old door.new }
+    ensures knocks { Knocks N.faults N.closed net.old net.new }
+    ensures chore { (turns : ℕ) × C.goes chore.old turns chore.new }
     ensures workers { HaveWorked F.Fn each.now workers.old workers.new }
 {
+    let threads = (workers.len() as u64).saturating_add(1);
     let mut front = ||
         requires { F.IsAlwaysCallable each.now }
         ensures { HaveWorked F.Fn each.entry.now workers.entry.now workers.exit.now }
     { each_of(rt, each, workers) };
-    let mut office = || -> WorkerEnd
+    let mut rest = || -> WorkerEnd
         requires { last_commit 0 publisher.now ≤ keeper.now.desk.commit }
         ensures officiates { Officiates D.faults D.state D.moment D.left_since L.traffic L.marks L.faults
-            E.given_back E.faults E.kind N.faults N.closed result
-            keeper.entry.now keeper.exit.now publisher.entry.now publisher.exit.now door.entry.now door.exit.now
-            net.entry.now net.exit.now }
-        ensures chore { C.goes chore.entry.now chore.exit.now }
+            E.given_back E.faults E.kind result
+            keeper.entry.now keeper.exit.now publisher.entry.now publisher.exit.now door.entry.now door.exit.now }
+        ensures knocks { Knocks N.faults N.closed net.entry.now net.exit.now }
+        ensures chore { (turns : ℕ) × C.goes chore.entry.now turns chore.exit.now }
     {
-        officiate(
-            rt, alloc, clients, keeper, publisher, roll, questions, net, door, notes, chore,
+        attend(
+            rt, alloc, clients, threads, keeper, publisher, roll, questions, muster, alarm, net,
+            door, notes, chore,
         )
     };
-    let ((), end) = join_mut(rt, &mut front, &mut office);
+    let ((), end) = join_mut(rt, &mut front, &mut rest);
     end
 }
 
@@ -89,30 +106,93 @@ fn each_of<R: Threads + Sync, K: Send, F: Fn(usize, &mut K) + Sync>(
     thread::for_each_mut(rt, workers, threads, each);
 }
 
-// Serves the administrators, and wakes all workers that wait at their doors once the service is stopped.
-fn officiate<R: Wait, D: Disk, H: HangEnd, L: Link, E: Door<Link = L>, N: Net, T: Notes, C: Chore>(
+// Serves the administrators on the calling thread, and keeps watch on another.
+fn attend<
+    R: Threads + Wait + Clock + Sync,
+    D: Disk,
+    H: HangEnd,
+    L: Link,
+    E: Door<Link = L>,
+    N: Net + Send,
+    T: Notes,
+    C: Chore + Send,
+>(
     rt: &R,
     alloc: Global,
     clients: u32,
+    threads: u64,
     keeper: &mut Keeper<'_, D>,
     publisher: &mut Publisher,
     roll: &Mutex<Roll<H>>,
     questions: &QuestionDesk,
+    muster: &Muster,
+    alarm: &Alarm,
     net: &mut N,
     door: &mut E,
     notes: &T,
     chore: &mut C,
 ) -> WorkerEnd
+where
+    N::Door: Send,
+    <N::Door as Door>::Link: Send,
+    <<N::Door as Door>::Link as Link>::End: Send,
+    <N as Dial>::Link: Send,
+    <<N as Dial>::Link as Link>::End: Send,
     requires { last_commit 0 publisher.old ≤ keeper.old.desk.commit }
     ensures officiates { Officiates D.faults D.state D.moment D.left_since L.traffic L.marks L.faults
-        E.given_back E.faults E.kind N.faults N.closed result
-        keeper.old keeper.new publisher.old publisher.new door.old door.new net.old net.new }
-    ensures chore { C.goes chore.old chore.new }
+        E.given_back E.faults E.kind result
+        keeper.old keeper.new publisher.old publisher.new door.old door.new }
+    ensures knocks { Knocks N.faults N.closed net.old net.new }
+    ensures chore { (turns : ℕ) × C.goes chore.old turns chore.new }
 {
+    let mut watch = ||
+        ensures knocks { Knocks N.faults N.closed net.entry.now net.exit.now }
+        ensures chore { (turns : ℕ) × C.goes chore.entry.now turns chore.exit.now }
+    { keep_watch(rt, clients, questions, muster, alarm, net, chore) };
+    let mut office = || -> WorkerEnd
+        requires { last_commit 0 publisher.now ≤ keeper.now.desk.commit }
+        ensures { Officiates D.faults D.state D.moment D.left_since L.traffic L.marks L.faults
+            E.given_back E.faults E.kind result
+            keeper.entry.now keeper.exit.now publisher.entry.now publisher.exit.now door.entry.now door.exit.now }
+    {
+        officiate(
+            rt, alloc, threads, keeper, publisher, roll, questions, muster, alarm, door, notes,
+        )
+    };
+    let ((), end) = join_mut(rt, &mut watch, &mut office);
+    end
+}
+
+// Serves the administrators, once all other threads have begun; nobody where they have not.
+fn officiate<R: Wait + Clock, D: Disk, H: HangEnd, L: Link, E: Door<Link = L>, T: Notes>(
+    rt: &R,
+    alloc: Global,
+    threads: u64,
+    keeper: &mut Keeper<'_, D>,
+    publisher: &mut Publisher,
+    roll: &Mutex<Roll<H>>,
+    questions: &QuestionDesk,
+    muster: &Muster,
+    alarm: &Alarm,
+    door: &mut E,
+    notes: &T,
+) -> WorkerEnd
+    requires { last_commit 0 publisher.old ≤ keeper.old.desk.commit }
+    ensures { Officiates D.faults D.state D.moment D.left_since L.traffic L.marks L.faults
+        E.given_back E.faults E.kind result
+        keeper.old keeper.new publisher.old publisher.new door.old door.new }
+{
+    if !muster.decide(rt, threads) {
+        note_short(notes);
+        return WorkerEnd::Unstarted;
+    }
+    note_ready(notes);
     let mut hall = Locked::new(rt, roll, questions);
+    let mut news = StopNews::new();
     let end = work_for_administrators(
-        rt, alloc, keeper, publisher, roll, questions, door, &mut hall, notes, chore,
+        rt, alloc, keeper, publisher, roll, questions, door, &mut hall, notes, &mut news,
     );
-    knock_all(net, clients);
+    note_end(notes, DoorKind::Admin, end);
+    alarm.ring();
     end
 }

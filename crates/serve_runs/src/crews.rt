@@ -6,17 +6,21 @@ ghost use Rattle.serve_runs.specs.Crew.{kind_for};
 ghost use Rattle.serve_runs.specs.parts.Crews.{duty_at, duty_of, post_at, stations_with, lacked, worker_lacked, WorksAt, HasWorked};
 ghost use Rattle.serve_runs.specs.declared.crews.Station.TheVariants.{Agents};
 
-use crate::telling::note_end;
+use crate::endings::lacks_memory;
+use crate::musters::Muster;
+use crate::telling::{note_alone, note_end};
+use check_monitor::Alarm;
 use door_workers::{ClientDuty, Notes, WorkerEnd, work_for_agents};
-use link_ports::{Door, DoorKind, Gate, Link};
+use link_ports::{Door, DoorKind, Gate, HangEnd, Link};
 use live_desk::Seat;
 use live_roll::Roll;
-use server_hall::{QuestionDesk, StopNews};
+use server_hall::{Hall, Locked, QuestionDesk, StopNews};
 use std::alloc::{AllocError, Global};
 use std::sync::{Mutex, Wait};
+use std::time::Clock;
 
-/// How many agents may be connected at once.
-pub const AGENT_WORKERS: u32 = 8;
+/// How many connections of agents are served at once: one more than there may be agents, so that a further one is heard.
+pub const AGENT_WORKERS: u32 = 9;
 
 /// Whom a worker serves.
 #[derive(Drop)]
@@ -35,8 +39,30 @@ pub(crate) struct Worker<D: Drop, X: Drop> {
 }
 
 impl<X: ClientDuty> Station<X> {
+    // Serves one connection after the other at this door, or nobody where there is no service.
+    fn work<R: Wait + Clock, D: Door, G: Gate>(
+        &mut self,
+        rt: &R,
+        alloc: Global,
+        door: &mut D,
+        roll: &Mutex<Roll<<D::Link as Link>::End>>,
+        questions: &QuestionDesk,
+        muster: &Muster,
+        gate: &G,
+        news: &mut StopNews,
+    ) -> WorkerEnd
+        ensures works { WorksAt D.Link.traffic D.Link.marks D.Link.faults D.given_back D.faults X.goes
+            result self.old self.new door.old door.new news.old news.new }
+        ensures kind { D.kind door.new ≡ D.kind door.old }
+    {
+        if !muster.begin(rt) {
+            return WorkerEnd::Unstarted;
+        }
+        self.serve(rt, alloc, door, roll, questions, gate, news)
+    }
+
     // Serves one connection after the other at this door.
-    fn work<R: Wait, D: Door, G: Gate>(
+    fn serve<R: Wait + Clock, D: Door, G: Gate>(
         &mut self,
         rt: &R,
         alloc: Global,
@@ -92,13 +118,16 @@ impl<D: Door, X: ClientDuty> Worker<D, X> {
         }
     }
 
-    /// Serves one connection after the other.
-    pub fn work<R: Wait, G: Gate, T: Notes>(
+    /// Serves one connection after the other, once it is decided that there is a service. The last worker of clients that ends
+    /// though the service is not stopped, stops it.
+    pub fn work<R: Wait + Clock, G: Gate, T: Notes>(
         &mut self,
         rt: &R,
         alloc: Global,
         roll: &Mutex<Roll<<D::Link as Link>::End>>,
         questions: &QuestionDesk,
+        muster: &Muster,
+        alarm: &Alarm,
         gate: &G,
         notes: &T,
     )
@@ -106,16 +135,33 @@ impl<D: Door, X: ClientDuty> Worker<D, X> {
             self.old self.new }
     {
         let mut news = StopNews::new();
-        let end = self.station.work(rt, alloc, &mut self.door, roll, questions, gate, &mut news);
+        let end = self.station.work(
+            rt,
+            alloc,
+            &mut self.door,
+            roll,
+            questions,
+            muster,
+            gate,
+            &mut news,
+        );
         self.end = Some(end);
-        note_end(notes, self.station.kind(), end);
+        let kind = self.station.kind();
+        note_end(notes, kind, end);
+        if leaves_nobody(kind, end, muster) {
+            note_alone(notes);
+            stop(rt, roll, questions, alarm);
+        }
     }
 
-    /// Whether its door found no memory.
+    /// Whether its door found no memory, or it had no thread.
     pub fn lacked_memory(&self) -> bool
         ensures { result ≡ worker_lacked self.now }
     {
-        matches!(self.end, Some(WorkerEnd::Memory))
+        match self.end {
+            Some(end) => lacks_memory(false, end),
+            None => false,
+        }
     }
 
     /// Its door, and what it does beside serving clients, where it serves them.
@@ -126,6 +172,27 @@ impl<D: Door, X: ClientDuty> Worker<D, X> {
         let Worker { station, door, .. } = self;
         (door, station.into_duty())
     }
+}
+
+// Whether no worker of clients is left behind a worker that ended so.
+fn leaves_nobody(kind: DoorKind, end: WorkerEnd, muster: &Muster) -> bool {
+    match (kind, end) {
+        (DoorKind::Client, WorkerEnd::DoorFailed) => muster.leave(),
+        (DoorKind::Client, WorkerEnd::Memory) => muster.leave(),
+        _ => false,
+    }
+}
+
+// Stops the service.
+fn stop<R: Wait + Clock, H: HangEnd>(
+    rt: &R,
+    roll: &Mutex<Roll<H>>,
+    questions: &QuestionDesk,
+    alarm: &Alarm,
+) {
+    let mut hall = Locked::new(rt, roll, questions);
+    hall.stop();
+    alarm.ring();
 }
 
 /// A station for each of these seats with the duty of the same place, and those for agents.
@@ -154,7 +221,7 @@ pub(crate) fn stations_of<X: ClientDuty>(
 
 // Puts the stations for agents behind the others.
 fn put_agents<X: ClientDuty>(stations: &mut Vec<Station<X>>) -> Result<(), AllocError>
-    ensures { OnOk result (stations.new.items ≡ stations.old.items ++ replicate 8 Agents) }
+    ensures { OnOk result (stations.new.items ≡ stations.old.items ++ replicate 9 Agents) }
 {
     for _ in 0..AGENT_WORKERS {
         stations.push(Station::Agents)?;
@@ -191,7 +258,7 @@ pub(crate) fn put_back<X: Drop>(duties: &mut Vec<X>, duty: Option<X>)
     }
 }
 
-/// Whether one of the crew found no memory at its door.
+/// Whether one of the crew found no memory at its door, or had no thread.
 pub(crate) fn lacked_memory<D: Door, X: ClientDuty>(crew: &[Worker<D, X>]) -> bool
     ensures { result ≡ list_any worker_lacked crew.now }
 {

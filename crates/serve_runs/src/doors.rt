@@ -77,12 +77,14 @@ fn open_one<N: Net, X: ClientDuty>(
     }
 }
 
-/// Knocks once for each worker: for so many of clients, and for those of agents. None of them waits at its door then.
+/// Knocks once for each worker: for so many of clients, for those of agents, and for that of administrators. None of them waits
+/// at its door then.
 pub(crate) fn knock_all<N: Net>(net: &mut N, clients: u32)
     ensures { Knocks N.faults N.closed net.old net.new }
 {
     knock(net, DoorKind::Client, clients);
     knock(net, DoorKind::Agent, AGENT_WORKERS);
+    knock(net, DoorKind::Admin, 1);
 }
 
 // Knocks so often at a kind.

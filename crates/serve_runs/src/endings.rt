@@ -2,21 +2,24 @@
 ghost use Rattle.std.specs.Prelude.{◌≡◌, ◌||◌};
 ghost use Rattle.std.specs.Bool.{OnTrue, OnFalse};
 ghost use Rattle.serve_runs.specs.Serving.{HasRisen, HasNotRisen};
-ghost use Rattle.serve_runs.specs.Crew.{is_lacking};
+ghost use Rattle.serve_runs.specs.Crew.{is_lacking, is_alone};
 ghost use Rattle.serve_runs.specs.parts.Officiating.{EndsBy};
 
 use door_workers::WorkerEnd;
 use run_endings::Ending;
 
-/// By what was met, and by the counts of the disk and of the net before and now: want of memory comes first, and then the disk.
+/// By what was met, and by the counts of the disk and of the net before and now: want of memory or of a thread comes first, and
+/// then the disk. Where the service was stopped by no administrator, a worker ended for a failing call or for want of memory; it is
+/// never done.
 pub(crate) fn ending_of(
     lacked_memory: bool,
+    alone: bool,
     disk: u64,
     disk_now: u64,
     net: u64,
     net_now: u64,
 ) -> Ending
-    ensures { EndsBy lacked_memory disk disk_now net net_now result }
+    ensures { EndsBy lacked_memory alone disk disk_now net net_now result }
 {
     if lacked_memory {
         return Ending::Memory;
@@ -26,6 +29,9 @@ pub(crate) fn ending_of(
     }
     if has_risen(net, net_now) {
         return Ending::Net;
+    }
+    if alone {
+        return Ending::Memory;
     }
     Ending::Done
 }
@@ -38,12 +44,23 @@ fn has_risen(before: u64, after: u64) -> bool
     before.saturating_add(1) <= after
 }
 
-/// Whether memory was wanting at a door: at one of the crew, or at that for administrators, whose worker ended so.
+/// Whether memory or a thread was wanting: for one of the crew, or for the worker of administrators, which ended so.
 pub(crate) fn lacks_memory(lacked: bool, end: WorkerEnd) -> bool
     ensures { result ≡ is_lacking end || lacked }
 {
     match end {
-        WorkerEnd::Memory => true,
-        WorkerEnd::Stopped | WorkerEnd::DoorFailed => lacked,
+        WorkerEnd::Memory | WorkerEnd::Unstarted => true,
+        WorkerEnd::Stopped | WorkerEnd::DoorFailed | WorkerEnd::Alone => lacked,
+    }
+}
+
+/// Whether a worker ended since the service was stopped by no administrator.
+pub(crate) fn is_alone(end: WorkerEnd) -> bool
+    ensures { result ≡ is_alone end }
+{
+    match end {
+        WorkerEnd::Alone => true,
+        WorkerEnd::Stopped | WorkerEnd::DoorFailed | WorkerEnd::Memory | WorkerEnd::Unstarted =>
+            false,
     }
 }

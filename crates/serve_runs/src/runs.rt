@@ -1,42 +1,46 @@
 // `serve W`, and what it shares with a service that does more beside.
-ghost use Rattle.std.specs.Prelude.{◌≡◌, ◌<◌, ◌≤◌, length, IfOk, IfSome, IfNone, OnSome};
+ghost use Rattle.std.specs.Prelude.{◌≡◌, ◌<◌, ◌≤◌, ℕ, length, IfOk, IfSome, IfNone, OnSome};
 ghost use Rattle.std.specs.List.{AllZip};
 ghost use Rattle.run_endings.specs.Outside.{disk_seen};
 ghost use Rattle.serve_runs.specs.Run.{RunsServe};
 ghost use Rattle.serve_runs.specs.Serving.{IsUndone};
 
+use crate::chores::{Chore, NoChore};
 use crate::endings::ending_of;
 use crate::serving::serve_folder;
 use crate::telling::note_over;
+use check_monitor::Alarm;
 use desk_keeper::{Keeper, KeptDesk};
 use desk_ports::Disk;
-use door_workers::{Chore, ClientDuty, NoChore, Notes, Unrecorded};
+use door_workers::{ClientDuty, Notes, Unrecorded};
 use folder_runs::ending_of_mount;
-use link_ports::{Door, Gate, Link, Net};
+use link_ports::{Dial, Door, Gate, Link, Net};
 use run_endings::Ending;
 use std::alloc::{AllocError, Global};
 use std::sync::Wait;
 use std::thread::Threads;
+use std::time::Clock;
 
 /// How many workers of clients there may be.
 pub const MOST_CLIENT_WORKERS: u32 = 64;
 
 /// Mounts the folder, and serves clients by so many workers, agents and administrators, until an administrator stops the
-/// service, or its door fails. All threads have ended then, and all doors are closed. Where an `accept` found no memory it
-/// ends for that, else where the disk failed for that, and else where the net did. It may wait.
-pub fn run_serve<R: Threads + Wait + Sync, D: Disk, N: Net, G: Gate + Sync, T: Notes + Sync>(
-    rt: &R,
-    alloc: Global,
-    workers: u32,
-    disk: &mut D,
-    net: &mut N,
-    gate: &G,
-    notes: &T,
-) -> Ending
+/// service, or the administrators' door fails, or that of each worker of clients. All threads have ended then, and all doors are
+/// closed. Where an `accept` found no memory it ends for that, else where the disk failed for that, and else where the net did.
+/// Where not all threads can be made nobody is served, and it ends for want of memory. It may wait.
+pub fn run_serve<
+    R: Threads + Wait + Clock + Sync,
+    D: Disk,
+    N: Net + Send,
+    G: Gate + Sync,
+    T: Notes + Sync,
+>(rt: &R, alloc: Global, workers: u32, disk: &mut D, net: &mut N, gate: &G, notes: &T) -> Ending
 where
     N::Door: Send,
     <N::Door as Door>::Link: Send,
     <<N::Door as Door>::Link as Link>::End: Send,
+    <N as Dial>::Link: Send,
+    <<N as Dial>::Link as Link>::End: Send,
     requires some { 0 < workers }
     requires most { workers ≤ 64 }
     ensures { RunsServe N.Door.Link.traffic N.Door.Link.marks N.Door.Link.faults N.Door.given_back N.Door.faults N.Door.kind
@@ -56,6 +60,7 @@ where
         net,
         gate,
         notes,
+        &Alarm::new(),
         &mut NoChore,
     );
     run.ending
@@ -80,15 +85,15 @@ pub struct ServiceRun<X: Drop> {
 }
 
 /// Serves as `run_serve` does, by a worker of clients for each of these duties, which does that beside answering, and does the
-/// chore behind each connection of an administrator. It may wait.
+/// chore in turns meanwhile, on one more thread, which the alarm wakes. It may wait.
 pub fn run_service<
-    R: Threads + Wait + Sync,
+    R: Threads + Wait + Clock + Sync,
     D: Disk,
-    N: Net,
+    N: Net + Send,
     G: Gate + Sync,
     T: Notes + Sync,
     X: ClientDuty + Send,
-    C: Chore,
+    C: Chore + Send,
 >(
     rt: &R,
     alloc: Global,
@@ -98,12 +103,15 @@ pub fn run_service<
     net: &mut N,
     gate: &G,
     notes: &T,
+    alarm: &Alarm,
     chore: &mut C,
 ) -> ServiceRun<X>
 where
     N::Door: Send,
     <N::Door as Door>::Link: Send,
     <<N::Door as Door>::Link as Link>::End: Send,
+    <N as Dial>::Link: Send,
+    <<N as Dial>::Link as Link>::End: Send,
     requires some { 0 < workers }
     requires most { workers ≤ 64 }
     requires duties { length duties.items ≡ workers }
@@ -113,7 +121,7 @@ where
         (disk_seen D.state D.moment D.left_since D.faults disk.new)
         (N.faults net.old) (N.faults net.new) (N.closed net.old) (N.closed net.new) }
     ensures duties { IfSome result.duties (λ now. AllZip X.goes duties.items now.items) }
-    ensures chore { OnSome result.duties (C.goes chore.old chore.new) }
+    ensures chore { OnSome result.duties ((turns : ℕ) × C.goes chore.old turns chore.new) }
     ensures undone { IfNone result.duties (IsUndone result.ending) }
     ensures untouched { IfNone result.duties (chore.new ≡ chore.old) }
 {
@@ -138,6 +146,7 @@ where
         net,
         gate,
         notes,
+        alarm,
         chore,
     );
     let _ = keeper.into_disk();
@@ -153,6 +162,7 @@ where
     };
     let ending = ending_of(
         met.lacked_memory,
+        met.alone,
         disk_faults,
         disk.faults(),
         net_faults,

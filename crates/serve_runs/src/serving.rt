@@ -1,22 +1,24 @@
 // The service, once the folder is mounted.
-ghost use Rattle.std.specs.Prelude.{◌≡◌, ◌+◌, ◌<◌, ◌≤◌, ◌∷◌, [], length, map, vec_len, vec_capacity, MatchResult, OnErr, OnOk, IfOk};
+ghost use Rattle.std.specs.Prelude.{◌≡◌, ◌+◌, ◌<◌, ◌≤◌, ◌∷◌, [], ℕ, length, map, vec_len, vec_capacity, MatchResult, OnErr, OnOk, IfOk};
 ghost use Rattle.std.specs.List.{AllZip};
 ghost use Rattle.desk_keeper.specs.Keeper.{IsSameDisk};
 ghost use Rattle.live_desk.specs.History.{last_commit};
 ghost use Rattle.serve_runs.specs.Crew.{posts, posts_with};
 ghost use Rattle.serve_runs.specs.Serving.{EndsUnopened, ClosesOpened};
 ghost use Rattle.serve_runs.specs.parts.Crews.{duty_at, duties_in, post_at, HasWorked};
-ghost use Rattle.serve_runs.specs.parts.Officiating.{Officiates, Staffs};
+ghost use Rattle.serve_runs.specs.parts.Officiating.{Knocks, Officiates, Staffs};
 
 use crate::beside::beside;
+use crate::chores::Chore;
 use crate::crews::{Station, Worker, lacked_memory, stations_of};
 use crate::doors::{close_doors, open, open_doors};
-use crate::endings::lacks_memory;
-use crate::telling::{note_end, note_ready};
+use crate::endings::{is_alone, lacks_memory};
+use crate::musters::Muster;
+use check_monitor::Alarm;
 use desk_keeper::Keeper;
 use desk_ports::Disk;
-use door_workers::{Chore, ClientDuty, Notes, WorkerEnd};
-use link_ports::{Door, DoorKind, Gate, Link, Net};
+use door_workers::{ClientDuty, Notes, WorkerEnd};
+use link_ports::{Dial, Door, DoorKind, Gate, Link, Net};
 use live_desk::{Publisher, Seat, start};
 use live_roll::Roll;
 use run_endings::Ending;
@@ -24,24 +26,27 @@ use server_hall::QuestionDesk;
 use std::alloc::Global;
 use std::sync::{Mutex, Wait};
 use std::thread::Threads;
+use std::time::Clock;
 
-/// What a service met: whether memory was wanting at a door; and what has become of what the workers of clients did beside.
+/// What a service met: whether memory or a thread was wanting, and whether no administrator stopped it; and what has become of
+/// what the workers of clients did beside.
 #[derive(Drop)]
 pub(crate) struct Met<X: Drop> {
     pub lacked_memory: bool,
+    pub alone: bool,
     pub duties: Vec<X>,
 }
 
 /// Serves over the folder of the keeper, by a worker of clients for each of these duties, until the service is stopped, and
-/// does the chore behind each connection of an administrator. What was met, or why nobody was served.
+/// does the chore in turns meanwhile. What was met, or why nobody was served.
 pub(crate) fn serve_folder<
-    R: Threads + Wait + Sync,
+    R: Threads + Wait + Clock + Sync,
     D: Disk,
-    N: Net,
+    N: Net + Send,
     G: Gate + Sync,
     T: Notes + Sync,
     X: ClientDuty + Send,
-    C: Chore,
+    C: Chore + Send,
 >(
     rt: &R,
     alloc: Global,
@@ -51,25 +56,28 @@ pub(crate) fn serve_folder<
     net: &mut N,
     gate: &G,
     notes: &T,
+    alarm: &Alarm,
     chore: &mut C,
 ) -> Result<Met<X>, Ending>
 where
     N::Door: Send,
     <N::Door as Door>::Link: Send,
     <<N::Door as Door>::Link as Link>::End: Send,
+    <N as Dial>::Link: Send,
+    <<N as Dial>::Link as Link>::End: Send,
     requires some { 0 < workers }
     requires most { workers ≤ 64 }
     requires duties { length duties.items ≡ workers }
     ensures served { MatchResult result
         (λ met. Staffs D.faults D.state D.moment D.left_since N.Door.Link.traffic N.Door.Link.marks N.Door.Link.faults
-        N.Door.given_back N.Door.faults N.Door.kind (posts workers) met.lacked_memory
+        N.Door.given_back N.Door.faults N.Door.kind (posts workers) met.lacked_memory met.alone
         keeper.old keeper.new (N.faults net.old) (N.faults net.new) (N.closed net.old) (N.closed net.new))
         (λ ending. EndsUnopened ending (N.faults net.old) (N.faults net.new)) }
     ensures closed { OnErr result (ClosesOpened N.Door.kind (N.closed net.old) (N.closed net.new)) }
     ensures kept { OnErr result (keeper.new ≡ keeper.old) }
     ensures same_disk { IsSameDisk keeper.old keeper.new }
     ensures duties { IfOk result (λ met. AllZip X.goes duties.items met.duties.items) }
-    ensures chore { OnOk result (C.goes chore.old chore.new) }
+    ensures chore { OnOk result ((turns : ℕ) × C.goes chore.old turns chore.new) }
     ensures untouched { OnErr result (chore.new ≡ chore.old) }
 {
     let Ok((publisher, seats, roll)) = start(rt, alloc, keeper.desk(), workers) else {
@@ -88,6 +96,7 @@ where
         net,
         gate,
         notes,
+        alarm,
         chore,
     );
     publisher.end(rt);
@@ -96,13 +105,13 @@ where
 
 // The same, with the seats and the roll of a state that was just published.
 fn staff<
-    R: Threads + Wait + Sync,
+    R: Threads + Wait + Clock + Sync,
     D: Disk,
-    N: Net,
+    N: Net + Send,
     G: Gate + Sync,
     T: Notes + Sync,
     X: ClientDuty + Send,
-    C: Chore,
+    C: Chore + Send,
 >(
     rt: &R,
     alloc: Global,
@@ -115,24 +124,27 @@ fn staff<
     net: &mut N,
     gate: &G,
     notes: &T,
+    alarm: &Alarm,
     chore: &mut C,
 ) -> Result<Met<X>, Ending>
 where
     N::Door: Send,
     <N::Door as Door>::Link: Send,
     <<N::Door as Door>::Link as Link>::End: Send,
+    <N as Dial>::Link: Send,
+    <<N as Dial>::Link as Link>::End: Send,
     requires published { publisher.old ≡ keeper.old.desk ∷ [] }
     requires seats { length duties.items ≡ length seats.items }
     ensures served { MatchResult result
         (λ met. Staffs D.faults D.state D.moment D.left_since N.Door.Link.traffic N.Door.Link.marks N.Door.Link.faults
-        N.Door.given_back N.Door.faults N.Door.kind (posts_with seats.items) met.lacked_memory
+        N.Door.given_back N.Door.faults N.Door.kind (posts_with seats.items) met.lacked_memory met.alone
         keeper.old keeper.new (N.faults net.old) (N.faults net.new) (N.closed net.old) (N.closed net.new))
         (λ ending. EndsUnopened ending (N.faults net.old) (N.faults net.new)) }
     ensures closed { OnErr result (ClosesOpened N.Door.kind (N.closed net.old) (N.closed net.new)) }
     ensures kept { OnErr result (keeper.new ≡ keeper.old) }
     ensures same_disk { IsSameDisk keeper.old keeper.new }
     ensures duties { IfOk result (λ met. AllZip X.goes duties.items met.duties.items) }
-    ensures chore { OnOk result (C.goes chore.old chore.new) }
+    ensures chore { OnOk result ((turns : ℕ) × C.goes chore.old turns chore.new) }
     ensures untouched { OnErr result (chore.new ≡ chore.old) }
 {
     let Ok(stations) = stations_of(alloc, seats, duties) else {
@@ -145,19 +157,20 @@ where
         return Err(Ending::Memory);
     };
     open_and_serve(
-        rt, alloc, clients, keeper, publisher, stations, crew, room, roll, net, gate, notes, chore,
+        rt, alloc, clients, keeper, publisher, stations, crew, room, roll, net, gate, notes, alarm,
+        chore,
     )
 }
 
 // Opens the doors, serves, and closes them. The list of the crew, and that of what its workers of clients do beside, have room.
 fn open_and_serve<
-    R: Threads + Wait + Sync,
+    R: Threads + Wait + Clock + Sync,
     D: Disk,
-    N: Net,
+    N: Net + Send,
     G: Gate + Sync,
     T: Notes + Sync,
     X: ClientDuty + Send,
-    C: Chore,
+    C: Chore + Send,
 >(
     rt: &R,
     alloc: Global,
@@ -171,12 +184,15 @@ fn open_and_serve<
     net: &mut N,
     gate: &G,
     notes: &T,
+    alarm: &Alarm,
     chore: &mut C,
 ) -> Result<Met<X>, Ending>
 where
     N::Door: Send,
     <N::Door as Door>::Link: Send,
     <<N::Door as Door>::Link as Link>::End: Send,
+    <N as Dial>::Link: Send,
+    <<N as Dial>::Link as Link>::End: Send,
     requires published { publisher.old ≡ keeper.old.desk ∷ [] }
     requires nobody { crew.items ≡ [] }
     requires places { length stations.items ≤ vec_capacity crew }
@@ -184,14 +200,14 @@ where
     requires room { vec_len room + length stations.items ≤ vec_capacity room }
     ensures served { MatchResult result
         (λ met. Staffs D.faults D.state D.moment D.left_since N.Door.Link.traffic N.Door.Link.marks N.Door.Link.faults
-        N.Door.given_back N.Door.faults N.Door.kind (map post_at stations.items) met.lacked_memory
+        N.Door.given_back N.Door.faults N.Door.kind (map post_at stations.items) met.lacked_memory met.alone
         keeper.old keeper.new (N.faults net.old) (N.faults net.new) (N.closed net.old) (N.closed net.new))
         (λ ending. EndsUnopened ending (N.faults net.old) (N.faults net.new)) }
     ensures closed { OnErr result (ClosesOpened N.Door.kind (N.closed net.old) (N.closed net.new)) }
     ensures kept { OnErr result (keeper.new ≡ keeper.old) }
     ensures same_disk { IsSameDisk keeper.old keeper.new }
     ensures duties { IfOk result (λ met. AllZip X.goes (duties_in (map duty_at stations.items)) met.duties.items) }
-    ensures chore { OnOk result (C.goes chore.old chore.new) }
+    ensures chore { OnOk result ((turns : ℕ) × C.goes chore.old turns chore.new) }
     ensures untouched { OnErr result (chore.new ≡ chore.old) }
 {
     let mut crew = crew;
@@ -205,26 +221,28 @@ where
         return Err(ending);
     }
     let end = serve(
-        rt, alloc, clients, keeper, publisher, &mut crew, roll, net, &mut door, gate, notes, chore,
+        rt, alloc, clients, keeper, publisher, &mut crew, roll, net, &mut door, gate, notes, alarm,
+        chore,
     );
     net.close(door);
     let lacked = lacked_memory(&crew);
     Ok(Met {
         lacked_memory: lacks_memory(lacked, end),
+        alone: is_alone(end),
         duties: close_doors(net, room, crew),
     })
 }
 
 // Serves at open doors: the crew on threads, and the administrators on this one. How their worker ended.
 fn serve<
-    R: Threads + Wait + Sync,
+    R: Threads + Wait + Clock + Sync,
     D: Disk,
     E: Door + Send,
-    N: Net,
+    N: Net + Send,
     G: Gate + Sync,
     T: Notes + Sync,
     X: ClientDuty + Send,
-    C: Chore,
+    C: Chore + Send,
 >(
     rt: &R,
     alloc: Global,
@@ -237,29 +255,34 @@ fn serve<
     door: &mut E,
     gate: &G,
     notes: &T,
+    alarm: &Alarm,
     chore: &mut C,
 ) -> WorkerEnd
 where
     E::Link: Send,
     <E::Link as Link>::End: Send,
+    N::Door: Send,
+    <N::Door as Door>::Link: Send,
+    <<N::Door as Door>::Link as Link>::End: Send,
+    <N as Dial>::Link: Send,
+    <<N as Dial>::Link as Link>::End: Send,
     requires { last_commit 0 publisher.old ≤ keeper.old.desk.commit }
     ensures officiates { Officiates D.faults D.state D.moment D.left_since E.Link.traffic E.Link.marks E.Link.faults
-        E.given_back E.faults E.kind N.faults N.closed result
-        keeper.old keeper.new publisher.old publisher.new door.old door.new net.old net.new }
-    ensures chore { C.goes chore.old chore.new }
+        E.given_back E.faults E.kind result
+        keeper.old keeper.new publisher.old publisher.new door.old door.new }
+    ensures knocks { Knocks N.faults N.closed net.old net.new }
+    ensures chore { (turns : ℕ) × C.goes chore.old turns chore.new }
     ensures workers { AllZip (HasWorked E.Link.traffic E.Link.marks E.Link.faults E.given_back E.faults X.goes E.kind) crew.old crew.new }
 {
     let roll = Mutex::new(roll);
     let questions = QuestionDesk::new(alloc);
+    let muster = Muster::new(clients);
     let each = |_: usize, worker: &mut Worker<E, X>|
         ensures { HasWorked E.Link.traffic E.Link.marks E.Link.faults E.given_back E.faults X.goes E.kind
             worker.entry.now worker.exit.now }
-    { worker.work(rt, alloc, &roll, &questions, gate, notes) };
-    note_ready(notes);
-    let end = beside(
-        rt, alloc, clients, crew, &each, keeper, publisher, &roll, &questions, net, door, notes,
-        chore,
-    );
-    note_end(notes, DoorKind::Admin, end);
-    end
+    { worker.work(rt, alloc, &roll, &questions, &muster, alarm, gate, notes) };
+    beside(
+        rt, alloc, clients, crew, &each, keeper, publisher, &roll, &questions, &muster, alarm, net,
+        door, notes, chore,
+    )
 }

@@ -13,6 +13,8 @@ pub(crate) fn note_end<T: Notes>(notes: &T, kind: DoorKind, end: WorkerEnd) {
         WorkerEnd::Stopped => {}
         WorkerEnd::DoorFailed => notes.note(failed_line(kind)),
         WorkerEnd::Memory => notes.note(lacking_line(kind)),
+        // Why is told where it is decided.
+        WorkerEnd::Alone | WorkerEnd::Unstarted => {}
     }
 }
 
@@ -30,6 +32,16 @@ fn lacking_line(kind: DoorKind) -> &'static str {
         DoorKind::Agent => "privilege: a worker of agents ended: out of memory",
         DoorKind::Admin => "privilege: the worker of administrators ended: out of memory",
     }
+}
+
+/// No worker of clients is left.
+pub(crate) fn note_alone<T: Notes>(notes: &T) {
+    notes.note("privilege: no worker of clients is left, so the service ends");
+}
+
+/// Not all threads could be made.
+pub(crate) fn note_short<T: Notes>(notes: &T) {
+    notes.note("privilege: not every worker has a thread, so nobody is served");
 }
 
 /// The service has ended.

@@ -36,28 +36,28 @@ count_is queue room (suc count) =
     ∙ (let is = count_is queue room count in omega (arith, is))
 
 -- as many recorders as workers
-pub as_many : (queue : TableId) (workers : ℕ) (recorders : List RecorderState) → recorders ≡ new_recorders queue 1024 workers
+pub as_many : (queue : TableId) (workers : ℕ) (recorders : List RecorderState) → recorders ≡ new_recorders queue 4096 workers
     → length recorders ≡ workers
-as_many queue workers recorders is = ap (λ (list : List RecorderState). length list) is ∙ count_is queue 1024 workers
+as_many queue workers recorders is = ap (λ (list : List RecorderState). length list) is ∙ count_is queue 4096 workers
 
 -- they are still all those of the reader
 pub all_still : (reader now : ReaderState) (workers : ℕ) (recorders back : List RecorderState) (list : List Entry)
-    → reader ≡ new_reader_of reader.queue 1024 workers → recorders ≡ new_recorders reader.queue 1024 workers
+    → reader ≡ new_reader_of reader.queue 4096 workers → recorders ≡ new_recorders reader.queue 4096 workers
     → AllZip RecordsSome recorders back → now ≡ record reader { handed = list } → AreAll now.queue now.made back
 all_still reader now workers recorders back list is are all handed =
     let queue : now.queue ≡ reader.queue = ap (λ (r : ReaderState). r.queue) handed in
     let made : now.made ≡ workers = ap (λ (r : ReaderState). r.made) handed ∙ ap (λ (r : ReaderState). r.made) is in
     subst (λ (q : TableId). AreAll q now.made back) (sym queue)
     (subst (λ (n : ℕ). AreAll reader.queue n back) (sym made)
-    (all_same reader.queue workers recorders back (same_each recorders back all) (all_new reader.queue 1024 workers recorders are)))
+    (all_same reader.queue workers recorders back (same_each recorders back all) (all_new reader.queue 4096 workers recorders are)))
 
 -- what was written meanwhile, and then at the end
-pub journaled_all : (workers : ℕ) (met : Ending) (reader now : ReaderState) (recorders back : List RecorderState) (writing next : Writing)
+pub journaled_all : (workers turns : ℕ) (met : Ending) (reader now : ReaderState) (recorders back : List RecorderState) (writing next : Writing)
     (before between after : SinkSeen)
-    → reader ≡ new_reader_of reader.queue 1024 workers → recorders ≡ new_recorders reader.queue 1024 workers
-    → AllZip RecordsSome recorders back → Journals reader now GoesOn writing before between
+    → reader ≡ new_reader_of reader.queue 4096 workers → recorders ≡ new_recorders reader.queue 4096 workers
+    → AllZip RecordsSome recorders back → Journals turns reader now GoesOn writing before between
     → EndsJournal now back writing next between after → Journaled workers met next before after
-journaled_all workers met reader now recorders back writing next before between after is are all journals ends =
+journaled_all workers turns met reader now recorders back writing next before between after is are all journals ends =
     let handed : now.handed ≡ journals.entries =
     ap (λ (r : ReaderState). r.handed) journals.handed ∙ ap (λ (r : ReaderState). r.handed ++ journals.entries) is in
     let count : reader.made ≡ workers = ap (λ (r : ReaderState). r.made) is in
@@ -95,13 +95,13 @@ pub on_some : {A P : Type 0} (found : Option A) (value : A) → found ≡ Some v
 on_some (Some other) value is holds = holds
 on_some None value is holds = cc
 
-pub journals_given : (reader given now back : ReaderState) (start writing kept : Writing) (before first last after : SinkSeen)
+pub journals_given : (turns : ℕ) (reader given now back : ReaderState) (start writing kept : Writing) (before first last after : SinkSeen)
     → given ≡ reader → start ≡ GoesOn → first ≡ before → back ≡ now → kept ≡ writing → last ≡ after
-    → Journals given now start writing first last → Journals reader back GoesOn kept before after
-journals_given reader given now back start writing kept before first last after same begins is gives stays ends journals =
-    subst (λ (one : ReaderState). Journals reader one GoesOn kept before after) (sym gives)
-    (subst (λ (way : Writing). Journals reader now GoesOn way before after) (sym stays)
-    (subst (λ (sink : SinkSeen). Journals reader now GoesOn writing before sink) ends
-    (subst (λ (sink : SinkSeen). Journals reader now GoesOn writing sink last) is
-    (subst (λ (way : Writing). Journals reader now way writing first last) begins
-    (subst (λ (one : ReaderState). Journals one now start writing first last) same journals)))))
+    → Journals turns given now start writing first last → Journals turns reader back GoesOn kept before after
+journals_given turns reader given now back start writing kept before first last after same begins is gives stays ends journals =
+    subst (λ (one : ReaderState). Journals turns reader one GoesOn kept before after) (sym gives)
+    (subst (λ (way : Writing). Journals turns reader now GoesOn way before after) (sym stays)
+    (subst (λ (sink : SinkSeen). Journals turns reader now GoesOn writing before sink) ends
+    (subst (λ (sink : SinkSeen). Journals turns reader now GoesOn writing sink last) is
+    (subst (λ (way : Writing). Journals turns reader now way writing first last) begins
+    (subst (λ (one : ReaderState). Journals turns one now start writing first last) same journals)))))

@@ -29,9 +29,9 @@ ending_with met writing = met
 -- ---- lines
 
 -- The recorders of so many workers, in turn, which began with nothing, recorded some checks each, each check once and in turn. The
--- queue has room for 1,024 entries.
+-- queue has room for 4,096 entries.
 abbrev pub HaveRecorded : ℕ → List RecorderState → Type 0
-HaveRecorded workers recorders = (queue : TableId) × AllZip RecordsSome (new_recorders queue 1024 workers) recorders
+HaveRecorded workers recorders = (queue : TableId) × AllZip RecordsSome (new_recorders queue 4096 workers) recorders
 
 -- What the sink was to take: nothing where nobody was served, whose run then did not do its work. Else a line for each entry, which are
 -- for each worker all that its recorder put, in its order, and none of any other worker; and then for each worker the count of its checks

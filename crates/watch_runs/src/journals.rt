@@ -4,10 +4,14 @@ ghost use Rattle.monitor_journal.specs.declared.writing.Writing.TheVariants.{Goe
 
 use check_monitor::Reader;
 use desk_ports::{Bytes, Sink};
-use door_workers::Chore;
 use monitor_journal::{Writing, hand_on};
+use serve_runs::{Chore, Turn};
 use std::alloc::Global;
 use std::sync::Wait;
+use std::time::Clock;
+
+/// Behind a turn that wrote so many bytes more lines may wait than one turn writes.
+const MUCH: usize = 16_384;
 
 /// The reader of what was recorded, how the writing stands, the sink that takes the lines, and room for them.
 #[derive(Drop)]
@@ -51,7 +55,7 @@ impl<'k, K: Sink> Journal<'k, K> {
     }
 }
 
-/// Behind each connection of an administrator what was recorded is written, at most 1,024 lines.
+/// In each turn what was recorded is written, at most 1,024 lines.
 impl<'k, K: Sink> Chore for Journal<'k, K> {
     ghost use Rattle.std.specs.Prelude.{◌≡◌, refl};
     ghost use Rattle.std.proofs.Common.{◌∙◌};
@@ -59,11 +63,11 @@ impl<'k, K: Sink> Chore for Journal<'k, K> {
     ghost use Rattle.monitor_journal.specs.Journal.{Journals};
     ghost use Rattle.monitor_journal.proofs.Writes.{journals_none, journals_then};
 
-    ghost goes = { λ old new. (new.sink.ghost_name ≡ old.sink.ghost_name)
-        × Journals old.reader new.reader old.writing new.writing (sink_seen K.taken K.faults old.sink.now)
+    ghost goes = { λ old turns new. (new.sink.ghost_name ≡ old.sink.ghost_name)
+        × Journals turns old.reader new.reader old.writing new.writing (sink_seen K.taken K.faults old.sink.now)
         (sink_seen K.taken K.faults new.sink.now) };
 
-    fn turn<R: Wait>(&mut self, rt: &R) {
+    fn turn<R: Wait + Clock>(&mut self, rt: &R) -> Turn {
         self.writing = hand_on(
             rt,
             &mut self.room,
@@ -71,10 +75,22 @@ impl<'k, K: Sink> Chore for Journal<'k, K> {
             &mut self.reader,
             self.sink,
         );
+        turn_of(self.room.len())
     }
 
     ghost stays = { λ journal. (refl, journals_none _ _ _) };
 
-    ghost goes_further = { λ first between last one then.
-        (then.0 ∙ one.0, journals_then _ _ _ _ _ _ _ _ _ one.1 then.1) };
+    ghost goes_further = { λ first between last some more one then.
+        (then.0 ∙ one.0, journals_then some more _ _ _ _ _ _ _ _ _ one.1 then.1) };
+}
+
+// What a turn met that wrote so many bytes.
+fn turn_of(written: usize) -> Turn {
+    if written == 0 {
+        return Turn::Idle;
+    }
+    if written < MUCH {
+        return Turn::Done;
+    }
+    Turn::Full
 }

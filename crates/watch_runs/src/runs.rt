@@ -1,5 +1,5 @@
 // `watch W`.
-ghost use Rattle.std.specs.Prelude.{◌≡◌, ◌<◌, ◌≤◌, length, IfOk, IfErr};
+ghost use Rattle.std.specs.Prelude.{◌≡◌, ◌<◌, ◌≤◌, ℕ, length, IfOk, IfErr};
 ghost use Rattle.std.specs.List.{AllZip};
 ghost use Rattle.run_endings.specs.Outside.{disk_seen, sink_seen};
 ghost use Rattle.run_endings.specs.declared.endings.Ending.{Ending};
@@ -13,28 +13,30 @@ ghost use Rattle.watch_runs.specs.Watching.{Journaled, ending_with};
 
 use crate::endings::ending_with;
 use crate::journals::Journal;
-use check_monitor::{Reader, Recorder, open};
+use crate::misses::TellingGate;
+use check_monitor::{Alarm, MOST_ROOM, Reader, Recorder, open};
 use desk_ports::{Disk, Sink};
 use door_workers::Notes;
-use link_ports::{Door, Gate, Link, Net};
-use monitor_journal::{MOST_AT_ONCE, Writing, write_end};
+use link_ports::{Dial, Door, Gate, Link, Net};
+use monitor_journal::{Writing, write_end};
 use run_endings::Ending;
 use serve_runs::{ServiceRun, run_service};
 use std::alloc::Global;
 use std::sync::Wait;
 use std::thread::Threads;
+use std::time::Clock;
 
-/// Serves as `run_serve` does, and has the sink take a line for each check that a worker answered by the policies: behind each
-/// connection of an administrator those that were recorded by then, at most 1,024, and at the end those that are left and for
-/// each worker the count of its checks that were missed. After a call of the sink has failed nothing further is written; the
+/// Serves as `run_serve` does, and has the sink take a line for each check that a worker answered by the policies: each as it
+/// comes, and at the end those that are left and for each worker the count of its checks that were missed, since 4,096 lines
+/// waited. After a call of the sink has failed nothing further is written; the
 /// service goes on, and ends for that where it would have been done. It may wait.
 pub fn run_watch<
-    R: Threads + Wait + Sync,
+    R: Threads + Wait + Clock + Sync,
     D: Disk,
-    N: Net,
+    N: Net + Send,
     G: Gate + Sync,
     T: Notes + Sync,
-    K: Sink,
+    K: Sink + Send,
 >(
     rt: &R,
     alloc: Global,
@@ -49,6 +51,8 @@ where
     N::Door: Send,
     <N::Door as Door>::Link: Send,
     <<N::Door as Door>::Link as Link>::End: Send,
+    <N as Dial>::Link: Send,
+    <<N as Dial>::Link as Link>::End: Send,
     requires some { 0 < workers }
     requires most { workers ≤ 64 }
     ensures { (met : Ending) × (writing : Writing)
@@ -59,11 +63,14 @@ where
         × Journaled workers met writing (sink_seen K.taken K.faults sink.old) (sink_seen K.taken K.faults sink.new)
         × (result ≡ ending_with met writing) }
 {
-    let Ok((recorders, reader)) = open(alloc, workers, MOST_AT_ONCE) else {
+    let Ok((recorders, reader)) = open(alloc, workers, MOST_ROOM) else {
+        return Ending::Memory;
+    };
+    let Ok(alarm) = reader.alarm() else {
         return Ending::Memory;
     };
     let served = serve_watched(
-        rt, alloc, workers, recorders, reader, disk, net, gate, notes, sink,
+        rt, alloc, workers, recorders, reader, &alarm, disk, net, gate, notes, sink,
     );
     let watched = match served {
         Ok(watched) => watched,
@@ -89,21 +96,21 @@ struct Watched {
     writing: Writing,
 }
 
-// Serves, and writes behind each connection of an administrator what was recorded; or tells how the run ends that served
-// nobody.
+// Serves, and writes what is recorded meanwhile; or tells how the run ends that served nobody.
 fn serve_watched<
-    R: Threads + Wait + Sync,
+    R: Threads + Wait + Clock + Sync,
     D: Disk,
-    N: Net,
+    N: Net + Send,
     G: Gate + Sync,
     T: Notes + Sync,
-    K: Sink,
+    K: Sink + Send,
 >(
     rt: &R,
     alloc: Global,
     workers: u32,
     recorders: Vec<Recorder>,
     reader: Reader,
+    alarm: &Alarm,
     disk: &mut D,
     net: &mut N,
     gate: &G,
@@ -114,6 +121,8 @@ where
     N::Door: Send,
     <N::Door as Door>::Link: Send,
     <<N::Door as Door>::Link as Link>::End: Send,
+    <N as Dial>::Link: Send,
+    <<N as Dial>::Link as Link>::End: Send,
     requires some { 0 < workers }
     requires most { workers ≤ 64 }
     requires recorders { length recorders.items ≡ workers }
@@ -124,7 +133,7 @@ where
         (disk_seen D.state D.moment D.left_since D.faults disk.new)
         (N.faults net.old) (N.faults net.new) (N.closed net.old) (N.closed net.new)) }
     ensures recorders { IfOk result (λ watched. AllZip RecordsSome recorders.items watched.recorders.items) }
-    ensures journal { IfOk result (λ watched. Journals reader watched.reader GoesOn watched.writing
+    ensures journal { IfOk result (λ watched. (turns : ℕ) × Journals turns reader watched.reader GoesOn watched.writing
         (sink_seen K.taken K.faults sink.old) (sink_seen K.taken K.faults sink.new)) }
     ensures refuses { IfErr result (λ ending.
         RunsServe N.Door.Link.traffic N.Door.Link.marks N.Door.Link.faults N.Door.given_back N.Door.faults N.Door.kind
@@ -135,6 +144,7 @@ where
     ensures undone { IfErr result (λ ending. IsUndone ending) }
     ensures untouched { IfErr result (λ ending. sink.new ≡ sink.old) }
 {
+    let telling = TellingGate::new(rt, gate, alarm, notes);
     let mut journal = Journal::new(alloc, reader, sink);
     let run = run_service(
         rt,
@@ -143,8 +153,9 @@ where
         recorders,
         disk,
         net,
-        gate,
+        &telling,
         notes,
+        alarm,
         &mut journal,
     );
     let ServiceRun { ending, duties } = run;

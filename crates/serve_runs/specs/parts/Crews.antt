@@ -37,9 +37,9 @@ manned seats [] = []
 manned [] (duty ∷ duties) = []
 manned (seat ∷ seats) (duty ∷ duties) = Clients seat duty ∷ manned seats duties
 
--- those, and then eight for agents
+-- those, and then nine for agents
 abbrev pub stations_with : {X : Type 0} → List SeatState → List X → List (Station X)
-stations_with seats duties = manned seats duties ++ replicate 8 Agents
+stations_with seats duties = manned seats duties ++ replicate 9 Agents
 
 -- ---- duties
 
@@ -61,7 +61,7 @@ duties_of crew = duties_in (map duty_of crew)
 abbrev pub door_of : {E X : Type 0} → Worker E X → E
 door_of worker = worker.door
 
--- an `accept` of the worker found no memory
+-- an `accept` of the worker found no memory, or it had no thread
 abbrev pub lacked : Option WorkerEnd → Bool
 lacked (Some end) = is_lacking end
 lacked None = false

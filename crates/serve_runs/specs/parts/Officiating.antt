@@ -1,5 +1,5 @@
 -- What the calling thread does while the others work.
-use Rattle.std.specs.Prelude.{◌≡◌, ◌≤◌, ℕ, Bool, true, false, List, [], ◌∷◌, Option, Some}
+use Rattle.std.specs.Prelude.{◌≡◌, ◌≤◌, ◌⊎◌, ℕ, Bool, true, false, List, [], ◌∷◌, Option, Some}
 use Rattle.std.specs.List.{AllByRecursion, AllZip}
 use Rattle.desk_ports.specs.FileMap.{FileMap}
 use Rattle.desk_ports.specs.Disk.{DiskState}
@@ -11,6 +11,7 @@ use Rattle.link_ports.specs.declared.door_kinds.DoorKind.TheVariants.{Admin}
 use Rattle.desk_state.specs.DeskState.{DeskState}
 use Rattle.desk_keeper.specs.Keeper.{IsSameDisk}
 use Rattle.desk_keeper.specs.declared.keeper.Keeper.{Keeper}
+use Rattle.server_hall.specs.StopNews.{StopsTold, unasked}
 use Rattle.admin_door.specs.Serving.{Exchange}
 use Rattle.admin_door.specs.Running.{RunsOver}
 use Rattle.door_workers.specs.Visit.{Works}
@@ -20,7 +21,7 @@ use Rattle.door_workers.specs.declared.workers.WorkerEnd.TheVariants.{DoorFailed
 use Rattle.run_endings.specs.declared.endings.Ending.{Ending}
 use Rattle.run_endings.specs.declared.endings.Ending.TheVariants.{Done, Memory, Disk, Net}
 use Rattle.live_desk.specs.Seat.{SeatState}
-use Rattle.serve_runs.specs.Crew.{EndedWorker, ends_of, doors_of, lacks_memory, Serves}
+use Rattle.serve_runs.specs.Crew.{EndedWorker, ends_of, doors_of, lacks_memory, is_deserted, Serves}
 use Rattle.serve_runs.specs.Serving.{HasRisen, HasNotRisen, ClosesDoors}
 
 -- a net before and after a row of knocks: its count did not fall, and it tells the same doors closed
@@ -28,28 +29,27 @@ pub record Knocks {N C : Type 0} (net_faults : N → ℕ) (net_closed : N → Op
   pub no_less : net_faults old ≤ net_faults new
   pub closed : net_closed new ≡ net_closed old
 
--- Administrators were served until their worker ended, and then the net was knocked at.
-pub record Officiates {D L E N C : Type 0} (disk_faults : D → ℕ) (state : D → Option DiskState) (moment : D → ℕ)
+-- Administrators were served until their worker ended.
+pub record Officiates {D L E : Type 0} (disk_faults : D → ℕ) (state : D → Option DiskState) (moment : D → ℕ)
     (left_since : D → ℕ → FileMap → Type 0) (traffic : L → Option Traffic) (marks : L → LinkMarks)
-    (faults : L → ℕ) (given_back : E → Option (List L)) (door_faults : E → ℕ) (kind : E → Option DoorKind) (net_faults : N → ℕ)
-    (net_closed : N → Option (List C))
-    (end : WorkerEnd) (keeper keeper_now : Keeper D) (published published_now : List DeskState) (door door_now : E)
-    (net net_now : N) : Type 0 where
+    (faults : L → ℕ) (given_back : E → Option (List L)) (door_faults : E → ℕ) (kind : E → Option DoorKind)
+    (end : WorkerEnd) (keeper keeper_now : Keeper D) (published published_now : List DeskState) (door door_now : E) : Type 0 where
   -- the frames that came, each with its answer
   pub frames : List Exchange
-  pub works : Works (VisitsOffice traffic marks faults) EndsOffice marks faults end
+  pub told : StopsTold
+  pub works : Works (VisitsOffice traffic marks faults) (EndsOffice unasked told) marks faults end
       (office_of disk_faults keeper published []) (office_of disk_faults keeper_now published_now frames)
       (given_back door) (given_back door_now) (door_faults door) (door_faults door_now)
   pub runs : RunsOver state moment left_since keeper keeper_now frames
   pub same_disk : IsSameDisk keeper keeper_now
   pub same_kind : kind door_now ≡ kind door
-  pub knocks : Knocks net_faults net_closed net net_now
 
--- What a service did between its opening and its end: whether memory was wanting at a door, and the rest as of `ServesAll`.
+-- What a service did between its opening and its end: whether memory or a thread was wanting, whether it was stopped by no
+-- administrator, and the rest as of `ServesAll`.
 pub record Staffs {D L E : Type 0} (disk_faults : D → ℕ) (state : D → Option DiskState) (moment : D → ℕ)
     (left_since : D → ℕ → FileMap → Type 0) (traffic : L → Option Traffic) (marks : L → LinkMarks)
     (faults : L → ℕ) (given_back : E → Option (List L)) (door_faults : E → ℕ) (kind : E → Option DoorKind)
-    (posts : List (Option SeatState)) (lacked : Bool) (keeper keeper_now : Keeper D) (net net_now : ℕ) (closed closed_now : Option (List E)) : Type 0 where
+    (posts : List (Option SeatState)) (lacked alone : Bool) (keeper keeper_now : Keeper D) (net net_now : ℕ) (closed closed_now : Option (List E)) : Type 0 where
   pub end : WorkerEnd
   pub published : List DeskState
   pub given : Option (List L)
@@ -57,7 +57,8 @@ pub record Staffs {D L E : Type 0} (disk_faults : D → ℕ) (state : D → Opti
   pub is_theirs : kind door ≡ Some Admin
   pub unused : IfTold given (λ links. links ≡ [])
   pub frames : List Exchange
-  pub works : Works (VisitsOffice traffic marks faults) EndsOffice marks faults end
+  pub told : StopsTold
+  pub works : Works (VisitsOffice traffic marks faults) (EndsOffice unasked told) marks faults end
       (office_of disk_faults keeper (keeper.desk ∷ []) []) (office_of disk_faults keeper_now published frames)
       given (given_back door) 0 (door_faults door)
   pub runs : RunsOver state moment left_since keeper keeper_now frames
@@ -65,13 +66,15 @@ pub record Staffs {D L E : Type 0} (disk_faults : D → ℕ) (state : D → Opti
   pub serves : AllZip (Serves traffic marks faults given_back door_faults kind) posts crew
   pub doors : ClosesDoors closed (door ∷ doors_of crew) closed_now
   pub memory : lacked ≡ lacks_memory (end ∷ ends_of crew)
+  pub deserted : alone ≡ is_deserted (end ∷ ends_of crew)
   pub failed : AllByRecursion (λ (one : WorkerEnd). one ≡ DoorFailed → HasRisen net net_now) (end ∷ ends_of crew)
 
 -- which ending follows from what was met, and from the counts of the disk and of the net
-abbrev pub EndsBy : Bool → ℕ → ℕ → ℕ → ℕ → Ending → Type 0
-EndsBy lacked disk disk_now net net_now Done =
-    (lacked ≡ false) × HasNotRisen disk disk_now × HasNotRisen net net_now
-EndsBy lacked disk disk_now net net_now Memory = lacked ≡ true
-EndsBy lacked disk disk_now net net_now Disk = (lacked ≡ false) × HasRisen disk disk_now
-EndsBy lacked disk disk_now net net_now Net = (lacked ≡ false) × HasNotRisen disk disk_now × HasRisen net net_now
-EndsBy lacked disk disk_now net net_now ending = ⊥
+abbrev pub EndsBy : Bool → Bool → ℕ → ℕ → ℕ → ℕ → Ending → Type 0
+EndsBy lacked alone disk disk_now net net_now Done =
+    (lacked ≡ false) × (alone ≡ false) × HasNotRisen disk disk_now × HasNotRisen net net_now
+EndsBy lacked alone disk disk_now net net_now Memory =
+    (lacked ≡ true) ⊎ ((alone ≡ true) × HasNotRisen disk disk_now × HasNotRisen net net_now)
+EndsBy lacked alone disk disk_now net net_now Disk = (lacked ≡ false) × HasRisen disk disk_now
+EndsBy lacked alone disk disk_now net net_now Net = (lacked ≡ false) × HasNotRisen disk disk_now × HasRisen net net_now
+EndsBy lacked alone disk disk_now net net_now ending = ⊥

@@ -1,7 +1,7 @@
 use Rattle.std.proofs.Common.{◌∙◌, [], refl}
 use Rattle.desk_keeper.specs.Keeper.{disk_of}
 use Rattle.admin_door.proofs.Running.{runs-none}
-use Rattle.door_workers.specs.Visit.{AllGoOn}
+use Rattle.door_workers.specs.Visit.{GoesOnTold}
 use Rattle.door_workers.specs.Administrators.{VisitsOffice, office_of}
 use Rattle.door_workers.proofs.Visits.{begins}
 use Rattle.door_workers.proofs.admin_workers.serve_administrators.Goals as goal
@@ -14,13 +14,14 @@ loop-init g c = (
     (
       (
         [],
-        begins (VisitsOffice g.L.Link.traffic g.L.Link.marks g.L.Link.faults) g.L.Link.marks g.L.Link.faults AllGoOn
+        begins (VisitsOffice g.L.Link.traffic g.L.Link.marks g.L.Link.faults) g.L.Link.marks g.L.Link.faults
+            (GoesOnTold c.args.news.now c.args.news.now)
             (office_of g.D.Disk.faults c.args.keeper.now c.args.publisher.now [])
-            (g.E.Door.given_back c.args.door.now) (g.E.Door.faults c.args.door.now) tt,
+            (g.E.Door.given_back c.args.door.now) (g.E.Door.faults c.args.door.now) (tt, refl),
         runs-none g.D.Disk.state g.D.Disk.moment g.D.Disk.left_since c.args.keeper.now
             (g.met.D.Disk.only_now (disk_of c.args.keeper.now)),
       ),
-      (c.requires.behind, (refl, (refl, g.met.C.Chore.stays c.args.chore.now))),
+      (c.requires.behind, (refl, refl)),
     ),
   ),
 )
@@ -32,16 +33,12 @@ loop-preserved g c = (
     tt,
     (
       c.in_default.ensures.worked c.args.keeper.now (office_of g.D.Disk.faults c.args.keeper.now c.args.publisher.now [])
-          (g.E.Door.given_back c.args.door.now) (g.E.Door.faults c.args.door.now) c.loop.invariant.1.1.0,
+          (g.E.Door.given_back c.args.door.now) (g.E.Door.faults c.args.door.now) c.args.news.now c.loop.invariant.1.1.0,
       (
         c.in_default.ensures.behind,
         (
           c.in_default.ensures.same_disk ∙ c.loop.invariant.1.1.1.1.0,
-          (
-            c.in_default.ensures.kind ∙ c.loop.invariant.1.1.1.1.1.0,
-            g.met.C.Chore.goes_further c.args.chore.now c.loop.chore _ c.loop.invariant.1.1.1.1.1.1
-                c.in_default.ensures.chore,
-          ),
+          c.in_default.ensures.kind ∙ c.loop.invariant.1.1.1.1.1,
         ),
       ),
     ),
@@ -51,8 +48,4 @@ loop-preserved g c = (
 pub returns-in-Err-clause-worked : goal.returns-in-Err-clause-worked
 returns-in-Err-clause-worked g c =
     c.in-Err.ensures.worked c.args.keeper.now (office_of g.D.Disk.faults c.args.keeper.now c.args.publisher.now [])
-    (g.E.Door.given_back c.args.door.now) (g.E.Door.faults c.args.door.now) c.loop.invariant.1.1.0
-
-pub returns-in-Err-clause-chore : goal.returns-in-Err-clause-chore
-returns-in-Err-clause-chore g c =
-    g.met.C.Chore.goes_further c.args.chore.now c.loop.chore _ c.loop.invariant.1.1.1.1.1.1 c.in-Err.ensures.chore
+    (g.E.Door.given_back c.args.door.now) (g.E.Door.faults c.args.door.now) c.args.news.now c.loop.invariant.1.1.0

@@ -3,6 +3,7 @@ use Rattle.desk_ports.specs.Disk.{DiskState, WhereTold}
 use Rattle.desk_ports.specs.Moments.{LeavesOnly}
 use Rattle.desk_ports.specs.declared.file_sets.SetFile.{SetFile}
 use Rattle.desk_state.specs.DeskState.{DeskState}
+use Rattle.server_hall.specs.StopNews.{unasked}
 use Rattle.desk_keeper.specs.Kept.{kept}
 use Rattle.desk_keeper.specs.Keeper.{disk_of}
 use Rattle.desk_keeper.specs.declared.keeper.Keeper.{Keeper}
@@ -56,7 +57,7 @@ returns-clause-runs g c =
     λ i. record { desk = first.desk; decided = of.decided i; published = first.desk ∷ []; faults = count i; frames = [] } in
     let final : last.vault.disk.now ≡ c.disk-1.given.0 = search rules in
     let works = subst (λ (start : Office). Works
-    (VisitsOffice g.N.Door.Link.Link.traffic g.N.Door.Link.Link.marks g.N.Door.Link.Link.faults) EndsOffice
+    (VisitsOffice g.N.Door.Link.Link.traffic g.N.Door.Link.Link.marks g.N.Door.Link.Link.faults) (EndsOffice unasked staffs.told)
     g.N.Door.Link.Link.marks g.N.Door.Link.Link.faults staffs.end start
     (office_of g.D.Disk.faults last staffs.published staffs.frames)
     staffs.given (g.N.Door.Door.given_back staffs.door) 0 (g.N.Door.Door.faults staffs.door))
@@ -72,14 +73,15 @@ returns-clause-runs g c =
       door = staffs.door;
       is_theirs = staffs.is_theirs;
       unused = staffs.unused;
+      told = staffs.told;
       works = works;
       counted = refl;
       crew = staffs.crew;
       serves = staffs.serves;
       doors = staffs.doors;
-      ends = concludes c.ending_of-ending.result c.in-Ok-served.met.lacked_memory (staffs.end ∷ ends_of staffs.crew)
+      ends = concludes c.ending_of-ending.result c.in-Ok-served.met.lacked_memory c.in-Ok-served.met.alone (staffs.end ∷ ends_of staffs.crew)
           (g.D.Disk.faults c.args.disk.now) (g.D.Disk.faults last.vault.disk.now) (g.N.Dial.faults c.args.net.now) (g.N.Dial.faults c.serve_folder-served.new.net)
-          staffs.memory staffs.failed
+          staffs.memory staffs.deserted staffs.failed
           (rw (
             c.faults-disk_faults.ensures,
             c.faults.ensures,
@@ -94,6 +96,7 @@ returns-clause-runs g c =
           (disk_seen g.D.Disk.state g.D.Disk.moment g.D.Disk.left_since g.D.Disk.faults c.args.disk.now)
           (disk_seen g.D.Disk.state g.D.Disk.moment g.D.Disk.left_since g.D.Disk.faults (disk_of last))
           first.desk (office_of g.D.Disk.faults last staffs.published staffs.frames) (g.D.Disk.faults c.args.disk.now) staffs.end
+          (EndsOffice unasked staffs.told)
           staffs.given (g.N.Door.Door.given_back staffs.door) (g.N.Door.Door.faults staffs.door) works (keeps entry told),
     )))
 

@@ -3,13 +3,14 @@ use Rattle.std.specs.List.{AllByRecursion, AllZip, list_any}
 use Rattle.std.proofs.lemmas.List.{with_items_is, places}
 use Rattle.link_ports.specs.Told.{AppendsTold}
 use Rattle.desk_state.specs.DeskState.{DeskState}
+use Rattle.server_hall.specs.StopNews.{unasked}
 use Rattle.door_workers.specs.Visit.{Works}
 use Rattle.door_workers.specs.Administrators.{VisitsOffice, EndsOffice, office_of}
-use Rattle.serve_runs.specs.Crew.{doors_of, is_lacking}
+use Rattle.serve_runs.specs.Crew.{doors_of, ends_of, is_lacking, is_alone, is_deserted}
 use Rattle.serve_runs.specs.Serving.{ClosesDoors}
 use Rattle.serve_runs.specs.parts.Crews.{duty_at, post_at, duties_in, duties_of, door_of, worker_lacked, CountsDoor}
 use Rattle.serve_runs.proofs.Closing.{closes_then, closes_again, door_failed, counts_within}
-use Rattle.serve_runs.proofs.Crewing.{all_ended, failed_all}
+use Rattle.serve_runs.proofs.Crewing.{all_ended, failed_all, none_alone, alone_first}
 use Rattle.serve_runs.proofs.serving.open_and_serve.Goals as goal
 
 pub returns-in-Err-open_doors-clause-closed : goal.returns-in-Err-open_doors-clause-closed
@@ -21,9 +22,9 @@ returns-in-Err-open_doors-clause-closed g c =
 pub returns-clause-served : goal.returns-clause-served
 returns-clause-served g c =
     let opened_is : g.N.Net.closed c.serve-end.new.net ≡ g.N.Net.closed c.args.net.now =
-    c.serve-end.ensures.officiates.knocks.closed ∙ (c.open_doors.ensures.closed ∙ c.open.ensures.closed) in
+    c.serve-end.ensures.knocks.closed ∙ (c.open_doors.ensures.closed ∙ c.open.ensures.closed) in
     let works_so = subst (λ (published : List DeskState). Works
-    (VisitsOffice g.N.Door.Link.Link.traffic g.N.Door.Link.Link.marks g.N.Door.Link.Link.faults) EndsOffice
+    (VisitsOffice g.N.Door.Link.Link.traffic g.N.Door.Link.Link.marks g.N.Door.Link.Link.faults) (EndsOffice unasked c.serve-end.ensures.officiates.told)
     g.N.Door.Link.Link.marks g.N.Door.Link.Link.faults c.serve-end.result
     (office_of g.D.Disk.faults c.args.keeper.now published [])
     (office_of g.D.Disk.faults c.serve-end.new.keeper c.serve-end.new.publisher c.serve-end.ensures.officiates.frames)
@@ -31,7 +32,7 @@ returns-clause-served g c =
     (g.N.Door.Door.faults c.in-Ok.door) (g.N.Door.Door.faults c.serve-end.new.door))
     c.requires.published c.serve-end.ensures.officiates.works in
     let works = subst (λ (count : ℕ). Works
-    (VisitsOffice g.N.Door.Link.Link.traffic g.N.Door.Link.Link.marks g.N.Door.Link.Link.faults) EndsOffice
+    (VisitsOffice g.N.Door.Link.Link.traffic g.N.Door.Link.Link.marks g.N.Door.Link.Link.faults) (EndsOffice unasked c.serve-end.ensures.officiates.told)
     g.N.Door.Link.Link.marks g.N.Door.Link.Link.faults c.serve-end.result
     (office_of g.D.Disk.faults c.args.keeper.now (c.args.keeper.now.desk ∷ []) [])
     (office_of g.D.Disk.faults c.serve-end.new.keeper c.serve-end.new.publisher c.serve-end.ensures.officiates.frames)
@@ -39,7 +40,7 @@ returns-clause-served g c =
     count (g.N.Door.Door.faults c.serve-end.new.door))
     c.in-Ok.ensures.fresh works_so in
     let no_less : g.N.Dial.faults c.args.net.now ≤ g.N.Dial.faults c.serve-end.new.net =
-    omega (arith, c.open.ensures.no_less, c.open_doors.ensures.no_less, c.serve-end.ensures.officiates.knocks.no_less) in
+    omega (arith, c.open.ensures.no_less, c.open_doors.ensures.no_less, c.serve-end.ensures.knocks.no_less) in
     let now = c.serve-end.new.crew in
     let written = with_items_is c.open_doors.new.crew now (search (rules, places)) in
     let ended = all_ended g.N.Door.Link.Link.traffic g.N.Door.Link.Link.marks g.N.Door.Link.Link.faults g.N.Door.Door.given_back
@@ -54,6 +55,7 @@ returns-clause-served g c =
       is_theirs = c.serve-end.ensures.officiates.same_kind ∙ c.in-Ok.ensures.of_kind;
       unused = c.in-Ok.ensures.unused;
       frames = c.serve-end.ensures.officiates.frames;
+      told = c.serve-end.ensures.officiates.told;
       works = works;
       runs = c.serve-end.ensures.officiates.runs;
       crew = ended.crew;
@@ -69,6 +71,10 @@ returns-clause-served g c =
           ∙ ap (λ lacked. is_lacking c.serve-end.result || lacked)
           (c.lacked_memory-lacked.ensures
           ∙ (ap (λ list. list_any worker_lacked list) (c.deref.ensures.value ∙ written) ∙ sym ended.lacks));
+      deserted = alone_first _ (is_alone c.serve-end.result) (is_deserted (ends_of ended.crew)) c.is_alone.ensures
+          (none_alone g.N.Door.Link.Link.traffic g.N.Door.Link.Link.marks g.N.Door.Link.Link.faults g.N.Door.Door.given_back
+          g.N.Door.Door.faults g.N.Door.Door.kind (g.N.Dial.faults c.args.net.now) (g.N.Dial.faults c.close_doors-2.new.net)
+          (map post_at c.args.stations.items) ended.crew ended.serves);
       failed = (
         door_failed c.serve-end.result (g.N.Door.Door.faults c.serve-end.new.door) (g.N.Dial.faults c.args.net.now)
             (g.N.Dial.faults c.serve-end.new.net) (g.N.Dial.faults c.close-2.new.self) (g.N.Dial.faults c.close_doors-2.new.net)

@@ -29,22 +29,22 @@ serve_watched-served-requires-clause-recorders g c κs within =
 pub write_end-writing-requires-clause-queue : goal.write_end-writing-requires-clause-queue
 write_end-writing-requires-clause-queue g c =
     (all_still c.in-Ok.reader c.in-Ok-served.watched.reader c.args.workers c.in-Ok.recorders.items c.in-Ok-served.watched.recorders.items
-    c.in-Ok-served.ensures.journal.entries (search rules) (search rules) c.in-Ok-served.ensures.recorders (search rules)).0
+    c.in-Ok-served.ensures.journal.1.entries (search rules) (search rules) c.in-Ok-served.ensures.recorders (search rules)).0
 
 pub write_end-writing-requires-clause-all : goal.write_end-writing-requires-clause-all
 write_end-writing-requires-clause-all g c =
     (all_still c.in-Ok.reader c.in-Ok-served.watched.reader c.args.workers c.in-Ok.recorders.items c.in-Ok-served.watched.recorders.items
-    c.in-Ok-served.ensures.journal.entries (search rules) (search rules) c.in-Ok-served.ensures.recorders (search rules)).1
+    c.in-Ok-served.ensures.journal.1.entries (search rules) (search rules) c.in-Ok-served.ensures.recorders (search rules)).1
 
 pub returns : goal.returns
 returns g c = (
   c.in-Ok-served.watched.ending,
   c.write_end-writing.result,
   c.in-Ok-served.ensures.runs,
-  journaled_all c.args.workers c.in-Ok-served.watched.ending c.in-Ok.reader c.in-Ok-served.watched.reader
+  journaled_all c.args.workers c.in-Ok-served.ensures.journal.0 c.in-Ok-served.watched.ending c.in-Ok.reader c.in-Ok-served.watched.reader
       c.in-Ok.recorders.items c.in-Ok-served.watched.recorders.items c.in-Ok-served.watched.writing c.write_end-writing.result
       (sink_seen g.K.Sink.taken g.K.Sink.faults c.args.sink.now) (sink_seen g.K.Sink.taken g.K.Sink.faults c.serve_watched-served.new.sink)
       (sink_seen g.K.Sink.taken g.K.Sink.faults c.write_end-writing.new.sink) (search rules) (search rules)
-      c.in-Ok-served.ensures.recorders c.in-Ok-served.ensures.journal c.write_end-writing.ensures,
+      c.in-Ok-served.ensures.recorders c.in-Ok-served.ensures.journal.1 c.write_end-writing.ensures,
   c.ending_with.ensures,
 )
