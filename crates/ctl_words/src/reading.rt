@@ -1,6 +1,6 @@
 // Reading the words by clap.
 use crate::grammar::program;
-use crate::orders::{Asked, Form, LogOptions, Order, Subject, Unread};
+use crate::orders::{Asked, Order, Subject, Unread};
 use clap::error::ErrorKind;
 use clap::{ArgMatches, Error};
 use std::alloc::{AllocError, Global};
@@ -39,22 +39,18 @@ fn unread(alloc: Global, error: &Error) -> Unread {
 fn order_of<'a>(matches: &ArgMatches<'a>) -> Option<Order<'a>> {
     let (name, values) = matches.subcommand()?;
     match name {
-        "may" => may_order(values),
         "explain" => explain_order(values),
         "who" => who_order(values),
         "plan" => plan_order(values),
-        "log" => Some(log_order(values)),
         _ => short_order(name, values),
     }
 }
 
-// An order with one word at most.
+// An order without words of its own.
 fn short_order<'a>(name: &str, values: &ArgMatches<'a>) -> Option<Order<'a>> {
-    let store = values.get_str("store");
+    let store = values.get_str("store")?;
     match name {
         "export" => Some(Order::Export { store }),
-        "levels" => levels_order(values),
-        "import-cynara" => import_order(values),
         "users" => Some(listing(Subject::Users, store)),
         "packages" => Some(listing(Subject::Packages, store)),
         "apps" => Some(listing(Subject::Apps, store)),
@@ -64,7 +60,7 @@ fn short_order<'a>(name: &str, values: &ArgMatches<'a>) -> Option<Order<'a>> {
     }
 }
 
-fn listing<'a>(subject: Subject, store: Option<&'a str>) -> Order<'a> {
+fn listing<'a>(subject: Subject, store: &'a str) -> Order<'a> {
     Order::List { subject, store }
 }
 
@@ -79,29 +75,9 @@ fn asked_in<'a>(values: &ArgMatches<'a>) -> Option<Asked<'a>> {
     })
 }
 
-fn form_in(values: &ArgMatches<'_>) -> Form {
-    if values.get_flag("json") {
-        Form::Json
-    } else if values.get_flag("quiet") {
-        Form::Quiet
-    } else {
-        Form::Line
-    }
-}
-
-fn may_order<'a>(values: &ArgMatches<'a>) -> Option<Order<'a>> {
-    let asked = asked_in(values)?;
-    let seconds = values.get_one::<u32>("timeout")?;
-    Some(Order::May {
-        asked,
-        form: form_in(values),
-        seconds,
-    })
-}
-
 fn explain_order<'a>(values: &ArgMatches<'a>) -> Option<Order<'a>> {
     let asked = asked_in(values)?;
-    let store = values.get_str("store");
+    let store = values.get_str("store")?;
     Some(Order::Explain { asked, store })
 }
 
@@ -110,37 +86,12 @@ fn who_order<'a>(values: &ArgMatches<'a>) -> Option<Order<'a>> {
     Some(Order::Who {
         privilege,
         user: values.get_str("user"),
-        store: values.get_str("store"),
+        store: values.get_str("store")?,
     })
 }
 
 fn plan_order<'a>(values: &ArgMatches<'a>) -> Option<Order<'a>> {
     let script = values.get_str("SCRIPT")?;
-    let store = values.get_str("store");
+    let store = values.get_str("store")?;
     Some(Order::Plan { script, store })
-}
-
-fn levels_order<'a>(values: &ArgMatches<'a>) -> Option<Order<'a>> {
-    let uid = values.get_str("UID")?;
-    let store = values.get_str("store");
-    Some(Order::Levels { uid, store })
-}
-
-fn import_order<'a>(values: &ArgMatches<'a>) -> Option<Order<'a>> {
-    let folder = values.get_str("DIR")?;
-    Some(Order::Import { folder })
-}
-
-fn log_order<'a>(values: &ArgMatches<'a>) -> Order<'a> {
-    let options = LogOptions {
-        client: values.get_str("client"),
-        user: values.get_str("user"),
-        privilege: values.get_str("privilege"),
-        denied: values.get_flag("denied"),
-        json: values.get_flag("json"),
-    };
-    Order::Log {
-        options,
-        file: values.get_str("FILE"),
-    }
 }

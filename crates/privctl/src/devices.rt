@@ -1,0 +1,68 @@
+// The policy state that an order is about.
+use crate::telling::tell_wrong;
+use ctl_device::{CopyRefusal, state_of_copy};
+use desk_ports::Sink;
+use desk_state::Desk;
+use folder_disk::FolderDisk;
+use std::alloc::Global;
+use std::fs::{self, File};
+use std::rt::{Clock, Files};
+
+/// The policy state of a copy of a store, in the folder of this path. `None` where there is none, which a person was told.
+pub(crate) fn state_in<R: Files<File = File> + Clock + AllocGlobal + Clone + Drop, K: Sink>(
+    rt: &R,
+    alloc: Global,
+    folder: &str,
+    sink: &mut K,
+) -> Option<Desk> {
+    if !is_folder(rt, folder) {
+        tell_wrong(alloc, "there is no folder", folder.as_bytes(), sink);
+        return None;
+    }
+    let Ok(runtime) = rt.clone() else {
+        return None;
+    };
+    let Ok(mut disk) = FolderDisk::open(runtime, folder) else {
+        return None;
+    };
+    match state_of_copy(alloc, &mut disk) {
+        Ok(desk) => Some(desk),
+        Err(CopyRefusal::Folder) => {
+            tell_failure(alloc, &disk, sink);
+            None
+        }
+        Err(CopyRefusal::Damaged { file, .. }) => {
+            tell_wrong(
+                alloc,
+                "not as a commit leaves it: the file",
+                file.as_slice(),
+                sink,
+            );
+            None
+        }
+        Err(CopyRefusal::Memory(_)) => {
+            sink.note("privctl: out of memory");
+            None
+        }
+    }
+}
+
+// Tells why the folder cannot be read.
+fn tell_failure<R: Files<File = File> + Clock + AllocGlobal + Clone + Drop, K: Sink>(
+    alloc: Global,
+    disk: &FolderDisk<R>,
+    sink: &mut K,
+) {
+    if let Some(failure) = disk.failure() {
+        if let Ok(line) = format!(in alloc; "privctl: {failure}") {
+            sink.note(line.as_str());
+        }
+    }
+}
+
+fn is_folder<R: Files>(rt: &R, path: &str) -> bool {
+    match fs::metadata(rt, path) {
+        Ok(found) => found.is_dir(),
+        Err(_) => false,
+    }
+}

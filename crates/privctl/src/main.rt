@@ -1,0 +1,37 @@
+//! `privctl`: what a person asks of a device, by a copy of its store.
+#![tactic(auto)]
+
+mod devices;
+mod orders;
+mod questions;
+mod telling;
+
+use ctl_words::{Unread, read_order};
+use host_ports::{OutputSink, host_words, take_descriptors};
+use orders::run_order;
+use std::alloc::AllocError;
+use std::process::ExitCode;
+use telling::{DONE, NOT_DONE, WRONG_WORDS, tell_lines, write_text};
+
+fn main(rt: HostRuntime) -> ExitCode {
+    match run_on_host(&rt) {
+        Ok(status) => ExitCode::from(status),
+        Err(_) => ExitCode::from(NOT_DONE),
+    }
+}
+
+// Runs what the words ask for, and answers the status.
+fn run_on_host(rt: &HostRuntime) -> Result<u8, AllocError> {
+    take_descriptors(rt);
+    let words = host_words(rt, rt.alloc())?;
+    let mut sink = OutputSink::over(rt.stdout(), rt.stderr());
+    match read_order(rt.alloc(), &words) {
+        Ok(order) => Ok(run_order(rt, rt.alloc(), order, &mut sink)),
+        Err(Unread::Shown(text)) => Ok(write_text(text.as_bytes(), DONE, &mut sink)),
+        Err(Unread::Wrong(text)) => {
+            tell_lines(rt.alloc(), text.as_str(), &mut sink);
+            Ok(WRONG_WORDS)
+        }
+        Err(Unread::Memory(error)) => Err(error),
+    }
+}
