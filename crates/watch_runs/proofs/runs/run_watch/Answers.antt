@@ -21,6 +21,19 @@ returns-in_default g c = (
   refl,
 )
 
+-- nor was any found for what wakes its reader
+pub returns-in_default-alarm : goal.returns-in_default-alarm
+returns-in_default-alarm g c = (
+  Memory,
+  GoesOn,
+  RunsServe.refused
+      (refuses-early g.D.Disk.state g.D.Disk.moment g.D.Disk.left_since g.D.Disk.faults c.args.disk.now
+      (g.met.D.Disk.only_now c.args.disk.now))
+      refl refl refl,
+  Journaled.unserved tt refl refl,
+  refl,
+)
+
 pub serve_watched-served-requires-clause-recorders : goal.serve_watched-served-requires-clause-recorders
 serve_watched-served-requires-clause-recorders g c κs within =
     as_many c.in-Ok.reader.queue c.args.workers c.in-Ok.recorders.items (search rules)
