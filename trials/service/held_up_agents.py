@@ -100,6 +100,8 @@ def commits_while_an_agent_is_asked(service):
                 open_ones += 1
                 time.sleep(0.3)
                 agent.send(answer(fields[:4]))
+                # Whoever got the last answer has noted it by then.
+                time.sleep(0.2)
         for thread in threads:
             thread.join()
         wanted("both are answered by the agent", got == [FROM_AGENT] * 2, got)
