@@ -12,7 +12,7 @@ import time
 
 from held_up_peers import AGENT_WORKERS, ASKED, FREE, HELD, WORKERS, answered, asked_once, obeyed, timed, wanted
 from held_up_stops import ended
-from service import JUDGED, REGISTER, REGISTERED, HungUp, Link, Service, check, frame
+from service import JUDGED, REGISTER, REGISTERED, TAKEN, HungUp, Link, Service, check, frame
 
 HERE = pathlib.Path(__file__).resolve().parent
 # How soon a line is on standard error, or a service that cannot go on ends.
@@ -37,8 +37,8 @@ def want_of_descriptors(service):
             link.close()
         agents = [Link(service.folder, "agent", 5) for _ in range(AGENT_WORKERS)]
         kinds = [agent.ask(frame(1, REGISTER, bytes([1, at])))[1] for at, agent in enumerate(agents)]
-        wanted("each worker of agents answers", kinds == [REGISTERED] * AGENT_WORKERS, kinds)
-        # An agent that left is noticed at the next question of its kind: no more than one turn of agents is tried.
+        # One more than may have a kind: it is told so.
+        wanted("each worker of agents answers", kinds == [REGISTERED] * (AGENT_WORKERS - 1) + [TAKEN], kinds)
         wanted("an administrator is answered", obeyed(service.folder))
         break
     honest_client = timed("honest client", FREE, lambda: answered(service.folder))
