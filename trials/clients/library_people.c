@@ -1,4 +1,5 @@
-/* The clients and the agent of `library_hour.py`, over libprivilege: people client FOLDER PLACE SEED, people agent FOLDER PLACE SEED. What
+/* The clients and the agent of `library_hour.py`, over libprivilege: people client FOLDER PLACE SEED, people agent FOLDER PLACE SEED; and
+ * people crowd FOLDER PLACE SEED, a client of `library_crowd.py`, which asks some five times a second. What
  * they count and know of one another stands in the file `words` of the folder, in shared memory (`service_people.py` says what it has); the
  * questions stand in the file `questions`. A client tests of each answer that its commit is none below the last one that was acknowledged
  * before the question, and none that was not begun; what an answer says otherwise is a line of standard output, each once in a row. It is
@@ -14,11 +15,13 @@
 #include <sys/mman.h>
 #include <sys/prctl.h>
 #include <sys/socket.h>
+#include <sys/stat.h>
+#include <time.h>
 #include <unistd.h>
 
 enum { ACKNOWLEDGED, BEGUN, STOPPED, FAULTS };
-enum { ANSWERED, KEPT, BY_AGENT, HUNG_UP, SEEN };
-enum { WORDS_OF_PLACE = 8, PLACES = 9, MOST = 64, KIND = 10 };
+enum { ANSWERED, KEPT, BY_AGENT, HUNG_UP, SEEN, LONGEST };
+enum { WORDS_OF_PLACE = 8, MOST = 64, KIND = 10 };
 
 static volatile uint64_t *words, *own;
 static char folder[200], questions[MOST][3][32];
@@ -54,8 +57,10 @@ static void begin(char **given) {
     snprintf(folder, sizeof folder, "%s", given[2]);
     snprintf(path, sizeof path, "%s/words", folder);
     int fd = open(path, O_RDWR | O_CLOEXEC);
-    void *at = mmap(NULL, 8 * WORDS_OF_PLACE * PLACES, PROT_READ | PROT_WRITE, MAP_SHARED, fd, 0);
-    if (fd < 0 || at == MAP_FAILED) exit(2);
+    struct stat its;
+    if (fd < 0 || fstat(fd, &its)) exit(2);
+    void *at = mmap(NULL, (size_t)its.st_size, PROT_READ | PROT_WRITE, MAP_SHARED, fd, 0);
+    if (at == MAP_FAILED) exit(2);
     close(fd);
     words = at;
     own = words + WORDS_OF_PLACE * (atoi(given[3]) + 1);
@@ -87,6 +92,12 @@ static enum privilege_error ask(struct privilege *client, char (*names)[32], boo
     return error;
 }
 
+static uint64_t microseconds(void) {
+    struct timespec now;
+    clock_gettime(CLOCK_MONOTONIC, &now);
+    return (uint64_t)now.tv_sec * 1000000 + (uint64_t)now.tv_nsec / 1000;
+}
+
 static bool has_commit(enum privilege_error error) {
     return error == PRIVILEGE_OK || (error >= PRIVILEGE_NOT_RESOLVED && error <= PRIVILEGE_AGENT_FULL);
 }
@@ -114,8 +125,10 @@ static void turn(struct privilege *client) {
     uint64_t floor = words[ACKNOWLEDGED];
     if (draw(50) == 0) privilege_tell(client, floor);
     if (draw(1000) == 0) privilege_leave(client);
+    uint64_t start = microseconds();
     enum privilege_error error = ask(client, questions[asked], simple, &verdict);
-    uint64_t begun = words[BEGUN];
+    uint64_t begun = words[BEGUN], took = microseconds() - start;
+    if (took > own[LONGEST]) own[LONGEST] = took;
     if (error == PRIVILEGE_UNAVAILABLE) {
         /* The service was killed. */
         own[HUNG_UP]++;
@@ -135,14 +148,14 @@ static void turn(struct privilege *client) {
     tell(asked, simple, error, &verdict);
 }
 
-static int ask_all(void) {
+static int ask_all(bool is_slow) {
     char path[256];
     snprintf(path, sizeof path, "%s/client.socket", folder);
     struct privilege *client = privilege_open(path, 60000, 1 + draw(20));
     if (!client) return 1;
     while (!words[STOPPED]) {
-        for (int at = 0; at < 64; at++) turn(client);
-        usleep(500);
+        for (int at = 0; at < (is_slow ? 1 : 64); at++) turn(client);
+        usleep(is_slow ? draw(400000) : 500);
     }
     privilege_close(client);
     return 0;
@@ -201,5 +214,5 @@ static int answer_all(void) {
 int main(int given, char **all) {
     if (given != 5) return 2;
     begin(all);
-    return strcmp(all[1], "agent") ? ask_all() : answer_all();
+    return strcmp(all[1], "agent") ? ask_all(!strcmp(all[1], "crowd")) : answer_all();
 }

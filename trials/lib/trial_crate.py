@@ -24,9 +24,9 @@ def below(names):
     return found
 
 
-def built(scratch, name, uses, answers={}):
+def built(scratch, name, uses, answers={}, invariants={}):
     """The program `NAME.rt.txt` of a folder of trials, which uses these crates. `answers` has for a function the text of its
-    answers, where its proof needs some."""
+    answers, where its proof needs some, and `invariants` that of its invariants and of what it picks."""
     crates = below(uses)
     for crate in crates:
         # work that a proof begins with is of use only where no library is made of it yet
@@ -35,10 +35,11 @@ def built(scratch, name, uses, answers={}):
     source = scratch / "crates" / name / "src"
     source.mkdir(parents=True)
     shutil.copy(next(TRIALS.glob(f"*/{name}.rt.txt")), source / "main.rt")
-    for function, text in answers.items():
-        folder = source.parent / "proofs" / function
-        folder.mkdir(parents=True)
-        (folder / "Answers.antt").write_text(text)
+    for file, texts in (("Answers.antt", answers), ("Invariants.antt", invariants)):
+        for function, text in texts.items():
+            folder = source.parent / "proofs" / function
+            folder.mkdir(parents=True, exist_ok=True)
+            (folder / file).write_text(text)
     (scratch / "crates.txt").write_text("\n".join([*crates.values(), f"{name}: {' '.join(uses)}"]) + "\n")
     made = subprocess.run(
         ["rt", "run"], cwd=source.parent, stdin=subprocess.DEVNULL, stdout=subprocess.PIPE, stderr=subprocess.STDOUT

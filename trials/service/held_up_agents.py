@@ -51,13 +51,15 @@ def askers_that_leave(service):
     """Each worker of clients asks an agent that says nothing, and the asker leaves: the questions are taken back."""
     asking(service)
     with agent_of(service) as agent:
-        for _ in range(4):
+        numbers, taken = [], []
+        for place in range(4):
             link = Link(service.folder, "client")
             link.send(check(THEIRS))
+            if place == 0:
+                numbers.append(agent.read()[2][:4])
             time.sleep(0.01)
             link.close()
         honest(service, "client")
-        numbers, taken = [], []
         until = time.monotonic() + 10
         while len(taken) < 1 and time.monotonic() < until:
             _, operation, fields = agent.read()

@@ -3,15 +3,15 @@
 workers of clients. Minutes with the million frames that are sent where nothing else is said. In turn
 - peers that vanish at each byte of a frame, at each door, also with a reply unread;
 - 200 connections at once, and 200 that are held and say nothing, of which each is served once those before it left;
-- 20 agents of as many kinds, of which 8 are served at once, and each other one when one of those leaves a question behind;
+- 20 agents of as many kinds, of which 8 are served, and each other one is told that its kind is taken, until one of those leaves;
 - clients that send and never read, one at each worker: a commit frees all of them;
 - frames at random, bent at random places, and bytes at random, at the three doors at once.
 Behind each part a client is answered at the last commit, and an agent answers. The service stays up; its threads are as many as
 before, and what it holds in memory does not grow from the first tenth of the random frames to their end. Ends with status 1 where
 one is not as wanted. Linux alone.
 
-An agent that leaves while nothing is asked holds its worker until the next question of its kind. So each kind that is registered here
-is asked a question afterwards."""
+An agent that leaves while nothing is asked is noticed within a second. A question of its kind that comes before is answered by
+"agent gone", and one that comes behind by "no agent"."""
 
 import argparse
 import multiprocessing
@@ -37,11 +37,13 @@ from service import (
     JUDGED,
     LAYOUT,
     LISTING,
+    NO_AGENT,
     REGISTER,
     REGISTERED,
     SET_BUCKET,
     SIMPLE,
     STOP,
+    TAKEN,
     HungUp,
     Link,
     Service,
@@ -59,8 +61,12 @@ QUESTION = (b"c", b"u", b"p")
 KEY = (b"c", b"*", b"p")
 # Kinds of agents, each of which a policy leads to.
 KINDS = range(2, 24)
-# How many of them come at random: fewer than there are workers of agents, so that one is left for what is no registration.
+# How many of them come at random: fewer than agents are served, so that one place is left for the agent that answers.
 BUSY = 6
+# How many agents are served at once.
+MOST_AGENTS = 8
+# Within how many seconds an agent that left is noticed.
+NOTICED = 1
 # By how much the memory of a service may differ between two looks at it, in KiB.
 SLACK = 1024
 FAULTS = []
@@ -91,8 +97,8 @@ def question_of(kind):
     return b"kind%d" % kind, b"u", b"p"
 
 
-def release(folder, kind):
-    """Asks the agent of a kind, so that one that has left is noticed. The operation of the answer."""
+def answer_of(folder, kind):
+    """The operation of the answer to a question for the agent of a kind."""
     for _ in range(10):
         try:
             with Link(folder, "client") as link:
@@ -102,20 +108,47 @@ def release(folder, kind):
     return None
 
 
+def is_gone(folder, kind):
+    """Whether it is noticed in time that the agent of a kind, which was served, has left."""
+    end = time.monotonic() + NOTICED
+    while time.monotonic() < end:
+        found = answer_of(folder, kind)
+        if found == NO_AGENT:
+            return True
+        if found != AGENT_GONE:
+            return False
+        time.sleep(0.05)
+    return False
+
+
+def registered(folder, kind):
+    """A link with an agent of this kind, once there is a place for it."""
+    for _ in range(30):
+        link = Link(folder, "agent")
+        if link.ask(register(kind))[1] == REGISTERED:
+            return link
+        link.close()
+        time.sleep(0.1)
+    return None
+
+
 def look(service, after):
     """A commit, a client that is answered at it, and an agent that is asked, answers and leaves."""
     kind = random.choice((ALLOW, DENY))
     commit = service.command(setting(b"", KEY, kind))
     wanted(f"an answer behind {after}", asked(service.folder), (commit, kind))
-    with Link(service.folder, "agent") as agent, Link(service.folder, "client") as client:
-        wanted(f"an agent behind {after}", agent.ask(register(KINDS[0]))[1], REGISTERED)
+    agent = registered(service.folder, KINDS[0])
+    wanted(f"an agent behind {after}", agent is not None, True)
+    if agent is None:
+        return
+    with agent, Link(service.folder, "client") as client:
         client.send(check(question_of(KINDS[0])))
         _, operation, fields = agent.read()
         wanted(f"a question behind {after}", operation, ASKED)
         agent.send(frame(0, ANSWER, fields[:4] + b"\1"))
         reply = struct.pack(">QH", commit, KINDS[0]) + fields[:4] + b"\1"
         wanted(f"an agent's answer behind {after}", client.read()[1:], (FROM_AGENT, reply))
-    wanted(f"a question that is left behind, behind {after}", release(service.folder, KINDS[0]), AGENT_GONE)
+    wanted(f"the agent that left is noticed, behind {after}", is_gone(service.folder, KINDS[0]), True)
 
 
 def vanishing(service):
@@ -126,7 +159,7 @@ def vanishing(service):
             for whole in (b"", data):
                 with Link(service.folder, door) as link:
                     link.send(whole + data[:length])
-    release(service.folder, KINDS[1])
+    wanted("the last agent that vanished is noticed", is_gone(service.folder, KINDS[1]), True)
 
 
 def at_once(service):
@@ -161,12 +194,20 @@ def held(service):
 
 def agents(service):
     links = {kind: Link(service.folder, "agent") for kind in KINDS[2:]}
-    for kind, link in links.items():
-        link.send(register(kind))
-    for place, (kind, link) in enumerate(links.items()):
-        wanted(f"the agent of kind {kind}", link.read()[1], REGISTERED)
-        link.close()
-        wanted(f"a question to the agent of kind {kind}, which left", release(service.folder, kind), AGENT_GONE)
+    answers = {kind: link.ask(register(kind))[1] for kind, link in links.items()}
+    served = [kind for kind, answer in answers.items() if answer == REGISTERED]
+    others = [kind for kind, answer in answers.items() if answer == TAKEN]
+    wanted("agents that are served", (len(served), len(others)), (MOST_AGENTS, len(links) - MOST_AGENTS))
+    for kind in others:
+        links[kind].close()
+    for leaves, comes in zip(served, others):
+        links[leaves].close()
+        links[comes] = registered(service.folder, comes)
+        wanted(f"an agent of kind {comes} behind one that left", links[comes] is not None, True)
+    for kind in others[:MOST_AGENTS]:
+        if links[kind]:
+            links[kind].close()
+        wanted(f"the agent of kind {kind}, which left, is noticed", is_gone(service.folder, kind), True)
 
 
 def deaf(service):
@@ -266,12 +307,10 @@ def at_random(service, count, seed):
         if isinstance(asked(service.folder), str):
             FAULTS.append("a client that means good is hung up ten times")
         for kind in KINDS[:BUSY]:
-            release(service.folder, kind)
+            answer_of(service.folder, kind)
     for one in peers:
         one.join()
         wanted("how a peer ends", one.exitcode, 0)
-    for kind in KINDS[:BUSY]:
-        release(service.folder, kind)
     begin(service)
 
 

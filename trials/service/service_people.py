@@ -14,19 +14,20 @@ from service import HungUp, Link, check, frame, number, text, texts
 from service_history import KIND, QUESTIONS, History
 
 ACKNOWLEDGED, BEGUN, STOPPED, FAULTS = range(4)
-# For each place: how many checks were answered, how many of them by what was kept and by an agent, the hang-ups, the greatest commit.
-ANSWERED, KEPT, BY_AGENT, HUNG_UP, SEEN = range(5)
+# For each place: how many checks were answered, how many of them by what was kept and by an agent, the hang-ups, the greatest commit,
+# and the longest that one took, in microseconds, where it is told.
+ANSWERED, KEPT, BY_AGENT, HUNG_UP, SEEN, LONGEST = range(6)
 PLACES, WORDS_OF_PLACE = 8, 8
 
 
 class Words:
     """Numbers of eight bytes that all processes of a trial see, each written by one of them at a time."""
 
-    def __init__(self, folder, make=False):
+    def __init__(self, folder, make=False, places=PLACES):
         self.folder = pathlib.Path(folder)
         path = self.folder / "words"
         if make:
-            path.write_bytes(bytes(8 * WORDS_OF_PLACE * (PLACES + 1)))
+            path.write_bytes(bytes(8 * WORDS_OF_PLACE * (places + 1)))
         with open(path, "r+b") as file:
             self.view = memoryview(mmap.mmap(file.fileno(), 0)).cast("Q")
 
@@ -38,7 +39,7 @@ class Words:
 
     def all(self, count):
         """A count of each place."""
-        return [self.view[WORDS_OF_PLACE * (place + 1) + count] for place in range(PLACES)]
+        return [self.view[at + count] for at in range(WORDS_OF_PLACE, len(self.view), WORDS_OF_PLACE)]
 
     def fault(self, said):
         self[FAULTS] = 1

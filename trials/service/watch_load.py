@@ -1,19 +1,21 @@
 #!/usr/bin/env python3
 """watch_load.py [--program PATH] [--checks N] [--seconds N] [--rounds N]: has a service that is watched (`watch 4`) answer a million
-checks over eight links, of which four are open at a time, while an administrator connects again and again, with pauses in which the
-monitor's queue fills; and looks at what it wrote. Each link asks by a client of its own, and names the place of each check in its
-privilege, so that a line tells which check it is of:
+checks over eight links, of which four are open at a time, while an administrator connects again and again; and looks at what it
+wrote. Each link asks by a client of its own, and names the place of each check in its privilege, so that a line tells which check it
+is of:
 - the lines of each worker have the numbers from 0 on, in turn;
 - of each link the places in its lines rise, so no check stands there twice, and all are in their order;
-- a line has the answer and the commit that its check got;
+- a line has the answer and the commit that its check got, the policy that decided, and a time of the trial that is not before that of
+  the worker's line before it;
 - the lines of a worker and its count of missed checks add up to the checks of the links that it served;
-- nothing else is written, and standard error says once that checks were missed, where some were.
+- nothing else is written, and standard error tells of checks that were missed where some were.
 Then times it beside `serve 4` over four links, in turn, with the device of `sample 200`, twice: with an administrator who connects every
-10 milliseconds, and with none, so that the queue is full: at least 0.97 of the checks a second are wanted. Other work stops meanwhile, or
-the quotients say little. Ends with status 1 where something is not as wanted. Two minutes; needs `gcc`."""
+10 milliseconds, and with none: at least 0.97 of the checks a second are wanted. Other work stops meanwhile, or the quotients say
+little. Ends with status 1 where something is not as wanted. Two minutes; needs `gcc`."""
 
 import argparse
 import collections
+import datetime
 import pathlib
 import random
 import statistics
@@ -33,6 +35,7 @@ LONGEST_PAUSE = 0.05
 KIND_AT = 15
 MISSED_NOTE = "some checks were not written"
 WRONG = []
+START = datetime.datetime.now(datetime.timezone.utc)
 
 
 def expect(said, holds):
@@ -118,16 +121,28 @@ def asked(service, checks):
     return {client_of(asker.number).decode(): asker.answers for asker in askers}, visitor.visits
 
 
+def time_of(text):
+    """The time that a line names, or None."""
+    try:
+        return datetime.datetime.fromisoformat(text.replace("Z", "+00:00"))
+    except ValueError:
+        return None
+
+
 def look_at_worker(worker, rows, answers, commit):
     """What is wrong with the lines of one worker. The links that it served."""
     expect(f"numbers of worker {worker}", [int(row[2]) for row in rows] == list(range(len(rows))))
-    last = {}
+    last, before = {}, START
     for row in rows:
-        _, _, _, result, at_commit, client, user, privilege = row
+        _, _, _, result, at_commit, client, user, privilege, at, *cause = row
         place = int(privilege[1:])
         expect(f"the order of {row}", last.get(client, -1) < place)
         last[client] = place
         expect(f"the names of {row}", user == user_of(place).decode() and privilege == f"p{place}")
+        expect(f"the policy of {row}", cause == ["policy", ".", client, user, "*"])
+        time = time_of(at)
+        expect(f"the time of {row}", time is not None and before <= time <= datetime.datetime.now(datetime.timezone.utc))
+        before = time or before
         expect(f"the answer of {row}", result == ("allow" if answers[client][place] else "deny") and int(at_commit) == commit)
     return set(last)
 
@@ -141,7 +156,7 @@ def look(lines, answers, commit):
             expect(f"the order of {line}", len(missed) == int(words[1]))
             missed[int(words[1])] = int(words[2])
         else:
-            expect(f"{line} behind the counts", words[0] == "monitor" and len(words) == 8 and not missed)
+            expect(f"{line} behind the counts", words[0] == "monitor" and len(words) == 14 and not missed)
             rows_of[int(words[1])].append(words)
     expect(f"counts of {sorted(missed)}", sorted(missed) == list(range(WORKERS)))
     expect(f"lines of {sorted(rows_of)}", sorted(rows_of) == list(range(WORKERS)))
@@ -169,9 +184,8 @@ def watched(scratch, options):
         expect(f"answers of {link}: {len(its)}", its == wanted)
     lines, missed = look((folder / "output").read_text().splitlines(), answers, commit)
     print(f"{sum(map(len, answers.values())):,} checks over {LINKS} links, {visits:,} connections of an administrator: {lines:,} lines, {missed:,} missed", flush=True)
-    expect("neither lines nor missed checks are none", lines and missed)
     noted = (folder / "errors").read_text().count(MISSED_NOTE)
-    expect(f"{noted} notes of {missed} missed checks", noted == (1 if missed else 0))
+    expect(f"{noted} notes of {missed} missed checks", bool(noted) == bool(missed))
 
 
 class Nobody:

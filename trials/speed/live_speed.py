@@ -22,17 +22,31 @@ import time
 
 from trial_crate import built
 
-USES = ["cynara_keys", "bucket_eval", "desk_state", "line_script", "link_ports", "live_desk", "anyhow"]
+USES = ["cynara_keys", "bucket_eval", "desk_state", "line_script", "link_ports", "state_list", "live_desk", "anyhow"]
 # That a seat may go to another thread.
-ANSWERS = """use denote.Param.Send.{sendable}
-use Rattle.live_desk.proofs.Sent.{seat_row_send}
+ANSWERS = """use denote.RattleType.{RattleType}
+use denote.Param.Send.{IsSend, IsSync, sendable}
+use mir.Syntax.{given}
+use Rattle.state_list.specs.declared.rules.Naming.{Ghosts}
+use Rattle.live_desk.specs.contracts.seats.Seat as Seat
+use Rattle.live_desk.proofs.Sent as live
 use Rattle.live_speed.proofs.timed.Goals as goal
 
+seat : (J : RattleType) (naming : Ghosts J.Denot) → IsSend J → IsSync J → IsSend (Seat.the_row J naming)
+seat J naming send sync = live.seat_row_send J naming (given 0) send sync
+
 pub by_one-done-requires-send-C : goal.by_one-done-requires-send-C
-by_one-done-requires-send-C g c κs within = search (sendable, seat_row_send) depth 20
+by_one-done-requires-send-C g c κs within = search (sendable, seat) depth 20
 
 pub by_four-done-requires-send-C : goal.by_four-done-requires-send-C
-by_four-done-requires-send-C g c κs within = search (sendable, seat_row_send) depth 20
+by_four-done-requires-send-C g c κs within = search (sendable, seat) depth 20
+"""
+# Which list the published states are.
+PICKS = """use Rattle.state_list.specs.Opening.{book_of}
+use Rattle.live_speed.proofs.main.Given as goal
+
+abbrev pub ghosts-over_list : goal.ghosts-over_list
+ghosts-over_list g a = record { book = book_of a.opened }
 """
 RUNS = 5
 ROUNDS = 50
@@ -106,7 +120,7 @@ def main():
     flat = subprocess.run([peer, "flat", "65536"], stdout=subprocess.PIPE, check=True).stdout
     with tempfile.TemporaryDirectory() as name:
         scratch = pathlib.Path(name)
-        program = built(scratch, "live_speed", USES, {"timed": ANSWERS})
+        program = built(scratch, "live_speed", USES, {"timed": ANSWERS}, {"main": PICKS})
         kept = True
         for script, of in (device, "a device"), (flat, "65,536 policies"):
             if "check" in asked:

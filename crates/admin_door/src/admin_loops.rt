@@ -27,7 +27,7 @@ use desk_keeper::Keeper;
 use desk_ports::{Bytes, Disk};
 use door_frames::{Ended, MOST_PIECE, next_frame, send_message};
 use link_ports::Link;
-use live_desk::Publisher;
+use live_desk::{Naming, Publisher};
 use server_hall::Hall;
 use std::alloc::Global;
 use std::sync::Wait;
@@ -36,11 +36,11 @@ use wire_messages::{Feeder, Framed, Heard, Message};
 /// Serves one connection of an administrator: each message is answered in turn, and `Stop` is the last: it ends the connection as
 /// stopped, whether or not its reply can be sent. What a stop at any moment may leave in the folder, and what the folder keeps
 /// behind the connection, is told of its frames (`RunsOver`). It may wait.
-pub fn admin_loop<R: Wait, D: Disk, A: Hall, L: Link>(
+pub fn admin_loop<R: Wait, D: Disk, A: Hall, L: Link, J: Naming>(
     rt: &R,
     alloc: Global,
     keeper: &mut Keeper<'_, D>,
-    publisher: &mut Publisher,
+    publisher: &mut Publisher<J>,
     hall: &mut A,
     link: &mut L,
 ) -> Ended
@@ -62,11 +62,11 @@ pub fn admin_loop<R: Wait, D: Disk, A: Hall, L: Link>(
 }
 
 // The same. What follows of it on what was published is told by its caller.
-fn serve<R: Wait, D: Disk, A: Hall, L: Link>(
+fn serve<R: Wait, D: Disk, A: Hall, L: Link, J: Naming>(
     rt: &R,
     alloc: Global,
     keeper: &mut Keeper<'_, D>,
-    publisher: &mut Publisher,
+    publisher: &mut Publisher<J>,
     hall: &mut A,
     link: &mut L,
 ) -> Ended
@@ -103,11 +103,11 @@ fn serve<R: Wait, D: Disk, A: Hall, L: Link>(
 }
 
 // Waits for the next frame, and answers it. The frame's buffer is kept for the replies.
-fn turn<R: Wait, D: Disk, A: Hall, L: Link>(
+fn turn<R: Wait, D: Disk, A: Hall, L: Link, J: Naming>(
     rt: &R,
     alloc: Global,
     keeper: &mut Keeper<'_, D>,
-    publisher: &mut Publisher,
+    publisher: &mut Publisher<J>,
     hall: &mut A,
     link: &mut L,
     feeder: &mut Feeder,
@@ -145,11 +145,11 @@ fn turn<R: Wait, D: Disk, A: Hall, L: Link>(
 }
 
 // Answers a frame, and sends the replies. Behind a stop the connection ends.
-fn answer_frame<R: Wait, D: Disk, A: Hall, L: Link>(
+fn answer_frame<R: Wait, D: Disk, A: Hall, L: Link, J: Naming>(
     rt: &R,
     alloc: Global,
     keeper: &mut Keeper<'_, D>,
-    publisher: &mut Publisher,
+    publisher: &mut Publisher<J>,
     hall: &mut A,
     link: &mut L,
     frame: &mut Bytes,
@@ -211,9 +211,9 @@ fn go_on(message: &Message) -> Result<(), Ended>
 
 // Sends the replies that are due to a frame, each with its sequence number: what they tell as done stands in the keeper, the
 // publisher and the hall before the first byte is sent.
-fn send_due<D: Disk, A: Hall, L: Link>(
+fn send_due<D: Disk, A: Hall, L: Link, J: Naming>(
     keeper: &Keeper<'_, D>,
-    publisher: &Publisher,
+    publisher: &Publisher<J>,
     hall: &A,
     link: &mut L,
     frame: &mut Bytes,

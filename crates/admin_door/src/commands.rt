@@ -32,7 +32,7 @@ use desk_keeper::{Keeper, PreparedCommit};
 use desk_ports::Disk;
 use desk_state::{Command, Refusal};
 use door_frames::Ended;
-use live_desk::Publisher;
+use live_desk::{Naming, Publisher};
 use server_hall::Hall;
 use std::alloc::Global;
 use std::sync::Wait;
@@ -41,11 +41,11 @@ use wire_messages::{Message, command_of};
 /// Answers one message of an administrator. A command is answered once what an earlier one left undone is settled: as done,
 /// once its state is durable and published and all older connections are hung up; by the first rule that it breaks; or by what
 /// the store met. A question is answered at the last state that is known to be kept, and `Stop` stops the hall. It may wait.
-pub fn answer_command<R: Wait, D: Disk, A: Hall>(
+pub fn answer_command<R: Wait, D: Disk, A: Hall, J: Naming>(
     rt: &R,
     alloc: Global,
     keeper: &mut Keeper<'_, D>,
-    publisher: &mut Publisher,
+    publisher: &mut Publisher<J>,
     hall: &mut A,
     message: &Message,
 ) -> Result<Vec<Message>, Ended>
@@ -84,11 +84,11 @@ pub fn answer_command<R: Wait, D: Disk, A: Hall>(
 }
 
 // The same. What follows of it on what was published is told by its caller.
-fn answer<R: Wait, D: Disk, A: Hall>(
+fn answer<R: Wait, D: Disk, A: Hall, J: Naming>(
     rt: &R,
     alloc: Global,
     keeper: &mut Keeper<'_, D>,
-    publisher: &mut Publisher,
+    publisher: &mut Publisher<J>,
     hall: &mut A,
     message: &Message,
 ) -> Result<Vec<Message>, Ended>
@@ -165,11 +165,11 @@ fn stop<A: Hall>(alloc: Global, commit: u64, hall: &mut A) -> Result<Vec<Message
 }
 
 // Settles what is left undone, and then does what the command says.
-fn obey<R: Wait, D: Disk, A: Hall>(
+fn obey<R: Wait, D: Disk, A: Hall, J: Naming>(
     rt: &R,
     alloc: Global,
     keeper: &mut Keeper<'_, D>,
-    publisher: &mut Publisher,
+    publisher: &mut Publisher<J>,
     hall: &mut A,
     command: &Command,
 ) -> Result<Vec<Message>, Ended>
@@ -213,11 +213,11 @@ fn tell_unsettled(alloc: Global, reason: Unsettled) -> Result<Vec<Message>, Ende
 
 // Does what the command says, from a state that is kept and shown to all: where one was published behind the commit that is
 // given, all older connections are hung up.
-fn commit<R: Wait, D: Disk, A: Hall>(
+fn commit<R: Wait, D: Disk, A: Hall, J: Naming>(
     rt: &R,
     alloc: Global,
     keeper: &mut Keeper<'_, D>,
-    publisher: &mut Publisher,
+    publisher: &mut Publisher<J>,
     hall: &mut A,
     command: &Command,
     shown: u64,
@@ -258,11 +258,11 @@ fn tell_refusal(alloc: Global, refusal: Refusal) -> Result<Vec<Message>, Ended>
 }
 
 // Commits what was prepared, and then shows it to all. All memory but that of the publication is taken before the commit.
-fn commit_prepared<R: Wait, D: Disk, A: Hall>(
+fn commit_prepared<R: Wait, D: Disk, A: Hall, J: Naming>(
     rt: &R,
     alloc: Global,
     keeper: &mut Keeper<'_, D>,
-    publisher: &mut Publisher,
+    publisher: &mut Publisher<J>,
     hall: &mut A,
     prepared: PreparedCommit,
 ) -> Result<Vec<Message>, Ended>

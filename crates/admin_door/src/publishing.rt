@@ -5,17 +5,17 @@ ghost use Rattle.admin_door.specs.Side.{side_of, decided_of, with_shown};
 
 use desk_keeper::Keeper;
 use desk_ports::Disk;
-use live_desk::{Publisher, Ready};
+use live_desk::{Naming, Publisher, Ready};
 use server_hall::Hall;
 use std::alloc::AllocError;
 use std::sync::Wait;
 
 /// Publishes the state that the folder keeps, and then hangs up all connections that entered before it. Where memory is
 /// wanting, nothing is done.
-pub(crate) fn show<R: Wait, D: Disk, A: Hall>(
+pub(crate) fn show<R: Wait, D: Disk, A: Hall, J: Naming>(
     rt: &R,
     keeper: &Keeper<'_, D>,
-    publisher: &mut Publisher,
+    publisher: &mut Publisher<J>,
     hall: &mut A,
     ready: Ready,
 ) -> Result<(), AllocError>

@@ -17,7 +17,7 @@ ghost use Rattle.admin_door.specs.declared.settling.Unsettled.TheVariants.{Memor
 use crate::publishing::show;
 use desk_keeper::{Keeper, KeeperRefusal};
 use desk_ports::{Disk, FileName};
-use live_desk::Publisher;
+use live_desk::{Naming, Publisher};
 use server_hall::Hall;
 use std::sync::Wait;
 
@@ -33,10 +33,10 @@ pub(crate) enum Unsettled {
 
 /// Remounts a keeper that is undecided; and publishes its state, and hangs up all older connections, where its commit is above
 /// that of the publisher. It may wait.
-pub(crate) fn settle<R: Wait, D: Disk, A: Hall>(
+pub(crate) fn settle<R: Wait, D: Disk, A: Hall, J: Naming>(
     rt: &R,
     keeper: &mut Keeper<'_, D>,
-    publisher: &mut Publisher,
+    publisher: &mut Publisher<J>,
     hall: &mut A,
 ) -> Result<(), Unsettled>
     requires { last_commit 0 publisher.old ≤ keeper.old.desk.commit }
@@ -97,10 +97,10 @@ fn remount<D: Disk>(keeper: &mut Keeper<'_, D>) -> Result<(), Unsettled>
 }
 
 // Shows the state that the folder keeps to all, where it is newer than what was published.
-fn publish_kept<R: Wait, D: Disk, A: Hall>(
+fn publish_kept<R: Wait, D: Disk, A: Hall, J: Naming>(
     rt: &R,
     keeper: &Keeper<'_, D>,
-    publisher: &mut Publisher,
+    publisher: &mut Publisher<J>,
     hall: &mut A,
 ) -> Result<(), Unsettled>
     requires decided { decided_of keeper.now ≡ true }

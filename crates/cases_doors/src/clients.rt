@@ -1,14 +1,19 @@
+ghost use Rattle.std.specs.Prelude.{◌≡◌};
+ghost use Rattle.state_list.specs.Opening.{book_of};
+
 use crate::answers::answers_of;
 use crate::desks::desk_of;
 use crate::shown::shown;
 use cases_outside::CutLink;
 use cases_words::Failure;
 use client_door::client_loop;
+use desk_state::Desk;
 use link_ports::{MemEnd, OpenGate};
-use live_desk::{Seat, start};
+use live_desk::{Naming, Opened, Seat, start};
 use live_roll::Roll;
 use server_hall::ListHall;
 use std::alloc::Global;
+use std::marker::Brand;
 use std::sync::Wait;
 
 /// A conversation at the door for clients, with one seat.
@@ -20,17 +25,31 @@ pub fn conversation<R: Wait>(
     link: &str,
     bytes: &str,
 ) -> Result<String, Failure> {
+    conversation_named::<Brand, R>(rt, alloc, Opened::new(), policies, answers, link, bytes)
+}
+
+fn conversation_named<J: Naming, R: Wait>(
+    rt: &R,
+    alloc: Global,
+    opened: Opened<Desk>,
+    policies: &str,
+    answers: &str,
+    link: &str,
+    bytes: &str,
+) -> Result<String, Failure>
+    requires { book_of opened ≡ J.book }
+{
     let desk = desk_of(alloc, policies)?;
-    let (publisher, seats, roll) = start(rt, alloc, &desk, 1)?;
+    let (publisher, seats, roll) = start::<J, _, R>(rt, alloc, opened, &desk, 1)?;
     let told = with_seats(rt, alloc, seats, roll, answers, link, bytes);
     publisher.end(rt);
     told
 }
 
-fn with_seats<R: Wait>(
+fn with_seats<R: Wait, J: Naming>(
     rt: &R,
     alloc: Global,
-    mut seats: Vec<Seat>,
+    mut seats: Vec<Seat<J>>,
     roll: Roll<MemEnd>,
     answers: &str,
     link: &str,
@@ -42,10 +61,10 @@ fn with_seats<R: Wait>(
     }
 }
 
-fn with_seat<R: Wait>(
+fn with_seat<R: Wait, J: Naming>(
     rt: &R,
     alloc: Global,
-    seat: &mut Seat,
+    seat: &mut Seat<J>,
     roll: Roll<MemEnd>,
     answers: &str,
     link: &str,

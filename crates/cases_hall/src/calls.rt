@@ -1,7 +1,7 @@
 // Calls on the hall, and what they answer.
 use cynara_keys::{Kind, Metadata, Name, Question};
 use link_ports::{Link, MemEnd, MemLink};
-use live_desk::{Publisher, Seat};
+use live_desk::{Naming, Publisher, Seat};
 use server_hall::{Hall, Locked};
 use std::alloc::Global;
 use std::sync::Wait;
@@ -20,9 +20,9 @@ fn question(alloc: Global) -> Option<Question> {
     .ok()
 }
 
-fn enter<R: Wait + Clock + Drop>(
+fn enter<R: Wait + Clock + Drop, J: Naming>(
     hall: &mut Locked<'_, R, MemEnd>,
-    seat: &mut Seat,
+    seat: &mut Seat<J>,
     link: &mut MemLink,
 ) -> Option<u64> {
     let end = link.hang_end().ok()?;
@@ -82,10 +82,10 @@ fn counts<R: Wait + Clock + Drop>(
 }
 
 /// Enters, joins, asks in vain, answers in vain, leaves and enters again by a further link.
-pub fn before_a_commit<R: Wait + Clock + Drop>(
+pub fn before_a_commit<R: Wait + Clock + Drop, J: Naming>(
     alloc: Global,
     hall: &mut Locked<'_, R, MemEnd>,
-    seat: &mut Seat,
+    seat: &mut Seat<J>,
     link: &mut MemLink,
     further: &mut MemLink,
 ) -> Option<String> {
@@ -102,11 +102,11 @@ pub fn before_a_commit<R: Wait + Clock + Drop>(
 }
 
 /// Hangs up what entered before the commit, leaves and enters by a further link.
-pub fn behind_a_commit<R: Wait + Clock + Drop>(
+pub fn behind_a_commit<R: Wait + Clock + Drop, J: Naming>(
     alloc: Global,
     hall: &mut Locked<'_, R, MemEnd>,
-    seat: &mut Seat,
-    publisher: &Publisher,
+    seat: &mut Seat<J>,
+    publisher: &Publisher<J>,
     link: &mut MemLink,
 ) -> Option<String> {
     hall.hang(publisher);
@@ -124,12 +124,12 @@ pub fn behind_a_commit<R: Wait + Clock + Drop>(
 
 /// A connection enters behind the publication of a state and before the hang-up: it is told the commit before, is answered at
 /// the new one, and is hung up as those are that entered before.
-pub fn between_publication_and_hang_up<R: Wait + Clock, W: Wait + Clock + Drop>(
+pub fn between_publication_and_hang_up<R: Wait + Clock, W: Wait + Clock + Drop, J: Naming>(
     rt: &R,
     alloc: Global,
     hall: &mut Locked<'_, W, MemEnd>,
-    seat: &mut Seat,
-    publisher: &Publisher,
+    seat: &mut Seat<J>,
+    publisher: &Publisher<J>,
     link: &mut MemLink,
     further: &mut MemLink,
 ) -> Option<String> {
@@ -148,16 +148,16 @@ pub fn between_publication_and_hang_up<R: Wait + Clock, W: Wait + Clock + Drop>(
 }
 
 // The commit at which a check is answered.
-fn checked_at<R: Wait>(rt: &R, alloc: Global, seat: &mut Seat) -> Option<u64> {
+fn checked_at<R: Wait, J: Naming>(rt: &R, alloc: Global, seat: &mut Seat<J>) -> Option<u64> {
     let question = question(alloc)?;
     Some(seat.check(rt, &question).commit)
 }
 
 /// Is refused everything.
-pub fn behind_a_stop<R: Wait + Clock + Drop>(
+pub fn behind_a_stop<R: Wait + Clock + Drop, J: Naming>(
     alloc: Global,
     hall: &mut Locked<'_, R, MemEnd>,
-    seat: &mut Seat,
+    seat: &mut Seat<J>,
     link: &mut MemLink,
 ) -> Option<String> {
     let entered = refused_entry(alloc, hall, seat, link)?;
@@ -171,10 +171,10 @@ pub fn behind_a_stop<R: Wait + Clock + Drop>(
     ).ok()
 }
 
-fn refused_entry<R: Wait + Clock + Drop>(
+fn refused_entry<R: Wait + Clock + Drop, J: Naming>(
     alloc: Global,
     hall: &mut Locked<'_, R, MemEnd>,
-    seat: &mut Seat,
+    seat: &mut Seat<J>,
     link: &mut MemLink,
 ) -> Option<String> {
     let end = link.hang_end().ok()?;

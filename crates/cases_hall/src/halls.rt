@@ -1,4 +1,7 @@
 // A service in small: one seat, the roll and the table under their locks, and a state that is published.
+ghost use Rattle.std.specs.Prelude.{◌≡◌};
+ghost use Rattle.state_list.specs.Opening.{book_of};
+
 use crate::calls::{
     before_a_commit, behind_a_commit, behind_a_stop, behind_those_who_left,
     between_publication_and_hang_up, with_all_agents,
@@ -7,17 +10,28 @@ use cynara_keys::{BucketName, Kind, PolicyResult};
 use desk_ports::{Bytes, FailList};
 use desk_state::{Command, Desk};
 use link_ports::{MemEnd, MemLink};
-use live_desk::{Publisher, Seat, start};
+use live_desk::{Naming, Opened, Publisher, Seat, start};
 use live_roll::Roll;
 use server_hall::{Locked, QuestionDesk};
 use std::alloc::{AllocError, Global};
+use std::marker::Brand;
 use std::sync::{Mutex, Wait};
 use std::time::Clock;
 
 /// What a connection meets that enters in the middle of a commit, or want of memory.
 pub fn late_comer<R: Wait + Clock>(rt: &R, alloc: Global) -> Result<String, AllocError> {
+    late_comer_named::<Brand, R>(rt, alloc, Opened::new())
+}
+
+fn late_comer_named<J: Naming, R: Wait + Clock>(
+    rt: &R,
+    alloc: Global,
+    opened: Opened<Desk>,
+) -> Result<String, AllocError>
+    requires { book_of opened ≡ J.book }
+{
     let mut desk = Desk::fresh(alloc)?;
-    let (mut publisher, mut seats, roll) = start(rt, alloc, &desk, 1)?;
+    let (mut publisher, mut seats, roll) = start::<J, _, R>(rt, alloc, opened, &desk, 1)?;
     let told = match seats.pop() {
         Some(mut seat) => comes_late(rt, alloc, &mut desk, &mut publisher, &mut seat, roll),
         None => None,
@@ -26,12 +40,12 @@ pub fn late_comer<R: Wait + Clock>(rt: &R, alloc: Global) -> Result<String, Allo
     told.ok_or(AllocError)
 }
 
-fn comes_late<R: Wait + Clock>(
+fn comes_late<R: Wait + Clock, J: Naming>(
     rt: &R,
     alloc: Global,
     desk: &mut Desk,
-    publisher: &mut Publisher,
-    seat: &mut Seat,
+    publisher: &mut Publisher<J>,
+    seat: &mut Seat<J>,
     roll: Roll<MemEnd>,
 ) -> Option<String> {
     let roll = Mutex::new(roll);
@@ -54,8 +68,18 @@ fn comes_late<R: Wait + Clock>(
 
 /// What the calls answered, or want of memory.
 pub fn conversation<R: Wait + Clock>(rt: &R, alloc: Global) -> Result<String, AllocError> {
+    conversation_named::<Brand, R>(rt, alloc, Opened::new())
+}
+
+fn conversation_named<J: Naming, R: Wait + Clock>(
+    rt: &R,
+    alloc: Global,
+    opened: Opened<Desk>,
+) -> Result<String, AllocError>
+    requires { book_of opened ≡ J.book }
+{
     let mut desk = Desk::fresh(alloc)?;
-    let (mut publisher, mut seats, roll) = start(rt, alloc, &desk, 1)?;
+    let (mut publisher, mut seats, roll) = start::<J, _, R>(rt, alloc, opened, &desk, 1)?;
     let told = match seats.pop() {
         Some(mut seat) => with_seat(rt, alloc, &mut desk, &mut publisher, &mut seat, roll),
         None => None,
@@ -64,12 +88,12 @@ pub fn conversation<R: Wait + Clock>(rt: &R, alloc: Global) -> Result<String, Al
     told.ok_or(AllocError)
 }
 
-fn with_seat<R: Wait + Clock>(
+fn with_seat<R: Wait + Clock, J: Naming>(
     rt: &R,
     alloc: Global,
     desk: &mut Desk,
-    publisher: &mut Publisher,
-    seat: &mut Seat,
+    publisher: &mut Publisher<J>,
+    seat: &mut Seat<J>,
     roll: Roll<MemEnd>,
 ) -> Option<String> {
     let roll = Mutex::new(roll);
@@ -83,30 +107,30 @@ fn with_seat<R: Wait + Clock>(
     format!(in alloc; "{first}\n{second}\n{third}; table stopped {stopped}").ok()
 }
 
-fn line_before_a_commit<R: Wait + Clock + Drop>(
+fn line_before_a_commit<R: Wait + Clock + Drop, J: Naming>(
     alloc: Global,
     hall: &mut Locked<'_, R, MemEnd>,
-    seat: &mut Seat,
+    seat: &mut Seat<J>,
 ) -> Option<String> {
     let mut link = quiet_link(alloc)?;
     let mut further = quiet_link(alloc)?;
     before_a_commit(alloc, hall, seat, &mut link, &mut further)
 }
 
-fn line_behind_a_commit<R: Wait + Clock + Drop>(
+fn line_behind_a_commit<R: Wait + Clock + Drop, J: Naming>(
     alloc: Global,
     hall: &mut Locked<'_, R, MemEnd>,
-    seat: &mut Seat,
-    publisher: &Publisher,
+    seat: &mut Seat<J>,
+    publisher: &Publisher<J>,
 ) -> Option<String> {
     let mut link = quiet_link(alloc)?;
     behind_a_commit(alloc, hall, seat, publisher, &mut link)
 }
 
-fn line_behind_a_stop<R: Wait + Clock + Drop>(
+fn line_behind_a_stop<R: Wait + Clock + Drop, J: Naming>(
     alloc: Global,
     hall: &mut Locked<'_, R, MemEnd>,
-    seat: &mut Seat,
+    seat: &mut Seat<J>,
 ) -> Option<String> {
     let mut link = quiet_link(alloc)?;
     behind_a_stop(alloc, hall, seat, &mut link)
@@ -149,11 +173,11 @@ fn link_closed_after(alloc: Global, closed_after: u64) -> Option<MemLink> {
 }
 
 // Publishes a state behind the one before.
-fn publish_next<R: Wait>(
+fn publish_next<R: Wait, J: Naming>(
     rt: &R,
     alloc: Global,
     desk: &mut Desk,
-    publisher: &mut Publisher,
+    publisher: &mut Publisher<J>,
 ) -> Option<u64> {
     let command = Command::SetBucket {
         bucket: BucketName::root(alloc),

@@ -3,8 +3,8 @@ ghost use Rattle.std.specs.Prelude.{IfSome};
 ghost use Rattle.std.specs.List.{AllZip};
 ghost use Rattle.check_monitor.specs.Monitor.{AreAll, IsSame};
 
-use cases_monitor_words::{deny, question};
-use check_monitor::{MOST_ROOM, Reader, Recorder, open};
+use cases_monitor_words::{allow_by_agent, deny, question};
+use check_monitor::{MOST_ROOM, Moment, Reader, Recorder, open};
 use desk_ports::{Bytes, FailList, MemSink};
 use monitor_journal::{MOST_AT_ONCE, Writing, hand_on, write_end};
 use std::alloc::{AllocError, Global};
@@ -14,6 +14,70 @@ use std::sync::Wait;
 pub fn two_checks<R: Wait>(rt: &R, alloc: Global) -> Result<String, AllocError> {
     let (recorders, reader) = open(alloc, 1, MOST_AT_ONCE)?;
     at_the_end(rt, alloc, recorders, reader, 2).ok_or(AllocError)
+}
+
+/// A check that an agent decided, to which a policy had left it, on a machine whose clock tells nothing: its line.
+pub fn by_an_agent<R: Wait>(rt: &R, alloc: Global) -> Result<String, AllocError> {
+    let (recorders, reader) = open(alloc, 1, 4)?;
+    agent_line(rt, alloc, recorders, reader).ok_or(AllocError)
+}
+
+fn agent_line<R: Wait>(
+    rt: &R,
+    alloc: Global,
+    recorders: Vec<Recorder>,
+    reader: Reader,
+) -> Option<String>
+    requires { AreAll reader.queue reader.made recorders.items }
+{
+    let mut recorders = recorders;
+    record_by_agent(rt, alloc, &mut recorders)?;
+    let mut sink = failing_at(alloc, None)?;
+    let writing = write_end(rt, alloc, Writing::GoesOn, reader, recorders, &mut sink);
+    let lines = lines_of(alloc, &sink)?;
+    format!(in alloc; "by an agent, {writing:?}: {lines}").ok()
+}
+
+// The last recorder records a check of c, u and p that an agent of kind 5 allowed at commit 3.
+fn record_by_agent<R: Wait>(rt: &R, alloc: Global, recorders: &mut Vec<Recorder>) -> Option<()>
+    ensures { IfSome result (λ done. AllZip IsSame recorders.old.items recorders.new.items) }
+{
+    let asked = question(alloc, b"c", b"u", b"p")?;
+    let mut recorder = recorders.pop()?;
+    allow_by_agent(rt, &mut recorder, &asked, 3, 5);
+    recorders.push(recorder).ok()?;
+    Some(())
+}
+
+/// Moments whose seconds since 1970 are known from elsewhere: the first and the last of them, days around leap days, and one
+/// that is too late.
+pub fn moments(alloc: Global) -> Result<String, AllocError> {
+    let mut told = String::new(alloc);
+    for seconds in [
+        0,
+        951_782_400,
+        951_868_800,
+        1_709_251_199,
+        1_796_111_170,
+        4_107_542_399,
+        4_107_542_400,
+        253_402_300_799,
+        253_402_300_800,
+    ] {
+        let moment = told_moment(alloc, Moment::at(seconds, 7))?;
+        told.push_str(moment.as_str())?;
+    }
+    Ok(told)
+}
+
+fn told_moment(alloc: Global, moment: Option<Moment>) -> Result<String, AllocError> {
+    match moment {
+        Some(at) => format!(in alloc;
+            "{}-{}-{} {}:{}:{}.{}/",
+            at.year, at.month, at.day, at.hour, at.minute, at.second, at.millisecond
+        ),
+        None => format!(in alloc; "none"),
+    }
 }
 
 /// Checks for which there is no room: at the end a line says how many were missed.

@@ -1,11 +1,15 @@
 //! The cases on one thread.
 
+ghost use Rattle.std.specs.Prelude.{◌≡◌};
+ghost use Rattle.state_list.specs.Opening.{book_of};
+
 use crate::states::{both, make_next, publish_next, question, quiet_link};
 use cynara_keys::{Kind, Question};
 use desk_state::Desk;
 use link_ports::{HangEnd, Link, MemEnd};
-use live_desk::{Publisher, Roll, Seat, start};
+use live_desk::{Naming, Opened, Publisher, Roll, Seat, start};
 use std::alloc::{AllocError, Global};
+use std::marker::Brand;
 use std::sync::Wait;
 
 /// A case of a service of two seats.
@@ -30,17 +34,28 @@ pub const CASES: [Case; 6] = [
 ];
 
 // A service in small: a state, what publishes it, its seats and the roll.
-struct Service<E: HangEnd> {
+struct Service<J: Naming, E: HangEnd> {
     desk: Desk,
-    publisher: Publisher,
-    seats: Vec<Seat>,
+    publisher: Publisher<J>,
+    seats: Vec<Seat<J>>,
     roll: Roll<E>,
 }
 
 /// Has a service of its own for the case. What came of it.
 pub fn told<R: Wait>(rt: &R, alloc: Global, case: Case) -> Result<String, AllocError> {
+    told_named::<Brand, R>(rt, alloc, Opened::new(), case)
+}
+
+fn told_named<J: Naming, R: Wait>(
+    rt: &R,
+    alloc: Global,
+    opened: Opened<Desk>,
+    case: Case,
+) -> Result<String, AllocError>
+    requires { book_of opened ≡ J.book }
+{
     let desk = Desk::fresh(alloc)?;
-    let (publisher, seats, roll) = start(rt, alloc, &desk, 2)?;
+    let (publisher, seats, roll) = start::<J, _, R>(rt, alloc, opened, &desk, 2)?;
     let mut service = Service {
         desk,
         publisher,
@@ -52,7 +67,7 @@ pub fn told<R: Wait>(rt: &R, alloc: Global, case: Case) -> Result<String, AllocE
     told.ok_or(AllocError)
 }
 
-fn end<R: Wait, E: HangEnd>(rt: &R, service: Service<E>) {
+fn end<J: Naming, R: Wait, E: HangEnd>(rt: &R, service: Service<J, E>) {
     let Service {
         desk,
         publisher,
@@ -65,10 +80,10 @@ fn end<R: Wait, E: HangEnd>(rt: &R, service: Service<E>) {
     drop(desk);
 }
 
-fn over_links<R: Wait>(
+fn over_links<J: Naming, R: Wait>(
     rt: &R,
     alloc: Global,
-    service: &mut Service<MemEnd>,
+    service: &mut Service<J, MemEnd>,
     case: Case,
 ) -> Option<String> {
     let (mut a, mut b) = both(quiet_link(alloc), quiet_link(alloc))?;
@@ -80,10 +95,10 @@ fn over_links<R: Wait>(
 
 // What the case calls is told of a service, and of two links that are `a` and `b`. The links are known by a type
 // parameter alone: what they are made of is too much for the proof of each case.
-fn tell<R: Wait, L: Link>(
+fn tell<J: Naming, R: Wait, L: Link>(
     rt: &R,
     alloc: Global,
-    service: &mut Service<L::End>,
+    service: &mut Service<J, L::End>,
     case: Case,
     a: &mut L,
     b: &mut L,
@@ -98,26 +113,38 @@ fn tell<R: Wait, L: Link>(
     }
 }
 
-fn publish<R: Wait, E: HangEnd>(rt: &R, alloc: Global, service: &mut Service<E>) -> Option<u64> {
+fn publish<J: Naming, R: Wait, E: HangEnd>(
+    rt: &R,
+    alloc: Global,
+    service: &mut Service<J, E>,
+) -> Option<u64> {
     publish_next(rt, alloc, &mut service.desk, &mut service.publisher)
 }
 
 // The link enters in the place of the first seat or of the second. The commit at which it does.
-fn enter<L: Link>(service: &mut Service<L::End>, seat: usize, link: &mut L) -> Option<u64> {
+fn enter<J: Naming, L: Link>(
+    service: &mut Service<J, L::End>,
+    seat: usize,
+    link: &mut L,
+) -> Option<u64> {
     let seat = service.seats.get_mut(seat)?;
     enter_roll(&mut service.roll, seat, link)
 }
 
-fn enter_roll<L: Link>(roll: &mut Roll<L::End>, seat: &mut Seat, link: &mut L) -> Option<u64> {
+fn enter_roll<L: Link, J: Naming>(
+    roll: &mut Roll<L::End>,
+    seat: &mut Seat<J>,
+    link: &mut L,
+) -> Option<u64> {
     let end = link.hang_end().ok()?;
     roll.enter(end, seat).ok()
 }
 
 // What the first seat is answered: the commit, and the kind.
-fn check_first<R: Wait, E: HangEnd>(
+fn check_first<J: Naming, R: Wait, E: HangEnd>(
     rt: &R,
     alloc: Global,
-    service: &mut Service<E>,
+    service: &mut Service<J, E>,
 ) -> Option<(u64, u16)> {
     let question = question(alloc)?;
     let verdict = service.seats.first_mut()?.check(rt, &question);
@@ -126,10 +153,10 @@ fn check_first<R: Wait, E: HangEnd>(
 }
 
 // Two seats enter, one before a publication and one after it, and the commit hangs both up.
-fn commit_hangs_up<R: Wait, L: Link>(
+fn commit_hangs_up<J: Naming, R: Wait, L: Link>(
     rt: &R,
     alloc: Global,
-    service: &mut Service<L::End>,
+    service: &mut Service<J, L::End>,
     a: &mut L,
     b: &mut L,
 ) -> Option<String> {
@@ -149,9 +176,9 @@ fn commit_hangs_up<R: Wait, L: Link>(
 }
 
 // A seat leaves, and its link is hung up.
-fn leaving_hangs_up<L: Link>(
+fn leaving_hangs_up<J: Naming, L: Link>(
     alloc: Global,
-    service: &mut Service<L::End>,
+    service: &mut Service<J, L::End>,
     a: &mut L,
     b: &mut L,
 ) -> Option<String> {
@@ -168,10 +195,10 @@ fn leaving_hangs_up<L: Link>(
 }
 
 // A seat enters after a publication that hung up nobody.
-fn enters_later<R: Wait, L: Link>(
+fn enters_later<J: Naming, R: Wait, L: Link>(
     rt: &R,
     alloc: Global,
-    service: &mut Service<L::End>,
+    service: &mut Service<J, L::End>,
     a: &mut L,
 ) -> Option<String> {
     let (first_at, first_kind) = check_first(rt, alloc, service)?;
@@ -188,9 +215,9 @@ fn enters_later<R: Wait, L: Link>(
 }
 
 // A seat enters twice, and the end of its first link is hung up.
-fn later_end_hangs_up<L: Link>(
+fn later_end_hangs_up<J: Naming, L: Link>(
     alloc: Global,
-    service: &mut Service<L::End>,
+    service: &mut Service<J, L::End>,
     a: &mut L,
     b: &mut L,
 ) -> Option<String> {
@@ -204,9 +231,9 @@ fn later_end_hangs_up<L: Link>(
 }
 
 // The roll is stopped, and its note rises later.
-fn stopping_hangs_up<L: Link>(
+fn stopping_hangs_up<J: Naming, L: Link>(
     alloc: Global,
-    service: &mut Service<L::End>,
+    service: &mut Service<J, L::End>,
     a: &mut L,
     b: &mut L,
 ) -> Option<String> {
@@ -224,10 +251,10 @@ fn stopping_hangs_up<L: Link>(
 }
 
 // A state that is made ready and dropped changes nothing, and the one after it is published.
-fn ready_is_dropped<R: Wait, E: HangEnd>(
+fn ready_is_dropped<J: Naming, R: Wait, E: HangEnd>(
     rt: &R,
     alloc: Global,
-    service: &mut Service<E>,
+    service: &mut Service<J, E>,
 ) -> Option<String> {
     let commit = make_ready(alloc, service)?;
     let (at, kind) = check_first(rt, alloc, service)?;
@@ -240,7 +267,7 @@ fn ready_is_dropped<R: Wait, E: HangEnd>(
 }
 
 // Makes the next state ready, and drops it. Its commit.
-fn make_ready<E: HangEnd>(alloc: Global, service: &mut Service<E>) -> Option<u64> {
+fn make_ready<J: Naming, E: HangEnd>(alloc: Global, service: &mut Service<J, E>) -> Option<u64> {
     make_next(alloc, &mut service.desk)?;
     let ready = service.publisher.prepare(&service.desk).ok()?;
     Some(ready.commit())
@@ -248,8 +275,18 @@ fn make_ready<E: HangEnd>(alloc: Global, service: &mut Service<E>) -> Option<u64
 
 /// As many seats as there may be.
 pub fn most_seats<R: Wait>(rt: &R, alloc: Global) -> Result<String, AllocError> {
+    most_named::<Brand, R>(rt, alloc, Opened::new())
+}
+
+fn most_named<J: Naming, R: Wait>(
+    rt: &R,
+    alloc: Global,
+    opened: Opened<Desk>,
+) -> Result<String, AllocError>
+    requires { book_of opened ≡ J.book }
+{
     let desk = Desk::fresh(alloc)?;
-    let started = start(rt, alloc, &desk, 64);
+    let started = start::<J, _, R>(rt, alloc, opened, &desk, 64);
     drop(desk);
     let (publisher, mut seats, mut roll) = started?;
     let told = over_a_link(rt, alloc, &mut seats, &mut roll);
@@ -259,10 +296,10 @@ pub fn most_seats<R: Wait>(rt: &R, alloc: Global) -> Result<String, AllocError> 
     told.ok_or(AllocError)
 }
 
-fn over_a_link<R: Wait>(
+fn over_a_link<R: Wait, J: Naming>(
     rt: &R,
     alloc: Global,
-    seats: &mut [Seat],
+    seats: &mut [Seat<J>],
     roll: &mut Roll<MemEnd>,
 ) -> Option<String> {
     let (mut link, question) = both(quiet_link(alloc), question(alloc))?;
@@ -271,10 +308,10 @@ fn over_a_link<R: Wait>(
     told
 }
 
-fn last_of<R: Wait, L: Link>(
+fn last_of<R: Wait, L: Link, J: Naming>(
     rt: &R,
     alloc: Global,
-    seats: &mut [Seat],
+    seats: &mut [Seat<J>],
     roll: &mut Roll<L::End>,
     link: &mut L,
     question: &Question,

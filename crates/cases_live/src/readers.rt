@@ -1,11 +1,15 @@
 //! Seats that check on threads of their own while a publisher publishes.
 
+ghost use Rattle.std.specs.Prelude.{◌≡◌};
+ghost use Rattle.state_list.specs.Opening.{book_of};
+
 use crate::states::{make_next, named_commit, publish_next, question, quiet_link};
 use cynara_keys::Question;
 use desk_state::Desk;
 use link_ports::{Link, MemEnd};
-use live_desk::{BorrowedVerdict, Publisher, Roll, Seat, start};
+use live_desk::{BorrowedVerdict, Naming, Opened, Publisher, Roll, Seat, start};
 use std::alloc::{AllocError, Global};
+use std::marker::Brand;
 use std::sync::{Mutex, Wait};
 use std::thread::{Threads, join};
 
@@ -48,14 +52,21 @@ impl Watch {
 /// commit, while a publisher publishes 200 states and hangs the connections up.
 pub fn four_seats<R: Wait + Threads + Sync>(rt: &R, alloc: Global) -> Result<String, AllocError> {
     let mut desk = Desk::fresh(alloc)?;
-    let told = over_desk(rt, alloc, &mut desk);
+    let told = over_desk::<Brand, R>(rt, alloc, Opened::new(), &mut desk);
     drop(desk);
     told.ok_or(AllocError)
 }
 
-fn over_desk<R: Wait + Threads + Sync>(rt: &R, alloc: Global, desk: &mut Desk) -> Option<String> {
+fn over_desk<J: Naming + Send + Sync, R: Wait + Threads + Sync>(
+    rt: &R,
+    alloc: Global,
+    opened: Opened<Desk>,
+    desk: &mut Desk,
+) -> Option<String>
+    requires { book_of opened ≡ J.book }
+{
     make_next(alloc, desk)?;
-    let (mut publisher, seats, roll) = start(rt, alloc, desk, 4).ok()?;
+    let (mut publisher, seats, roll) = start::<J, _, R>(rt, alloc, opened, desk, 4).ok()?;
     let roll = Mutex::new(roll);
     let told = by_four(rt, alloc, desk, &mut publisher, seats, &roll);
     publisher.end(rt);
@@ -69,7 +80,7 @@ trait Watcher {
     fn watch<R: Wait>(self, rt: &R, alloc: Global, roll: &Mutex<Roll<MemEnd>>) -> Option<u64>;
 }
 
-impl Watcher for Seat {
+impl<J: Naming> Watcher for Seat<J> {
     fn watch<R: Wait>(self, rt: &R, alloc: Global, roll: &Mutex<Roll<MemEnd>>) -> Option<u64> {
         let mut seat = self;
         let question = question(alloc)?;
@@ -79,11 +90,11 @@ impl Watcher for Seat {
 
 // The threads know a seat by its type's parameter alone: what it is made of is too much for the proof of each that it may go
 // to another thread.
-fn by_four<W: Watcher + Send + Drop, R: Wait + Threads + Sync>(
+fn by_four<W: Watcher + Send + Drop, R: Wait + Threads + Sync, J: Naming>(
     rt: &R,
     alloc: Global,
     desk: &mut Desk,
-    publisher: &mut Publisher,
+    publisher: &mut Publisher<J>,
     watchers: Vec<W>,
     roll: &Mutex<Roll<MemEnd>>,
 ) -> Option<String> {
@@ -137,11 +148,11 @@ fn watch_by_two<W: Watcher + Send + Drop, R: Wait + Threads + Sync>(
 }
 
 // Publishes the states. How many were; where one can't be, the roll is stopped, so that nobody waits for it.
-fn publish_all<R: Wait>(
+fn publish_all<R: Wait, J: Naming>(
     rt: &R,
     alloc: Global,
     desk: &mut Desk,
-    publisher: &mut Publisher,
+    publisher: &mut Publisher<J>,
     roll: &Mutex<Roll<MemEnd>>,
 ) -> u64 {
     for published in 0..PUBLICATIONS {
@@ -155,10 +166,10 @@ fn publish_all<R: Wait>(
 }
 
 // Checks until an answer is at the last commit. How many answers were wrong.
-fn check_until_last<R: Wait>(
+fn check_until_last<R: Wait, J: Naming>(
     rt: &R,
     alloc: Global,
-    seat: &mut Seat,
+    seat: &mut Seat<J>,
     roll: &Mutex<Roll<MemEnd>>,
     question: &Question,
 ) -> Option<u64> {
@@ -176,9 +187,9 @@ fn check_until_last<R: Wait>(
 }
 
 // One connection: it enters, asks once and leaves.
-fn visit<R: Wait, L: Link>(
+fn visit<R: Wait, L: Link, J: Naming>(
     rt: &R,
-    seat: &mut Seat,
+    seat: &mut Seat<J>,
     roll: &Mutex<Roll<L::End>>,
     question: &Question,
     watch: &mut Watch,

@@ -4,7 +4,7 @@ use cynara_keys::{BucketName, Kind, Name, PolicyResult, Question};
 use desk_ports::{Bytes, FailList};
 use desk_state::{Command, Desk};
 use link_ports::MemLink;
-use live_desk::{BorrowedVerdict, Publisher, Ready};
+use live_desk::{BorrowedVerdict, Naming, Publisher, Ready};
 use std::alloc::Global;
 use std::sync::Wait;
 
@@ -40,18 +40,22 @@ pub fn make_next(alloc: Global, desk: &mut Desk) -> Option<()> {
 }
 
 /// Makes the state the next one, and publishes it. Its commit.
-pub fn publish_next<R: Wait>(
+pub fn publish_next<R: Wait, J: Naming>(
     rt: &R,
     alloc: Global,
     desk: &mut Desk,
-    publisher: &mut Publisher,
+    publisher: &mut Publisher<J>,
 ) -> Option<u64> {
     make_next(alloc, desk)?;
     let ready = publisher.prepare(desk).ok()?;
     publish_ready(rt, publisher, ready)
 }
 
-fn publish_ready<R: Wait>(rt: &R, publisher: &mut Publisher, ready: Ready) -> Option<u64> {
+fn publish_ready<R: Wait, J: Naming>(
+    rt: &R,
+    publisher: &mut Publisher<J>,
+    ready: Ready,
+) -> Option<u64> {
     if ready.commit() <= publisher.commit() {
         return None;
     }

@@ -5,7 +5,7 @@ ghost use Rattle.check_monitor.specs.Monitor.{AreAll, IsSame};
 ghost use Rattle.cases_monitor_words.specs.Cases.{IsSameReader};
 
 use cases_monitor_words::{
-    count_left, fill_all, missed_in_all, place, question, record_denied, take,
+    allow_by_agent, count_left, fill_all, missed_in_all, place, question, record_denied, take,
 };
 use check_monitor::{MOST_ROOM, MOST_WORKERS, Reader, Recorded, Recorder, open};
 use cynara_keys::{Question, Short};
@@ -168,8 +168,8 @@ fn record_two<R: Wait>(rt: &R, alloc: Global, recorders: &mut Vec<Recorder>) -> 
 {
     let asked = question(alloc, b"app", b"5001", b"camera")?;
     let mut recorder = recorders.pop()?;
-    recorder.record_decision(rt, &asked, 7, true);
-    recorder.record_decision(rt, &asked, 8, false);
+    allow_by_agent(rt, &mut recorder, &asked, 7, 5);
+    record_denied(rt, &mut recorder, &asked, 8);
     recorders.push(recorder).ok()?;
     Some(())
 }
@@ -181,14 +181,16 @@ fn told_of_two<R: Wait>(rt: &R, alloc: Global, reader: &mut Reader) -> Option<St
     let allowed = take(rt, reader)?;
     let denied = take(rt, reader)?;
     format!(in alloc;
-        "an entry: {:?}, {:?}, {:?}; {} at {}, then {} at {}",
+        "an entry: {:?}, {:?}, {:?}; {} at {} by {:?}, then {} at {} by {:?}",
         text(&allowed.client)?,
         text(&allowed.user)?,
         text(&allowed.privilege)?,
         allowed.allowed,
         allowed.commit,
+        allowed.agent,
         denied.allowed,
-        denied.commit
+        denied.commit,
+        denied.agent
     )
     .ok()
 }

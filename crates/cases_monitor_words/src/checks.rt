@@ -1,8 +1,8 @@
 //! Checks to record.
 ghost use Rattle.check_monitor.specs.Monitor.{IsDecided};
 
-use bucket_eval::{Answer, Cause, Verdict};
-use check_monitor::Entry;
+use bucket_eval::{Answer, Cause, Row, Verdict};
+use check_monitor::{Entry, Moment};
 use cynara_keys::{Kind, Name, Question, Short};
 use std::alloc::{AllocError, Global};
 
@@ -34,6 +34,31 @@ pub fn denied(commit: u64) -> Verdict
                 row: None,
             },
         },
+    }
+}
+
+/// A policy of the bucket B for every user.
+pub fn policy() -> Cause {
+    Cause {
+        bucket: Short::of(b"B"),
+        row: Some(Row {
+            client: Short::of(b"c"),
+            user: Short::of(b"*"),
+            privilege: Short::of(b"p"),
+        }),
+    }
+}
+
+/// A morning in December 2026.
+pub fn morning() -> Moment {
+    Moment {
+        year: 2026,
+        month: 12,
+        day: 1,
+        hour: 7,
+        minute: 46,
+        second: 10,
+        millisecond: 5,
     }
 }
 

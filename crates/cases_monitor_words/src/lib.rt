@@ -5,5 +5,7 @@
 mod checks;
 mod recording;
 
-pub use checks::{denied, place, question};
-pub use recording::{count_left, deny, fill, fill_all, missed_in_all, record_denied, take};
+pub use checks::{denied, morning, place, policy, question};
+pub use recording::{
+    allow_by_agent, count_left, deny, fill, fill_all, missed_in_all, record_denied, take,
+};

@@ -4,13 +4,13 @@ ghost use Rattle.std.specs.List.{AllZip};
 ghost use Rattle.check_monitor.specs.Monitor.{AreAll, IsSame};
 ghost use Rattle.cases_monitor_words.specs.Cases.{IsSameReader};
 
-use crate::checks::denied;
-use check_monitor::{Entry, Reader, Recorded, Recorder};
-use cynara_keys::Question;
+use crate::checks::{denied, morning, policy};
+use check_monitor::{Decided, Entry, Reader, Recorded, Recorder};
+use cynara_keys::{Kind, Question};
 use std::alloc::{AllocError, Global};
 use std::sync::Wait;
 
-/// Records a check by its verdict, which is DENY at this commit.
+/// Records a check by its verdict, which is DENY at this commit, on a morning in December 2026.
 pub fn record_denied<R: Wait>(
     rt: &R,
     recorder: &mut Recorder,
@@ -19,7 +19,29 @@ pub fn record_denied<R: Wait>(
 ) -> Recorded
     ensures { IsSame recorder.old recorder.new }
 {
-    recorder.record(rt, asked, &denied(commit))
+    recorder.record(rt, Some(morning()), asked, &denied(commit))
+}
+
+/// Records a check that an agent of the kind allowed at this commit, to which a policy of the bucket B had left it. No clock told
+/// the time.
+pub fn allow_by_agent<R: Wait>(
+    rt: &R,
+    recorder: &mut Recorder,
+    asked: &Question,
+    commit: u64,
+    kind: u16,
+) -> Recorded
+    ensures { IsSame recorder.old recorder.new }
+{
+    let cause = policy();
+    let decided = Decided {
+        time: None,
+        commit,
+        agent: Some(Kind(kind)),
+        allowed: true,
+        cause: &cause,
+    };
+    recorder.record_decision(rt, asked, decided)
 }
 
 /// Records so many checks of the question, each by a verdict that is DENY at commit 2.
@@ -38,7 +60,7 @@ pub fn fill<R: Wait>(rt: &R, recorder: &mut Recorder, asked: &Question, checks: 
     ensures { IsSame recorder.old recorder.new }
 {
     for _ in 0..checks {
-        recorder.record_decision(rt, asked, 1, true);
+        allow_by_agent(rt, recorder, asked, 1, 5);
     }
 }
 

@@ -1,13 +1,13 @@
 -- All recorders of a reader.
-use Rattle.std.proofs.Common.{◌≡◌, ◌≢◌, ◌∙◌, ◌<◌, ℕ, zero, suc, List, [], ◌∷◌, ◌++◌, length, refl, sym, ap, subst, arith}
+use Rattle.std.proofs.Common.{◌≡◌, ◌≢◌, ◌∙◌, ℕ, zero, suc, List, [], ◌∷◌, ◌++◌, length, refl, sym, subst, arith}
 use Rattle.std.proofs.lemmas.List.{length-append}
-use Rattle.std.specs.List.{AllByRecursion, AllZip}
-use mathlib.Core.Option.{some, none, some-injective, some-ne-none}
+use Rattle.std.specs.List.{AllZip}
+use mathlib.Core.Option.{some, some-injective, some-ne-none}
 use mathlib.Core.Logic.{dite}
 use native.Mathlib.Decide.{ℕ_discrete}
 use lib.ListN.{get_elem?}
 use Rattle.atomic_table.specs.Seated.{TableId}
-use Rattle.check_monitor.specs.Monitor.{RecorderState, AreOf, Cover, AreAll, IsSame, new_recorder_of, new_recorders}
+use Rattle.check_monitor.specs.Monitor.{RecorderState, AreOf, AreAll, IsSame, new_recorder_of, new_recorders}
 
 at_front : (list more : List RecorderState) (place : ℕ) (recorder : RecorderState) → get_elem? list place ≡ some recorder
     → get_elem? (list ++ more) place ≡ some recorder

@@ -1,17 +1,21 @@
 -- A recorder, the reader, and what each call makes of them.
-use Rattle.std.specs.Prelude.{◌≡◌, ◌<◌, ◌⊎◌, ℕ, Bool, zero, suc, List, [], ◌∷◌, ◌++◌, length, map}
+use Rattle.std.specs.Prelude.{◌≡◌, ◌<◌, ◌⊎◌, ℕ, Bool, zero, suc, List, [], ◌∷◌, ◌++◌, length, map, Option}
 use Rattle.std.specs.List.{AllByRecursion}
 use mathlib.Core.Option.{some}
 use lib.ListN.{get_elem?}
 use Rattle.atomic_table.specs.Seated.{TableId}
 use Rattle.crossbeam_queue.specs.Fifo.{Held}
+use Rattle.bucket_eval.specs.declared.answers.Cause.{Cause}
 use Rattle.bucket_eval.specs.declared.answers.Verdict.{Verdict}
 use Rattle.cynara_keys.specs.Key.{Question}
+use Rattle.cynara_keys.specs.declared.results.Kind.{Kind}
 use Rattle.desk_ports.specs.Faults.{next_count}
 use Rattle.monitor_rule.specs.declared.entries.Entry.{Entry}
+use Rattle.monitor_rule.specs.declared.moments.Moment.{Moment}
 use Rattle.monitor_rule.specs.declared.knowing.Account.{Account}
 use Rattle.monitor_rule.specs.declared.knowing.View.{View}
 use Rattle.monitor_rule.specs.Entries.{of_worker}
+use Rattle.check_monitor.specs.declared.recorders.Decided.{Decided}
 use Rattle.check_monitor.specs.declared.recording.Recorded.{Recorded}
 use Rattle.check_monitor.specs.declared.recording.Recorded.TheVariants.{Put, Full, Spent}
 
@@ -46,9 +50,10 @@ new_reader_of queue room made = record { queue = queue; room = room; made = made
 abbrev pub with_one_recorder : ReaderState → ReaderState
 with_one_recorder reader = record reader { made = suc reader.made }
 
--- the entry of a check whose verdict is of this commit, and ALLOW or not
-abbrev pub entry_at : ℕ → ℕ → Question → ℕ → Bool → Entry
-entry_at worker number question commit allowed = record {
+-- The entry of a check that was decided: recorded at this time, under this commit, by an agent of a kind or by the policies, as ALLOW
+-- or not, for this cause.
+abbrev pub entry_at : ℕ → ℕ → Question → Option Moment → ℕ → Option Kind → Bool → Cause → Entry
+entry_at worker number question time commit agent allowed cause = record {
   worker = worker;
   number = number;
   client = question.client;
@@ -56,7 +61,15 @@ entry_at worker number question commit allowed = record {
   privilege = question.privilege;
   commit = commit;
   allowed = allowed;
+  time = time;
+  agent = agent;
+  cause = cause;
 }
+
+-- the same, of a decision that is lent
+abbrev pub entry_of_decided : ℕ → ℕ → Question → Decided → Entry
+entry_of_decided worker number question decided =
+    entry_at worker number question decided.time decided.commit decided.agent decided.allowed decided.cause.now
 
 -- the verdict is DENY or ALLOW
 abbrev pub IsDecided : Verdict → Type 0

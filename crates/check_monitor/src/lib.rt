@@ -14,9 +14,9 @@ mod rest;
 mod running;
 
 pub use alarms::Alarm;
-pub use monitor_rule::Entry;
+pub use monitor_rule::{Entry, Moment};
 pub use opening::{MOST_ROOM, MOST_WORKERS, open};
 pub use readers::Reader;
-pub use recorders::{MOST_PUT, Recorder};
+pub use recorders::{Decided, MOST_PUT, Recorder};
 pub use recording::Recorded;
 pub use rest::Settled;

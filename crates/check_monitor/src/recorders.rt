@@ -3,20 +3,31 @@ ghost use Rattle.std.specs.Arc.{arc_value};
 ghost use Rattle.crossbeam_queue.specs.Passes.{view, IsPassOf, ruled_capacity};
 ghost use Rattle.monitor_rule.specs.Entries.{entry_of};
 ghost use Rattle.monitor_rule.specs.Steps.{account_of, new_recorder};
-ghost use Rattle.check_monitor.specs.Monitor.{IsDecided, IsSame, Records, account_in, entry_at, new_recorder_of, with_miss};
+ghost use Rattle.check_monitor.specs.Monitor.{IsDecided, IsSame, Records, account_in, entry_of_decided, new_recorder_of, with_miss};
 
 use crate::alarms::Alarm;
 use crate::recording::Recorded;
 use crate::running::{Line, LinePass, Puts};
-use bucket_eval::Verdict;
+use bucket_eval::{Cause, Verdict};
 use cynara_keys::{Kind, Question, Short};
-use monitor_rule::Entry;
+use monitor_rule::{Entry, Moment};
 use std::alloc::Global;
 use std::marker::Model;
 use std::sync::{Arc, Wait};
 
 /// How many entries a recorder puts at most, so that 64 recorders together never put more than a queue can number.
 pub const MOST_PUT: u64 = 72_057_594_037_927_936;
+
+/// A decision that is recorded: when, where the clock told; the commit of the policies; the kind of the agent that gave the answer,
+/// or none where the policies gave it; whether it is ALLOW; and the policy or fallback that gave it, or that left it to the agent.
+#[derive(Clone, Copy)]
+pub struct Decided<'a> {
+    pub time: Option<Moment>,
+    pub commit: u64,
+    pub agent: Option<Kind>,
+    pub allowed: bool,
+    pub cause: &'a Cause,
+}
 
 /// What a worker records its checks by. Contracts see the entries that it put.
 #[derive(Drop)]
@@ -74,28 +85,39 @@ impl Recorder {
         }
     }
 
-    /// Records a check whose verdict is DENY or ALLOW: puts its entry, with the count of what was put before as its number;
+    /// Records a check that the policies decided at this time: puts its entry, with the count of what was put before as its number;
     /// or counts it as missed, where the queue held as many entries as it may at a moment of the call, or where the
     /// recorder has put 72,057,594,037,927,936 entries. It wakes the reader's thread where that waits. Takes no memory.
     /// Waits for nobody but for threads that are within a step of the queue.
-    pub fn record<R: Wait>(&mut self, rt: &R, question: &Question, verdict: &Verdict) -> Recorded
+    pub fn record<R: Wait>(
+        &mut self,
+        rt: &R,
+        time: Option<Moment>,
+        question: &Question,
+        verdict: &Verdict,
+    ) -> Recorded
         requires { IsDecided verdict.now }
-        ensures recorded { Records self.old (entry_of self.old.worker (length self.old.put) question.now verdict.now) result self.new }
+        ensures recorded { Records self.old (entry_of self.old.worker (length self.old.put) time question.now verdict.now) result self.new }
         ensures same { IsSame self.old self.new }
     {
-        let allowed = verdict.answer.kind == Kind::ALLOW;
-        self.record_decision(rt, question, verdict.commit, allowed)
+        let decided = Decided {
+            time,
+            commit: verdict.commit,
+            agent: None,
+            allowed: verdict.answer.kind == Kind::ALLOW,
+            cause: &verdict.answer.cause,
+        };
+        self.record_decision(rt, question, decided)
     }
 
-    /// The same, for a check of which the commit of the verdict is known and whether it is ALLOW.
+    /// The same, for a check that the policies or an agent decided.
     pub fn record_decision<R: Wait>(
         &mut self,
         rt: &R,
         question: &Question,
-        commit: u64,
-        allowed: bool,
+        decided: Decided<'_>,
     ) -> Recorded
-        ensures recorded { Records self.old (entry_at self.old.worker (length self.old.put) question.now commit allowed) result self.new }
+        ensures recorded { Records self.old (entry_of_decided self.old.worker (length self.old.put) question.now decided.entry) result self.new }
         ensures same { IsSame self.old self.new }
     {
         if self.made >= MOST_PUT {
@@ -103,7 +125,7 @@ impl Recorder {
             return Recorded::Spent { missed };
         }
         let number = self.made;
-        let entry = entry_at(self.worker, number, question, commit, allowed);
+        let entry = entry_at(self.worker, number, question, decided);
         match self.queue.push_as::<Puts, R>(rt, &mut self.pass, entry) {
             Ok(()) => {
                 self.made = number + 1;
@@ -160,8 +182,8 @@ impl Recorder {
 }
 
 // The entry of a check.
-fn entry_at(worker: u32, number: u64, question: &Question, commit: u64, allowed: bool) -> Entry
-    ensures { result ≡ entry_at worker number question.now commit allowed }
+fn entry_at(worker: u32, number: u64, question: &Question, decided: Decided<'_>) -> Entry
+    ensures { result ≡ entry_of_decided worker number question.now decided.entry }
 {
     Entry {
         worker,
@@ -169,7 +191,10 @@ fn entry_at(worker: u32, number: u64, question: &Question, commit: u64, allowed:
         client: Short::of(question.client()),
         user: Short::of(question.user()),
         privilege: Short::of(question.privilege()),
-        commit,
-        allowed,
+        commit: decided.commit,
+        allowed: decided.allowed,
+        time: decided.time,
+        agent: decided.agent,
+        cause: *decided.cause,
     }
 }

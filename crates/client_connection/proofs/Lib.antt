@@ -1,6 +1,6 @@
 pub mod Sizes
 mod Hearing
-mod Receiving
-mod Exchanging
+pub mod Receiving
+pub mod Exchanging
 pub mod Troubles
-mod Trying
+pub mod Trying

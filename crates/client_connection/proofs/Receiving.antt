@@ -1,14 +1,18 @@
 -- Bytes that were received piece by piece, and heard.
-use Rattle.std.proofs.Common.{◌≡◌, ◌<◌, ◌∙◌, ℕ, List, [], ◌++◌, length, take, Option, Some, Result, sym, ap, subst, append_assoc, append-nil}
+use Rattle.std.proofs.Common.{◌≡◌, ◌<◌, ◌∙◌, ℕ, List, [], ◌++◌, length, take, Option, Some, Result, Ok, Err, sym, ap, subst, append_assoc, append-nil}
 use Rattle.link_ports.specs.Told.{IfTold, KeepsTold, ChangesTold}
 use Rattle.link_ports.specs.Traffic.{Traffic, with_received}
 use Rattle.link_ports.specs.LinkMarks.{LinkMarks}
 use Rattle.wire_messages.specs.Stream.{Feeding, unfed}
 use Rattle.wire_messages.specs.declared.messages.Framed.{Framed}
 use Rattle.wire_messages.specs.declared.operations.Heard.{Heard}
+use Rattle.wire_messages.specs.declared.operations.Heard.TheVariants.{Replies}
+use Rattle.wire_messages.specs.declared.refusals.WireRefusal.{WireRefusal}
 use Rattle.client_connection.specs.Reading.{IsRead, Receives}
+use Rattle.client_connection.specs.Coming.{Comes}
 use Rattle.client_connection.specs.parts.Pieces.{HearsPiece, TakesPiece}
 use Rattle.client_connection.specs.declared.faults.Broken.{Broken}
+use Rattle.client_connection.specs.declared.faults.Broken.TheVariants.{Lost, Wrong}
 use Rattle.client_connection.specs.declared.reading.Piece.{Piece}
 use Rattle.client_connection.specs.declared.reading.Piece.TheVariants as piece
 
@@ -72,3 +76,31 @@ went_on heard old new bytes was now =
     now
     ∙ (ap (λ (feeder : Feeding). record feeder { partial = old.partial ++ bytes }) was
     ∙ ap (λ partial. record (unfed heard) { partial = partial }) (sym (ap (λ (feeder : Feeding). feeder.partial) now)))
+
+-- ---- what came, and what follows
+
+-- a call that failed gave none
+pub none_given : (room : List ℕ) (start end : Option Traffic) → KeepsTold start end
+    → IfTold start (λ before. end ≡ Some (with_received (take 0 room) before))
+none_given room start end kept before told =
+    kept before told ∙ ap Some (λ i. record before { received = sym (append-nil before.received) i })
+
+-- bytes that came behind others are what was read
+pub read_whole : (bytes more : List ℕ) (start between end : Option Traffic) (result : Result Framed Broken)
+    → IfTold start (λ before. between ≡ Some (with_received bytes before))
+    → IfTold between (λ before. end ≡ Some (with_received more before))
+    → IsRead Replies result (bytes ++ more) → Receives Replies result start end
+read_whole bytes more start between end result one two read before told =
+    (bytes ++ more, read, received_more bytes more start between end one two before told)
+
+-- the same of what else is known, and of what else follows
+pub comes_too : (Reads Known : Result Framed Broken → Type 0) (Whole Other : Framed → Type 0) (Bad Worse : WireRefusal → Type 0) (Cut Ended : Type 0)
+    → ((result : Result Framed Broken) → Reads result → Known result)
+    → ((framed : Framed) → Whole framed → Other framed) → ((refusal : WireRefusal) → Bad refusal → Worse refusal) → (Cut → Ended)
+    → Comes Reads Whole Bad Cut → Comes Known Other Worse Ended
+comes_too Reads Known Whole Other Bad Worse Cut Ended known other worse ended (Comes.whole framed read w) =
+    Comes.whole framed (known (Ok framed) read) (other framed w)
+comes_too Reads Known Whole Other Bad Worse Cut Ended known other worse ended (Comes.bad refusal read b) =
+    Comes.bad refusal (known (Err (Wrong refusal)) read) (worse refusal b)
+comes_too Reads Known Whole Other Bad Worse Cut Ended known other worse ended (Comes.cut read c) =
+    Comes.cut (known (Err Lost) read) (ended c)

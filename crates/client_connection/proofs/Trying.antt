@@ -1,5 +1,6 @@
 -- One try behind another.
 use Rattle.std.proofs.Common.{◌≡◌, ◌<◌, ◌∙◌, ℕ, zero, suc, ◌-◌, Bool, true, false, ◌||◌, not, List, [], ◌∷◌, ◌++◌, length, Option, Some, None, Result, Ok, Err, is_some, refl, sym, ap, subst, arith, append_assoc, append-nil, length-append}
+use Rattle.std.specs.declared.alloc.AllocError.{AllocError}
 use Rattle.desk_ports.specs.Faults.{next_count}
 use Rattle.link_ports.specs.Traffic.{Traffic}
 use Rattle.link_ports.specs.LinkMarks.{LinkMarks}
@@ -252,6 +253,25 @@ module _ {L : Type 0} (link_faults : L → ℕ) (marks : L → LinkMarks) (traff
       lost = None ∷ [];
       each = (refl, tt);
       came = (
+        refl,
+        or_false before,
+        record {
+          counted_each = count;
+          given = appends_nothing (given_back start) (given_back new) given;
+        },
+      );
+      dialled = dialled;
+    }
+
+    -- the dial found no memory
+    pub no_memory : (before : Bool) (error : AllocError) (start new : N) → faults new ≡ faults start → given_back new ≡ given_back start
+        → dials new ≡ next_count (dials start)
+        → Asks link_faults marks traffic frame faults dials given_back 1 before None (outcome.Memory error before) start new
+    no_memory before error start new count given dialled = record {
+      lost = [];
+      each = tt;
+      came = (
+        omega arith,
         refl,
         or_false before,
         record {

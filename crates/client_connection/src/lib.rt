@@ -1,17 +1,15 @@
-//! The connection of a client: a question goes out on a link, and one reply is taken from it. Where the link fails or
-//! ends before that, the question goes out on a new one.
-//!
-//! Of a link no byte is taken past the frame that is read, be it right or wrong, so that the next call begins at the next frame.
+//! The connection of a client: what goes over it, and how it ends, in words that the clients' contracts share; and the two
+//! calls on a link by which a frame goes out and a reply comes back piece by piece.
 #![tactic(auto)]
 
 mod asking;
-mod exchanges;
+mod calls;
 mod faults;
 mod laws;
 mod reading;
 
-pub use asking::{Outcome, ask};
-pub use exchanges::exchange;
+pub use asking::Outcome;
+pub use calls::{receive_some, send_frame};
 pub use faults::{Broken, ReplyFault};
 pub use laws::no_more_is_taken_than_a_frame;
 pub use reading::read_frame;

@@ -1,8 +1,8 @@
 -- What the calls of an administrator keep, and what its answers mean.
-use Rattle.std.proofs.Common.{◌≡◌, ◌⊎◌, ℕ, suc, ◌+◌, Bool, true, false, List, [], ◌∷◌, ◌++◌, map, length, Option, Some, None}
+use Rattle.std.proofs.Common.{◌≡◌, ◌⊎◌, ℕ, suc, ◌+◌, Bool, true, false, List, [], ◌∷◌, ◌++◌, map, length, Option, Some, None, Result, Ok, Err}
 use Rattle.std.proofs.Common.{refl, sym, ap, ◌∙◌, subst, inl, inr, arith, append-nil}
 use Rattle.std.specs.Prelude.{nat_lt}
-use Rattle.wire_messages.specs.Frame.{spelling}
+use Rattle.wire_messages.specs.Frame.{spelling, with_sequence}
 use Rattle.wire_messages.specs.Stream.{Hears}
 use Rattle.wire_messages.specs.declared.messages.Framed.{Framed}
 use Rattle.wire_messages.specs.declared.messages.Message.{Message}
@@ -106,10 +106,10 @@ module _ (pieces : Pieces) (calls : List Call) (before : Admin) (holds : Holds c
     sends answer = Call.Sends operation fields answer
 
     abbrev put : Put
-    put = record { operation = operation; fields = fields }
+    put = Put.Bytes operation fields
 
     begins : (framed : Framed) → IsRequest (Some put) (spelling framed) framed → (is_linked : Bool) (answer : Step) (after : Admin)
-        → does.begins is_linked framed answer (record before { frame = spelling framed }) after → Both sends calls before answer after
+        → does.begins is_linked (exchange_of framed) answer (record before { frame = spelling framed }) after → Both sends calls before answer after
     begins framed request true answer after d =
         let under : IsUnder (exchange_of framed) (Some put) (spelling framed) =
         record { request = framed; is = request; wanted_is = refl; sequence_is = refl } in
@@ -125,10 +125,8 @@ module _ (pieces : Pieces) (calls : List Call) (before : Admin) (holds : Holds c
         let request : IsRequest (Some put) (spelling d.framed) d.framed = record {
           message = put;
           put_is = refl;
-          heard = d.heard;
+          is_of = record { heard = d.heard; sequence = before.sequence; raw = d.spelled };
           frame_is = refl;
-          sequence = before.sequence;
-          raw = d.spelled;
         } in
         begins d.framed request before.is_linked answer after d.begun
 
@@ -150,6 +148,53 @@ module _ (pieces : Pieces) (calls : List Call) (before : Admin) (holds : Holds c
     sends_at stage.Idle is answer after d = reads is (nat_lt 1048573 (length fields)) answer after d
     sends_at (stage.Dialling exchange) is answer after d = sends_no answer after d
     sends_at (stage.Waiting exchange ear) is answer after d = sends_no answer after d
+
+  -- ---- a message is to be sent, which is given by itself
+
+  module _ (message : Message) where
+    abbrev says : Step → Call
+    says answer = Call.Says message (Ok answer)
+
+    abbrev whole : Framed
+    whole = with_sequence before.sequence message
+
+    whole_request : IsRequest (Some (Put.Whole message)) (spelling whole) whole
+    whole_request = record { message = Put.Whole message; put_is = refl; is_of = refl; frame_is = refl }
+
+    whole_under : IsUnder (exchange_of whole) (Some (Put.Whole message)) (spelling whole)
+    whole_under = record { request = whole; is = whole_request; wanted_is = refl; sequence_is = refl }
+
+    says_begins : (is_linked : Bool) (answer : Step) (after : Admin)
+        → does.begins is_linked (exchange_of whole) answer (record before { frame = spelling whole }) after → Both says calls before answer after
+    says_begins true answer after d = reach says calls before answer step.Send after _ d.0 d.1 (
+      unheard_yet (exchange_of whole) (Some (Put.Whole message)) (spelling whole) whole_under refl,
+      record { request = whole; is = whole_request },
+    )
+    says_begins false answer after d =
+        reach says calls before answer step.Dial after _ d.0 d.1 (record { under = whole_under; none = refl }, tt)
+
+    says_idle : before.stage ≡ stage.Idle → (answer : Result Step ℕ) (after : Admin) → does.spells message answer before after
+        → Holds (Call.Says message answer ∷ calls) after × Means (does.step_of answer) (Call.Says message answer) calls before after
+    says_idle idle (Ok answer) after (inl d) = says_begins before.is_linked answer after d.1
+    says_idle idle (Ok answer) after (inr d) =
+        reach says calls before answer (step.Over (fault.Memory d.0)) after _ d.1 d.2 (tt, tt)
+    says_idle idle (Err n) after d = (
+      subst (Holds (Call.Says message (Err n) ∷ calls)) (sym d.1)
+          (subst (λ (s : AdminStage). IsAt s (message_in calls) (heard_in calls) (given_in calls) []) (sym idle) tt),
+      tt,
+    )
+
+    says_no : (answer : Result Step ℕ) (after : Admin) → (answer ≡ Ok step.NotNow) × (after ≡ before)
+        → Holds (Call.Says message answer ∷ calls) after × Means (does.step_of answer) (Call.Says message answer) calls before after
+    says_no answer after d =
+        subst (λ (a : Result Step ℕ). Holds (Call.Says message a ∷ calls) after × Means (does.step_of a) (Call.Says message a) calls before after)
+        (sym d.0) (subst (Holds (says step.NotNow ∷ calls)) (sym d.1) holds, tt)
+
+    says_at : (s : AdminStage) → before.stage ≡ s → (answer : Result Step ℕ) (after : Admin) → does.says_at s message answer before after
+        → Holds (Call.Says message answer ∷ calls) after × Means (does.step_of answer) (Call.Says message answer) calls before after
+    says_at stage.Idle is answer after d = says_idle is answer after d
+    says_at (stage.Dialling exchange) is answer after d = says_no answer after d
+    says_at (stage.Waiting exchange ear) is answer after d = says_no answer after d
 
   -- ---- the service was dialled
 
@@ -280,6 +325,7 @@ module _ (pieces : Pieces) (calls : List Call) (before : Admin) (holds : Holds c
   each : (call : Call) (after : Admin) → Does call before after
       → Holds (call ∷ calls) after × Means (answer_of call) call calls before after
   each (Call.Sends operation fields answer) after d = sends_at operation fields before.stage refl answer after d
+  each (Call.Says message answer) after d = says_at message before.stage refl answer after d
   each (Call.Dials answer) after d = dialled_at before.stage refl answer after d
   each (Call.Comes bytes answer) after d = comes_at bytes before.stage refl answer after d
   each (Call.Falls answer) after d = falls_at before.stage answer after d.0 d.1

@@ -2,5 +2,5 @@ mod AgentLaw
 mod AdminLaw
 mod ClientLaw
 mod Hearing
-mod Staging
+pub mod Staging
 mod Recalling

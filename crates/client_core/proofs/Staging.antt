@@ -1,13 +1,16 @@
 -- What a call does from a stage does not hang on the stage, where another one is set.
-use Rattle.std.proofs.Common.{◌≡◌, ◌≤◌, ◌<◌, ℕ, Bool, true, false, List, length, Option, Some, None, refl, arith, inl, inr}
+use Rattle.std.proofs.Common.{◌≡◌, ◌≤◌, ◌<◌, ◌∙◌, ℕ, Bool, true, false, List, [], ◌∷◌, ◌++◌, length, Option, Some, None, refl, ap, arith, inl, inr}
+use Rattle.std.proofs.lemmas.Bool.Decides.{nat_tests}
 use Rattle.std.specs.Prelude.{nat_lt, nat_le, ◌==◌, ◌&&◌, if◌then◌else◌}
 use Rattle.answer_cache.specs.Cache.{Cache}
 use Rattle.bucket_eval.specs.declared.answers.Verdict.{Verdict}
-use Rattle.wire_messages.specs.Stream.{wanted}
+use Rattle.wire_messages.specs.Stream.{Hears, BeginsWrong, IsOpen, wanted}
+use Rattle.wire_messages.specs.declared.refusals.WireRefusal.{WireRefusal}
 use Rattle.wire_messages.specs.declared.messages.Framed.{Framed}
 use Rattle.wire_messages.specs.declared.messages.Message.{Message}
 use Rattle.client_core.specs.Listening.{Listening, is_fit}
-use Rattle.client_core.specs.Client.{Client}
+use Rattle.client_core.specs.Client.{Client, forgotten, raised}
+use Rattle.client_core.specs.Hearing.{HearsPiece, fault_by}
 use Rattle.client_core.specs.Asking as asking_does
 use Rattle.client_core.specs.Admin.{Admin}
 use Rattle.client_core.specs.Agent.{Agent, First, Turn}
@@ -22,8 +25,10 @@ use Rattle.client_core.specs.declared.ears.Piece.TheVariants as piece
 use Rattle.client_core.specs.declared.stages.Asking.{Asking}
 use Rattle.client_core.specs.declared.stages.Exchange.{Exchange}
 use Rattle.client_core.specs.declared.stages.Stage.{Stage}
+use Rattle.client_core.specs.declared.stages.Stage.TheVariants as stage
 use Rattle.client_core.specs.declared.stages.AdminStage.{AdminStage}
 use Rattle.client_core.specs.declared.steps.Step.{Step}
+use Rattle.client_core.specs.declared.steps.Step.TheVariants as step
 use Rattle.client_core.specs.declared.steps.Fault.{Fault}
 use Rattle.client_core.specs.declared.steps.Fault.TheVariants.{Sequence, Operation}
 use Rattle.client_core.specs.declared.wanted.Wanted.{Wanted}
@@ -40,6 +45,13 @@ fit_if false there bytes is = cc
 
 pub within : (there bytes : List ℕ) → is_fit there bytes ≡ true → length bytes ≤ wanted there
 within there bytes is = fit_if (nat_lt 0 (length bytes)) there bytes is
+
+-- some bytes, no more than are wanted, are fit
+pub fit : (there bytes : List ℕ) → 0 < length bytes → length bytes ≤ wanted there → is_fit there bytes ≡ true
+fit there bytes some few =
+    let one : nat_lt 0 (length bytes) ≡ true = grind (arith, nat_tests) in
+    let two : nat_le (length bytes) (wanted there) ≡ true = grind (arith, nat_tests) in
+    ap (λ (b : Bool). if b then nat_le (length bytes) (wanted there) else false) one ∙ two
 
 abbrev pub client : Cache → ℕ → List ℕ → Bool → Stage → Client
 client cache sequence frame is_linked stage =
@@ -67,6 +79,22 @@ module _ (cache : Cache) (sequence : ℕ) (frame : List ℕ) (is_linked : Bool) 
       → asking_does.HearsReply asking ear bytes answer (client cache sequence frame is_linked s) new
       → asking_does.HearsReply asking ear bytes answer (client cache sequence frame is_linked t) new
   same_reply ear bytes d = (d.0, d.1, same_hears d.0 d.2)
+
+-- what is heard of a piece: the reply goes on, it is whole, or it is wrong
+module _ {X : Type 0} (asking : Asking) (ear : Listening) (bytes : List ℕ) (answer : Step) (old new : Client)
+    (more : (after : Listening) → after ≡ record ear { bytes = ear.bytes ++ bytes } → IsOpen ear.side (ear.bytes ++ bytes)
+    → answer ≡ step.Wait → new ≡ record old { stage = stage.Waiting asking after } → X)
+    (whole : (framed : Framed) → Hears ear.side (ear.bytes ++ bytes) (framed ∷ []) []
+    → asking_does.Concludes asking framed answer old new → X)
+    (bad : (refusal : WireRefusal) → BeginsWrong ear.side (ear.bytes ++ bytes) refusal → answer ≡ step.Over (fault_by refusal)
+    → new ≡ raised true (forgotten old) → X) where
+  piece_at : (came : Piece) → HearsPiece came ear bytes → asking_does.hears came asking answer old new → X
+  piece_at (piece.More after) heard d = more after heard.0 heard.1 d.0 d.1
+  piece_at (piece.Whole framed) heard d = whole framed heard d
+  piece_at (piece.Wrong refusal) heard d = bad refusal heard d.0 d.1
+
+  pub by_piece : asking_does.HearsReply asking ear bytes answer old new → X
+  by_piece d = piece_at d.0 d.1 d.2
 
 abbrev pub admin : ℕ → List ℕ → Bool → AdminStage → Admin
 admin sequence frame is_linked stage =

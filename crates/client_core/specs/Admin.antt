@@ -1,15 +1,18 @@
 -- An administrator's side of a connection: what it keeps, and what its calls do and answer.
-use Rattle.std.specs.Prelude.{◌≡◌, ◌⊎◌, ℕ, ◌+◌, nat_lt, Bool, true, false, List, [], ◌∷◌, ◌++◌, length}
+use Rattle.std.specs.Prelude.{◌≡◌, ◌⊎◌, ℕ, ◌+◌, ◌≤◌, nat_lt, Bool, true, false, List, [], ◌∷◌, ◌++◌, length}
 use Rattle.std.specs.Int.{w16, w32, to_be_bytes}
 use Rattle.std.specs.declared.alloc.AllocError.{AllocError}
-use Rattle.wire_messages.specs.Frame.{spelling, frame_of}
+use Rattle.wire_messages.specs.Frame.{body, spelling, frame_of, with_sequence, IsTooLong}
+use Rattle.wire_messages.specs.Limits.{most_length}
+use Rattle.wire_messages.specs.declared.messages.Message.{Message}
+use Rattle.wire_messages.specs.declared.refusals.EncodeRefusal.TheVariants.{TooLong as TooLongFor}
 use Rattle.wire_messages.specs.Hearing.{IsHeard}
 use Rattle.wire_messages.specs.Stream.{wanted}
 use Rattle.wire_messages.specs.declared.messages.Framed.{Framed}
 use Rattle.wire_messages.specs.declared.operations.Heard.TheVariants.{AtAdmin, Replies}
 use Rattle.wire_messages.specs.declared.refusals.WireRefusal.{WireRefusal}
 use Rattle.wire_messages.specs.declared.refusals.WireRefusal.TheVariants.{Memory as NoMemory}
-use Rattle.std.specs.Prelude.{Err}
+use Rattle.std.specs.Prelude.{Result, Ok, Err}
 use Rattle.client_core.specs.Listening.{Listening, unheard, is_fit}
 use Rattle.client_core.specs.Hearing.{HearsPiece, fault_by}
 use Rattle.client_core.specs.Client.{next_number}
@@ -61,17 +64,16 @@ sent exchange admin = record admin {
 abbrev pub exchange_of : Framed → Exchange
 exchange_of framed = record { wanted = wanted_of framed.message; sequence = framed.sequence; rows = 0 }
 
-abbrev pub begins : Bool → Framed → Step → Admin → Admin → Type 0
-begins true framed answer old new = (answer ≡ step.Send) × (new ≡ sent (exchange_of framed) old)
-begins false framed answer old new =
-    (answer ≡ step.Dial) × (new ≡ record old { stage = stage.Dialling (exchange_of framed) })
+abbrev pub begins : Bool → Exchange → Step → Admin → Admin → Type 0
+begins true exchange answer old new = (answer ≡ step.Send) × (new ≡ sent exchange old)
+begins false exchange answer old new = (answer ≡ step.Dial) × (new ≡ record old { stage = stage.Dialling exchange })
 
 -- The bytes are the one frame of a message, as the service reads it.
 pub record Takes (operation : ℕ) (fields : List ℕ) (answer : Step) (old new : Admin) : Type 0 where
   pub framed : Framed
   pub heard : IsHeard AtAdmin framed
   pub spelled : raw_frame old.sequence operation fields ≡ spelling framed
-  pub begun : begins old.is_linked framed answer (record old { frame = spelling framed }) new
+  pub begun : begins old.is_linked (exchange_of framed) answer (record old { frame = spelling framed }) new
 
 -- a fault of the bytes, and no want of memory
 abbrev pub IsOfBytes : WireRefusal → Type 0
@@ -104,6 +106,31 @@ sends_at other operation fields answer old new = IsNotNow answer old new
 
 abbrev pub Sends : ℕ → List ℕ → Step → Admin → Admin → Type 0
 Sends operation fields answer old new = sends_at old.stage operation fields answer old new
+
+-- ---- a message is to be sent, which is given by itself
+
+-- Its frame is there, no longer than a frame may be; or no memory was found for it, and the connection is given up; or it is
+-- too long, and this is its length.
+abbrev pub spells : Message → Result Step ℕ → Admin → Admin → Type 0
+spells message (Ok answer) old new =
+    ((length (body (with_sequence old.sequence message)) ≤ most_length)
+    × begins old.is_linked (exchange_of (with_sequence old.sequence message)) answer
+    (record old { frame = spelling (with_sequence old.sequence message) }) new)
+    ⊎ ((error : AllocError) × (answer ≡ step.Over (fault.Memory error)) × (new ≡ record (cut old) { frame = [] }))
+spells message (Err n) old new =
+    IsTooLong (with_sequence old.sequence message) (TooLongFor n) × (new ≡ record old { frame = [] })
+
+-- what a message that is too long comes to
+abbrev pub step_of : Result Step ℕ → Step
+step_of (Ok answer) = answer
+step_of (Err n) = step.TooLong
+
+abbrev pub says_at : AdminStage → Message → Result Step ℕ → Admin → Admin → Type 0
+says_at stage.Idle message answer old new = spells message answer old new
+says_at other message answer old new = (answer ≡ Ok step.NotNow) × (new ≡ old)
+
+abbrev pub Says : Message → Result Step ℕ → Admin → Admin → Type 0
+Says message answer old new = says_at old.stage message answer old new
 
 -- ---- what happens to the connection
 

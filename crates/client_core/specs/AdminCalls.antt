@@ -1,5 +1,5 @@
 -- What an administrator sent and was answered, call by call, and what follows from it.
-use Rattle.std.specs.Prelude.{◌≡◌, ℕ, suc, List, [], ◌∷◌, ◌++◌, map, length, Option, Some, None}
+use Rattle.std.specs.Prelude.{◌≡◌, ℕ, suc, List, [], ◌∷◌, ◌++◌, map, length, Option, Some, None, Result}
 use Rattle.wire_messages.specs.Frame.{spelling}
 use Rattle.wire_messages.specs.Hearing.{IsHeard}
 use Rattle.wire_messages.specs.Stream.{Hears}
@@ -20,6 +20,8 @@ use Rattle.client_core.specs.declared.wanted.Next.TheVariants as next
 pub data Call : Type 0 where
   -- it is to send a message: the number of an operation, and the bytes of its fields
   Sends : ℕ → List ℕ → Step → Call
+  -- it is to send a message, which is given by itself
+  Says : Message → Result Step ℕ → Call
   Dials : Step → Call
   Comes : List ℕ → Step → Call
   Falls : Step → Call
@@ -28,6 +30,7 @@ pub data Call : Type 0 where
 -- what a call does, as its contract says
 abbrev pub Does : Call → Admin → Admin → Type 0
 Does (Sends operation fields answer) old new = does.Sends operation fields answer old new
+Does (Says message answer) old new = does.Says message answer old new
 Does (Dials answer) old new = does.Dialled answer old new
 Does (Comes bytes answer) old new = does.Comes bytes answer old new
 Does (Falls answer) old new = does.Falls answer old new
@@ -40,9 +43,10 @@ Ran (call ∷ calls) admin = (before : Admin) × Ran calls before × Does call b
 
 -- ---- what was said, by the calls alone, the last one first
 
-pub record Put : Type 0 where
-  pub operation : ℕ
-  pub fields : List ℕ
+-- a message, by the number of its operation and the bytes of its fields, or by itself
+pub data Put : Type 0 where
+  Bytes : ℕ → List ℕ → Put
+  Whole : Message → Put
 
 -- a message counts where it is to be sent
 abbrev pub put_by : Step → Put → Option Put → Option Put
@@ -53,14 +57,15 @@ put_by answer put before = before
 -- the message that was to be sent last
 abbrev pub message_in : List Call → Option Put
 message_in [] = None
-message_in (Sends operation fields answer ∷ calls) =
-    put_by answer (record { operation = operation; fields = fields }) (message_in calls)
+message_in (Sends operation fields answer ∷ calls) = put_by answer (Put.Bytes operation fields) (message_in calls)
+message_in (Says message answer ∷ calls) = put_by (does.step_of answer) (Put.Whole message) (message_in calls)
 message_in (call ∷ calls) = message_in calls
 
 -- the bytes that came since its frame was to be sent
 abbrev pub heard_in : List Call → List ℕ
 heard_in [] = []
 heard_in (Sends operation fields answer ∷ calls) = unless_sent answer (heard_in calls)
+heard_in (Says message answer ∷ calls) = unless_sent (does.step_of answer) (heard_in calls)
 heard_in (Dials answer ∷ calls) = unless_sent answer (heard_in calls)
 heard_in (Comes bytes answer ∷ calls) = heard_by answer bytes (heard_in calls)
 heard_in (call ∷ calls) = heard_in calls
@@ -75,20 +80,30 @@ and_given answer given = given
 abbrev pub given_in : List Call → List Message
 given_in [] = []
 given_in (Sends operation fields answer ∷ calls) = and_given answer (given_in calls)
+given_in (Says message answer ∷ calls) = and_given (does.step_of answer) (given_in calls)
 given_in (Dials answer ∷ calls) = and_given answer (given_in calls)
 given_in (Comes bytes answer ∷ calls) = and_given answer (given_in calls)
 given_in (call ∷ calls) = given_in calls
 
 -- ---- what follows
 
--- a message that the service hears, whose frame is spelled of these bytes
+-- the service hears it, and its frame is spelled of these bytes
+pub record IsRead (operation : ℕ) (fields : List ℕ) (request : Framed) : Type 0 where
+  pub heard : IsHeard AtAdmin request
+  pub sequence : ℕ
+  pub raw : raw_frame sequence operation fields ≡ spelling request
+
+-- it is the message that was given
+abbrev pub IsOf : Put → Framed → Type 0
+IsOf (Put.Bytes operation fields) request = IsRead operation fields request
+IsOf (Put.Whole message) request = request.message ≡ message
+
+-- the message that was to be sent, whose frame these bytes are
 pub record IsRequest (put : Option Put) (bytes : List ℕ) (request : Framed) : Type 0 where
   pub message : Put
   pub put_is : put ≡ Some message
-  pub heard : IsHeard AtAdmin request
+  pub is_of : IsOf message request
   pub frame_is : bytes ≡ spelling request
-  pub sequence : ℕ
-  pub raw : raw_frame sequence message.operation message.fields ≡ spelling request
 
 -- where a frame is to be sent, it is that of the message that was to be sent last
 pub record IsSent (calls : List Call) (after : Admin) : Type 0 where
@@ -123,6 +138,7 @@ Means answer call calls before after = Unit {0}
 
 abbrev pub answer_of : Call → Step
 answer_of (Sends operation fields answer) = answer
+answer_of (Says message answer) = does.step_of answer
 answer_of (Dials answer) = answer
 answer_of (Comes bytes answer) = answer
 answer_of (Falls answer) = answer

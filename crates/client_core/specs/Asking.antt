@@ -107,6 +107,13 @@ Recalls false text old new =
     (new ≡ old)
     × ((asked : Asked) → IsOfNames asked → text ≡ key_text asked → is_ready old ≡ true → answer_in asked old.cache ≡ None)
 
+-- the same for a question that is given by its names
+abbrev pub Reuses : Bool → Asked → Client → Client → Type 0
+Reuses true asked old new =
+    ((verdict : Verdict) × (answer_in asked old.cache ≡ Some verdict))
+    × ((mid : Client) × Asks asked.session asked.question false step.Look old mid × Looks true step.Kept mid new)
+Reuses false asked old new = (new ≡ old) × (is_ready old ≡ true → answer_in asked old.cache ≡ None)
+
 -- ---- the service was dialled
 
 abbrev pub dialled_at : Stage → Step → Client → Client → Type 0

@@ -15,7 +15,7 @@ use desk_ports::Bytes;
 use std::alloc::Global;
 use std::marker::Model;
 use std::mem;
-use wire_messages::{Framed, Heard, WireRefusal};
+use wire_messages::{EncodeRefusal, Framed, Heard, Message, WireRefusal, encode_message_into};
 
 /// An administrator's side: a message is sent once, and the replies to it are heard.
 #[derive(Drop)]
@@ -90,12 +90,37 @@ impl AdminMachine {
             operation,
             fields,
         ) {
-            Ok(framed) => self.begin(framed),
+            Ok(framed) => self.begin_read(framed),
             Err(WireRefusal::Memory(error)) => {
                 self.is_linked = false;
                 Step::Over(Fault::Memory(error))
             }
             Err(refusal) => Step::Unfit(refusal),
+        }
+    }
+
+    /// Takes a message by itself. `Send` where a connection is there, and else `Dial`. Refuses `NotNow`; and with the
+    /// length that the frame would have, where that is above 1,048,576: then nothing is to be sent.
+    pub fn say(&mut self, message: &Message) -> Result<Step, u64>
+        ensures { does.Says message.now result self.old self.new }
+    {
+        if !matches!(self.stage, AdminStage::Idle) {
+            return Ok(Step::NotNow);
+        }
+        match encode_message_into(&mut self.frame, self.sequence, message) {
+            Ok(()) => {
+                let step = self.begin(Exchange {
+                    wanted: wanted_of(message),
+                    sequence: self.sequence,
+                    rows: 0,
+                });
+                Ok(step)
+            }
+            Err(EncodeRefusal::TooLong(length)) => Err(length),
+            Err(EncodeRefusal::Memory(error)) => {
+                self.is_linked = false;
+                Ok(Step::Over(Fault::Memory(error)))
+            }
         }
     }
 
@@ -156,9 +181,9 @@ impl AdminMachine {
         Step::NotNow
     }
 
-    fn begin(&mut self, framed: Framed) -> Step
+    fn begin_read(&mut self, framed: Framed) -> Step
         requires { self.old.stage ≡ stage_is.Idle }
-        ensures { does.begins self.old.is_linked framed result self.old self.new }
+        ensures { does.begins self.old.is_linked (exchange_of framed) result self.old self.new }
     {
         let exchange = Exchange {
             wanted: wanted_of(&framed.message),
@@ -166,6 +191,13 @@ impl AdminMachine {
             rows: 0,
         };
         drop(framed);
+        self.begin(exchange)
+    }
+
+    fn begin(&mut self, exchange: Exchange) -> Step
+        requires { self.old.stage ≡ stage_is.Idle }
+        ensures { does.begins self.old.is_linked exchange result self.old self.new }
+    {
         if self.is_linked {
             return self.await_reply(exchange);
         }

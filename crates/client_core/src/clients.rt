@@ -1,7 +1,7 @@
 ghost use Rattle.std.specs.Prelude.{◌≡◌, ◌<◌, ◌≤◌, [], IfOk};
 ghost use Rattle.std.specs.Prelude.{OnOk, OnErr, true};
 ghost use Rattle.std.specs.Option.{option_copied};
-ghost use Rattle.answer_cache.specs.Cache.{newest};
+ghost use Rattle.answer_cache.specs.Cache.{asked_in, newest};
 ghost use Rattle.answer_cache.specs.Limits.{most_entries};
 ghost use Rattle.client_core.specs.Listening.{is_fit};
 ghost use Rattle.client_core.specs.Hearing as hearing;
@@ -130,6 +130,16 @@ impl ClientMachine {
             return false;
         }
         self.cache.recall(text)
+    }
+
+    /// The same for a question in its session, by their names.
+    pub fn reuse(&mut self, session: &Name, question: &Question) -> bool
+        ensures { does.Reuses result (asked_in session.now question.now) self.old self.new }
+    {
+        if !self.is_ready() {
+            return false;
+        }
+        self.cache.has_answer(session, question)
     }
 
     // Whether it may answer from what is kept, once the connection was looked at.

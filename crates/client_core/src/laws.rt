@@ -24,8 +24,9 @@ pub fn what_an_answer_means()
 {}
 
 /// What an administrator's answers mean, whatever calls were made before. What is to be sent is the one frame of the message
-/// whose bytes were given last, as the service hears it. A row or a last reply comes only of bytes that are the frames of all
-/// replies since then and no more: rows, where the message asks for them, and this one, each with the number of that frame.
+/// that was given last, and by bytes only where the service hears it. A row or a last reply comes only of bytes that are the
+/// frames of all replies since then and no more: rows, where the message asks for them, and this one, each with the number of
+/// that frame.
 pub fn what_an_administrators_answer_means()
     ensures { (calls : List AdminCall) (call : AdminCall) (before after : Admin) → AdminRan calls before
         → AdminDoes call before after → admins.Means (admins.answer_of call) call calls before after }

@@ -32,7 +32,7 @@ use Rattle.door_frames.specs.declared.endings.Ended.TheVariants.{Closed, Cut, Hu
 use Rattle.door_frames.proofs.Carrying.{carried_more, carried_nothing, carried_same}
 use Rattle.client_door.specs.Check.{framed_of, message_of, reply_of}
 use Rattle.client_door.specs.Asking.{AsksOnce, AsksInVain, Asked, IsInVain, LooksAtLink, ask_made}
-use Rattle.client_door.specs.Reading.{reading}
+use Rattle.client_door.specs.Reading.{cause_at, reading}
 use Rattle.client_door.specs.Answered.{Answered, Answers, calls_for, after_asks, replies_bytes, frames_of, AreReadIn, read_up_to}
 use Rattle.client_door.specs.Recording.{Recording, with_all_recorded, judged_by}
 use Rattle.client_door.specs.Serving.{ClientSide, recorded_side, with_link, Cause, ended_for, EndsAnswered, EndsAsking, IsFoundSo}
@@ -43,7 +43,7 @@ use Rattle.door_frames.proofs.Hearing.{hears_nothing}
 use Rattle.client_door.specs.declared.checks.Check.{Check}
 use Rattle.client_door.specs.declared.agent_replies.AgentReply.{AgentReply}
 use Rattle.client_door.proofs.Calls.{after_asks_more, calls_same, calls_more, calls_for_more, front_right}
-use Rattle.client_door.proofs.Recorded.{notes_nothing, no_judgement, has_recorded}
+use Rattle.client_door.proofs.Recorded.{has_recorded}
 use Rattle.client_door.proofs.Published.{stands_last, commit_of_last, reads_between}
 use Rattle.client_door.proofs.Unsent.{back_right, back_read, read_below, all_calls, unsent_calls}
 use Rattle.client_door.proofs.Steps.{answered_with, answered_by_policies, reseated, flushed, heard_more, looked_at}
@@ -242,25 +242,25 @@ asked_side now tally calls traffic marks faults =
 
 -- the reply comes of one call, and waits to be sent
 pub asked_once : (start now : ClientSide) (tally : Tally) (calls : Option (List HallCall)) (traffic : Option Traffic) (marks : LinkMarks)
-    (faults : ℕ) (feeder : Feeding) (frame after : List ℕ)
+    (faults : ℕ) (recording : Option Recording) (feeder : Feeding) (frame after : List ℕ)
     (check : Check) (desk : DeskState) (commit : ℕ) (kind : Kind) (metadata : List ℕ) (reply : AgentReply)
     → IsReadNow desk now.seat → reading desk check ≡ IsDue commit kind metadata
     → AsksOnce commit kind check.question metadata now.tally now.calls tally calls reply
     → KeepsTold now.traffic traffic → marks ≡ now.marks → faults ≡ now.faults
+    → Notes now.recording (judged_by (cause_at desk check.question) check.question (reply_of reply)) recording
     → frame ≡ spelling (with_sequence check.sequence (message_of (reply_of reply))) → after ≡ [] ++ frame
     → (s : Stands start now feeder [] (check ∷ [])) → s.unsent ≡ []
-    → Stands start (asked_side now tally calls traffic marks faults) feeder after []
-asked_once start now tally calls traffic marks faults feeder frame after check desk commit kind metadata reply now_read is
-    (result, asked, leads) kept same still spelled put s sent =
+    → Stands start (record (asked_side now tally calls traffic marks faults) { recording = recording }) feeder after []
+asked_once start now tally calls traffic marks faults recording feeder frame after check desk commit kind metadata reply now_read is
+    (result, asked, leads) kept same still noted spelled put s sent =
     let call : AskMade = ask_made kind check.question metadata result in
     let looked = looked_at start now traffic marks faults feeder [] (check ∷ []) kept same still s in
-    answered_with start (with_link now traffic marks faults) tally calls now.recording (HeardBy feeder) [] after check desk (Some call)
+    answered_with start (with_link now traffic marks faults) tally calls recording (HeardBy feeder) [] after check desk (Some call)
     (reply_of reply) looked.0 now_read
     (subst (λ (seen : Reading). Answers seen check.question (Some call) (reply_of reply)) (sym is) (result, refl, leads))
     asked.counted asked.told
     (subst (λ (list : List Answered). length (calls_for list ++ call ∷ []) ≤ 1) (sym (looked.1 ∙ sent)) (omega arith))
-    (notes_nothing now.recording (judged_by check.question (reply_of reply)) (no_judgement check.question reply))
-    (put ∙ spelled)
+    noted (put ∙ spelled)
 
 -- the call that is made for a check that was taken
 made_for : (start now : ClientSide) (feeder : Feeding) (check : Check) (desk : DeskState) (commit : ℕ) (kind : Kind) (metadata : List ℕ)
@@ -387,7 +387,8 @@ pub reads_and_puts : (old new : ClientSide) (seat : SeatState) (recording : Opti
     (waiting frame after : List ℕ)
     (check : Check) (desk : DeskState) (reply : Reply) → seat ≡ record old.seat { seen = seat.seen } → GoesOn old.seat.seen seat.seen
     → new ≡ record old { seat = seat; recording = recording } → IsReadNow desk seat → reading desk check ≡ IsReady reply
-    → frame ≡ spelling (with_sequence check.sequence (message_of reply)) → Notes old.recording (judged_by check.question reply) recording
+    → frame ≡ spelling (with_sequence check.sequence (message_of reply))
+    → Notes old.recording (judged_by (cause_at desk check.question) check.question reply) recording
     → after ≡ waiting ++ frame
     → (start : ClientSide) → Stands start old feeder waiting (check ∷ []) → Stands start new feeder after []
 reads_and_puts old new seat recording feeder waiting frame after check desk reply same goes_on is now_read read spelled noted put start s =
@@ -444,8 +445,8 @@ sends_and_ends side before marks faults noted recording sent marks_sent faults_s
     (carried_same after) ends reading
     then.0 (then.1 ∙ first.1)
 
--- replies were sent, an agent was asked, and the reply waits
-pub sends_and_asks : (old : ClientSide) (sent : Option Traffic) (marks : LinkMarks) (faults : ℕ) (recording : Option Recording)
+-- replies were sent, an agent was asked, and the reply waits, of which was noted what it decides
+pub sends_and_asks : (old : ClientSide) (sent : Option Traffic) (marks : LinkMarks) (faults : ℕ) (recording noted : Option Recording)
     (tally : Tally) (calls : Option (List HallCall)) (looked : Option Traffic) (marks_looked : LinkMarks) (faults_looked : ℕ)
     (feeder : Feeding) (waiting between frame after : List ℕ) (check : Check) (desk : DeskState) (commit : ℕ) (kind : Kind)
     (metadata : List ℕ) (reply : AgentReply)
@@ -454,15 +455,16 @@ pub sends_and_asks : (old : ClientSide) (sent : Option Traffic) (marks : LinkMar
     → IsReadNow desk old.seat → reading desk check ≡ IsDue commit kind metadata
     → AsksOnce commit kind check.question metadata old.tally old.calls tally calls reply
     → KeepsTold sent looked → marks_looked ≡ marks → faults_looked ≡ faults
+    → Notes recording (judged_by (cause_at desk check.question) check.question (reply_of reply)) noted
     → after ≡ between ++ spelling (with_sequence check.sequence (message_of (reply_of reply)))
     → (start : ClientSide) → Stands start old feeder waiting (check ∷ [])
-    → Stands start (recorded_side old.seat tally calls looked marks_looked faults_looked recording) feeder after []
-sends_and_asks old sent marks faults recording tally calls looked marks_looked faults_looked feeder waiting between frame after check desk
-    commit kind metadata reply carried same still recorded none now_read is asks kept looks counts put start s =
+    → Stands start (recorded_side old.seat tally calls looked marks_looked faults_looked noted) feeder after []
+sends_and_asks old sent marks faults recording noted tally calls looked marks_looked faults_looked feeder waiting between frame after check
+    desk commit kind metadata reply carried same still recorded none now_read is asks kept looks counts notes put start s =
     let first = flushed start old sent marks faults recording feeder waiting (check ∷ []) carried same still recorded s in
-    asked_once start (with_sent old sent marks faults recording) tally calls looked marks_looked faults_looked feeder
+    asked_once start (with_sent old sent marks faults recording) tally calls looked marks_looked faults_looked noted feeder
     (spelling (with_sequence check.sequence (message_of (reply_of reply)))) after
-    check desk commit kind metadata reply now_read is asks kept looks counts refl
+    check desk commit kind metadata reply now_read is asks kept looks counts notes refl
     (put ∙ ap (λ list. list ++ spelling (with_sequence check.sequence (message_of (reply_of reply)))) none) first.0 first.1
 
 -- the same, and memory was wanting for the reply

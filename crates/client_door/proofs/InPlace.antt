@@ -19,7 +19,7 @@ use Rattle.wire_messages.specs.declared.operations.Heard.TheVariants.{AtClient}
 use Rattle.door_frames.specs.declared.endings.Ended.{Ended}
 use Rattle.door_frames.specs.declared.endings.Ended.TheVariants.{Memory}
 use Rattle.client_door.specs.Check.{framed_of, message_of}
-use Rattle.client_door.specs.Reading.{reading}
+use Rattle.client_door.specs.Reading.{cause_at, reading}
 use Rattle.client_door.specs.InPlace.{Rules}
 use Rattle.client_door.specs.Recording.{Recording, judged_by}
 use Rattle.client_door.specs.Serving.{ClientSide}
@@ -46,7 +46,7 @@ rules_judged sequence simple commit lent old new allowed no_agent put is_allow =
 pub answers_front : (old : ClientSide) (seat : SeatState) (recording : Option Recording) (ahead behind waiting after : List ℕ) (check : Check)
     (desk : DeskState) (reply : Reply) → seat ≡ record old.seat { seen = seat.seen } → GoesOn old.seat.seen seat.seen
     → IsReadNow desk seat → reading desk check ≡ IsReady reply
-    → Notes old.recording (judged_by check.question reply) recording
+    → Notes old.recording (judged_by (cause_at desk check.question) check.question reply) recording
     → after ≡ waiting ++ spelling (with_sequence check.sequence (message_of reply))
     → first_of AtClient ahead ≡ Whole (framed_of check) behind
     → Reads old ahead waiting (record old { seat = seat; recording = recording }) behind after

@@ -1,9 +1,8 @@
 -- What an answer of the policies is for a check.
-use Rattle.std.proofs.Common.{◌≡◌, ◌∙◌, ℕ, Bool, true, false, ◌==◌, List, refl, sym, ap, subst}
+use Rattle.std.proofs.Common.{◌≡◌, ◌∙◌, ℕ, Bool, true, false, ◌==◌, List, refl, sym, ap}
 use Rattle.cynara_keys.specs.PolicyResult.{is_agent}
 use Rattle.cynara_keys.specs.declared.results.Kind.{Kind}
 use Rattle.bucket_eval.specs.declared.lending.BorrowedAnswer.{BorrowedAnswer}
-use Rattle.bucket_eval.specs.Evaluation.{Outcome}
 use Rattle.bucket_eval.specs.Found.{answer_of}
 use Rattle.bucket_eval.specs.Lent.{outcome_lent}
 use Rattle.wire_messages.specs.Frame.{spelling, with_sequence}
@@ -11,7 +10,7 @@ use Rattle.wire_messages.specs.Lent.{judged}
 use Rattle.wire_messages.specs.declared.messages.Message.TheVariants as message
 use Rattle.desk_world.specs.Links.{read_as, reading_of}
 use Rattle.desk_world.specs.declared.links.Reading.TheVariants.{Ready, Due}
-use Rattle.desk_world.specs.declared.replies.Reply.TheVariants.{Judged, NotResolved}
+use Rattle.desk_world.specs.declared.replies.Reply.TheVariants.{NotResolved}
 use Rattle.client_door.specs.Reading.{Finds, TellsNotResolved}
 use Rattle.client_door.specs.declared.readings.Found.{Found}
 use Rattle.client_door.specs.declared.readings.Found.TheVariants.{Judged as FoundJudged, Unresolved as FoundUnresolved, Due as FoundDue}

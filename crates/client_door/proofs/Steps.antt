@@ -30,7 +30,7 @@ use Rattle.door_frames.specs.Hearing.{HasHeard, HearsMore, HandsOut}
 use Rattle.door_frames.proofs.Carrying.{carried_more, carried_nothing, carried_same}
 use Rattle.door_frames.proofs.Hearing.{unfed_heard}
 use Rattle.client_door.specs.Check.{framed_of, message_of}
-use Rattle.client_door.specs.Reading.{reading}
+use Rattle.client_door.specs.Reading.{cause_at, reading}
 use Rattle.client_door.specs.Answered.{Answered, Answers, IsRight, call_list, calls_for, after_asks, reply_bytes, replies_bytes, frames_of}
 use Rattle.client_door.specs.Answered.{AreReadIn}
 use Rattle.client_door.specs.Serving.{ClientSide, with_link}
@@ -136,7 +136,7 @@ pub answered_with : (start now : ClientSide) (tally : Tally) (calls : Option (Li
     → Answers (reading desk check) check.question call reply
     → tally ≡ after_asks (call_list call) now.tally → AppendsCalls now.calls (map Ask (call_list call)) calls
     → length (calls_for s.unsent ++ call_list call) ≤ 1
-    → Notes now.recording (judged_by check.question reply) recording
+    → Notes now.recording (judged_by (cause_at desk check.question) check.question reply) recording
     → after ≡ waiting ++ spelling (with_sequence check.sequence (message_of reply))
     → StandsBy start (record now { tally = tally; calls = calls; recording = recording }) Has after []
 answered_with start now tally calls recording Has waiting after check desk call reply s now_read answers counted told few noted put =
@@ -181,7 +181,8 @@ answered_with start now tally calls recording Has waiting after check desk call 
 pub answered_by_policies : (start now : ClientSide) (recording : Option Recording) (Has : List ℕ → List Framed → Type 0)
     (waiting frame after : List ℕ)
     (check : Check) (desk : DeskState) (reply : Reply) → IsReadNow desk now.seat → reading desk check ≡ IsReady reply
-    → frame ≡ spelling (with_sequence check.sequence (message_of reply)) → Notes now.recording (judged_by check.question reply) recording
+    → frame ≡ spelling (with_sequence check.sequence (message_of reply))
+    → Notes now.recording (judged_by (cause_at desk check.question) check.question reply) recording
     → after ≡ waiting ++ frame
     → StandsBy start now Has waiting (check ∷ []) → StandsBy start (record now { recording = recording }) Has after []
 answered_by_policies start now recording Has waiting frame after check desk reply now_read is spelled noted put s =

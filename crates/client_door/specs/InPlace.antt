@@ -1,5 +1,6 @@
 -- A check that is read where it stands, in the piece that was received.
 use Rattle.std.specs.Prelude.{◌≡◌, ◌==◌, ◌≤◌, ℕ, List, ◌++◌}
+use Rattle.bucket_eval.specs.declared.answers.Cause.{Cause}
 use Rattle.bucket_eval.specs.declared.answers.Verdict.{Verdict}
 use Rattle.desk_state.specs.DeskState.{DeskState}
 use Rattle.live_desk.specs.History.{IsLast, Rises}
@@ -10,9 +11,8 @@ use Rattle.desk_world.specs.declared.replies.Reply.TheVariants.{Judged as IsJudg
 use Rattle.wire_messages.specs.Frame.{spelling, with_sequence}
 use Rattle.wire_messages.specs.declared.lent_checks.LentCheck.{LentCheck}
 use Rattle.client_door.specs.Check.{message_of}
-use Rattle.client_door.specs.Reading.{reading}
+use Rattle.client_door.specs.Reading.{reading, cause_at}
 use Rattle.client_door.specs.declared.checks.Check.{Check}
-use Rattle.client_door.specs.declared.judging.Judged.{Judged}
 use Rattle.client_door.specs.declared.judging.Ruling.{Ruling}
 use Rattle.client_door.specs.declared.judging.Ruling.TheVariants.{Ruled, Left, Memory}
 
@@ -30,10 +30,16 @@ Rules sequence seen old new (Ruled commit allowed) = (verdict : Verdict)
 Rules sequence seen old new Left = new ≡ old
 Rules sequence seen old new Memory = new ≡ old
 
--- it was read at the last state that the seat has seen, whose commit is not below the seat's note
-abbrev pub RulesAtLast : Check → SeatState → List ℕ → Judged → Type 0
-RulesAtLast check seat old judged = (desk : DeskState)
+-- how many replies were put
+abbrev pub replies_of : Ruling → ℕ
+replies_of (Ruled commit allowed) = 1
+replies_of other = 0
+
+-- It was read at the last state that the seat has seen, whose commit is not below the seat's note; and the cause there is told.
+abbrev pub RulesAtLast : Check → SeatState → List ℕ → List ℕ → Ruling → (Cause → Type 0) → Type 0
+RulesAtLast check seat old new ruling Tells = (desk : DeskState)
     × IsLast seat.seen desk
     × Rises seat.seen
     × (seat.note ≤ desk.commit)
-    × Rules check.sequence (reading desk check) old judged.frames judged.ruling
+    × Rules check.sequence (reading desk check) old new ruling
+    × Tells (cause_at desk check.question)

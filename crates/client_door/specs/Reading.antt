@@ -1,8 +1,11 @@
 -- What a check reads of the policies of a published state.
 use Rattle.std.specs.Prelude.{◌≡◌, ◌==◌, ◌≤◌, ℕ, Bool, List}
 use Rattle.bucket_eval.specs.Evaluation.{Outcome}
+use Rattle.bucket_eval.specs.Found.{answer_of}
 use Rattle.bucket_eval.specs.Root.{root_outcome}
+use Rattle.bucket_eval.specs.declared.answers.Cause.{Cause}
 use Rattle.bucket_eval.specs.declared.answers.Verdict.{Verdict}
+use Rattle.cynara_keys.specs.Key.{Question}
 use Rattle.desk_state.specs.DeskState.{DeskState}
 use Rattle.live_desk.specs.History.{IsLast, Rises}
 use Rattle.live_desk.specs.Seat.{SeatState}
@@ -22,6 +25,10 @@ use Rattle.client_door.specs.declared.readings.Found.TheVariants.{Judged, Unreso
 -- what a check reads at a state: what the world of events reads there
 abbrev pub reading : DeskState → Check → Reading
 reading desk check = reading_of desk.commit check.simple (root_outcome desk.database check.question)
+
+-- the cause of what a state says to a question: the policy or fallback that decides, or that leaves it to an agent
+abbrev pub cause_at : DeskState → Question → Cause
+cause_at desk question = (answer_of (root_outcome desk.database question)).cause
 
 -- the buffer holds the frame of this reply
 abbrev pub Spells : ℕ → List ℕ → Reply → Type 0
@@ -49,10 +56,11 @@ TellsNotResolved sequence commit kind frame other = ⊥
 abbrev pub Reads : ℕ → Bool → ℕ → Outcome → Read → Type 0
 Reads sequence simple commit outcome read = Finds sequence (reading_of commit simple outcome) read.frame read.found
 
--- it was read at the last state that the seat has seen, whose commit is not below the seat's note
-abbrev pub ReadsAtLast : Check → SeatState → Read → Type 0
-ReadsAtLast check seat read = (desk : DeskState)
+-- It was read at the last state that the seat has seen, whose commit is not below the seat's note; and the cause there is told.
+abbrev pub ReadsAtLast : Check → SeatState → List ℕ → Found → (Cause → Type 0) → Type 0
+ReadsAtLast check seat frame found Tells = (desk : DeskState)
     × IsLast seat.seen desk
     × Rises seat.seen
     × (seat.note ≤ desk.commit)
-    × Reads check.sequence check.simple desk.commit (root_outcome desk.database check.question) read
+    × Finds check.sequence (reading desk check) frame found
+    × Tells (cause_at desk check.question)

@@ -147,7 +147,7 @@ pub record Talks (start now : ClientSide) (ended : Ended) : Type 0 where
   pub faults : CountsFaults cause start.faults now.faults
   pub at_end : IsFoundSo cause now.marks
   pub ends : now.marks.ends ≡ start.marks.ends
-  -- the judged checks of those that were answered were recorded, each once
+  -- the decided checks of those that were answered were recorded, each once
   pub recorded : HasRecorded start.recording (judged_in answered) now.recording
 
 -- how a connection ends that leaves so, after the answering ended so

@@ -1,6 +1,8 @@
 ghost use Rattle.std.specs.Prelude.{◌≡◌};
 ghost use Rattle.client_door.specs.Check.{message_of, reply_of};
+ghost use Rattle.client_door.specs.Recording.{decision_of};
 
+use crate::Decision;
 use cynara_keys::Kind;
 use wire_messages::Message;
 
@@ -33,6 +35,27 @@ pub enum AgentReply {
 }
 
 impl AgentReply {
+    /// What it decides, if the agent decided.
+    pub fn decision(&self) -> Option<Decision>
+        ensures { result ≡ decision_of self.now }
+    {
+        match *self {
+            AgentReply::FromAgent {
+                commit,
+                kind,
+                number: _,
+                allowed,
+            } => Some(Decision {
+                commit,
+                agent: Some(kind),
+                allowed,
+            }),
+            AgentReply::NoAgent { .. } => None,
+            AgentReply::AgentGone { .. } => None,
+            AgentReply::AgentFull { .. } => None,
+        }
+    }
+
     /// The message that tells it.
     pub fn message(self) -> Message
         ensures { result ≡ message_of (reply_of self) }

@@ -9,7 +9,7 @@ use crate::asking::ask_agent;
 use cynara_keys::{Kind, Metadata, Question};
 use door_frames::Ended;
 use link_ports::Link;
-use live_desk::{BorrowedVerdict, Seat};
+use live_desk::{BorrowedVerdict, Naming, Seat};
 use server_hall::Hall;
 use std::alloc::Global;
 use std::sync::Wait;
@@ -33,10 +33,10 @@ pub(crate) enum Seen {
 
 /// Answers one message of a client, `Check` or `SimpleCheck`, as a connection over the link does, which it does not use but to
 /// see whether it stands while an agent is waited for. It may wait.
-pub fn answer_check<R: Wait, A: Hall, L: Link>(
+pub fn answer_check<R: Wait, J: Naming, A: Hall, L: Link>(
     rt: &R,
     alloc: Global,
-    seat: &mut Seat,
+    seat: &mut Seat<J>,
     hall: &mut A,
     link: &mut L,
     message: &Message,
@@ -60,10 +60,10 @@ pub fn answer_check<R: Wait, A: Hall, L: Link>(
     }
 }
 
-fn answer_question<R: Wait, A: Hall, L: Link>(
+fn answer_question<R: Wait, J: Naming, A: Hall, L: Link>(
     rt: &R,
     alloc: Global,
-    seat: &mut Seat,
+    seat: &mut Seat<J>,
     hall: &mut A,
     link: &mut L,
     question: &Question,
@@ -95,7 +95,13 @@ fn answer_question<R: Wait, A: Hall, L: Link>(
 }
 
 // What the last state that the seat has then seen says.
-fn see<R: Wait>(rt: &R, alloc: Global, seat: &mut Seat, question: &Question, simple: bool) -> Seen
+fn see<R: Wait, J: Naming>(
+    rt: &R,
+    alloc: Global,
+    seat: &mut Seat<J>,
+    question: &Question,
+    simple: bool,
+) -> Seen
     ensures same { seat.new ≡ record seat.old { seen = seat.new.seen } }
     ensures seen { GoesOn seat.old.seen seat.new.seen }
     ensures read { SeesAtLast question.now simple seat.new result }

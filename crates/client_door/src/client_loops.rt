@@ -8,7 +8,7 @@ use crate::talking::Talk;
 use desk_ports::PortFault;
 use door_frames::{Ended, MOST_PIECE};
 use link_ports::{Gate, GateStep, Link};
-use live_desk::Seat;
+use live_desk::{Naming, Seat};
 use live_roll::Left;
 use server_hall::Hall;
 use std::alloc::Global;
@@ -17,10 +17,10 @@ use std::sync::Wait;
 /// Serves one connection of a client: it enters the hall in the place of the seat, each check is answered in turn, and it
 /// leaves. The replies to checks that came together are sent together. It passes the gate once it has entered, and once for
 /// each reply that was sent. It may wait.
-pub fn client_loop<R: Wait, A: Hall, L: Link<End = A::End>, G: Gate>(
+pub fn client_loop<R: Wait, J: Naming, A: Hall, L: Link<End = A::End>, G: Gate>(
     rt: &R,
     alloc: Global,
-    seat: &mut Seat,
+    seat: &mut Seat<J>,
     hall: &mut A,
     link: &mut L,
     gate: &G,
@@ -33,12 +33,12 @@ pub fn client_loop<R: Wait, A: Hall, L: Link<End = A::End>, G: Gate>(
     recorded_loop(rt, alloc, seat, hall, link, gate, &mut recorder)
 }
 
-/// The same, and each check that the policies judged is recorded once its reply was sent: each once, in their order. Where
-/// one cannot be noted for want of memory, the connection ends.
-pub fn recorded_loop<R: Wait, A: Hall, L: Link<End = A::End>, G: Gate, M: Records>(
+/// The same, and each check that the policies or an agent decided is recorded once its reply was sent: each once, in their
+/// order. Where one cannot be noted for want of memory, the connection ends.
+pub fn recorded_loop<R: Wait, J: Naming, A: Hall, L: Link<End = A::End>, G: Gate, M: Records>(
     rt: &R,
     alloc: Global,
-    seat: &mut Seat,
+    seat: &mut Seat<J>,
     hall: &mut A,
     link: &mut L,
     gate: &G,
@@ -66,10 +66,10 @@ pub fn recorded_loop<R: Wait, A: Hall, L: Link<End = A::End>, G: Gate, M: Record
 }
 
 // Answers the checks of a connection that has entered.
-fn answer_all<R: Wait, A: Hall, L: Link, G: Gate, M: Records>(
+fn answer_all<R: Wait, J: Naming, A: Hall, L: Link, G: Gate, M: Records>(
     rt: &R,
     alloc: Global,
-    seat: &mut Seat,
+    seat: &mut Seat<J>,
     hall: &mut A,
     link: &mut L,
     gate: &G,

@@ -3,24 +3,31 @@ ghost use Rattle.desk_ports.specs.Faults.{next_count};
 ghost use Rattle.link_ports.specs.Told.{ChangesTold};
 ghost use Rattle.client_door.specs.Recording.{Leads, with_all_recorded};
 ghost use Rattle.client_door.specs.InPlace.{check_read, Rules};
-ghost use Rattle.client_door.specs.Reading.{reading};
+ghost use Rattle.client_door.specs.Reading.{cause_at, reading};
 ghost use Rattle.client_door.specs.parts.Talk.{IsReadNow};
 ghost use Rattle.desk_state.specs.DeskState.{DeskState};
 ghost use Rattle.live_desk.specs.History.{GoesOn};
 ghost use Rattle.door_frames.specs.Carried.{Carried};
 ghost use Rattle.door_frames.specs.declared.endings.Ended.TheVariants.{LinkFault};
 
-use crate::Records;
-use crate::judging::{Judged, Ruling, judge_check};
+use crate::judging::{KeptJudged, Ruling, judge_check};
+use crate::{Keeps, Records};
 use core::mem::replace;
 use desk_ports::Bytes;
 use door_frames::Ended;
 use link_ports::{Gate, GateStep, Link};
-use live_desk::Seat;
+use live_desk::{Naming, Seat};
 use std::alloc::{AllocError, Global};
 use std::marker::Model;
 use std::sync::Wait;
 use wire_messages::LentCheck;
+
+/// What the policies say of a check, and what is kept of the cause.
+#[derive(Drop)]
+pub(crate) struct KeptRuling<K: Keeps> {
+    pub ruling: Ruling,
+    pub kept: K,
+}
 
 /// Replies that wait to be sent together. Contracts see their bytes.
 #[derive(Drop)]
@@ -52,17 +59,27 @@ impl Outbox {
 
     /// Puts the reply to a check that is read where it stands behind those that wait, if the policies judge it at the last
     /// state that the seat has then seen. It may wait.
-    pub fn judge<R: Wait>(&mut self, rt: &R, seat: &mut Seat, check: &LentCheck<'_>) -> Ruling
+    pub fn judge<R: Wait, J: Naming, K: Keeps>(
+        &mut self,
+        rt: &R,
+        seat: &mut Seat<J>,
+        check: &LentCheck<'_>,
+    ) -> KeptRuling<K>
         ensures same { seat.new ≡ record seat.old { seen = seat.new.seen } }
         ensures seen { GoesOn seat.old.seen seat.new.seen }
         ensures read { (desk : DeskState) × IsReadNow desk seat.new
-            × Rules check.now.sequence (reading desk (check_read check.now)) self.old self.new result }
+            × Rules check.now.sequence (reading desk (check_read check.now)) self.old self.new result.ruling
+            × K.tells result.kept (cause_at desk check.now.question) }
     {
         let frames = replace(&mut self.bytes, Bytes::new(self.alloc));
-        let Judged { frames, ruling } = judge_check(rt, seat, check, frames);
+        let KeptJudged {
+            frames,
+            ruling,
+            kept,
+        } = judge_check(rt, seat, check, frames);
         self.bytes = frames;
         self.replies = self.replies.saturating_add(ruling.replies());
-        ruling
+        KeptRuling { ruling, kept }
     }
 
     /// Puts a reply behind those that wait.

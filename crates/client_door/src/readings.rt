@@ -1,16 +1,18 @@
 // What a check reads of the policies.
 ghost use Rattle.std.specs.Prelude.{◌≡◌};
+ghost use Rattle.bucket_eval.specs.Found.{answer_of};
 ghost use Rattle.bucket_eval.specs.Lent.{outcome_lent};
 ghost use Rattle.live_desk.specs.History.{GoesOn};
-ghost use Rattle.client_door.specs.Reading.{Reads, ReadsAtLast, TellsNotResolved};
+ghost use Rattle.client_door.specs.Reading.{Finds, Reads, ReadsAtLast, TellsNotResolved};
+ghost use Rattle.desk_world.specs.Links.{reading_of};
 ghost use Rattle.client_door.specs.declared.readings.Found.TheVariants.{Judged, Unresolved, Memory};
 
-use crate::Check;
 use crate::spelling::spell;
+use crate::{Check, Keeps};
 use bucket_eval::BorrowedAnswer;
 use cynara_keys::{Kind, Metadata};
 use desk_ports::Bytes;
-use live_desk::{BorrowedVerdict, Seat};
+use live_desk::{BorrowedVerdict, Naming, Seat};
 use std::sync::Wait;
 use wire_messages::{Message, encode_judged_into};
 
@@ -19,6 +21,14 @@ use wire_messages::{Message, encode_judged_into};
 pub(crate) struct Read {
     pub frame: Bytes,
     pub found: Found,
+}
+
+/// The same, and what is kept of the cause.
+#[derive(Drop)]
+pub(crate) struct KeptRead<K: Keeps> {
+    pub frame: Bytes,
+    pub found: Found,
+    pub kept: K,
 }
 
 /// What was read for a check.
@@ -42,10 +52,15 @@ pub(crate) enum Found {
 }
 
 /// Reads a check at the last state that the seat has then seen. It may wait.
-pub(crate) fn read_check<R: Wait>(rt: &R, seat: &mut Seat, check: &Check, frame: Bytes) -> Read
+pub(crate) fn read_check<R: Wait, J: Naming, K: Keeps>(
+    rt: &R,
+    seat: &mut Seat<J>,
+    check: &Check,
+    frame: Bytes,
+) -> KeptRead<K>
     ensures same { seat.new ≡ record seat.old { seen = seat.new.seen } }
     ensures seen { GoesOn seat.old.seen seat.new.seen }
-    ensures read { ReadsAtLast check.now seat.new result }
+    ensures read { ReadsAtLast check.now seat.new result.frame result.found (K.tells result.kept) }
 {
     let sequence = check.sequence;
     let simple = check.simple;
@@ -53,9 +68,28 @@ pub(crate) fn read_check<R: Wait>(rt: &R, seat: &mut Seat, check: &Check, frame:
         rt,
         &check.question.borrowed(),
         move |verdict: BorrowedVerdict<'_>| {
-            read_answer(verdict.commit, &verdict.answer, sequence, simple, frame)
+            read_and_keep(verdict.commit, &verdict.answer, sequence, simple, frame)
         },
     )
+}
+
+// What the answer of the policies of a commit is for a check, and what is kept of its cause.
+fn read_and_keep<K: Keeps>(
+    commit: u64,
+    answer: &BorrowedAnswer<'_>,
+    sequence: u16,
+    simple: bool,
+    frame: Bytes,
+) -> KeptRead<K>
+    ensures reads { Finds sequence (reading_of commit simple (outcome_lent answer.now)) result.frame result.found }
+    ensures kept { K.tells result.kept (answer_of (outcome_lent answer.now)).cause }
+{
+    let Read { frame, found } = read_answer(commit, answer, sequence, simple, frame);
+    KeptRead {
+        frame,
+        found,
+        kept: K::of(answer),
+    }
 }
 
 // What the answer of the policies of a commit is for a check.

@@ -13,29 +13,37 @@ ghost use Rattle.door_frames.specs.Hearing.{IsSound};
 ghost use Rattle.door_frames.specs.declared.endings.Ended.TheVariants.{Memory};
 ghost use Rattle.client_door.specs.Check.{framed_of, message_of, reply_of};
 ghost use Rattle.client_door.specs.InPlace.{check_read};
-ghost use Rattle.client_door.specs.Reading.{reading, Finds};
+ghost use Rattle.client_door.specs.Reading.{cause_at, reading, Finds};
 ghost use Rattle.link_ports.specs.Told.{ChangesTold};
-ghost use Rattle.client_door.specs.Recording.{Leads, with_noted};
+ghost use Rattle.bucket_eval.specs.declared.answers.Cause.{Cause};
+ghost use Rattle.client_door.specs.Recording.{Leads, judged_by, with_noted};
 ghost use Rattle.client_door.specs.Serving.{ClientSide, Talks, recorded_side};
-ghost use Rattle.client_door.specs.parts.Talk.{Goes, Ends, Stands, HasPiece, Reads, EndsReading, IsReadNow, with_sent, with_read};
+ghost use Rattle.client_door.specs.parts.Talk.{Goes, Ends, Stands, HasPiece, Reads, EndsReading, IsReadNow, Notes, with_sent, with_read};
 
 use crate::asking::ask_agent;
 use crate::checks::{Check, take_check};
 use crate::judging::Ruling;
-use crate::outboxes::Outbox;
-use crate::readings::{Found, Read, read_check};
+use crate::outboxes::{KeptRuling, Outbox};
+use crate::readings::{Found, KeptRead, read_check};
 use crate::spelling::spell;
-use crate::{AgentReply, Records};
+use crate::{AgentReply, Decision, Keeps, Records};
 use core::mem::replace;
 use cynara_keys::{Kind, Metadata, Question};
 use desk_ports::Bytes;
 use door_frames::{Ended, hear_piece, receive_piece};
 use link_ports::{Gate, Link};
-use live_desk::Seat;
+use live_desk::{Naming, Seat};
 use server_hall::Hall;
 use std::alloc::Global;
 use std::sync::Wait;
 use wire_messages::{Feeder, Heard, LentCheck, check_in_front};
+
+/// What was read for a check, and what is kept of the cause.
+#[derive(Drop)]
+pub(crate) struct KeptFound<K: Keeps> {
+    pub found: Found,
+    pub kept: K,
+}
 
 /// What a connection has heard and not answered yet, and the replies that are not sent yet.
 #[derive(Drop)]
@@ -62,10 +70,10 @@ impl Talk {
     }
 
     /// Answers all checks that were heard, sends the replies, and receives more. It may wait.
-    pub fn turn<R: Wait, A: Hall, L: Link, G: Gate, M: Records>(
+    pub fn turn<R: Wait, J: Naming, A: Hall, L: Link, G: Gate, M: Records>(
         &mut self,
         rt: &R,
-        seat: &mut Seat,
+        seat: &mut Seat<J>,
         hall: &mut A,
         link: &mut L,
         gate: &G,
@@ -138,10 +146,10 @@ impl Talk {
 
     // Answers the checks that stand whole at the front of a piece, as far as the policies judge them, and hears the rest. Where a
     // frame is begun, the whole piece is heard.
-    fn meet<R: Wait, M: Records>(
+    fn meet<R: Wait, J: Naming, M: Records>(
         &mut self,
         rt: &R,
-        seat: &mut Seat,
+        seat: &mut Seat<J>,
         recorder: &mut M,
         piece: &[u8],
     ) -> Result<(), Ended>
@@ -175,10 +183,10 @@ impl Talk {
 
     // Answers the checks that stand whole at the front of a piece, each where it stands, up to one that the policies leave to an
     // agent. Gives what is behind them.
-    fn answer_piece<'a, R: Wait, M: Records>(
+    fn answer_piece<'a, R: Wait, J: Naming, M: Records>(
         &mut self,
         rt: &R,
-        seat: &mut Seat,
+        seat: &mut Seat<J>,
         recorder: &mut M,
         piece: &'a [u8],
     ) -> Result<&'a [u8], Ended>
@@ -201,10 +209,10 @@ impl Talk {
     }
 
     // Answers a check where it stands, if the policies judge it: whether they do.
-    fn answer_front<R: Wait, M: Records>(
+    fn answer_front<R: Wait, J: Naming, M: Records>(
         &mut self,
         rt: &R,
-        seat: &mut Seat,
+        seat: &mut Seat<J>,
         recorder: &mut M,
         check: &LentCheck<'_>,
     ) -> Result<bool, Ended>
@@ -217,9 +225,15 @@ impl Talk {
             (λ ended. Leads (M.fits recorder.old) (M.fits recorder.new) (λ before after.
             EndsReading (with_read side seat.old before) ahead self.old.outbox (with_read side seat.new after) ended)) }
     {
-        match self.outbox.judge(rt, seat, check) {
+        let KeptRuling { ruling, kept } = self.outbox.judge::<R, J, M::Kept>(rt, seat, check);
+        match ruling {
             Ruling::Ruled { commit, allowed } => {
-                match recorder.note(&check.question, commit, allowed) {
+                let decision = Decision {
+                    commit,
+                    agent: None,
+                    allowed,
+                };
+                match recorder.note(&check.question, decision, &kept) {
                     Ok(()) => Ok(true),
                     Err(_) => Err(Ended::Memory),
                 }
@@ -230,10 +244,10 @@ impl Talk {
     }
 
     // Answers all checks that were heard. Some replies may not be sent yet.
-    fn answer_waiting<R: Wait, A: Hall, L: Link, G: Gate, M: Records>(
+    fn answer_waiting<R: Wait, J: Naming, A: Hall, L: Link, G: Gate, M: Records>(
         &mut self,
         rt: &R,
-        seat: &mut Seat,
+        seat: &mut Seat<J>,
         hall: &mut A,
         link: &mut L,
         gate: &G,
@@ -264,10 +278,10 @@ impl Talk {
     }
 
     // Answers a check that was taken. The replies before it are sent before an agent is waited for.
-    fn answer_check<R: Wait, A: Hall, L: Link, G: Gate, M: Records>(
+    fn answer_check<R: Wait, J: Naming, A: Hall, L: Link, G: Gate, M: Records>(
         &mut self,
         rt: &R,
-        seat: &mut Seat,
+        seat: &mut Seat<J>,
         hall: &mut A,
         link: &mut L,
         gate: &G,
@@ -287,9 +301,15 @@ impl Talk {
             (record { feeder = self.old.feeder; waiting = self.old.outbox; taken = check ∷ [] })
             (recorded_side seat.new (A.tally hall.new) (A.calls hall.new) (L.traffic link.new) (L.marks link.new) (L.faults link.new) after) ended)) }
     {
-        match self.read(rt, seat, &check) {
+        let KeptFound { found, kept } = self.read::<R, J, M::Kept>(rt, seat, &check);
+        match found {
             Found::Judged { commit, allowed } => {
-                let put = self.put_judged(recorder, &check.question, commit, allowed);
+                let decision = Decision {
+                    commit,
+                    agent: None,
+                    allowed,
+                };
+                let put = self.put_judged(recorder, &check.question, decision, &kept);
                 drop(check);
                 match put {
                     Ok(()) => Ok(()),
@@ -310,7 +330,7 @@ impl Talk {
             } => {
                 let number = seat.number();
                 let answered = self.answer_by_agent(
-                    hall, link, gate, recorder, number, &check, commit, kind, metadata,
+                    hall, link, gate, recorder, number, &check, commit, kind, metadata, &kept,
                 );
                 drop(check);
                 match answered {
@@ -326,21 +346,27 @@ impl Talk {
     }
 
     // Reads a check. Where a reply was read its frame is spelled.
-    fn read<R: Wait>(&mut self, rt: &R, seat: &mut Seat, check: &Check) -> Found
+    fn read<R: Wait, J: Naming, K: Keeps>(
+        &mut self,
+        rt: &R,
+        seat: &mut Seat<J>,
+        check: &Check,
+    ) -> KeptFound<K>
         ensures feeder { self.new.feeder ≡ self.old.feeder }
         ensures outbox { self.new.outbox ≡ self.old.outbox }
         ensures same { seat.new ≡ record seat.old { seen = seat.new.seen } }
         ensures seen { GoesOn seat.old.seen seat.new.seen }
         ensures read { (desk : DeskState) × IsReadNow desk seat.new
-            × Finds check.now.sequence (reading desk check.now) self.new.frame result }
+            × Finds check.now.sequence (reading desk check.now) self.new.frame result.found
+            × K.tells result.kept (cause_at desk check.now.question) }
     {
         let frame = replace(&mut self.frame, Bytes::new(self.alloc));
-        let Read { frame, found } = read_check(rt, seat, check, frame);
+        let KeptRead { frame, found, kept } = read_check(rt, seat, check, frame);
         self.frame = frame;
-        found
+        KeptFound { found, kept }
     }
 
-    // Answers a check that the policies of the commit leave to an agent.
+    // Answers a check that the policies of the commit leave to an agent, for the cause of which so much is kept.
     fn answer_by_agent<A: Hall, L: Link, G: Gate, M: Records>(
         &mut self,
         hall: &mut A,
@@ -352,12 +378,14 @@ impl Talk {
         commit: u64,
         kind: Kind,
         metadata: Metadata,
+        kept: &M::Kept,
     ) -> Result<(), Ended>
         requires agent { IsTrue (is_agent kind.0) }
         requires side { self.old.feeder.heard ≡ AtClient }
         ensures feeder { self.new.feeder ≡ self.old.feeder }
         ensures talk { (reader : SeatState) (desk : DeskState) → IsReadNow desk reader
-            → reading desk check.now ≡ IsDue commit kind metadata → MatchResult result
+            → reading desk check.now ≡ IsDue commit kind metadata → M.Kept.tells kept.now (cause_at desk check.now.question)
+            → MatchResult result
             (λ _. Leads (M.fits recorder.old) (M.fits recorder.new) (λ before after. Goes
             (recorded_side reader (A.tally hall.old) (A.calls hall.old) (L.traffic link.old) (L.marks link.old) (L.faults link.old) before)
             (record { feeder = self.old.feeder; waiting = self.old.outbox; taken = check.now ∷ [] })
@@ -372,7 +400,7 @@ impl Talk {
             return Err(ended);
         }
         match ask_agent(hall, link, commit, kind, &check.question, metadata) {
-            Ok(reply) => match self.tell(check.sequence, reply) {
+            Ok(reply) => match self.tell(recorder, check, reply, kept) {
                 Ok(()) => Ok(()),
                 Err(ended) => Err(ended),
             },
@@ -380,8 +408,37 @@ impl Talk {
         }
     }
 
+    // Puts the reply that an agent led to behind those that wait, and notes what it decides, if it does.
+    fn tell<M: Records>(
+        &mut self,
+        recorder: &mut M,
+        check: &Check,
+        reply: AgentReply,
+        kept: &M::Kept,
+    ) -> Result<(), Ended>
+        ensures feeder { self.new.feeder ≡ self.old.feeder }
+        ensures put { OnOk result (self.new.outbox
+            ≡ self.old.outbox ++ spelling (with_sequence check.now.sequence (message_of (reply_of reply)))) }
+        ensures noted { OnOk result ((cause : Cause) → M.Kept.tells kept.now cause
+            → Leads (M.fits recorder.old) (M.fits recorder.new)
+            (λ before after. Notes before (judged_by cause check.now.question (reply_of reply)) after)) }
+        ensures ended { IfErr result (λ ended. ended ≡ Memory) }
+        ensures kept { OnErr result (Leads (M.fits recorder.old) (M.fits recorder.new) (λ before after. after ≡ before)) }
+    {
+        if let Err(ended) = self.put_told(check.sequence, reply) {
+            return Err(ended);
+        }
+        match reply.decision() {
+            Some(decision) => match recorder.note(&check.question.borrowed(), decision, kept) {
+                Ok(()) => Ok(()),
+                Err(_) => Err(Ended::Memory),
+            },
+            None => Ok(()),
+        }
+    }
+
     // Spells the reply that an agent led to, and puts it behind those that wait.
-    fn tell(&mut self, sequence: u16, reply: AgentReply) -> Result<(), Ended>
+    fn put_told(&mut self, sequence: u16, reply: AgentReply) -> Result<(), Ended>
         ensures feeder { self.new.feeder ≡ self.old.feeder }
         ensures put { MatchResult result
             (λ _. self.new.outbox ≡ self.old.outbox ++ spelling (with_sequence sequence (message_of (reply_of reply))))
@@ -393,26 +450,26 @@ impl Talk {
         }
     }
 
-    // Puts the reply that was spelled behind those that wait, and notes the check that it judges.
+    // Puts the reply that was spelled behind those that wait, and notes the check that it decides.
     fn put_judged<M: Records>(
         &mut self,
         recorder: &mut M,
         question: &Question,
-        commit: u64,
-        allowed: bool,
+        decision: Decision,
+        kept: &M::Kept,
     ) -> Result<(), Ended>
         ensures feeder { self.new.feeder ≡ self.old.feeder }
         ensures put { OnOk result (self.new.outbox ≡ self.old.outbox ++ self.old.frame) }
-        ensures noted { OnOk result
-            (Leads (M.fits recorder.old) (M.fits recorder.new) (λ before after. ChangesTold before
-            (with_noted (record { question = question.now; commit = commit; allowed = allowed })) after)) }
+        ensures noted { OnOk result ((cause : Cause) → M.Kept.tells kept.now cause
+            → Leads (M.fits recorder.old) (M.fits recorder.new) (λ before after. ChangesTold before
+            (with_noted (record { question = question.now; decision = decision; cause = cause })) after)) }
         ensures ended { IfErr result (λ ended. ended ≡ Memory) }
         ensures kept { OnErr result (Leads (M.fits recorder.old) (M.fits recorder.new) (λ before after. after ≡ before)) }
     {
         if let Err(ended) = self.put_reply() {
             return Err(ended);
         }
-        match recorder.note(&question.borrowed(), commit, allowed) {
+        match recorder.note(&question.borrowed(), decision, kept) {
             Ok(()) => Ok(()),
             Err(_) => Err(Ended::Memory),
         }

@@ -85,13 +85,14 @@ fn answer_to<N: Dial>(
     let user = asked.user.as_slice();
     let privilege = asked.privilege.as_slice();
     match Question::of(alloc, client, user, privilege) {
-        Ok(question) => ask(alloc, &asked.session, &question, simple, dial),
+        Ok(question) => ask_once(alloc, &asked.session, &question, simple, dial),
         Err(error) => Err(ClientRefusal::Memory(error)),
     }
 }
 
-// What a client that is made for this question is answered. It gives its link back.
-fn ask<N: Dial>(
+/// What a client that is made for this question is answered: the question goes out once at most on each of three links that are
+/// dialled, and the link is given back. An agent may be asked, unless `simple` is set. It may wait.
+pub fn ask_once<N: Dial>(
     alloc: Global,
     session: &Name,
     question: &Question,

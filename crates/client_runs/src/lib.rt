@@ -4,4 +4,4 @@
 mod answer_lines;
 mod check_runs;
 
-pub use check_runs::{run_check, run_simple};
+pub use check_runs::{ask_once, run_check, run_simple};

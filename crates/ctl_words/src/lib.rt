@@ -7,5 +7,5 @@ mod grammar;
 mod orders;
 mod reading;
 
-pub use orders::{Asked, Order, Subject, Unread};
+pub use orders::{Asked, At, LevelWords, LogWords, Order, Style, Subject, Unread};
 pub use reading::read_order;

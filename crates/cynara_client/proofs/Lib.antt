@@ -1,1 +1,5 @@
-mod Answering
+mod Replying
+mod Hearing
+mod Tries
+mod Once
+mod Putting

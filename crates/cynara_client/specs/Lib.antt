@@ -3,3 +3,4 @@ pub mod Reply
 pub mod State
 pub mod Looking
 pub mod Checking
+pub mod parts

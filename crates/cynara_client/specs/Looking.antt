@@ -7,8 +7,6 @@ use Rattle.link_ports.specs.LinkMarks.{LinkMarks, marks_after_look}
 use Rattle.link_ports.specs.LinkContent.{LinkContent, with_call_made, LooksUp}
 use Rattle.client_connection.specs.Giving.{GivesBack}
 use Rattle.cynara_client.specs.State.{State, IsBare}
-use Rattle.cynara_client.specs.declared.looking.Look.{Look}
-use Rattle.cynara_client.specs.declared.looking.Look.TheVariants.{NoLink, Up, Down}
 
 module _ {L : Type 0} (link_faults : L → ℕ) (marks : L → LinkMarks) (traffic : L → Option Traffic) (content : L → Option LinkContent) where
   -- the link was asked once, and gave this answer
@@ -37,8 +35,3 @@ module _ {L : Type 0} (link_faults : L → ℕ) (marks : L → LinkMarks) (traff
       pub sequence : new.sequence ≡ old.sequence
       pub gives : GivesBack faults dials given_back link_faults marks after old.dial new.dial
       pub counted : faults new.dial ≡ next_count (faults old.dial)
-
-    abbrev pub Looks : Look → State N L → State N L → Type 0
-    Looks NoLink old new = (old.link ≡ None) × (new ≡ old)
-    Looks Up old new = FindsUp old new
-    Looks Down old new = FindsDown old new

@@ -7,6 +7,8 @@ use Rattle.wire_messages.specs.declared.messages.Message.{Message}
 use Rattle.wire_messages.specs.declared.messages.Message.TheVariants as message
 use Rattle.wire_messages.specs.declared.refusals.WireRefusal.{WireRefusal}
 use Rattle.wire_messages.specs.declared.refusals.WireRefusal.TheVariants.{Memory}
+use Rattle.client_core.specs.declared.steps.Fault.{Fault}
+use Rattle.client_core.specs.declared.steps.Fault.TheVariants as fault
 use Rattle.cynara_client.specs.declared.refusals.Checked.{Checked}
 use Rattle.cynara_client.specs.declared.refusals.Checked.TheVariants.{Judged, FromAgent}
 use Rattle.cynara_client.specs.declared.refusals.ClientRefusal.{ClientRefusal}
@@ -35,6 +37,11 @@ abbrev pub answer_to : ℕ → Message → Option Said → Result Checked Client
 answer_to told message None = Err (refusal.BadReply (Operation (number_of (operation message))))
 answer_to told message (Some heard) = unless_older told heard
 
+-- what a message that is a reply to a check answers
+abbrev pub answer_in : Message → Option Said → Result Checked ClientRefusal
+answer_in message None = Err (refusal.BadReply (Operation (number_of (operation message))))
+answer_in message (Some heard) = heard.answer
+
 -- What the frame says: another sequence number is found first, then an operation that is no answer, and then a commit
 -- below the one that the client was told of.
 abbrev pub reply_of : ℕ → ℕ → Framed → Result Checked ClientRefusal
@@ -46,3 +53,12 @@ reply_of sequence told framed =
 abbrev pub refusal_of : WireRefusal → ClientRefusal
 refusal_of (Memory error) = refusal.Memory error
 refusal_of fault = refusal.BadReply (Frame fault)
+
+-- why there is no answer, by what the machine says
+abbrev pub refusal_by : Fault → ClientRefusal
+refusal_by fault.Unavailable = refusal.Unavailable
+refusal_by (fault.Older told got) = refusal.Older told got
+refusal_by (fault.Frame wrong) = refusal.BadReply (Frame wrong)
+refusal_by (fault.Sequence sent got) = refusal.BadReply (Sequence sent got)
+refusal_by (fault.Operation operation) = refusal.BadReply (Operation operation)
+refusal_by (fault.Memory error) = refusal.Memory error

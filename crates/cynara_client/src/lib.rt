@@ -4,13 +4,18 @@
 //! only while the link that it came over is up, and only where it is not older than a commit that the client was told
 //! of. Since the service hangs up all older links before it acknowledges a commit, no answer is older than one that was
 //! acknowledged before the question was asked.
+//!
+//! These rules are those of the machine of `client_core`. This crate is the loop that drives it: it dials, looks, sends
+//! and receives as the machine says.
 #![tactic(auto)]
 
+mod asking;
 mod client_links;
 mod clients;
-mod looking;
 mod refusals;
 mod replies;
+mod talking;
+mod trying;
 
 pub use client_connection::ReplyFault;
 pub use client_links::ClientLink;

@@ -1,10 +1,11 @@
-// What a reply frame says to a check.
+// What a reply says to a check, and what it comes to that there is none.
 ghost use Rattle.std.specs.Prelude.{◌≡◌};
 ghost use Rattle.cynara_client.specs.Reply as words;
 
 use crate::{Checked, ClientRefusal};
 use client_connection::ReplyFault;
-use wire_messages::{Framed, Message, WireRefusal};
+use client_core::Fault;
+use wire_messages::Message;
 
 // What a message answers to a check, and the commit that it tells.
 #[derive(Clone, Copy)]
@@ -69,45 +70,32 @@ pub(crate) fn said_by(message: &Message) -> Option<Said>
     }
 }
 
-// What the frame says to the check of this sequence number, by a client that was told of this commit.
-pub(crate) fn reply_of(sequence: u16, told: u64, framed: &Framed) -> Result<Checked, ClientRefusal>
-    ensures { result ≡ words.reply_of sequence told framed.now }
+// What a message that is a reply to a check answers.
+pub(crate) fn answer_by(message: Message) -> Result<Checked, ClientRefusal>
+    ensures { result ≡ words.answer_in message (words.said message) }
 {
-    if framed.sequence != sequence {
-        return Err(ClientRefusal::BadReply(ReplyFault::Sequence {
-            sent: sequence,
-            got: framed.sequence,
-        }));
-    }
-    let Some(said) = said_by(&framed.message) else {
-        let operation = framed.message.operation();
-        return Err(ClientRefusal::BadReply(ReplyFault::Operation(operation)));
+    let answer = match said_by(&message) {
+        Some(said) => said.answer,
+        None => Err(ClientRefusal::BadReply(ReplyFault::Operation(message.operation()))),
     };
-    if said.commit < told {
-        return Err(ClientRefusal::Older {
-            told,
-            got: said.commit,
-        });
-    }
-    said.answer
-}
-
-// The same of a frame that is not needed any more.
-pub(crate) fn reply_by(sequence: u16, told: u64, framed: Framed) -> Result<Checked, ClientRefusal>
-    ensures { result ≡ words.reply_of sequence told framed }
-{
-    let reply = reply_of(sequence, told, &framed);
     // Handed on by value, it is not gone through variant by variant here.
-    drop(framed);
-    reply
+    drop(message);
+    answer
 }
 
-// What bytes that are no frame come to.
-pub(crate) fn refusal_of(refusal: WireRefusal) -> ClientRefusal
-    ensures { result ≡ words.refusal_of refusal }
+// What it comes to that the machine has no answer.
+pub(crate) fn refusal_by(fault: Fault) -> ClientRefusal
+    ensures { result ≡ words.refusal_by fault }
 {
-    match refusal {
-        WireRefusal::Memory(error) => ClientRefusal::Memory(error),
-        fault => ClientRefusal::BadReply(ReplyFault::Frame(fault)),
+    match fault {
+        Fault::Unavailable => ClientRefusal::Unavailable,
+        Fault::Older { told, got } => ClientRefusal::Older { told, got },
+        Fault::Frame(refusal) => ClientRefusal::BadReply(ReplyFault::Frame(refusal)),
+        Fault::Sequence { sent, got } => ClientRefusal::BadReply(ReplyFault::Sequence {
+            sent,
+            got,
+        }),
+        Fault::Operation(operation) => ClientRefusal::BadReply(ReplyFault::Operation(operation)),
+        Fault::Memory(error) => ClientRefusal::Memory(error),
     }
 }

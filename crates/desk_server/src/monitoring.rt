@@ -8,7 +8,7 @@ ghost use Rattle.monitor_door.specs.Monitoring.{ServesMonitored};
 use check_monitor::Recorder;
 use door_frames::Ended;
 use link_ports::{Gate, Link};
-use live_desk::Seat;
+use live_desk::{Naming, Seat};
 use live_roll::Roll;
 use monitor_door::monitor_loop;
 use server_hall::{Locked, QuestionDesk};
@@ -17,10 +17,10 @@ use std::sync::{Mutex, Wait};
 use std::time::Clock;
 
 /// Serves one connection of a client in the place of the seat, and records its checks, as `monitor_loop` does. It may wait.
-pub fn serve_monitored<R: Wait + Clock, L: Link, G: Gate>(
+pub fn serve_monitored<R: Wait + Clock, L: Link, G: Gate, J: Naming>(
     rt: &R,
     alloc: Global,
-    seat: &mut Seat,
+    seat: &mut Seat<J>,
     roll: &Mutex<Roll<L::End>>,
     questions: &QuestionDesk,
     link: &mut L,

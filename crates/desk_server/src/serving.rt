@@ -17,7 +17,7 @@ use desk_keeper::Keeper;
 use desk_ports::Disk;
 use door_frames::Ended;
 use link_ports::{Gate, HangEnd, Link};
-use live_desk::{Publisher, Seat};
+use live_desk::{Naming, Publisher, Seat};
 use live_roll::Roll;
 use server_hall::{Locked, QuestionDesk};
 use std::alloc::Global;
@@ -25,10 +25,10 @@ use std::sync::{Mutex, Wait};
 use std::time::Clock;
 
 /// Serves one connection of a client in the place of the seat, as `client_loop` does. It may wait.
-pub fn serve_client<R: Wait + Clock, L: Link, G: Gate>(
+pub fn serve_client<R: Wait + Clock, L: Link, G: Gate, J: Naming>(
     rt: &R,
     alloc: Global,
-    seat: &mut Seat,
+    seat: &mut Seat<J>,
     roll: &Mutex<Roll<L::End>>,
     questions: &QuestionDesk,
     link: &mut L,
@@ -59,11 +59,11 @@ pub fn serve_agent<R: Wait + Clock, H: HangEnd, L: Link>(
 }
 
 /// Serves one connection of an administrator, as `admin_loop` does. It may wait.
-pub fn serve_admin<R: Wait + Clock, D: Disk, H: HangEnd, L: Link>(
+pub fn serve_admin<R: Wait + Clock, D: Disk, H: HangEnd, L: Link, J: Naming>(
     rt: &R,
     alloc: Global,
     keeper: &mut Keeper<'_, D>,
-    publisher: &mut Publisher,
+    publisher: &mut Publisher<J>,
     roll: &Mutex<Roll<H>>,
     questions: &QuestionDesk,
     link: &mut L,

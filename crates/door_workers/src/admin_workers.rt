@@ -15,7 +15,7 @@ use desk_ports::Disk;
 use desk_server::serve_admin;
 use door_frames::Ended;
 use link_ports::{Door, HangEnd, Link};
-use live_desk::Publisher;
+use live_desk::{Naming, Publisher};
 use live_roll::Roll;
 use server_hall::{Hall, QuestionDesk, StopNews};
 use std::alloc::Global;
@@ -33,11 +33,12 @@ pub fn work_for_administrators<
     E: Door<Link = L>,
     A: Hall,
     T: Notes,
+    J: Naming,
 >(
     rt: &R,
     alloc: Global,
     keeper: &mut Keeper<'_, D>,
-    publisher: &mut Publisher,
+    publisher: &mut Publisher<J>,
     roll: &Mutex<Roll<H>>,
     questions: &QuestionDesk,
     door: &mut E,
@@ -73,11 +74,19 @@ fn stop_behind<A: Hall>(hall: &mut A, end: WorkerEnd)
 }
 
 // The same, but for the stop of the service where the door accepts none.
-fn serve_administrators<R: Wait + Clock, D: Disk, H: HangEnd, L: Link, E: Door<Link = L>, T: Notes>(
+fn serve_administrators<
+    R: Wait + Clock,
+    D: Disk,
+    H: HangEnd,
+    L: Link,
+    E: Door<Link = L>,
+    T: Notes,
+    J: Naming,
+>(
     rt: &R,
     alloc: Global,
     keeper: &mut Keeper<'_, D>,
-    publisher: &mut Publisher,
+    publisher: &mut Publisher<J>,
     roll: &Mutex<Roll<H>>,
     questions: &QuestionDesk,
     door: &mut E,
@@ -104,11 +113,19 @@ fn serve_administrators<R: Wait + Clock, D: Disk, H: HangEnd, L: Link, E: Door<L
 }
 
 // Serves the next administrator, and says whether the worker ends behind it.
-fn serve_next<R: Wait + Clock, D: Disk, H: HangEnd, L: Link, E: Door<Link = L>, T: Notes>(
+fn serve_next<
+    R: Wait + Clock,
+    D: Disk,
+    H: HangEnd,
+    L: Link,
+    E: Door<Link = L>,
+    T: Notes,
+    J: Naming,
+>(
     rt: &R,
     alloc: Global,
     keeper: &mut Keeper<'_, D>,
-    publisher: &mut Publisher,
+    publisher: &mut Publisher<J>,
     roll: &Mutex<Roll<H>>,
     questions: &QuestionDesk,
     door: &mut E,

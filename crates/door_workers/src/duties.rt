@@ -7,7 +7,7 @@ use crate::monitored_workers::work_for_monitored_clients;
 use crate::workers::{WorkerEnd, work_for_clients};
 use check_monitor::Recorder;
 use link_ports::{Door, Gate, HangEnd, Link};
-use live_desk::Seat;
+use live_desk::{Naming, Seat};
 use live_roll::Roll;
 use server_hall::{QuestionDesk, StopNews};
 use std::alloc::Global;
@@ -20,11 +20,11 @@ pub trait ClientDuty: Drop {
     ghost goes: { Self → Self → Type 0 };
 
     /// Serves connections of clients, one after the other, as `work_for_clients` does. It may wait.
-    fn work<R: Wait + Clock, H: HangEnd, L: Link<End = H>, D: Door<Link = L>, G: Gate>(
+    fn work<R: Wait + Clock, H: HangEnd, L: Link<End = H>, D: Door<Link = L>, G: Gate, J: Naming>(
         &mut self,
         rt: &R,
         alloc: Global,
-        seat: &mut Seat,
+        seat: &mut Seat<J>,
         roll: &Mutex<Roll<H>>,
         questions: &QuestionDesk,
         door: &mut D,
@@ -47,11 +47,11 @@ pub struct Unrecorded;
 impl ClientDuty for Unrecorded {
     ghost goes = { λ old new. Unit {0} };
 
-    fn work<R: Wait + Clock, H: HangEnd, L: Link<End = H>, D: Door<Link = L>, G: Gate>(
+    fn work<R: Wait + Clock, H: HangEnd, L: Link<End = H>, D: Door<Link = L>, G: Gate, J: Naming>(
         &mut self,
         rt: &R,
         alloc: Global,
-        seat: &mut Seat,
+        seat: &mut Seat<J>,
         roll: &Mutex<Roll<H>>,
         questions: &QuestionDesk,
         door: &mut D,
@@ -71,11 +71,11 @@ impl ClientDuty for Recorder {
 
     ghost goes = { RecordsSome };
 
-    fn work<R: Wait + Clock, H: HangEnd, L: Link<End = H>, D: Door<Link = L>, G: Gate>(
+    fn work<R: Wait + Clock, H: HangEnd, L: Link<End = H>, D: Door<Link = L>, G: Gate, J: Naming>(
         &mut self,
         rt: &R,
         alloc: Global,
-        seat: &mut Seat,
+        seat: &mut Seat<J>,
         roll: &Mutex<Roll<H>>,
         questions: &QuestionDesk,
         door: &mut D,

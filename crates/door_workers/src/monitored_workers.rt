@@ -10,7 +10,7 @@ use crate::workers::{WorkerEnd, accept, is_over};
 use check_monitor::Recorder;
 use desk_server::serve_monitored;
 use link_ports::{Door, Gate, HangEnd, Link};
-use live_desk::Seat;
+use live_desk::{Naming, Seat};
 use live_roll::Roll;
 use server_hall::{QuestionDesk, StopNews};
 use std::alloc::Global;
@@ -25,10 +25,11 @@ pub fn work_for_monitored_clients<
     L: Link<End = H>,
     D: Door<Link = L>,
     G: Gate,
+    J: Naming,
 >(
     rt: &R,
     alloc: Global,
-    seat: &mut Seat,
+    seat: &mut Seat<J>,
     roll: &Mutex<Roll<H>>,
     questions: &QuestionDesk,
     door: &mut D,
@@ -53,10 +54,17 @@ pub fn work_for_monitored_clients<
 }
 
 // Serves the next client, and says whether the worker ends behind it.
-fn serve_next_monitored<R: Wait + Clock, H: HangEnd, L: Link<End = H>, D: Door<Link = L>, G: Gate>(
+fn serve_next_monitored<
+    R: Wait + Clock,
+    H: HangEnd,
+    L: Link<End = H>,
+    D: Door<Link = L>,
+    G: Gate,
+    J: Naming,
+>(
     rt: &R,
     alloc: Global,
-    seat: &mut Seat,
+    seat: &mut Seat<J>,
     roll: &Mutex<Roll<H>>,
     questions: &QuestionDesk,
     door: &mut D,

@@ -15,7 +15,7 @@ use desk_ports::PortFault;
 use desk_server::{serve_agent, serve_client};
 use door_frames::Ended;
 use link_ports::{Door, Gate, HangEnd, Link};
-use live_desk::Seat;
+use live_desk::{Naming, Seat};
 use live_roll::Roll;
 use server_hall::{QuestionDesk, StopNews};
 use std::alloc::Global;
@@ -40,10 +40,17 @@ pub enum WorkerEnd {
 /// Serves connections of clients, one after the other, in the place of the seat. It ends behind one that ended for a stop, or
 /// at whose end it is told that the service is stopped, or where its door accepts none. What it is told is kept in `news`. It
 /// may wait.
-pub fn work_for_clients<R: Wait + Clock, H: HangEnd, L: Link<End = H>, D: Door<Link = L>, G: Gate>(
+pub fn work_for_clients<
+    R: Wait + Clock,
+    H: HangEnd,
+    L: Link<End = H>,
+    D: Door<Link = L>,
+    G: Gate,
+    J: Naming,
+>(
     rt: &R,
     alloc: Global,
-    seat: &mut Seat,
+    seat: &mut Seat<J>,
     roll: &Mutex<Roll<H>>,
     questions: &QuestionDesk,
     door: &mut D,
@@ -63,10 +70,17 @@ pub fn work_for_clients<R: Wait + Clock, H: HangEnd, L: Link<End = H>, D: Door<L
 }
 
 // Serves the next client, and says whether the worker ends behind it.
-fn serve_next_client<R: Wait + Clock, H: HangEnd, L: Link<End = H>, D: Door<Link = L>, G: Gate>(
+fn serve_next_client<
+    R: Wait + Clock,
+    H: HangEnd,
+    L: Link<End = H>,
+    D: Door<Link = L>,
+    G: Gate,
+    J: Naming,
+>(
     rt: &R,
     alloc: Global,
-    seat: &mut Seat,
+    seat: &mut Seat<J>,
     roll: &Mutex<Roll<H>>,
     questions: &QuestionDesk,
     door: &mut D,

@@ -41,19 +41,20 @@ pub fn explain_streams<R: Eprint>(
 }
 
 /// Says what a run that ended with this status failed on, why, and what can be done. The paths are those of the directory
-/// of the sockets and of the folder, and the failures the last ones there. Where the variable names no directory, the
-/// folder's path is empty.
+/// of the sockets and of the folder, and the failures the last ones there; that of the folder may have been told already.
+/// Where the variable names no directory, the folder's path is empty.
 pub fn explain<R: Files + Eprint + AllocGlobal>(
     rt: &R,
     status: u8,
     directory: &str,
     folder: &str,
     folder_failure: Option<&FolderFailure>,
+    is_told: bool,
     net_failure: Option<&SocketFailure>,
 ) {
     match status {
         NO_MEMORY => tell(rt, "out of memory"),
-        FOLDER_FAILED => explain_folder(rt, folder, folder_failure),
+        FOLDER_FAILED => explain_folder(rt, folder, folder_failure, is_told),
         NET_FAILED => explain_net(rt, directory, folder, net_failure),
         FOLDER_DAMAGED => explain_damage(rt, folder),
         NO_REPLY => tell(
@@ -72,12 +73,25 @@ fn tell<R: Eprint>(rt: &R, line: &str) {
     let _ = eprintln!(rt; "privilege: {line}");
 }
 
-// Says which call of the folder failed on what, and what can be done.
-fn explain_folder<R: Eprint>(rt: &R, folder: &str, failure: Option<&FolderFailure>) {
+/// Says which call of the folder failed on what. The folder's path is empty where the variable names no directory: that is
+/// explained by `explain` alone.
+pub fn tell_folder_failure<R: Eprint>(rt: &R, folder: &str, failure: Option<&FolderFailure>) {
+    if folder.is_empty() {
+        return;
+    }
+    if let Some(failure) = failure {
+        let _ = eprintln!(rt; "privilege: {failure}");
+    }
+}
+
+// Says which call of the folder failed on what, unless that was told, and what can be done.
+fn explain_folder<R: Eprint>(rt: &R, folder: &str, failure: Option<&FolderFailure>, is_told: bool) {
     if folder.is_empty() {
         explain_directory(rt);
     } else if let Some(failure) = failure {
-        let _ = eprintln!(rt; "privilege: {failure}");
+        if !is_told {
+            tell_folder_failure(rt, folder, Some(failure));
+        }
         tell(rt, folder_advice(failure.step, failure.error.kind()));
     }
 }

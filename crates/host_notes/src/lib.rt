@@ -10,5 +10,5 @@ mod folder_steps;
 mod greetings;
 mod socket_steps;
 
-pub use explanations::{explain, explain_streams};
+pub use explanations::{explain, explain_streams, tell_folder_failure};
 pub use greetings::{COMMANDS_ARE_READ, RULES_ARE_READ};

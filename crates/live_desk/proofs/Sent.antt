@@ -1,5 +1,8 @@
 -- A seat and a publisher may go to another thread. A `search` that goes down through all that they are made of runs out of
 -- steps, so each part has a lemma of its own. Who hands them to a thread lists `seat_send` or `publisher_send` at the call.
+use denote.RattleType.{RattleType}
+use denote.Builtin.{u64}
+use mir.Syntax.{Dict}
 use denote.Param.Send.{IsSend, IsSync, sendable}
 use denote.Param.SendFields.{as_row_send, as_row_sync}
 use Rattle.std.proofs.Crossing.{crosses}
@@ -21,6 +24,11 @@ use Rattle.bucket_eval.specs.contracts.sheets.Sheet as Sheet
 use Rattle.atomic_table.proofs.shared.Seat.TheSendSync as place
 use Rattle.atomic_table.proofs.shared.Shared.TheSendSync as board
 use Rattle.atomic_table.proofs.send_lease.SendLease.TheSendSync as lease
+use Rattle.desk_state.specs.contracts.desks.Desk as Desk
+use Rattle.state_list.specs.declared.rules.Naming.{Ghosts}
+use Rattle.state_list.specs.contracts.fronts.Front as Front
+use Rattle.state_list.specs.contracts.words.Book as Book
+use Rattle.state_list.proofs.Sent.{front_send, front_sync, book_send}
 use Rattle.left_right.specs.contracts.part.Part as Part
 use Rattle.left_right.proofs.part.Part.TheSendSync as part
 use Rattle.left_right.proofs.part.Deed.TheSendSync as deed
@@ -28,9 +36,10 @@ use Rattle.left_right.specs.contracts.reader.Factory as Factory
 use Rattle.left_right.specs.contracts.reader.Reader as Reader
 use Rattle.live_desk.specs.contracts.copies.DeskCopy as DeskCopy
 use Rattle.live_desk.specs.contracts.copies.Published as Published
+use Rattle.live_desk.specs.contracts.copies.Shown as Shown
 use Rattle.live_desk.specs.contracts.running.Running as Running
-use Rattle.live_desk.specs.contracts.running.RunningProtocolPublishedView.TheImpl as rule
-use Rattle.live_desk.specs.contracts.running.View as View
+use Rattle.live_desk.specs.contracts.running.RunningProtocolPublishedU64.TheImpl as rule
+use Rattle.live_desk.specs.contracts.copies.PublishedAbsorbShown.TheImpl as absorb
 use Rattle.live_desk.specs.contracts.publishers.Publisher as Publisher
 use Rattle.live_desk.specs.contracts.seats.Seat as Seat
 
@@ -114,36 +123,47 @@ copy_send = search (sendable, crosses, index_send) depth 40
 copy_sync : IsSync (DeskCopy.the_field).row
 copy_sync = search (sendable, crosses, index_sync) depth 40
 
-published_send : IsSend (Published.the_field).row
-published_send = search (sendable, crosses, copy_send, copy_sync) depth 40
+-- Those of a list go where its name may.
+module _ (J : RattleType) (naming : Ghosts J.Denot) (dict : Dict) where
+  shown_send : IsSend J → IsSend (Shown.the_field J naming).row
+  shown_send send = search (sendable, crosses, copy_send, copy_sync, front_send) depth 40
 
-published_sync : IsSync (Published.the_field).row
-published_sync = search (sendable, crosses, copy_send, copy_sync) depth 40
+  shown_sync : IsSync J → IsSync (Shown.the_field J naming).row
+  shown_sync sync = search (sendable, crosses, copy_send, copy_sync, front_sync) depth 40
 
-published_row_sync : IsSync Published.the_row
-published_row_sync = as_row_sync Published.the_field published_sync
+  published_send : IsSend J → IsSend (Published.the_field J naming).row
+  published_send send = search (sendable, crosses, shown_send) depth 40
 
-published_row_send : IsSend Published.the_row
-published_row_send = as_row_send Published.the_field published_send
+  published_sync : IsSync J → IsSync (Published.the_field J naming).row
+  published_sync sync = search (sendable, crosses, shown_sync) depth 40
 
--- what readers and the writer have of them
-part_send : IsSend (Part.the_row Published.the_row)
-part_send = part.the_send Published.the_row published_row_sync
+  published_row_sync : IsSync J → IsSync (Published.the_row J naming)
+  published_row_sync sync = as_row_sync (Published.the_field J naming) (published_sync sync)
 
-factory_send : IsSend (Factory.the_field Published.the_row View.the_row Running.the_row Global.the_row rule.ghosts heap.ghosts).row
-factory_send = search (sendable, crosses, part_send, board.the_send, board.the_sync, lease.the_send, lease.the_sync) depth 40
+  published_row_send : IsSend J → IsSend (Published.the_row J naming)
+  published_row_send send = as_row_send (Published.the_field J naming) (published_send send)
 
-reader_send : IsSend (Reader.the_field Published.the_row View.the_row Running.the_row Global.the_row rule.ghosts heap.ghosts).row
-reader_send = search (sendable, crosses, factory_send, part_send, place.the_send) depth 40
+  -- what readers and the writer have of them
+  part_send : IsSync J → IsSend (Part.the_row (Published.the_row J naming))
+  part_send sync = part.the_send (Published.the_row J naming) (published_row_sync sync)
 
-pub seat_send : IsSend (Seat.the_field).row
-seat_send = search (sendable, crosses, reader_send) depth 40
+  factory_send : IsSync J
+      → IsSend (Factory.the_field (Published.the_row J naming) u64 Running.the_row Global.the_row (rule.ghosts J naming dict) heap.ghosts).row
+  factory_send sync = search (sendable, crosses, part_send, board.the_send, board.the_sync, lease.the_send, lease.the_sync) depth 40
 
-pub seat_row_send : IsSend Seat.the_row
-seat_row_send = as_row_send Seat.the_field seat_send
+  reader_send : IsSync J
+      → IsSend (Reader.the_field (Published.the_row J naming) u64 Running.the_row Global.the_row (rule.ghosts J naming dict) heap.ghosts).row
+  reader_send sync = search (sendable, crosses, factory_send, part_send, place.the_send) depth 40
 
-pub publisher_send : IsSend (Publisher.the_field).row
-publisher_send = search (sendable, crosses, factory_send, part_send, place.the_send, deed.the_send, published_row_send, copy_send, copy_sync) depth 40
+  pub seat_send : IsSend J → IsSync J → IsSend (Seat.the_field J naming).row
+  seat_send send sync = search (sendable, crosses, reader_send, front_send) depth 40
 
-pub publisher_row_send : IsSend Publisher.the_row
-publisher_row_send = as_row_send Publisher.the_field publisher_send
+  pub seat_row_send : IsSend J → IsSync J → IsSend (Seat.the_row J naming)
+  seat_row_send send sync = as_row_send (Seat.the_field J naming) (seat_send send sync)
+
+  pub publisher_send : IsSend J → IsSync J → IsSend (Publisher.the_field J naming (absorb.ghosts J naming dict) (rule.ghosts J naming dict)).row
+  publisher_send send sync =
+      search (sendable, crosses, factory_send, part_send, place.the_send, deed.the_send, published_row_send, shown_send, front_send, book_send) depth 40
+
+  pub publisher_row_send : IsSend J → IsSync J → IsSend (Publisher.the_row J naming (absorb.ghosts J naming dict) (rule.ghosts J naming dict))
+  publisher_row_send send sync = as_row_send (Publisher.the_field J naming (absorb.ghosts J naming dict) (rule.ghosts J naming dict)) (publisher_send send sync)

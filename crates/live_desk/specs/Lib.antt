@@ -1,3 +1,4 @@
 pub mod History
-pub mod Rule
+pub mod Shown
+pub mod Copies
 pub mod Seat

@@ -1,15 +1,19 @@
 // The two copies between which the publisher goes to and fro.
-ghost use Rattle.std.specs.Prelude.{◌≡◌, Some, IfOk};
+ghost use Rattle.std.specs.Prelude.{◌≡◌, ◌≤◌, Some, IfOk};
 ghost use Rattle.std.specs.Arc.{arc_value};
-ghost use Rattle.std.specs.Option.{option_map};
+ghost use Rattle.std.specs.Bool.{OnTrue};
 ghost use Rattle.bucket_eval.specs.Lent.{outcome_lent};
 ghost use Rattle.bucket_eval.specs.Root.{root_outcome};
+ghost use Rattle.live_desk.specs.History.{GoesOn};
+ghost use Rattle.live_desk.specs.Seat.{HasSeen};
+ghost use Rattle.live_desk.specs.Shown.{IsShown};
 
 use crate::verdicts::BorrowedVerdict;
 use bucket_eval::{Index, Scratch};
 use cynara_keys::BorrowedQuestion;
 use desk_state::Desk;
 use left_right::Absorb;
+use state_list::{Front, Naming};
 use std::alloc::{AllocError, Global};
 use std::marker::Model;
 use std::snapshot::Snapshot;
@@ -69,27 +73,97 @@ impl DeskCopy {
             answer: self.index.decide(scratch, question),
         }
     }
+
+    /// The state itself, for contracts.
+    pub fn state(&self) -> &Snapshot<Desk>
+        ensures { result.now.value ≡ self.now }
+    {
+        &self.state
+    }
+}
+
+/// A state as readers are shown it, with the published states of which it is the last.
+#[derive(Drop)]
+pub struct Shown<J: Naming> {
+    copy: Arc<DeskCopy>,
+    front: Front<Desk, J>,
+}
+
+impl<J: Naming> Model for Shown<J> {
+    ghost use Rattle.std.specs.Arc.{arc_value};
+    ghost use Rattle.live_desk.specs.Shown.{ShownState, IsShown};
+
+    ghost Value = { ShownState };
+
+    ghost view = { λ shown. record { states = shown.front; desk = arc_value shown.copy } };
+
+    ghost invariant = { λ shown. IsShown shown.front (arc_value shown.copy) };
+}
+
+impl<J: Naming> Shown<J> {
+    /// This state, which is the last of these.
+    pub fn of(copy: Arc<DeskCopy>, front: Front<Desk, J>) -> Shown<J>
+        requires { IsShown front (arc_value copy) }
+        ensures { result ≡ record { states = front; desk = arc_value copy } }
+    {
+        Shown { copy, front }
+    }
+
+    // The same, shown once more.
+    fn again(&self) -> Result<Shown<J>, AllocError>
+        ensures { IfOk result (λ shown. shown ≡ self.now) }
+    {
+        let copy = Arc::try_clone(&self.copy)?;
+        Ok(Shown {
+            copy,
+            front: self.front.again(),
+        })
+    }
+
+    /// Takes notice of the states up to this one, unless its commit is below the note; whether it did.
+    #[tactic(auto, using(crate::proofs::Looks::caught, crate::proofs::Looks::goes_on_all))]
+    pub fn is_seen_by(&self, seen: &mut Front<Desk, J>, note: u64) -> bool
+        ensures seen { GoesOn seen.old seen.new }
+        ensures newest { OnTrue result (HasSeen note (Some self.now.desk) seen.new) }
+    {
+        if self.copy.commit() < note {
+            return false;
+        }
+        seen.catch_up(&self.front)
+    }
+
+    /// What the state answers to the question.
+    pub fn verdict(
+        &self,
+        scratch: &mut Scratch,
+        question: &BorrowedQuestion<'_>,
+    ) -> BorrowedVerdict<'_>
+        ensures commit { result.commit ≡ self.now.desk.commit }
+        ensures answer { outcome_lent result.answer ≡ root_outcome self.now.desk.database question.now }
+    {
+        self.copy.verdict(scratch, question)
+    }
 }
 
 /// One of the two copies. None until the first state is published.
 #[derive(Drop)]
-pub struct Published {
-    pub latest: Option<Arc<DeskCopy>>,
+pub struct Published<J: Naming> {
+    pub latest: Option<Shown<J>>,
 }
 
-impl Absorb<Arc<DeskCopy>> for Published {
-    type State = Option<Desk>;
+impl<J: Naming> Absorb<Shown<J>> for Published<J> {
+    type State = Option<Shown<J>>;
 
-    ghost state = { λ published. option_map arc_value published.latest };
+    ghost state = { λ copies. copies.latest };
 
-    ghost applied = { λ _ next. Some (arc_value next) };
+    ghost applied = { λ _ next. Some next };
 
     fn absorb_first(
         &mut self,
-        operation: &Arc<DeskCopy>,
-        _other: &Published,
+        operation: &Shown<J>,
+        _other: &Published<J>,
     ) -> Result<(), AllocError> {
-        self.latest = Some(Arc::try_clone(operation)?);
+        self.latest = Some(operation.again()?);
         Ok(())
     }
 }

@@ -1,64 +1,64 @@
 ghost use Rattle.std.specs.Prelude.{◌≡◌, ◌<◌, IsSome, IfSome, IfOk, IfErr};
 ghost use Rattle.std.specs.Bool.{OnTrue};
-ghost use Rattle.left_right.specs.Sides.{view};
 ghost use Rattle.live_desk.specs.History.{GoesOn};
-ghost use Rattle.live_desk.specs.Rule.{latest};
+ghost use Rattle.live_desk.specs.Copies.{latest};
 ghost use Rattle.live_desk.specs.Seat.{with_note, HasSeen, IsFrom, Answers, IsTold, Tells};
 
 use crate::copies::Published;
-use crate::running::{Running, Sees, View};
+use crate::running::{Running, Steps};
 use crate::verdicts::BorrowedVerdict;
 use bucket_eval::{Scratch, Verdict};
 use cynara_keys::{BorrowedQuestion, Question};
+use desk_state::Desk;
 use left_right::reader::{Reader, Reading};
 use live_roll::Seated;
+use state_list::{Front, Naming};
 use std::alloc::{AllocError, Global};
 use std::marker::Model;
 use std::sync::Wait;
 
-pub type SeatReader = Reader<Published, View, Running>;
+pub type SeatReader<J> = Reader<Published<J>, u64, Running>;
 
-pub type SeatReading = Reading<Published, View, Running>;
+pub type SeatReading<J> = Reading<Published<J>, u64, Running>;
 
 /// What one thread reads published states by: a number, which is its place in the roll, the greatest note that the roll
 /// told it, and what it has seen.
 #[derive(Drop)]
-pub struct Seat {
+pub struct Seat<J: Naming> {
     // None only while a state is read.
-    reader: Option<SeatReader>,
+    reader: Option<SeatReader<J>>,
+    front: Front<Desk, J>,
     number: u32,
     note: u64,
     scratch: Scratch,
 }
 
-impl Model for Seat {
-    ghost use Rattle.std.specs.Prelude.{◌≡◌, ◌<◌, true, is_some, [], unwrap_or};
-    ghost use Rattle.std.specs.Option.{option_map};
-    ghost use Rattle.left_right.specs.Sides as sides;
+impl<J: Naming> Model for Seat<J> {
+    ghost use Rattle.std.specs.Prelude.{◌≡◌, ◌<◌, true, is_some};
     ghost use Rattle.live_desk.specs.Seat.{SeatState};
-    ghost use Rattle.live_desk.specs.declared.running.View.{View};
 
     ghost Value = { SeatState };
 
-    ghost view = { λ seat. record {
-      number = seat.number;
-      note = seat.note;
-      seen = unwrap_or (option_map (λ reader. let known : View = sides.view reader.place in known.seen) seat.reader) [];
-    } };
+    ghost view = { λ seat. record { number = seat.number; note = seat.note; seen = seat.front } };
 
     ghost invariant = { λ seat. (is_some seat.reader ≡ true) × (seat.number < 64) };
 }
 
-impl Seat {
-    /// A seat that has seen nothing and was told no note.
-    pub(crate) fn of(alloc: Global, reader: SeatReader, number: u32) -> Result<Seat, AllocError>
+impl<J: Naming> Seat<J> {
+    /// A seat that has seen these states and was told no note.
+    pub(crate) fn of(
+        alloc: Global,
+        reader: SeatReader<J>,
+        front: Front<Desk, J>,
+        number: u32,
+    ) -> Result<Seat<J>, AllocError>
         requires { number < 64 }
-        ensures { IfOk result
-            (λ seat. seat ≡ record { number = number; note = 0; seen = (view reader.place).seen }) }
+        ensures { IfOk result (λ seat. seat ≡ record { number = number; note = 0; seen = front }) }
     {
         let scratch = Scratch::new(alloc)?;
         Ok(Seat {
             reader: Some(reader),
+            front,
             number,
             note: 0,
             scratch,
@@ -71,6 +71,13 @@ impl Seat {
         ensures bound { result < 64 }
     {
         self.number
+    }
+
+    /// What it has seen.
+    pub(crate) fn front(&self) -> &Front<Desk, J>
+        ensures { result.now ≡ self.now.seen }
+    {
+        &self.front
     }
 
     /// The evaluation of the last state that the seat has then seen, whose commit is not below the greatest note that
@@ -103,14 +110,14 @@ impl Seat {
         ensures told { Tells question.now self.new (λ verdict. F.post tell verdict result) }
     {
         let reader = self.reader.take().unwrap();
-        let reading = newest(rt, reader, self.note);
+        let reading = newest(rt, reader, &mut self.front, self.note);
         let told = tell_of(reading.get(), &mut self.scratch, question, tell);
         self.reader = Some(reading.leave());
         told
     }
 }
 
-impl Seated for Seat {
+impl<J: Naming> Seated for Seat<J> {
     ghost place = { λ seat. seat.number };
 
     ghost told = { with_note };
@@ -126,13 +133,18 @@ impl Seated for Seat {
 
 // Takes the newest copy once its commit is not below the note.
 #[tactic(auto, using(crate::proofs::Looks::goes_on_then, crate::proofs::Looks::goes_on_all))]
-fn newest<R: Wait>(rt: &R, first: SeatReader, note: u64) -> SeatReading
-    ensures seen { GoesOn (view first.place).seen (view result.place).seen }
-    ensures newest { HasSeen note (latest result.part.value) (view result.place).seen }
+fn newest<J: Naming, R: Wait>(
+    rt: &R,
+    first: SeatReader<J>,
+    front: &mut Front<Desk, J>,
+    note: u64,
+) -> SeatReading<J>
+    ensures seen { GoesOn front.old front.new }
+    ensures newest { HasSeen note (latest result.part.value) front.new }
 {
     let mut reader = first;
     for _ in rt.forever() {
-        match look(reader, note) {
+        match look(reader, front, note) {
             Ok(reading) => return reading,
             Err(back) => reader = back,
         }
@@ -141,15 +153,18 @@ fn newest<R: Wait>(rt: &R, first: SeatReader, note: u64) -> SeatReading
 }
 
 // Takes the newest copy, unless its commit is below the note. The publisher may be gone too.
-#[tactic(auto, using(crate::proofs::Looks::sees_more, crate::proofs::Looks::sees_last, crate::proofs::Looks::goes_on_all))]
-fn look(reader: SeatReader, note: u64) -> Result<SeatReading, SeatReader>
-    ensures seen { IfOk result (λ reading. GoesOn (view reader.place).seen (view reading.place).seen) }
-    ensures newest { IfOk result (λ reading. HasSeen note (latest reading.part.value) (view reading.place).seen) }
-    ensures back { IfErr result (λ back. GoesOn (view reader.place).seen (view back.place).seen) }
+#[tactic(auto, using(crate::proofs::Looks::goes_on_all))]
+fn look<J: Naming>(
+    reader: SeatReader<J>,
+    front: &mut Front<Desk, J>,
+    note: u64,
+) -> Result<SeatReading<J>, SeatReader<J>>
+    ensures seen { GoesOn front.old front.new }
+    ensures newest { IfOk result (λ reading. HasSeen note (latest reading.part.value) front.new) }
 {
-    match reader.enter_as::<Sees>() {
+    match reader.enter_as::<Steps>() {
         Ok(reading) => {
-            if is_from(reading.get(), note) {
+            if is_seen(reading.get(), front, note) {
                 Ok(reading)
             } else {
                 Err(reading.leave())
@@ -159,19 +174,21 @@ fn look(reader: SeatReader, note: u64) -> Result<SeatReading, SeatReader>
     }
 }
 
-// Whether the copy has a state whose commit is not below the note.
-fn is_from(copies: &Published, note: u64) -> bool
-    ensures { OnTrue result (IsFrom note (latest copies.now)) }
+// Takes notice of the states up to that of the copy, where it has one whose commit is not below the note; whether it did.
+#[tactic(auto, using(crate::proofs::Looks::goes_on_all))]
+fn is_seen<J: Naming>(copies: &Published<J>, front: &mut Front<Desk, J>, note: u64) -> bool
+    ensures seen { GoesOn front.old front.new }
+    ensures newest { OnTrue result (HasSeen note (latest copies.now) front.new) }
 {
     match &copies.latest {
-        Some(copy) => copy.commit() >= note,
+        Some(shown) => shown.is_seen_by(front, note),
         None => false,
     }
 }
 
 // What the caller's function makes of the verdict of the copy.
-fn tell_of<T, F: FnOnce(BorrowedVerdict<'_>) -> T>(
-    copies: &Published,
+fn tell_of<T, J: Naming, F: FnOnce(BorrowedVerdict<'_>) -> T>(
+    copies: &Published<J>,
     scratch: &mut Scratch,
     question: &BorrowedQuestion<'_>,
     tell: F,
@@ -180,6 +197,6 @@ fn tell_of<T, F: FnOnce(BorrowedVerdict<'_>) -> T>(
     requires callable { F.IsAlwaysCallable tell }
     ensures { IfSome (latest copies.now) (λ desk. IsTold question.now desk (λ verdict. F.post tell verdict result)) }
 {
-    let copy = copies.latest.as_ref().unwrap();
-    tell(copy.verdict(scratch, question))
+    let shown = copies.latest.as_ref().unwrap();
+    tell(shown.verdict(scratch, question))
 }

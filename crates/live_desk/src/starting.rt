@@ -1,5 +1,6 @@
 ghost use Rattle.std.specs.Prelude.{◌≡◌, ◌<◌, ◌≤◌, ◌∷◌, [], IfOk};
 ghost use Rattle.live_roll.specs.Roll.{IsNew};
+ghost use Rattle.state_list.specs.Opening.{book_of};
 ghost use Rattle.live_desk.specs.Seat.{new_seats};
 
 use crate::publishers::{Publisher, Ready};
@@ -7,17 +8,20 @@ use crate::seats::Seat;
 use desk_state::Desk;
 use link_ports::HangEnd;
 use live_roll::Roll;
+use state_list::{Front, Naming, Opened};
 use std::alloc::{AllocError, Global};
 use std::sync::Wait;
 
 /// A publisher that has published this state alone, so many seats, numbered from 0, and a roll whose note is the
-/// state's commit. Fails for want of memory alone. May wait.
-pub fn start<H: HangEnd, R: Wait>(
+/// state's commit. The published states are this list, which has no entries yet. Fails for want of memory alone. May wait.
+pub fn start<J: Naming, H: HangEnd, R: Wait>(
     rt: &R,
     alloc: Global,
+    opened: Opened<Desk>,
     desk: &Desk,
     seats: u32,
-) -> Result<(Publisher, Vec<Seat>, Roll<H>), AllocError>
+) -> Result<(Publisher<J>, Vec<Seat<J>>, Roll<H>), AllocError>
+    requires list { book_of opened ≡ J.book }
     requires some { 0 < seats }
     requires most { seats ≤ 64 }
     ensures published { IfOk result (λ started. started.0 ≡ desk.now ∷ []) }
@@ -26,8 +30,8 @@ pub fn start<H: HangEnd, R: Wait>(
 {
     let roll = Roll::new(alloc, desk.commit())?;
     let first = Ready::of(alloc, desk)?;
-    let publisher = Publisher::open(rt, alloc, first, seats as usize)?;
-    match seats_of(rt, alloc, &publisher, seats) {
+    let (publisher, unseen) = Publisher::open(rt, alloc, opened, first, seats as usize)?;
+    match seats_of(rt, alloc, &publisher, &unseen, seats) {
         Ok(seats) => Ok((publisher, seats, roll)),
         Err(refusal) => {
             publisher.end(rt);
@@ -36,19 +40,21 @@ pub fn start<H: HangEnd, R: Wait>(
     }
 }
 
-// So many seats, numbered from 0.
-fn seats_of<R: Wait>(
+// So many seats, numbered from 0, that have seen nothing.
+fn seats_of<J: Naming, R: Wait>(
     rt: &R,
     alloc: Global,
-    publisher: &Publisher,
+    publisher: &Publisher<J>,
+    unseen: &Front<Desk, J>,
     count: u32,
-) -> Result<Vec<Seat>, AllocError>
-    requires { count ≤ 64 }
+) -> Result<Vec<Seat<J>>, AllocError>
+    requires count { count ≤ 64 }
+    requires unseen { unseen.now ≡ [] }
     ensures { IfOk result (λ seats. seats.items ≡ new_seats count) }
 {
     let mut seats = Vec::with_capacity(alloc, count as usize)?;
     for number in 0..count {
-        let seat = Seat::of(alloc, publisher.reader(rt), number)?;
+        let seat = Seat::of(alloc, publisher.reader(rt), unseen.again(), number)?;
         seats.push(seat)?;
     }
     Ok(seats)

@@ -6,11 +6,11 @@ use native.Mathlib.Decide.{dec_le}
 use Rattle.std.proofs.lemmas.List.{length-append}
 use Rattle.desk_ports.specs.Faults.{next_count, last_count}
 use Rattle.monitor_rule.specs.declared.entries.Entry.{Entry}
-use Rattle.check_monitor.specs.Monitor.{RecorderState, Records, with_entry, with_miss}
+use Rattle.check_monitor.specs.Monitor.{RecorderState, Records}
 use Rattle.check_monitor.specs.declared.recording.Recorded.{Recorded}
 use Rattle.check_monitor.specs.declared.recording.Recorded.TheVariants.{Put, Full, Spent}
 use Rattle.client_door.specs.declared.judgements.Judgement.{Judgement}
-use Rattle.monitor_door.specs.Monitoring.{entry_for, entries_from, RecordsEach, IsPart}
+use Rattle.monitor_door.specs.Monitoring.{entry_for, AreEntriesFrom, RecordsEach, IsPart}
 
 -- ---- counts
 
@@ -46,8 +46,8 @@ one_more old new entry (Spent number) fits (at, is, same) =
 pub adds_up : (judged : List Judgement) (old new : RecorderState) → old.missed ≤ last_count → RecordsEach old judged new
     → (length new.put + new.missed ≡ length old.put + old.missed + length judged) ⊎ (new.missed ≡ last_count)
 adds_up [] old new fits same = inl (ap (λ (x : RecorderState). length x.put + x.missed) same ∙ omega arith)
-adds_up (judgement ∷ more) old new fits (recorded, between, one, rest) =
-    let first = one_more old between (entry_for old.worker (length old.put) judgement) recorded fits one in
+adds_up (judgement ∷ more) old new fits (time, recorded, between, one, rest) =
+    let first = one_more old between (entry_for old.worker (length old.put) time judgement) recorded fits one in
     join (length old.put + old.missed) (length between.put + between.missed) (length new.put + new.missed) (length more)
     between.missed new.missed
     first.1 (adds_up more between new first.0 rest) (stays more between new first.0 rest)
@@ -63,8 +63,8 @@ adds_up (judgement ∷ more) old new fits (recorded, between, one, rest) =
     stays [] old new fits same =
         let missed : new.missed ≡ old.missed = ap (λ (x : RecorderState). x.missed) same in
         (omega (arith, missed), omega (arith, missed, fits))
-    stays (judgement ∷ more) old new fits (recorded, between, one, rest) =
-        let first = one_more old between (entry_for old.worker (length old.put) judgement) recorded fits one in
+    stays (judgement ∷ more) old new fits (time, recorded, between, one, rest) =
+        let first = one_more old between (entry_for old.worker (length old.put) time judgement) recorded fits one in
         let then = stays more between new first.0 rest in
         (omega (arith, first.2, then.0), then.1)
 
@@ -74,35 +74,44 @@ left_out : (judgement : Judgement) (put more : List Judgement) → IsPart put mo
 left_out judgement [] more part = part
 left_out judgement (one ∷ put) more part = inr part
 
+-- what was put of these checks
+abbrev Puts : RecorderState → List Judgement → RecorderState → Type 0
+Puts old judged new = (put : List Judgement) × (entries : List Entry) × IsPart put judged
+    × AreEntriesFrom old.worker (length old.put) put entries × (new.put ≡ old.put ++ entries)
+
 -- a check that was missed
 after_miss : (judgement : Judgement) (more : List Judgement) (old between new : RecorderState) → between.put ≡ old.put
-    → between.worker ≡ old.worker
-    → ((put : List Judgement) × IsPart put more × (new.put ≡ between.put ++ entries_from between.worker (length between.put) put))
-    → (put : List Judgement) × IsPart put (judgement ∷ more) × (new.put ≡ old.put ++ entries_from old.worker (length old.put) put)
-after_miss judgement more old between new same worker (put, part, is) = (
+    → between.worker ≡ old.worker → Puts between more new → Puts old (judgement ∷ more) new
+after_miss judgement more old between new same worker (put, entries, part, are, is) = (
   put,
+  entries,
   left_out judgement put more part,
-  is ∙ λ i. same i ++ entries_from (worker i) (length (same i)) put,
+  subst (λ (count : ℕ). AreEntriesFrom old.worker count put entries) (ap (λ (list : List Entry). length list) same)
+      (subst (λ (n : ℕ). AreEntriesFrom n (length between.put) put entries) worker are),
+  is ∙ ap (λ (list : List Entry). list ++ entries) same,
 )
 
-pub is_judged : (judged : List Judgement) (old new : RecorderState) → RecordsEach old judged new
-    → (put : List Judgement) × IsPart put judged × (new.put ≡ old.put ++ entries_from old.worker (length old.put) put)
-is_judged [] old new same = ([], tt, ap (λ (x : RecorderState). x.put) same ∙ sym (append-nil old.put))
-is_judged (judgement ∷ more) old new (Put number, between, (below, is, same), rest) =
-    let (put, part, then) = is_judged more between new rest in
-    let entry = entry_for old.worker (length old.put) judgement in
+pub is_judged : (judged : List Judgement) (old new : RecorderState) → RecordsEach old judged new → Puts old judged new
+is_judged [] old new same = ([], [], tt, refl, ap (λ (x : RecorderState). x.put) same ∙ sym (append-nil old.put))
+is_judged (judgement ∷ more) old new (time, Put number, between, (below, is, same), rest) =
+    let (put, entries, part, are, then) = is_judged more between new rest in
+    let entry = entry_for old.worker (length old.put) time judgement in
     let put_is : between.put ≡ old.put ++ entry ∷ [] = ap (λ (x : RecorderState). x.put) same in
     let worker : between.worker ≡ old.worker = ap (λ (x : RecorderState). x.worker) same in
     let count : length between.put ≡ suc (length old.put) =
-    ap (λ (list : List Entry). length list) put_is ∙ (length-append old.put (entry ∷ []) ∙ omega arith) in (
+    ap (λ (list : List Entry). length list) put_is ∙ (length-append old.put (entry ∷ []) ∙ omega arith) in
+    let others : AreEntriesFrom old.worker (suc (length old.put)) put entries =
+    subst (λ (n : ℕ). AreEntriesFrom old.worker n put entries) count
+    (subst (λ (n : ℕ). AreEntriesFrom n (length between.put) put entries) worker are) in (
       judgement ∷ put,
+      entry ∷ entries,
       inl (refl, part),
-      then ∙ ((λ i. put_is i ++ entries_from (worker i) (count i) put)
-          ∙ append_assoc old.put (entry ∷ []) (entries_from old.worker (suc (length old.put)) put)),
+      (time, entries, refl, others),
+      then ∙ (ap (λ (list : List Entry). list ++ entries) put_is ∙ append_assoc old.put (entry ∷ []) entries),
     )
-is_judged (judgement ∷ more) old new (Full number, between, (below, is, same, full), rest) =
+is_judged (judgement ∷ more) old new (time, Full number, between, (below, is, same, full), rest) =
     after_miss judgement more old between new (ap (λ (x : RecorderState). x.put) same) (ap (λ (x : RecorderState). x.worker) same)
     (is_judged more between new rest)
-is_judged (judgement ∷ more) old new (Spent number, between, (at, is, same), rest) =
+is_judged (judgement ∷ more) old new (time, Spent number, between, (at, is, same), rest) =
     after_miss judgement more old between new (ap (λ (x : RecorderState). x.put) same) (ap (λ (x : RecorderState). x.worker) same)
     (is_judged more between new rest)

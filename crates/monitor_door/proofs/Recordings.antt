@@ -1,8 +1,9 @@
 -- Checks that were recorded one after the other.
-use Rattle.std.proofs.Common.{◌≡◌, ◌∙◌, ℕ, List, [], ◌∷◌, ◌++◌, length, Option, Some, refl, sym, ap, subst}
+use Rattle.std.proofs.Common.{◌≡◌, ◌∙◌, List, [], ◌∷◌, ◌++◌, length, Option, Some, refl, sym, ap, subst}
 use Rattle.link_ports.specs.Told.{ChangesTold}
 use Rattle.check_monitor.specs.Monitor.{RecorderState, Records, IsSame}
 use Rattle.monitor_rule.specs.declared.entries.Entry.{Entry}
+use Rattle.monitor_rule.specs.declared.moments.Moment.{Moment}
 use Rattle.check_monitor.specs.declared.recording.Recorded.{Recorded}
 use Rattle.check_monitor.specs.declared.recording.Recorded.TheVariants.{Put, Full, Spent}
 use Rattle.client_door.specs.Recording.{Recording, with_none_waiting, with_noted, with_all_recorded}
@@ -12,12 +13,14 @@ use Rattle.monitor_door.specs.Monitoring.{entry_for, RecordsEach, HasRecorded}
 pub records_more : (first more : List Judgement) (a b c : RecorderState) → RecordsEach a first b → RecordsEach b more c
     → RecordsEach a (first ++ more) c
 records_more [] more a b c same then = subst (λ (x : RecorderState). RecordsEach x more c) same then
-records_more (judgement ∷ first) more a b c (recorded, between, one, rest) then =
-    (recorded, between, one, records_more first more between b c rest then)
+records_more (judgement ∷ first) more a b c (time, recorded, between, one, rest) then =
+    (time, recorded, between, one, records_more first more between b c rest then)
 
-pub records_next : (first : List Judgement) (judgement : Judgement) (a b c : RecorderState) (recorded : Recorded) → RecordsEach a first b
-    → Records b (entry_for b.worker (length b.put) judgement) recorded c → RecordsEach a (first ++ judgement ∷ []) c
-records_next first judgement a b c recorded before one = records_more first (judgement ∷ []) a b c before (recorded, c, one, refl)
+pub records_next : (first : List Judgement) (judgement : Judgement) (a b c : RecorderState) (time : Option Moment) (recorded : Recorded)
+    → RecordsEach a first b → Records b (entry_for b.worker (length b.put) time judgement) recorded c
+    → RecordsEach a (first ++ judgement ∷ []) c
+records_next first judgement a b c time recorded before one =
+    records_more first (judgement ∷ []) a b c before (time, recorded, c, one, refl)
 
 -- a recorder stays that of its worker
 one_same : (old new : RecorderState) (entry : Entry) (recorded : Recorded) → Records old entry recorded new → IsSame old new
@@ -30,8 +33,8 @@ one_same old new entry (Spent number) (at, is, same) =
 
 pub stays_same : (judged : List Judgement) (old new : RecorderState) → RecordsEach old judged new → IsSame old new
 stays_same [] old new same = (ap (λ (x : RecorderState). x.queue) same, ap (λ (x : RecorderState). x.worker) same)
-stays_same (judgement ∷ more) old new (recorded, between, one, rest) =
-    let first = one_same old between (entry_for old.worker (length old.put) judgement) recorded one in
+stays_same (judgement ∷ more) old new (time, recorded, between, one, rest) =
+    let first = one_same old between (entry_for old.worker (length old.put) time judgement) recorded one in
     let then = stays_same more between new rest in
     (then.0 ∙ first.0, then.1 ∙ first.1)
 

@@ -3,7 +3,8 @@ ghost use Rattle.std.specs.Prelude.{◌≡◌, ◌⊎◌, ◌++◌, ◌+◌, ◌
 ghost use Rattle.desk_ports.specs.Faults.{last_count};
 ghost use Rattle.check_monitor.specs.Monitor.{RecorderState};
 ghost use Rattle.client_door.specs.declared.judgements.Judgement.{Judgement};
-ghost use Rattle.monitor_door.specs.Monitoring.{RecordsEach, IsPart, entries_from};
+ghost use Rattle.monitor_rule.specs.declared.entries.Entry.{Entry};
+ghost use Rattle.monitor_door.specs.Monitoring.{RecordsEach, IsPart, AreEntriesFrom};
 
 /// Each check that is recorded is put or counted as missed: what a recorder put and missed rises by as many as were
 /// recorded, unless the count of missed ones stands at its last value.
@@ -16,5 +17,6 @@ pub fn each_record_puts_or_misses()
 /// and their numbers go on where the recorder's entries ended.
 pub fn what_is_put_is_what_was_judged()
     ensures { (judged : List Judgement) (old new : RecorderState) → RecordsEach old judged new
-        → (put : List Judgement) × IsPart put judged × (new.put ≡ old.put ++ entries_from old.worker (length old.put) put) }
+        → (put : List Judgement) × (entries : List Entry) × IsPart put judged
+        × AreEntriesFrom old.worker (length old.put) put entries × (new.put ≡ old.put ++ entries) }
 {}

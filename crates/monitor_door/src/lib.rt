@@ -1,5 +1,5 @@
 //! The door for clients whose checks are recorded: it serves a connection as `client_door` does, and each check that the
-//! policies judged is recorded by the monitor once its reply was sent, each once and in order.
+//! policies or an agent decided is recorded by the monitor once its reply was sent, each once and in order, with the time.
 //!
 //! What a recorder puts, and what it counts as missed, is what `check_monitor` says of each record.
 #![tactic(auto)]

@@ -7,17 +7,18 @@ use check_monitor::Recorder;
 use client_door::recorded_loop;
 use door_frames::Ended;
 use link_ports::{Gate, Link};
-use live_desk::Seat;
+use live_desk::{Naming, Seat};
 use server_hall::Hall;
 use std::alloc::Global;
 use std::sync::Wait;
+use std::time::Clock;
 
-/// Serves one connection of a client as `client_loop` does, and records each check that the policies judged, once its reply
-/// was sent. Where there is no memory to keep a check until then, the connection ends. It may wait.
-pub fn monitor_loop<R: Wait, A: Hall, L: Link<End = A::End>, G: Gate>(
+/// Serves one connection of a client as `client_loop` does, and records each check that the policies or an agent decided, once
+/// its reply was sent, with the time that the clock then tells. Where there is no memory to keep a check until then, the connection ends. It may wait.
+pub fn monitor_loop<R: Wait + Clock, J: Naming, A: Hall, L: Link<End = A::End>, G: Gate>(
     rt: &R,
     alloc: Global,
-    seat: &mut Seat,
+    seat: &mut Seat<J>,
     hall: &mut A,
     link: &mut L,
     gate: &G,
@@ -32,10 +33,10 @@ pub fn monitor_loop<R: Wait, A: Hall, L: Link<End = A::End>, G: Gate>(
     serve_noting(rt, alloc, seat, hall, link, gate, recorder)
 }
 
-fn serve_noting<R: Wait, A: Hall, L: Link<End = A::End>, G: Gate>(
+fn serve_noting<R: Wait + Clock, J: Naming, A: Hall, L: Link<End = A::End>, G: Gate>(
     rt: &R,
     alloc: Global,
-    seat: &mut Seat,
+    seat: &mut Seat<J>,
     hall: &mut A,
     link: &mut L,
     gate: &G,

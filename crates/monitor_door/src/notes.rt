@@ -1,22 +1,25 @@
 // What waits to be recorded.
-ghost use Rattle.std.specs.Prelude.{◌≡◌, ◌++◌, ◌∷◌, [], OnOk, OnErr};
-ghost use Rattle.monitor_door.specs.Monitoring.{RecordsEach};
+ghost use Rattle.std.specs.Prelude.{◌≡◌, ◌++◌, ◌∷◌, [], length, OnOk, OnErr};
+ghost use Rattle.check_monitor.specs.Monitor.{Records};
+ghost use Rattle.monitor_door.specs.Monitoring.{entry_for, RecordsEach};
 
-use check_monitor::Recorder;
-use client_door::{Judgement, Records};
+use bucket_eval::Cause;
+use check_monitor::{Decided, Moment, Recorded, Recorder};
+use client_door::{Decision, Judgement, Records};
 use cynara_keys::{BorrowedQuestion, Question};
 use std::alloc::{AllocError, Global};
 use std::sync::Wait;
+use std::time::Clock;
 
-/// The judged checks of a connection whose replies are not sent yet, in front of a recorder.
+/// The decided checks of a connection whose replies are not sent yet, in front of a recorder.
 #[derive(Drop)]
-pub(crate) struct Notes<'a, R: Wait + Drop> {
+pub(crate) struct Notes<'a, R: Wait + Clock + Drop> {
     rt: R,
     recorder: &'a mut Recorder,
     noted: Vec<Judgement>,
 }
 
-impl<'a, R: Wait + Drop> Notes<'a, R> {
+impl<'a, R: Wait + Clock + Drop> Notes<'a, R> {
     /// Nothing waits. Takes no memory.
     pub fn new(rt: R, alloc: Global, recorder: &'a mut Recorder) -> Notes<'a, R>
         ensures noted { result.noted.items ≡ [] }
@@ -39,7 +42,9 @@ impl<'a, R: Wait + Drop> Notes<'a, R> {
     }
 }
 
-impl<'a, R: Wait + Drop> Records for Notes<'a, R> {
+impl<'a, R: Wait + Clock + Drop> Records for Notes<'a, R> {
+    type Kept = Cause;
+
     ghost use Rattle.std.specs.Prelude.{◌≡◌};
     ghost use Rattle.monitor_door.specs.Monitoring.{HasRecorded};
 
@@ -49,10 +54,10 @@ impl<'a, R: Wait + Drop> Records for Notes<'a, R> {
     fn note(
         &mut self,
         question: &BorrowedQuestion<'_>,
-        commit: u64,
-        allowed: bool,
+        decision: Decision,
+        kept: &Cause,
     ) -> Result<(), AllocError> {
-        match push(&mut self.noted, question, commit, allowed) {
+        match push(&mut self.noted, question, decision, kept) {
             Ok(()) => Ok(()),
             Err(error) => Err(error),
         }
@@ -68,11 +73,11 @@ impl<'a, R: Wait + Drop> Records for Notes<'a, R> {
 fn push(
     noted: &mut Vec<Judgement>,
     question: &BorrowedQuestion<'_>,
-    commit: u64,
-    allowed: bool,
+    decision: Decision,
+    cause: &Cause,
 ) -> Result<(), AllocError>
     ensures pushed { OnOk result (noted.new.items ≡ noted.old.items
-        ++ record { question = question.now; commit = commit; allowed = allowed } ∷ []) }
+        ++ record { question = question.now; decision = decision; cause = cause.now } ∷ []) }
     ensures kept { OnErr result (noted.new.items ≡ noted.old.items) }
 {
     let alloc = *noted.allocator();
@@ -84,17 +89,44 @@ fn push(
     )?;
     noted.push(Judgement {
         question,
-        commit,
-        allowed,
+        decision,
+        cause: *cause,
     })?;
     Ok(())
 }
 
-// Records each check, in order.
-fn record_each<R: Wait>(rt: &R, recorder: &mut Recorder, judged: &[Judgement])
+// Records each check, in order, at the time that the clock tells once for all.
+fn record_each<R: Wait + Clock>(rt: &R, recorder: &mut Recorder, judged: &[Judgement])
     ensures { RecordsEach recorder.old judged.now recorder.new }
 {
+    let time = time_of(rt);
     for judgement in judged {
-        recorder.record_decision(rt, &judgement.question, judgement.commit, judgement.allowed);
+        record(rt, recorder, time, judgement);
+    }
+}
+
+fn record<R: Wait>(
+    rt: &R,
+    recorder: &mut Recorder,
+    time: Option<Moment>,
+    judgement: &Judgement,
+) -> Recorded
+    ensures { Records recorder.old (entry_for recorder.old.worker (length recorder.old.put) time judgement.now) result recorder.new }
+{
+    let decided = Decided {
+        time,
+        commit: judgement.decision.commit,
+        agent: judgement.decision.agent,
+        allowed: judgement.decision.allowed,
+        cause: &judgement.cause,
+    };
+    recorder.record_decision(rt, &judgement.question, decided)
+}
+
+// The time, where the clock tells one before the year 10000.
+fn time_of<R: Clock>(rt: &R) -> Option<Moment> {
+    match rt.since_1970() {
+        Ok(time) => Moment::at(time.as_secs(), time.subsec_millis() as u16),
+        Err(_) => None,
     }
 }

@@ -1,16 +1,17 @@
 // The lines that a run of `watch` writes: one for each check that was recorded, and at the end one for each worker with the count
 // of its checks that were missed.
-ghost use Rattle.std.specs.Prelude.{◌≡◌, ◌++◌, decimal, OnOk, OnErr};
-ghost use Rattle.monitor_journal.specs.Lines.{decision_text, names_text, answer_text, entry_text, missed_text};
+ghost use Rattle.std.specs.Prelude.{◌≡◌, ◌++◌, OnOk, OnErr};
+ghost use Rattle.monitor_journal.specs.Lines.{decision_text, names_text, answer_text, check_text, entry_text, missed_text};
 ghost use Rattle.monitor_journal.specs.parts.Appending.{Lengthens};
 
+use crate::causes::append_decided;
+use crate::numbers::append_number;
 use desk_ports::Bytes;
-use itoa::Buffer;
 use monitor_rule::Entry;
 use std::alloc::AllocError;
 
-/// Appends the line of a check that was recorded, `monitor WORKER NUMBER RESULT COMMIT CLIENT USER PRIVILEGE`. Fails for want
-/// of memory alone, and has then appended nothing.
+/// Appends the line of a check that was recorded, `monitor WORKER NUMBER RESULT COMMIT CLIENT USER PRIVILEGE TIME BY` and the
+/// cause. Fails for want of memory alone, and has then appended nothing.
 pub(crate) fn append_entry(out: &mut Bytes, entry: &Entry) -> Result<(), AllocError>
     ensures ok { OnOk result (out.new ≡ out.old ++ entry_text entry.now) }
     ensures err { OnErr result (out.new ≡ out.old) }
@@ -51,7 +52,17 @@ fn append_all(out: &mut Bytes, entry: &Entry) -> Result<(), AllocError>
     out.append(b" ")?;
     append_number(out, entry.number)?;
     out.append(b" ")?;
-    append_answer(out, entry)
+    append_check(out, entry)
+}
+
+#[tactic(auto, unfolding(crate::specs::Lines::check_text))]
+fn append_check(out: &mut Bytes, entry: &Entry) -> Result<(), AllocError>
+    ensures ok { OnOk result (out.new ≡ out.old ++ check_text entry.now) }
+    ensures err { OnErr result (Lengthens out.old out.new) }
+{
+    append_answer(out, entry)?;
+    out.append(b" ")?;
+    append_decided(out, entry.time, entry.agent, &entry.cause)
 }
 
 #[tactic(auto, unfolding(crate::specs::Lines::answer_text))]
@@ -73,7 +84,7 @@ fn append_answer(out: &mut Bytes, entry: &Entry) -> Result<(), AllocError>
 }
 
 #[tactic(auto, unfolding(crate::specs::Lines::names_text))]
-fn append_names(
+pub(crate) fn append_names(
     out: &mut Bytes,
     client: &[u8],
     user: &[u8],
@@ -86,8 +97,7 @@ fn append_names(
     out.append(b" ")?;
     out.append(user)?;
     out.append(b" ")?;
-    out.append(privilege)?;
-    out.append(b"\n")
+    out.append(privilege)
 }
 
 #[tactic(auto, unfolding(crate::specs::Lines::missed_text))]
@@ -111,11 +121,4 @@ fn append_decision(out: &mut Bytes, allowed: bool) -> Result<(), AllocError>
     } else {
         b"deny".as_slice()
     })
-}
-
-fn append_number(out: &mut Bytes, number: u64) -> Result<(), AllocError>
-    ensures ok { OnOk result (out.new ≡ out.old ++ decimal number) }
-    ensures err { OnErr result (Lengthens out.old out.new) }
-{
-    out.append(Buffer::new().format(number).as_bytes())
 }

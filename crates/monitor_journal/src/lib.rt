@@ -2,9 +2,11 @@
 //! count of its checks that were missed. After a call of the sink has failed nothing further is written.
 #![tactic(auto)]
 
+mod causes;
 mod entry_lines;
 mod journals;
 mod last_lines;
+mod numbers;
 mod writing;
 
 pub use journals::{MOST_AT_ONCE, hand_on};

@@ -1,3 +1,4 @@
 pub mod Entries
+pub mod Moments
 pub mod Rule
 pub mod Steps

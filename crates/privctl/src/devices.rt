@@ -1,6 +1,9 @@
 // The policy state that an order is about.
+use crate::services::{net_within, tell_refusal};
 use crate::telling::tell_wrong;
 use ctl_device::{CopyRefusal, state_of_copy};
+use ctl_door::state_of_service;
+use ctl_words::At;
 use desk_ports::Sink;
 use desk_state::Desk;
 use folder_disk::FolderDisk;
@@ -8,8 +11,34 @@ use std::alloc::Global;
 use std::fs::{self, File};
 use std::rt::{Clock, Files};
 
-/// The policy state of a copy of a store, in the folder of this path. `None` where there is none, which a person was told.
-pub(crate) fn state_in<R: Files<File = File> + Clock + AllocGlobal + Clone + Drop, K: Sink>(
+/// The policy state that is asked: of a service, or of a copy of a store. `None` where there is none, which a person
+/// was told.
+pub(crate) fn state_at<K: Sink>(
+    rt: &HostRuntime,
+    alloc: Global,
+    at: At<'_>,
+    sink: &mut K,
+) -> Option<Desk> {
+    match at {
+        At::Service { seconds } => state_of(rt, alloc, seconds, sink),
+        At::Copy { folder } => state_in(rt, alloc, folder, sink),
+    }
+}
+
+// The policy state of the service.
+fn state_of<K: Sink>(rt: &HostRuntime, alloc: Global, seconds: u32, sink: &mut K) -> Option<Desk> {
+    let mut net = net_within(rt, seconds)?;
+    match state_of_service(alloc, &mut net) {
+        Ok(desk) => Some(desk),
+        Err(refusal) => {
+            tell_refusal(alloc, &refusal, &net, sink);
+            None
+        }
+    }
+}
+
+// The policy state of a copy of a store, in the folder of this path.
+fn state_in<R: Files<File = File> + Clock + AllocGlobal + Clone + Drop, K: Sink>(
     rt: &R,
     alloc: Global,
     folder: &str,

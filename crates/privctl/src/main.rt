@@ -1,9 +1,16 @@
-//! `privctl`: what a person asks of a device, by a copy of its store.
+//! `privctl`: what a person and a shell ask of a device, by its service or by a copy of its store.
 #![tactic(auto)]
 
 mod devices;
+mod explaining;
+mod imports;
+mod levels;
+mod logs;
+mod mays;
 mod orders;
+mod plans;
 mod questions;
+mod services;
 mod telling;
 
 use ctl_words::{Unread, read_order};

@@ -1,17 +1,20 @@
 // What each order does.
-use crate::devices::state_in;
-use crate::questions::{name_of, question_of};
-use crate::telling::{DONE, NOT_DONE, REFUSED, WRONG_WORDS, tell_wrong, write_text};
-use ctl_run::RunFault;
-use ctl_scripts::{ExportRefusal, checked_script, plan};
-use ctl_views::{
-    explain, list_apps, list_buckets, list_packages, list_status, list_users, list_who,
-};
-use ctl_words::{Order, Subject};
+use crate::devices::state_at;
+use crate::explaining::explain_question;
+use crate::imports::import_folder;
+use crate::levels::{get_levels, set_level};
+use crate::logs::read_log;
+use crate::mays::ask_service;
+use crate::plans::{export, plan_file};
+use crate::questions::name_of;
+use crate::services::{net_within, tell_refusal};
+use crate::telling::{DONE, NOT_DONE, WRONG_WORDS, write_text, written};
+use ctl_door::answers;
+use ctl_views::{list_apps, list_buckets, list_packages, list_status, list_users, list_who};
+use ctl_words::{At, Order, Subject};
 use desk_ports::{Bytes, Sink};
 use desk_state::Desk;
 use std::alloc::{AllocError, Global};
-use std::fs;
 
 /// Runs the order, and answers the status.
 pub(crate) fn run_order<K: Sink>(
@@ -20,55 +23,50 @@ pub(crate) fn run_order<K: Sink>(
     order: Order<'_>,
     sink: &mut K,
 ) -> u8 {
-    match state_in(rt, alloc, folder_of(order), sink) {
-        Some(desk) => tell_of(rt, alloc, order, &desk, sink),
-        None => NOT_DONE,
-    }
-}
-
-// The folder of the copy that is asked.
-fn folder_of<'a>(order: Order<'a>) -> &'a str {
     match order {
-        Order::Explain { store, .. } => store,
-        Order::Who { store, .. } => store,
-        Order::List { store, .. } => store,
-        Order::Export { store } => store,
-        Order::Plan { store, .. } => store,
-    }
-}
-
-// Tells what the order asks of the state.
-fn tell_of<K: Sink>(
-    rt: &HostRuntime,
-    alloc: Global,
-    order: Order<'_>,
-    desk: &Desk,
-    sink: &mut K,
-) -> u8 {
-    match order {
-        Order::Explain { asked, .. } => match question_of(alloc, asked, sink) {
-            Some(question) => written(explain(alloc, desk, &question), sink),
-            None => WRONG_WORDS,
-        },
+        Order::May {
+            asked,
+            style,
+            seconds,
+        } => ask_service(rt, alloc, asked, style, seconds, sink),
+        Order::Explain { asked, at } => explain_question(rt, alloc, asked, at, sink),
+        Order::SetLevel { words, seconds } => set_level(rt, alloc, words, seconds, sink),
+        Order::GetLevels { user, at } => get_levels(rt, alloc, user, at, sink),
+        Order::Log { words } => read_log(rt, alloc, words, sink),
+        Order::Import { folder } => import_folder(rt, alloc, folder, sink),
         Order::Who {
             privilege,
             user,
-            ..
-        } => who(alloc, desk, privilege, user, sink),
-        Order::List { subject, .. } => written(listing(alloc, desk, subject), sink),
-        Order::Export { .. } => export(alloc, desk, sink),
-        Order::Plan { script, .. } => plan_file(rt, alloc, desk, script, sink),
+            at,
+        } => who(rt, alloc, privilege, user, at, sink),
+        Order::List { subject, at } => list(rt, alloc, subject, at, sink),
+        Order::Export { at } => match state_at(rt, alloc, at, sink) {
+            Some(desk) => export(alloc, &desk, sink),
+            None => NOT_DONE,
+        },
+        Order::Plan { script, at } => match state_at(rt, alloc, at, sink) {
+            Some(desk) => plan_file(rt, alloc, &desk, script, sink),
+            None => NOT_DONE,
+        },
     }
 }
 
-// Writes the text, where there was memory for it.
-fn written<K: Sink>(text: Result<Bytes, AllocError>, sink: &mut K) -> u8 {
-    match text {
-        Ok(text) => write_text(text.as_slice(), DONE, sink),
-        Err(_) => {
-            sink.note("privctl: out of memory");
-            NOT_DONE
+fn list<K: Sink>(
+    rt: &HostRuntime,
+    alloc: Global,
+    subject: Subject,
+    at: At<'_>,
+    sink: &mut K,
+) -> u8 {
+    let Some(desk) = state_at(rt, alloc, at, sink) else {
+        return NOT_DONE;
+    };
+    let status = written(listing(alloc, &desk, subject), DONE, sink);
+    match (subject, at) {
+        (Subject::Status, At::Service { seconds }) if status == DONE => {
+            test_service(rt, alloc, seconds, sink)
         }
+        _ => status,
     }
 }
 
@@ -82,72 +80,44 @@ fn listing(alloc: Global, desk: &Desk, subject: Subject) -> Result<Bytes, AllocE
     }
 }
 
+// Tells whether the service answers a check and a listing: the status is 0 only then.
+fn test_service<K: Sink>(rt: &HostRuntime, alloc: Global, seconds: u32, sink: &mut K) -> u8 {
+    let Some(mut net) = net_within(rt, seconds) else {
+        return NOT_DONE;
+    };
+    match answers(alloc, &mut net) {
+        Ok(()) => write_text(b"answers checks and listings\n", DONE, sink),
+        Err(refusal) => {
+            tell_refusal(alloc, &refusal, &net, sink);
+            NOT_DONE
+        }
+    }
+}
+
 fn who<K: Sink>(
+    rt: &HostRuntime,
     alloc: Global,
-    desk: &Desk,
     privilege: &str,
     user: Option<&str>,
+    at: At<'_>,
     sink: &mut K,
 ) -> u8 {
     let Some(privilege) = name_of(alloc, privilege, sink) else {
         return WRONG_WORDS;
     };
-    match user {
+    let only = match user {
         Some(user) => match name_of(alloc, user, sink) {
-            Some(user) => written(list_who(alloc, desk, &privilege, Some(&user)), sink),
-            None => WRONG_WORDS,
+            Some(user) => Some(user),
+            None => return WRONG_WORDS,
         },
-        None => written(list_who(alloc, desk, &privilege, None), sink),
-    }
-}
-
-fn export<K: Sink>(alloc: Global, desk: &Desk, sink: &mut K) -> u8 {
-    match checked_script(alloc, desk) {
-        Ok(script) => write_text(script.as_slice(), DONE, sink),
-        Err(refusal) => {
-            sink.note(match refusal {
-                ExportRefusal::LongLine(_) =>
-                    "privctl: a line would be longer than one of a script may be",
-                ExportRefusal::LongScript => "privctl: the script would be longer than one may be",
-                ExportRefusal::Differs =>
-                    "privctl: the script leads to another state, which is a mistake of privctl",
-                ExportRefusal::Memory(_) => "privctl: out of memory",
-            });
-            NOT_DONE
-        }
-    }
-}
-
-fn plan_file<K: Sink>(
-    rt: &HostRuntime,
-    alloc: Global,
-    desk: &Desk,
-    path: &str,
-    sink: &mut K,
-) -> u8 {
-    let Ok(script) = fs::read(rt, path) else {
-        return tell_wrong(alloc, "cannot read", path.as_bytes(), sink);
+        None => None,
     };
-    match plan(alloc, desk, &script) {
-        Ok(plan) => {
-            let status = if plan.refused == 0 { DONE } else { REFUSED };
-            write_text(plan.text.as_slice(), status, sink)
-        }
-        Err(RunFault::Syntax(line)) => {
-            if let Ok(text) = format!(in alloc;
-                "privctl: line {line} is outside the grammar of scripts"
-            ) {
-                sink.note(text.as_str());
-            }
-            WRONG_WORDS
-        }
-        Err(RunFault::TooLong) => {
-            sink.note("privctl: a script has at most 16777216 bytes");
-            WRONG_WORDS
-        }
-        Err(RunFault::Memory(_)) => {
-            sink.note("privctl: out of memory");
-            NOT_DONE
-        }
+    match state_at(rt, alloc, at, sink) {
+        Some(desk) => written(
+            list_who(alloc, &desk, &privilege, only.as_ref()),
+            DONE,
+            sink,
+        ),
+        None => NOT_DONE,
     }
 }

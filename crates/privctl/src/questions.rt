@@ -5,6 +5,7 @@ use crate::telling::tell_wrong;
 use ctl_words::Asked;
 use cynara_keys::{Name, Question};
 use desk_ports::Sink;
+use line_script::read_number;
 use std::alloc::Global;
 
 /// The question of the names. A person is told which word is none.
@@ -41,6 +42,17 @@ pub(crate) fn name_of<K: Sink>(alloc: Global, word: &str, sink: &mut K) -> Optio
         Ok(name) => Some(name),
         Err(_) => {
             tell_wrong(alloc, "no name:", word.as_bytes(), sink);
+            None
+        }
+    }
+}
+
+/// The number of a user that the word is. A person is told where it is none.
+pub(crate) fn uid_of<K: Sink>(alloc: Global, word: &str, sink: &mut K) -> Option<u32> {
+    match read_number(word.as_bytes()) {
+        Some(uid) => Some(uid),
+        None => {
+            tell_wrong(alloc, "no number of a user:", word.as_bytes(), sink);
             None
         }
     }

@@ -1,6 +1,6 @@
 // What is written, and the status of a run.
-use desk_ports::{Sink, shown_bytes, write_all};
-use std::alloc::Global;
+use desk_ports::{Bytes, Sink, shown_bytes, write_all};
+use std::alloc::{AllocError, Global};
 
 /// The status of a run that did its work.
 pub(crate) const DONE: u8 = 0;
@@ -42,4 +42,15 @@ pub(crate) fn tell_wrong<K: Sink>(alloc: Global, text: &str, bytes: &[u8], sink:
         }
     }
     NOT_DONE
+}
+
+/// Writes the text, where there was memory for it, and answers the status.
+pub(crate) fn written<K: Sink>(text: Result<Bytes, AllocError>, status: u8, sink: &mut K) -> u8 {
+    match text {
+        Ok(text) => write_text(text.as_slice(), status, sink),
+        Err(_) => {
+            sink.note("privctl: out of memory");
+            NOT_DONE
+        }
+    }
 }

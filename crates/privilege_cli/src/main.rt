@@ -5,11 +5,12 @@ mod program;
 
 use door_workers::Notes;
 use folder_disk::FolderDisk;
-use host_notes::{explain, explain_streams};
+use host_notes::{explain, explain_streams, tell_folder_failure};
 use host_ports::{
     InputSource, OutputSink, directory_path, folder_path, sockets_path, take_descriptors,
 };
 use link_ports::OpenGate;
+use noted_disk::{HearsFailures, NotedDisk};
 use program::run_on;
 use socket_net::SocketNet;
 use std::alloc::AllocError;
@@ -17,10 +18,13 @@ use std::io::IsTerminal;
 use std::process::ExitCode;
 use std::sync::Wait;
 use std::thread::Threads;
-use std::time::Clock;
+use std::time::{Clock, Duration, Instant};
 
 /// The status of a run that found no memory.
 const NO_MEMORY: u8 = 1;
+
+/// The fewest seconds between two notes of the store's failing calls.
+const SECONDS_BETWEEN_NOTES: u64 = 1;
 
 fn main(rt: HostRuntime) -> ExitCode {
     match run_on_host(&rt, &rt) {
@@ -42,6 +46,39 @@ impl Notes for ErrorNotes<'_> {
     }
 }
 
+/// Tells a person on standard error that a call of the store failed, the moment it fails, and once a second at most.
+#[derive(Drop)]
+struct StoreNotes<'a> {
+    rt: &'a HostRuntime,
+    folder: &'a str,
+    // When a failing call was told last.
+    last: Option<Instant>,
+    // The call that failed last was told.
+    is_told: bool,
+}
+
+impl StoreNotes<'_> {
+    fn was_told_just_now(&self) -> bool {
+        match &self.last {
+            Some(last) => match last.elapsed(self.rt) {
+                Ok(since) => since < Duration::from_secs(SECONDS_BETWEEN_NOTES),
+                Err(_) => false,
+            },
+            None => false,
+        }
+    }
+}
+
+impl HearsFailures<FolderDisk<HostRuntime>> for StoreNotes<'_> {
+    fn hear(&mut self, disk: &FolderDisk<HostRuntime>) {
+        self.is_told = !self.was_told_just_now();
+        if self.is_told {
+            tell_folder_failure(self.rt, self.folder, disk.failure());
+            self.last = Instant::now(self.rt).ok();
+        }
+    }
+}
+
 // Runs the program on standard input and output, on its folder and on the sockets beside it. How it ends.
 fn run_on_host<T: Threads + Wait + Clock + Sync>(
     rt: &HostRuntime,
@@ -50,7 +87,13 @@ fn run_on_host<T: Threads + Wait + Clock + Sync>(
     take_descriptors(rt);
     let directory = directory_path(rt, rt.alloc())?;
     let folder = folder_path(rt.alloc(), &directory)?;
-    let mut disk = FolderDisk::open(rt.clone()?, folder.as_str())?;
+    let notes = StoreNotes {
+        rt,
+        folder: folder.as_str(),
+        last: None,
+        is_told: false,
+    };
+    let mut disk = NotedDisk::over(FolderDisk::open(rt.clone()?, folder.as_str())?, notes);
     let mut net = SocketNet::new(rt.clone()?, sockets_path(&directory))?;
     let mut source = InputSource::over(rt.stdin());
     let mut sink = OutputSink::over(rt.stdout(), rt.stderr());
@@ -73,7 +116,8 @@ fn run_on_host<T: Threads + Wait + Clock + Sync>(
         status,
         sockets_path(&directory),
         folder.as_str(),
-        disk.failure(),
+        disk.disk().failure(),
+        disk.hearer().is_told,
         net.failure(),
     );
     Ok(status)

@@ -7,6 +7,7 @@ use Rattle.std.specs.Option.{option_to_list}
 use Rattle.link_ports.specs.Traffic.{Traffic}
 use Rattle.link_ports.specs.LinkMarks.{LinkMarks}
 use Rattle.link_ports.specs.declared.door_kinds.DoorKind.{DoorKind}
+use Rattle.desk_state.specs.DeskState.{DeskState}
 use Rattle.live_desk.specs.Seat.{SeatState, new_seat, new_seats}
 use Rattle.server_hall.specs.StopNews.{StopsTold, unasked}
 use Rattle.door_workers.specs.Visit.{Works, EndsWorking, door_faults_after}
@@ -20,7 +21,7 @@ use Rattle.serve_runs.specs.declared.crews.Station.{Station}
 use Rattle.serve_runs.specs.declared.crews.Station.TheVariants.{Clients, Agents}
 use Rattle.serve_runs.specs.declared.crews.Worker.{Worker}
 use Rattle.serve_runs.specs.parts.Crews.{duty_at, post_at, stations_with, duties_in, duty_of, duties_of, door_of, lacked, worker_lacked}
-use Rattle.serve_runs.specs.parts.Crews.{CountsDoor, StandsAt, WorksAt, HasWorked}
+use Rattle.serve_runs.specs.parts.Crews.{CountsDoor, StandsAt, WorksAt, HasWorked, HasSeenOf, SawOnly}
 
 -- ---- stations
 
@@ -31,30 +32,30 @@ seats_are (suc count) =
     length-append (new_seats count) (new_seat count ∷ []) ∙ (let is = seats_are count in omega (arith, is))
 
 -- the stations have all duties, and all seats
-pub duties_given : {X : Type 0} (seats : List SeatState) (duties : List X) → length duties ≡ length seats
-    → duties_in (map duty_at (stations_with seats duties)) ≡ duties
-duties_given [] [] long = refl
-duties_given [] (duty ∷ duties) long = absurd (omega (arith, long))
-duties_given (seat ∷ seats) [] long = absurd (omega (arith, long))
-duties_given {X} (seat ∷ seats) (duty ∷ duties) long =
-    ap (λ (list : List X). duty ∷ list) (duties_given seats duties (omega (arith, long)))
+pub duties_given : (J X : Type 0) (seats : List SeatState) (duties : List X) → length duties ≡ length seats
+    → duties_in (map (duty_at {J = J}) (stations_with seats duties)) ≡ duties
+duties_given J X [] [] long = refl
+duties_given J X [] (duty ∷ duties) long = absurd (omega (arith, long))
+duties_given J X (seat ∷ seats) [] long = absurd (omega (arith, long))
+duties_given J X (seat ∷ seats) (duty ∷ duties) long =
+    ap (λ (list : List X). duty ∷ list) (duties_given J X seats duties (omega (arith, long)))
 
-pub posts_given : {X : Type 0} (seats : List SeatState) (duties : List X) → length duties ≡ length seats
-    → map post_at (stations_with seats duties) ≡ posts_with seats
-posts_given [] [] long = refl
-posts_given [] (duty ∷ duties) long = absurd (omega (arith, long))
-posts_given (seat ∷ seats) [] long = absurd (omega (arith, long))
-posts_given (seat ∷ seats) (duty ∷ duties) long =
-    ap (λ (list : List (Option SeatState)). Some seat ∷ list) (posts_given seats duties (omega (arith, long)))
+pub posts_given : (J X : Type 0) (seats : List SeatState) (duties : List X) → length duties ≡ length seats
+    → map (post_at {J = J} {X = X}) (stations_with seats duties) ≡ posts_with seats
+posts_given J X [] [] long = refl
+posts_given J X [] (duty ∷ duties) long = absurd (omega (arith, long))
+posts_given J X (seat ∷ seats) [] long = absurd (omega (arith, long))
+posts_given J X (seat ∷ seats) (duty ∷ duties) long =
+    ap (λ (list : List (Option SeatState)). Some seat ∷ list) (posts_given J X seats duties (omega (arith, long)))
 
 -- one more for agents
-pub agents_more : {X : Type 0} (start stations after : List (Station X)) (count : ℕ) → stations ≡ start ++ replicate count Agents
+pub agents_more : {J X : Type 0} (start stations after : List (Station J X)) (count : ℕ) → stations ≡ start ++ replicate count Agents
     → after ≡ stations ++ Agents ∷ [] → after ≡ start ++ replicate (count + 1) Agents
-agents_more {X} start stations after count is pushed =
+agents_more {J} {X} start stations after count is pushed =
     pushed
-    ∙ (ap (λ (list : List (Station X)). list ++ Agents ∷ []) is
+    ∙ (ap (λ (list : List (Station J X)). list ++ Agents ∷ []) is
     ∙ (append_assoc start (replicate count Agents) (Agents ∷ [])
-    ∙ ap (λ (list : List (Station X)). start ++ list) (replicate_more count Agents)))
+    ∙ ap (λ (list : List (Station J X)). start ++ list) (replicate_more count Agents)))
 
 -- ---- lists
 
@@ -64,6 +65,10 @@ zip_push R [] [] x y all one = (one, tt)
 zip_push R [] (b ∷ ys) x y all one = absurd all
 zip_push R (a ∷ xs) [] x y all one = absurd all
 zip_push R (a ∷ xs) (b ∷ ys) x y (first, all) one = (first, zip_push R xs ys x y all one)
+
+pub all_push : {A : Type 0} (P : A → Type 0) (xs : List A) (x : A) → AllByRecursion P xs → P x → AllByRecursion P (xs ++ x ∷ [])
+all_push P [] x all one = (one, tt)
+all_push P (a ∷ xs) x (first, all) one = (first, all_push P xs x all one)
 
 -- what is known of each place of two lists
 pub zip_each : {W : Type 0} (R : W → W → Type 0) (old new : List W) → length new ≡ length old
@@ -89,23 +94,23 @@ in_one : {X : Type 0} (duty : Option X) → duties_in (duty ∷ []) ≡ option_t
 in_one None = refl
 in_one (Some duty) = refl
 
-pub duties_push : {E X : Type 0} (crew : List (Worker E X)) (worker : Worker E X)
+pub duties_push : {J E X : Type 0} (crew : List (Worker J E X)) (worker : Worker J E X)
     → duties_of (crew ++ worker ∷ []) ≡ duties_of crew ++ option_to_list (duty_of worker)
-duties_push {E} {X} crew worker =
-    ap (λ (list : List (Option X)). duties_in list) (map-append (λ (w : Worker E X). duty_of w) crew (worker ∷ []))
-    ∙ (in_more (map (λ (w : Worker E X). duty_of w) crew) (duty_of worker ∷ [])
+duties_push {J} {E} {X} crew worker =
+    ap (λ (list : List (Option X)). duties_in list) (map-append (λ (w : Worker J E X). duty_of w) crew (worker ∷ []))
+    ∙ (in_more (map (λ (w : Worker J E X). duty_of w) crew) (duty_of worker ∷ [])
     ∙ ap (λ (list : List X). duties_of crew ++ list) (in_one (duty_of worker)))
 
-pub doors_push : {E X : Type 0} (crew : List (Worker E X)) (worker : Worker E X)
+pub doors_push : {J E X : Type 0} (crew : List (Worker J E X)) (worker : Worker J E X)
     → map door_of (crew ++ worker ∷ []) ≡ map door_of crew ++ door_of worker ∷ []
-doors_push {E} {X} crew worker = map-append (λ (w : Worker E X). door_of w) crew (worker ∷ [])
+doors_push {J} {E} {X} crew worker = map-append (λ (w : Worker J E X). door_of w) crew (worker ∷ [])
 
 -- ---- all workers
 
-module _ {L E X : Type 0} (traffic : L → Option Traffic) (marks : L → LinkMarks) (faults : L → ℕ)
+module _ {L J E X : Type 0} (traffic : L → Option Traffic) (marks : L → LinkMarks) (faults : L → ℕ)
     (given_back : E → Option (List L)) (door_faults : E → ℕ) (kind : E → Option DoorKind) (goes : X → X → Type 0) where
   -- A worker that is not started leaves its station and its door as they were.
-  pub unstarted : (station : Station X) (door : E) (told : StopsTold) → ((duty : X) → goes duty duty)
+  pub unstarted : (station : Station J X) (door : E) (told : StopsTold) → ((duty : X) → goes duty duty)
       → WorksAt traffic marks faults given_back door_faults goes Unstarted station station door door told told
   unstarted (Clients seat duty) door told stays = (
     record {
@@ -128,43 +133,48 @@ module _ {L E X : Type 0} (traffic : L → Option Traffic) (marks : L → LinkMa
         counted = refl;
       }
 
-  works_for : (station now : Station X) (end : WorkerEnd) (door door_now : E) (told : StopsTold) → door_faults door ≡ 0
+module _ {L J E X : Type 0} (traffic : L → Option Traffic) (marks : L → LinkMarks) (faults : L → ℕ)
+    (given_back : E → Option (List L)) (door_faults : E → ℕ) (kind : E → Option DoorKind) (goes : X → X → Type 0)
+    (published : List DeskState) where
+  works_for : (station now : Station J X) (end : WorkerEnd) (door door_now : E) (told : StopsTold) → door_faults door ≡ 0
       → WorksAt traffic marks faults given_back door_faults goes end station now door door_now unasked told
-      → WorksFor traffic marks faults given_back door_faults kind (post_at station) end told (given_back door) door_now
-  works_for (Clients seat duty) (Clients seat_now duty_now) end door door_now told fresh (works, went_on) = (
+      → HasSeenOf published (post_at now)
+      → WorksFor traffic marks faults given_back door_faults kind published (post_at station) end told (given_back door) door_now
+  works_for (Clients seat duty) (Clients seat_now duty_now) end door door_now told fresh (works, went_on) saw = (
     seat_now,
+    saw,
     subst (λ (count : ℕ). Works (VisitsClients traffic marks faults) (EndsWorking unasked told) marks faults end seat seat_now
         (given_back door) (given_back door_now) count (door_faults door_now)) fresh works,
   )
-  works_for Agents Agents end door door_now told fresh works =
+  works_for Agents Agents end door door_now told fresh works saw =
       subst (λ (count : ℕ). Works (VisitsAgents traffic marks faults) (EndsWorking unasked told) marks faults end tt tt
       (given_back door) (given_back door_now) count (door_faults door_now)) fresh works
-  works_for (Clients seat duty) Agents end door door_now told fresh works = absurd works
-  works_for Agents (Clients seat duty) end door door_now told fresh works = absurd works
+  works_for (Clients seat duty) Agents end door door_now told fresh works saw = absurd works
+  works_for Agents (Clients seat duty) end door door_now told fresh works saw = absurd works
 
-  serves_one : (station : Station X) (opened now : Worker E X) → StandsAt given_back door_faults kind station opened
-      → (worked : HasWorked traffic marks faults given_back door_faults goes kind opened now)
-      → Serves traffic marks faults given_back door_faults kind (post_at station) (record { end = worked.end; door = now.door })
-  serves_one station opened now stands worked =
+  serves_one : (station : Station J X) (opened now : Worker J E X) → StandsAt given_back door_faults kind station opened
+      → (worked : HasWorked traffic marks faults given_back door_faults goes kind opened now) → SawOnly published now
+      → Serves traffic marks faults given_back door_faults kind published (post_at station) (record { end = worked.end; door = now.door })
+  serves_one station opened now stands worked saw =
       record {
         told = worked.told;
         given = given_back opened.door;
         unused = stands.unused;
         is_theirs = worked.same_kind ∙ stands.is_theirs;
         works = works_for station now.station worked.end opened.door now.door worked.told stands.fresh
-            (subst (λ (at : Station X). WorksAt traffic marks faults given_back door_faults goes worked.end at now.station
-            opened.door now.door unasked worked.told) stands.station_is worked.works);
+            (subst (λ (at : Station J X). WorksAt traffic marks faults given_back door_faults goes worked.end at now.station
+            opened.door now.door unasked worked.told) stands.station_is worked.works) saw;
       }
 
   -- what a crew did that has ended
-  pub record Ended (stations : List (Station X)) (now : List (Worker E X)) : Type 0 where
+  pub record Ended (stations : List (Station J X)) (now : List (Worker J E X)) : Type 0 where
     pub crew : List (EndedWorker E)
-    pub serves : AllZip (Serves traffic marks faults given_back door_faults kind) (map post_at stations) crew
+    pub serves : AllZip (Serves traffic marks faults given_back door_faults kind published) (map post_at stations) crew
     pub doors : doors_of crew ≡ map door_of now
     pub lacks : lacks_memory (ends_of crew) ≡ list_any worker_lacked now
     pub duties : AllZip goes (duties_in (map duty_at stations)) (duties_of now)
 
-  goes_one : (station now : Station X) (end : WorkerEnd) (door door_now : E) (told : StopsTold) (some more : List (Option X))
+  goes_one : (station now : Station J X) (end : WorkerEnd) (door door_now : E) (told : StopsTold) (some more : List (Option X))
       → WorksAt traffic marks faults given_back door_faults goes end station now door door_now unasked told
       → AllZip goes (duties_in some) (duties_in more) → AllZip goes (duties_in (duty_at station ∷ some)) (duties_in (duty_at now ∷ more))
   goes_one (Clients seat duty) (Clients seat_now duty_now) end door door_now told some more (works, went_on) all = (went_on, all)
@@ -172,23 +182,24 @@ module _ {L E X : Type 0} (traffic : L → Option Traffic) (marks : L → LinkMa
   goes_one (Clients seat duty) Agents end door door_now told some more works all = absurd works
   goes_one Agents (Clients seat duty) end door door_now told some more works all = absurd works
 
-  pub all_ended : (stations : List (Station X)) (opened now : List (Worker E X))
+  pub all_ended : (stations : List (Station J X)) (opened now : List (Worker J E X))
       → AllZip (StandsAt given_back door_faults kind) stations opened
-      → AllZip (HasWorked traffic marks faults given_back door_faults goes kind) opened now → Ended stations now
-  all_ended [] [] [] stand worked = record { crew = []; serves = tt; doors = refl; lacks = refl; duties = tt }
-  all_ended [] [] (w ∷ now) stand worked = absurd worked
-  all_ended [] (o ∷ opened) now stand worked = absurd stand
-  all_ended (s ∷ stations) [] now stand worked = absurd stand
-  all_ended (s ∷ stations) (o ∷ opened) [] stand worked = absurd worked
-  all_ended (s ∷ stations) (o ∷ opened) (w ∷ now) (stands, stand) (worked, all) =
-      let rest = all_ended stations opened now stand all in
+      → AllZip (HasWorked traffic marks faults given_back door_faults goes kind) opened now
+      → AllByRecursion (SawOnly published) now → Ended stations now
+  all_ended [] [] [] stand worked saw = record { crew = []; serves = tt; doors = refl; lacks = refl; duties = tt }
+  all_ended [] [] (w ∷ now) stand worked saw = absurd worked
+  all_ended [] (o ∷ opened) now stand worked saw = absurd stand
+  all_ended (s ∷ stations) [] now stand worked saw = absurd stand
+  all_ended (s ∷ stations) (o ∷ opened) [] stand worked saw = absurd worked
+  all_ended (s ∷ stations) (o ∷ opened) (w ∷ now) (stands, stand) (worked, all) (saw, more) =
+      let rest = all_ended stations opened now stand all more in
       record {
         crew = record { end = worked.end; door = w.door } ∷ rest.crew;
-        serves = (serves_one s o w stands worked, rest.serves);
+        serves = (serves_one s o w stands worked saw, rest.serves);
         doors = ap (λ (list : List E). w.door ∷ list) rest.doors;
         lacks = λ i. ap lacked (sym worked.ended) i || rest.lacks i;
         duties = goes_one s w.station worked.end o.door w.door worked.told (map duty_at stations) (map duty_of now)
-            (subst (λ (at : Station X). WorksAt traffic marks faults given_back door_faults goes worked.end at w.station
+            (subst (λ (at : Station J X). WorksAt traffic marks faults given_back door_faults goes worked.end at w.station
             o.door w.door unasked worked.told) stands.station_is worked.works) rest.duties;
       }
 
@@ -200,15 +211,16 @@ alone_first alone false rest is none = is ∙ sym none
 -- ---- doors that failed
 
 module _ {L E : Type 0} (traffic : L → Option Traffic) (marks : L → LinkMarks) (faults : L → ℕ)
-    (given_back : E → Option (List L)) (door_faults : E → ℕ) (kind : E → Option DoorKind) (before after : ℕ) where
+    (given_back : E → Option (List L)) (door_faults : E → ℕ) (kind : E → Option DoorKind) (published : List DeskState)
+    (before after : ℕ) where
   counted : (post : Option SeatState) (end : WorkerEnd) (told : StopsTold) (given : Option (List L)) (door : E)
-      → WorksFor traffic marks faults given_back door_faults kind post end told given door → door_faults door ≡ door_faults_after end 0
-  counted (Some seat) end told given door (seat_now, works) = works.counted
+      → WorksFor traffic marks faults given_back door_faults kind published post end told given door → door_faults door ≡ door_faults_after end 0
+  counted (Some seat) end told given door (seat_now, saw, works) = works.counted
   counted None end told given door works = works.counted
 
   never_alone : (post : Option SeatState) (end : WorkerEnd) (told : StopsTold) (given : Option (List L)) (door : E)
-      → WorksFor traffic marks faults given_back door_faults kind post end told given door → is_alone end ≡ false
-  never_alone (Some seat) Alone told given door (seat_now, works) = absurd works.ending
+      → WorksFor traffic marks faults given_back door_faults kind published post end told given door → is_alone end ≡ false
+  never_alone (Some seat) Alone told given door (seat_now, saw, works) = absurd works.ending
   never_alone None Alone told given door works = absurd works.ending
   never_alone post Stopped told given door works = refl
   never_alone post DoorFailed told given door works = refl
@@ -217,7 +229,7 @@ module _ {L E : Type 0} (traffic : L → Option Traffic) (marks : L → LinkMark
 
   -- no worker of clients or of agents ends alone
   pub none_alone : (posts : List (Option SeatState)) (crew : List (EndedWorker E))
-      → AllZip (Serves traffic marks faults given_back door_faults kind) posts crew → is_deserted (ends_of crew) ≡ false
+      → AllZip (Serves traffic marks faults given_back door_faults kind published) posts crew → is_deserted (ends_of crew) ≡ false
   none_alone [] [] serve = refl
   none_alone [] (w ∷ crew) serve = absurd serve
   none_alone (post ∷ posts) [] serve = absurd serve
@@ -226,7 +238,7 @@ module _ {L E : Type 0} (traffic : L → Option Traffic) (marks : L → LinkMark
 
   -- Each door of a worker that ended since its door failed raised the count of its net.
   pub failed_all : (posts : List (Option SeatState)) (crew : List (EndedWorker E))
-      → AllZip (Serves traffic marks faults given_back door_faults kind) posts crew
+      → AllZip (Serves traffic marks faults given_back door_faults kind published) posts crew
       → AllByRecursion (λ (door : E). CountsDoor (door_faults door) before after) (doors_of crew)
       → AllByRecursion (λ (end : WorkerEnd). end ≡ DoorFailed → HasRisen before after) (ends_of crew)
   failed_all [] [] serve counts = tt

@@ -3,4 +3,5 @@ pub mod Completing
 pub mod Concluding
 pub mod Crewing
 pub mod Folder
+pub mod OneList
 pub mod Sent

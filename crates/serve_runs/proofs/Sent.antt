@@ -1,20 +1,27 @@
 -- A worker of the crew may go to another thread, with its seat, what it does beside, and its door.
 use denote.RattleType.{RattleType}
-use denote.Param.Send.{IsSend, sendable}
+use denote.Param.Send.{IsSend, IsSync, sendable}
 use denote.Param.SendFields.{as_row_send}
+use mir.Syntax.{given}
 use Rattle.std.proofs.Crossing.{crosses}
-use Rattle.live_desk.proofs.Sent.{seat_send}
+use Rattle.state_list.specs.declared.rules.Naming.{Ghosts}
+use Rattle.live_desk.specs.contracts.seats.Seat as Seat
+use Rattle.live_desk.proofs.Sent as live
 use Rattle.serve_runs.specs.contracts.crews.Station as Station
 use Rattle.serve_runs.specs.contracts.crews.Worker as Worker
 
-module _ (X : RattleType) where
-  station_send : IsSend X → IsSend (Station.the_field X).row
-  station_send duty = search (sendable, crosses, seat_send) depth 40
+module _ (J : RattleType) (naming : Ghosts J.Denot) where
+  seat_send : IsSend J → IsSync J → IsSend (Seat.the_field J naming).row
+  seat_send send sync = live.seat_send J naming (given 0) send sync
 
-module _ (D X : RattleType) where
-  worker_send : IsSend D → IsSend X → IsSend (Worker.the_field D X).row
-  worker_send door duty = search (sendable, crosses, station_send) depth 40
+module _ (J X : RattleType) (naming : Ghosts J.Denot) where
+  station_send : IsSend J → IsSync J → IsSend X → IsSend (Station.the_field J X naming).row
+  station_send send sync duty = search (sendable, crosses, seat_send) depth 40
+
+module _ (J D X : RattleType) (naming : Ghosts J.Denot) where
+  worker_send : IsSend J → IsSync J → IsSend D → IsSend X → IsSend (Worker.the_field J D X naming).row
+  worker_send send sync door duty = search (sendable, crosses, station_send) depth 40
 
   -- where its door may, and what it does beside
-  pub worker_row_send : IsSend D → IsSend X → IsSend (Worker.the_row D X)
-  worker_row_send door duty = as_row_send (Worker.the_field D X) (worker_send door duty)
+  pub worker_row_send : IsSend J → IsSync J → IsSend D → IsSend X → IsSend (Worker.the_row J D X naming)
+  worker_row_send send sync door duty = as_row_send (Worker.the_field J D X naming) (worker_send send sync door duty)

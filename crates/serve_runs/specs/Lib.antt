@@ -1,5 +1,6 @@
 pub mod Crew
 pub mod Serving
 pub mod Folder
+pub mod OneList
 pub mod Run
 pub mod parts

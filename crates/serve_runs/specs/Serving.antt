@@ -69,7 +69,8 @@ ClosesOpened {E} kind closed closed_now = (closed_now ≡ closed)
     ⊎ ((door : E) × (others : List E) × (kind door ≡ Some Admin) × ClosesDoors closed (door ∷ others) closed_now)
 
 -- A service served administrators, one connection after the other, each from the state that the one before it left. Beside them so
--- many workers of clients, and nine of agents, served at doors of their own, and all have ended. A worker that was unstarted served
+-- many workers of clients, and nine of agents, served at doors of their own, and all have ended. What each of clients was answered
+-- by is a front of `last.published`, the one list of states that administrators made. A worker that was unstarted served
 -- nobody: so it is with that of administrators where not all workers had threads. It closed all its doors: first
 -- that for administrators, and then those of the workers in their order. Each has its links back.
 pub record ServesAll {L E : Type 0} (traffic : L → Option Traffic) (marks : L → LinkMarks) (faults : L → ℕ)
@@ -86,6 +87,6 @@ pub record ServesAll {L E : Type 0} (traffic : L → Option Traffic) (marks : L 
       given (given_back door) 0 (door_faults door)
   pub counted : disk_now ≡ last.faults
   pub crew : List (EndedWorker E)
-  pub serves : AllZip (Serves traffic marks faults given_back door_faults kind) (posts workers) crew
+  pub serves : AllZip (Serves traffic marks faults given_back door_faults kind last.published) (posts workers) crew
   pub doors : ClosesDoors closed (door ∷ doors_of crew) closed_now
   pub ends : EndsService ending (end ∷ ends_of crew) disk disk_now net net_now

@@ -13,7 +13,7 @@ use desk_keeper::Keeper;
 use desk_ports::Disk;
 use door_workers::{Notes, WorkerEnd, work_for_administrators};
 use link_ports::{Dial, Door, DoorKind, HangEnd, Link, Net};
-use live_desk::Publisher;
+use live_desk::{Naming, Publisher};
 use live_roll::Roll;
 use server_hall::{Locked, QuestionDesk, StopNews};
 use std::alloc::Global;
@@ -36,6 +36,7 @@ pub(crate) fn beside<
     N: Net + Send,
     T: Notes,
     C: Chore + Send,
+    J: Naming,
 >(
     rt: &R,
     alloc: Global,
@@ -43,7 +44,7 @@ pub(crate) fn beside<
     workers: &mut [K],
     each: &F,
     keeper: &mut Keeper<'_, D>,
-    publisher: &mut Publisher,
+    publisher: &mut Publisher<J>,
     roll: &Mutex<Roll<H>>,
     questions: &QuestionDesk,
     muster: &Muster,
@@ -116,13 +117,14 @@ fn attend<
     N: Net + Send,
     T: Notes,
     C: Chore + Send,
+    J: Naming,
 >(
     rt: &R,
     alloc: Global,
     clients: u32,
     threads: u64,
     keeper: &mut Keeper<'_, D>,
-    publisher: &mut Publisher,
+    publisher: &mut Publisher<J>,
     roll: &Mutex<Roll<H>>,
     questions: &QuestionDesk,
     muster: &Muster,
@@ -164,12 +166,12 @@ where
 }
 
 // Serves the administrators, once all other threads have begun; nobody where they have not.
-fn officiate<R: Wait + Clock, D: Disk, H: HangEnd, L: Link, E: Door<Link = L>, T: Notes>(
+fn officiate<R: Wait + Clock, D: Disk, H: HangEnd, L: Link, E: Door<Link = L>, T: Notes, J: Naming>(
     rt: &R,
     alloc: Global,
     threads: u64,
     keeper: &mut Keeper<'_, D>,
-    publisher: &mut Publisher,
+    publisher: &mut Publisher<J>,
     roll: &Mutex<Roll<H>>,
     questions: &QuestionDesk,
     muster: &Muster,

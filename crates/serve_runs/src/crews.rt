@@ -1,9 +1,11 @@
 // The workers that run on threads of their own, each at its door.
 ghost use Rattle.std.specs.Prelude.{◌≡◌, ◌+◌, ◌<◌, ◌≤◌, ◌++◌, ◌∷◌, [], length, map, replicate, vec_len, vec_capacity, IfOk, OnOk};
-ghost use Rattle.std.specs.List.{list_any};
+ghost use Rattle.std.specs.Bool.{OnTrue};
+ghost use Rattle.std.specs.List.{AllByRecursion, list_any};
 ghost use Rattle.std.specs.Option.{option_to_list};
 ghost use Rattle.serve_runs.specs.Crew.{kind_for};
-ghost use Rattle.serve_runs.specs.parts.Crews.{duty_at, duty_of, post_at, stations_with, lacked, worker_lacked, WorksAt, HasWorked};
+ghost use Rattle.serve_runs.specs.parts.Crews.{duty_at, duty_of, post_at, stations_with, lacked, worker_lacked};
+ghost use Rattle.serve_runs.specs.parts.Crews.{WorksAt, HasWorked, HasSeenOf, SawOnly};
 ghost use Rattle.serve_runs.specs.declared.crews.Station.TheVariants.{Agents};
 
 use crate::endings::lacks_memory;
@@ -12,7 +14,7 @@ use crate::telling::{note_alone, note_end};
 use check_monitor::Alarm;
 use door_workers::{ClientDuty, Notes, WorkerEnd, work_for_agents};
 use link_ports::{Door, DoorKind, Gate, HangEnd, Link};
-use live_desk::Seat;
+use live_desk::{Naming, Publisher, Seat};
 use live_roll::Roll;
 use server_hall::{Hall, Locked, QuestionDesk, StopNews};
 use std::alloc::{AllocError, Global};
@@ -24,21 +26,21 @@ pub const AGENT_WORKERS: u32 = 9;
 
 /// Whom a worker serves.
 #[derive(Drop)]
-pub(crate) enum Station<X: Drop> {
+pub(crate) enum Station<J: Naming, X: Drop> {
     /// Clients, in the place of this seat, with what is done beside.
-    Clients(Seat, X),
+    Clients(Seat<J>, X),
     Agents,
 }
 
 /// A worker at its door, and how it ended, once it has.
 #[derive(Drop)]
-pub(crate) struct Worker<D: Drop, X: Drop> {
-    station: Station<X>,
+pub(crate) struct Worker<J: Naming, D: Drop, X: Drop> {
+    station: Station<J, X>,
     door: D,
     end: Option<WorkerEnd>,
 }
 
-impl<X: ClientDuty> Station<X> {
+impl<J: Naming, X: ClientDuty> Station<J, X> {
     // Serves one connection after the other at this door, or nobody where there is no service.
     fn work<R: Wait + Clock, D: Door, G: Gate>(
         &mut self,
@@ -94,6 +96,16 @@ impl<X: ClientDuty> Station<X> {
         }
     }
 
+    // Whether as many states were published as its seat has seen, where it serves clients.
+    fn is_covered(&self, publisher: &Publisher<J>) -> bool
+        ensures { OnTrue result (HasSeenOf publisher.now (post_at self.now)) }
+    {
+        match self {
+            Station::Clients(seat, _) => publisher.covers(seat),
+            Station::Agents => true,
+        }
+    }
+
     // What is done beside serving clients, where it serves them.
     fn into_duty(self) -> Option<X>
         ensures { result ≡ duty_at self }
@@ -105,9 +117,9 @@ impl<X: ClientDuty> Station<X> {
     }
 }
 
-impl<D: Door, X: ClientDuty> Worker<D, X> {
+impl<J: Naming, D: Door, X: ClientDuty> Worker<J, D, X> {
     /// One of this station, at this door.
-    pub fn at(station: Station<X>, door: D) -> Worker<D, X>
+    pub fn at(station: Station<J, X>, door: D) -> Worker<J, D, X>
         ensures station { result.station ≡ station }
         ensures door { result.door ≡ door }
     {
@@ -164,6 +176,13 @@ impl<D: Door, X: ClientDuty> Worker<D, X> {
         }
     }
 
+    // Whether as many states were published as its seat has seen, where it serves clients.
+    fn is_covered(&self, publisher: &Publisher<J>) -> bool
+        ensures { OnTrue result (SawOnly publisher.now self.now) }
+    {
+        self.station.is_covered(publisher)
+    }
+
     /// Its door, and what it does beside serving clients, where it serves them.
     pub fn leave(self) -> (D, Option<X>)
         ensures door { result.0 ≡ self.door }
@@ -196,11 +215,11 @@ fn stop<R: Wait + Clock, H: HangEnd>(
 }
 
 /// A station for each of these seats with the duty of the same place, and those for agents.
-pub(crate) fn stations_of<X: ClientDuty>(
+pub(crate) fn stations_of<J: Naming, X: ClientDuty>(
     alloc: Global,
-    seats: Vec<Seat>,
+    seats: Vec<Seat<J>>,
     duties: Vec<X>,
-) -> Result<Vec<Station<X>>, AllocError>
+) -> Result<Vec<Station<J, X>>, AllocError>
     requires { length duties.items ≤ length seats.items }
     ensures { IfOk result (λ stations. stations.items ≡ stations_with seats.items duties.items) }
 {
@@ -220,7 +239,7 @@ pub(crate) fn stations_of<X: ClientDuty>(
 }
 
 // Puts the stations for agents behind the others.
-fn put_agents<X: ClientDuty>(stations: &mut Vec<Station<X>>) -> Result<(), AllocError>
+fn put_agents<J: Naming, X: ClientDuty>(stations: &mut Vec<Station<J, X>>) -> Result<(), AllocError>
     ensures { OnOk result (stations.new.items ≡ stations.old.items ++ replicate 9 Agents) }
 {
     for _ in 0..AGENT_WORKERS {
@@ -259,8 +278,40 @@ pub(crate) fn put_back<X: Drop>(duties: &mut Vec<X>, duty: Option<X>)
 }
 
 /// Whether one of the crew found no memory at its door, or had no thread.
-pub(crate) fn lacked_memory<D: Door, X: ClientDuty>(crew: &[Worker<D, X>]) -> bool
+pub(crate) fn lacked_memory<J: Naming, D: Door, X: ClientDuty>(crew: &[Worker<J, D, X>]) -> bool
     ensures { result ≡ list_any worker_lacked crew.now }
 {
     crew.iter().any(|worker| worker.lacked_memory())
+}
+
+/// Compares what the seats of the crew have seen with what was published, and returns where none has seen more. None can have: but
+/// that only the publisher puts states into the list is known of its code, and not by a proof. So a run of which that is wrong does not
+/// return, and one that returns has compared.
+pub(crate) fn compare<R: Wait, J: Naming, D: Door, X: ClientDuty>(
+    rt: &R,
+    publisher: &Publisher<J>,
+    crew: &[Worker<J, D, X>],
+)
+    ensures { AllByRecursion (SawOnly publisher.now) crew.now }
+{
+    for _ in rt.forever() {
+        if are_covered(publisher, crew) {
+            return;
+        }
+    }
+}
+
+// Whether none of their seats has seen more than was published.
+fn are_covered<J: Naming, D: Door, X: ClientDuty>(
+    publisher: &Publisher<J>,
+    crew: &[Worker<J, D, X>],
+) -> bool
+    ensures { OnTrue result (AllByRecursion (SawOnly publisher.now) crew.now) }
+{
+    for worker in crew {
+        if !worker.is_covered(publisher) {
+            return false;
+        }
+    }
+    true
 }

@@ -12,6 +12,7 @@ use crate::crews::{AGENT_WORKERS, Station, Worker, put, put_back};
 use desk_ports::PortFault;
 use door_workers::ClientDuty;
 use link_ports::{DoorKind, Net};
+use live_desk::Naming;
 use run_endings::Ending;
 
 /// Opens a door of this kind.
@@ -32,10 +33,10 @@ pub(crate) fn open<N: Net>(net: &mut N, kind: DoorKind) -> Result<N::Door, Endin
 
 /// Puts a worker of each of these stations into the crew, in turn, at a door that it opens, until one is refused.
 #[tactic(auto, using(crate::proofs::Closing::unopened_since))]
-pub(crate) fn open_doors<N: Net, X: ClientDuty>(
+pub(crate) fn open_doors<N: Net, J: Naming, X: ClientDuty>(
     net: &mut N,
-    stations: Vec<Station<X>>,
-    crew: &mut Vec<Worker<N::Door, X>>,
+    stations: Vec<Station<J, X>>,
+    crew: &mut Vec<Worker<J, N::Door, X>>,
 ) -> Result<(), Ending>
     requires empty { crew.old.items ≡ [] }
     requires room { length stations.items ≤ vec_capacity crew.old }
@@ -54,16 +55,16 @@ pub(crate) fn open_doors<N: Net, X: ClientDuty>(
 }
 
 // Puts a worker of this station into the crew, at a door that it opens.
-fn open_one<N: Net, X: ClientDuty>(
+fn open_one<N: Net, J: Naming, X: ClientDuty>(
     net: &mut N,
-    station: Station<X>,
-    crew: &mut Vec<Worker<N::Door, X>>,
+    station: Station<J, X>,
+    crew: &mut Vec<Worker<J, N::Door, X>>,
 ) -> Result<(), Ending>
     requires { vec_len crew.old < vec_capacity crew.old }
     ensures refused { IfErr result (λ ending. EndsUnopened ending (N.faults net.old) (N.faults net.new)) }
     ensures no_less { N.faults net.old ≤ N.faults net.new }
     ensures closed { N.closed net.new ≡ N.closed net.old }
-    ensures opened { OnOk result ((worker : Worker _ _) × (crew.new.items ≡ crew.old.items ++ worker ∷ [])
+    ensures opened { OnOk result ((worker : Worker _ _ _) × (crew.new.items ≡ crew.old.items ++ worker ∷ [])
         × StandsAt N.Door.given_back N.Door.faults N.Door.kind station worker) }
     ensures few { vec_len crew.new ≤ vec_len crew.old + 1 }
     ensures capacity { vec_capacity crew.old ≤ vec_capacity crew.new }
@@ -98,10 +99,10 @@ fn knock<N: Net>(net: &mut N, kind: DoorKind, times: u32)
 
 /// Closes the doors of the crew, in turn, and hands back what its workers of clients do beside. The list has room for that.
 #[tactic(auto, using(crate::proofs::Closing::closes_none))]
-pub(crate) fn close_doors<N: Net, X: ClientDuty>(
+pub(crate) fn close_doors<N: Net, J: Naming, X: ClientDuty>(
     net: &mut N,
     room: Vec<X>,
-    crew: Vec<Worker<N::Door, X>>,
+    crew: Vec<Worker<J, N::Door, X>>,
 ) -> Vec<X>
     requires empty { room.items ≡ [] }
     requires room { vec_len room + length crew.items ≤ vec_capacity room }
@@ -119,7 +120,11 @@ pub(crate) fn close_doors<N: Net, X: ClientDuty>(
 }
 
 // Closes the door of this worker, and hands back what it does beside serving clients, where it serves them.
-fn close_one<N: Net, X: ClientDuty>(net: &mut N, duties: &mut Vec<X>, worker: Worker<N::Door, X>)
+fn close_one<N: Net, J: Naming, X: ClientDuty>(
+    net: &mut N,
+    duties: &mut Vec<X>,
+    worker: Worker<J, N::Door, X>,
+)
     requires { vec_len duties.old < vec_capacity duties.old }
     ensures no_less { N.faults net.old ≤ N.faults net.new }
     ensures closed { ClosesDoors (N.closed net.old) (door_of worker ∷ []) (N.closed net.new) }

@@ -10,6 +10,7 @@ mod chores;
 mod crews;
 mod doors;
 mod endings;
+mod laws;
 mod musters;
 mod runs;
 mod serving;
@@ -18,4 +19,5 @@ mod watches;
 
 pub use chores::{Chore, NoChore, Turn};
 pub use crews::AGENT_WORKERS;
+pub use laws::each_verdict_is_of_the_one_list;
 pub use runs::{MOST_CLIENT_WORKERS, ServiceRun, run_serve, run_service};

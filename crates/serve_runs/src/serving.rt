@@ -2,6 +2,7 @@
 ghost use Rattle.std.specs.Prelude.{◌≡◌, ◌+◌, ◌<◌, ◌≤◌, ◌∷◌, [], ℕ, length, map, vec_len, vec_capacity, MatchResult, OnErr, OnOk, IfOk};
 ghost use Rattle.std.specs.List.{AllZip};
 ghost use Rattle.desk_keeper.specs.Keeper.{IsSameDisk};
+ghost use Rattle.state_list.specs.Opening.{book_of};
 ghost use Rattle.live_desk.specs.History.{last_commit};
 ghost use Rattle.serve_runs.specs.Crew.{posts, posts_with};
 ghost use Rattle.serve_runs.specs.Serving.{EndsUnopened, ClosesOpened};
@@ -10,20 +11,22 @@ ghost use Rattle.serve_runs.specs.parts.Officiating.{Knocks, Officiates, Staffs}
 
 use crate::beside::beside;
 use crate::chores::Chore;
-use crate::crews::{Station, Worker, lacked_memory, stations_of};
+use crate::crews::{Station, Worker, compare, lacked_memory, stations_of};
 use crate::doors::{close_doors, open, open_doors};
 use crate::endings::{is_alone, lacks_memory};
 use crate::musters::Muster;
 use check_monitor::Alarm;
 use desk_keeper::Keeper;
 use desk_ports::Disk;
+use desk_state::Desk;
 use door_workers::{ClientDuty, Notes, WorkerEnd};
 use link_ports::{Dial, Door, DoorKind, Gate, Link, Net};
-use live_desk::{Publisher, Seat, start};
+use live_desk::{Naming, Opened, Publisher, Seat, start};
 use live_roll::Roll;
 use run_endings::Ending;
 use server_hall::QuestionDesk;
 use std::alloc::Global;
+use std::marker::Brand;
 use std::sync::{Mutex, Wait};
 use std::thread::Threads;
 use std::time::Clock;
@@ -38,7 +41,7 @@ pub(crate) struct Met<X: Drop> {
 }
 
 /// Serves over the folder of the keeper, by a worker of clients for each of these duties, until the service is stopped, and
-/// does the chore in turns meanwhile. What was met, or why nobody was served.
+/// does the chore in turns meanwhile. What was met, or why nobody was served. The list of published states is opened here.
 pub(crate) fn serve_folder<
     R: Threads + Wait + Clock + Sync,
     D: Disk,
@@ -80,7 +83,68 @@ where
     ensures chore { OnOk result ((turns : ℕ) × C.goes chore.old turns chore.new) }
     ensures untouched { OnErr result (chore.new ≡ chore.old) }
 {
-    let Ok((publisher, seats, roll)) = start(rt, alloc, keeper.desk(), workers) else {
+    serve_named::<Brand, R, D, N, G, T, X, C>(
+        rt,
+        alloc,
+        Opened::new(),
+        workers,
+        duties,
+        keeper,
+        net,
+        gate,
+        notes,
+        alarm,
+        chore,
+    )
+}
+
+// The same. The published states are this list, which has no entries yet.
+fn serve_named<
+    J: Naming + Send + Sync,
+    R: Threads + Wait + Clock + Sync,
+    D: Disk,
+    N: Net + Send,
+    G: Gate + Sync,
+    T: Notes + Sync,
+    X: ClientDuty + Send,
+    C: Chore + Send,
+>(
+    rt: &R,
+    alloc: Global,
+    opened: Opened<Desk>,
+    workers: u32,
+    duties: Vec<X>,
+    keeper: &mut Keeper<'_, D>,
+    net: &mut N,
+    gate: &G,
+    notes: &T,
+    alarm: &Alarm,
+    chore: &mut C,
+) -> Result<Met<X>, Ending>
+where
+    N::Door: Send,
+    <N::Door as Door>::Link: Send,
+    <<N::Door as Door>::Link as Link>::End: Send,
+    <N as Dial>::Link: Send,
+    <<N as Dial>::Link as Link>::End: Send,
+    requires list { book_of opened ≡ J.book }
+    requires some { 0 < workers }
+    requires most { workers ≤ 64 }
+    requires duties { length duties.items ≡ workers }
+    ensures served { MatchResult result
+        (λ met. Staffs D.faults D.state D.moment D.left_since N.Door.Link.traffic N.Door.Link.marks N.Door.Link.faults
+        N.Door.given_back N.Door.faults N.Door.kind (posts workers) met.lacked_memory met.alone
+        keeper.old keeper.new (N.faults net.old) (N.faults net.new) (N.closed net.old) (N.closed net.new))
+        (λ ending. EndsUnopened ending (N.faults net.old) (N.faults net.new)) }
+    ensures closed { OnErr result (ClosesOpened N.Door.kind (N.closed net.old) (N.closed net.new)) }
+    ensures kept { OnErr result (keeper.new ≡ keeper.old) }
+    ensures same_disk { IsSameDisk keeper.old keeper.new }
+    ensures duties { IfOk result (λ met. AllZip X.goes duties.items met.duties.items) }
+    ensures chore { OnOk result ((turns : ℕ) × C.goes chore.old turns chore.new) }
+    ensures untouched { OnErr result (chore.new ≡ chore.old) }
+{
+    let Ok((publisher, seats, roll)) = start::<J, _, R>(rt, alloc, opened, keeper.desk(), workers)
+    else {
         return Err(Ending::Memory);
     };
     let mut publisher = publisher;
@@ -106,6 +170,7 @@ where
 // The same, with the seats and the roll of a state that was just published.
 fn staff<
     R: Threads + Wait + Clock + Sync,
+    J: Naming + Send + Sync,
     D: Disk,
     N: Net + Send,
     G: Gate + Sync,
@@ -117,8 +182,8 @@ fn staff<
     alloc: Global,
     clients: u32,
     keeper: &mut Keeper<'_, D>,
-    publisher: &mut Publisher,
-    seats: Vec<Seat>,
+    publisher: &mut Publisher<J>,
+    seats: Vec<Seat<J>>,
     duties: Vec<X>,
     roll: Roll<<<N::Door as Door>::Link as Link>::End>,
     net: &mut N,
@@ -165,6 +230,7 @@ where
 // Opens the doors, serves, and closes them. The list of the crew, and that of what its workers of clients do beside, have room.
 fn open_and_serve<
     R: Threads + Wait + Clock + Sync,
+    J: Naming + Send + Sync,
     D: Disk,
     N: Net + Send,
     G: Gate + Sync,
@@ -176,9 +242,9 @@ fn open_and_serve<
     alloc: Global,
     clients: u32,
     keeper: &mut Keeper<'_, D>,
-    publisher: &mut Publisher,
-    stations: Vec<Station<X>>,
-    crew: Vec<Worker<N::Door, X>>,
+    publisher: &mut Publisher<J>,
+    stations: Vec<Station<J, X>>,
+    crew: Vec<Worker<J, N::Door, X>>,
     room: Vec<X>,
     roll: Roll<<<N::Door as Door>::Link as Link>::End>,
     net: &mut N,
@@ -224,6 +290,7 @@ where
         rt, alloc, clients, keeper, publisher, &mut crew, roll, net, &mut door, gate, notes, alarm,
         chore,
     );
+    compare(rt, publisher, &crew);
     net.close(door);
     let lacked = lacked_memory(&crew);
     Ok(Met {
@@ -236,6 +303,7 @@ where
 // Serves at open doors: the crew on threads, and the administrators on this one. How their worker ended.
 fn serve<
     R: Threads + Wait + Clock + Sync,
+    J: Naming + Send + Sync,
     D: Disk,
     E: Door + Send,
     N: Net + Send,
@@ -248,8 +316,8 @@ fn serve<
     alloc: Global,
     clients: u32,
     keeper: &mut Keeper<'_, D>,
-    publisher: &mut Publisher,
-    crew: &mut [Worker<E, X>],
+    publisher: &mut Publisher<J>,
+    crew: &mut [Worker<J, E, X>],
     roll: Roll<<E::Link as Link>::End>,
     net: &mut N,
     door: &mut E,
@@ -277,7 +345,7 @@ where
     let roll = Mutex::new(roll);
     let questions = QuestionDesk::new(alloc);
     let muster = Muster::new(clients);
-    let each = |_: usize, worker: &mut Worker<E, X>|
+    let each = |_: usize, worker: &mut Worker<J, E, X>|
         ensures { HasWorked E.Link.traffic E.Link.marks E.Link.faults E.given_back E.faults X.goes E.kind
             worker.entry.now worker.exit.now }
     { worker.work(rt, alloc, &roll, &questions, &muster, alarm, gate, notes) };

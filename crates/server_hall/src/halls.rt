@@ -13,7 +13,7 @@ use crate::{AskRefusal, NextRefusal};
 use agent_table::{AnswerRefusal, Asked, RegisterRefusal, Taken};
 use cynara_keys::{Kind, Metadata, Question};
 use link_ports::{HangEnd, Link};
-use live_desk::{Publisher, Seat};
+use live_desk::{Naming, Publisher, Seat};
 use live_roll::{Left, Stopped};
 
 /// What all connections of a service share: the roll of the connections that a commit has to hang up, and the questions to
@@ -32,7 +32,7 @@ pub trait Hall {
     /// A connection enters, in the place of the seat. The seat is told the commit at which it enters, which is answered:
     /// each commit that was acknowledged before is no higher. Refuses `Stopped`; the end is then dropped, and the seat is as
     /// before.
-    fn enter(&mut self, end: Self::End, seat: &mut Seat) -> Result<u64, Stopped>
+    fn enter<J: Naming>(&mut self, end: Self::End, seat: &mut Seat<J>) -> Result<u64, Stopped>
         requires { Self.End.used end ≡ false }
         ensures tally { tally self.new ≡ after_enter result (tally self.old) }
         ensures calls { calls self.new ≡ calls self.old }
@@ -48,7 +48,7 @@ pub trait Hall {
         ensures raised { IsRaised entered result };
 
     /// Hangs up each connection that entered before the last commit of the publisher.
-    fn hang(&mut self, publisher: &Publisher)
+    fn hang<J: Naming>(&mut self, publisher: &Publisher<J>)
         ensures tally { tally self.new ≡ after_hang (last_commit 0 publisher.now) (tally self.old) }
         ensures calls { calls self.new ≡ calls self.old };
 

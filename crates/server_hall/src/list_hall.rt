@@ -18,7 +18,7 @@ use crate::{AskRefusal, Hall, NextRefusal};
 use agent_table::{AnswerRefusal, Asked, PutRefusal, RegisterRefusal, Taken};
 use cynara_keys::{Kind, Metadata, Question};
 use link_ports::{HangEnd, Link};
-use live_desk::{Publisher, Seat};
+use live_desk::{Naming, Publisher, Seat};
 use live_roll::{Left, Roll, Stopped};
 use std::alloc::{AllocError, Global};
 use std::marker::Model;
@@ -280,7 +280,7 @@ impl<H: HangEnd> Hall for ListHall<H> {
 
     ghost calls = { λ hall. hall.calls };
 
-    fn enter(&mut self, end: H, seat: &mut Seat) -> Result<u64, Stopped>
+    fn enter<J: Naming>(&mut self, end: H, seat: &mut Seat<J>) -> Result<u64, Stopped>
         requires { H.used end ≡ false }
         ensures tally { self.new.tally ≡ after_enter result self.old.tally }
         ensures calls { self.new.calls ≡ self.old.calls }
@@ -313,7 +313,7 @@ impl<H: HangEnd> Hall for ListHall<H> {
         left
     }
 
-    fn hang(&mut self, publisher: &Publisher)
+    fn hang<J: Naming>(&mut self, publisher: &Publisher<J>)
         ensures tally { self.new.tally ≡ after_hang (last_commit 0 publisher.now) self.old.tally }
         ensures calls { self.new.calls ≡ self.old.calls }
 

@@ -8,7 +8,7 @@ use crate::{AskRefusal, Hall, NextRefusal};
 use agent_table::{AnswerRefusal, Asked, Questions, RegisterRefusal, Taken};
 use cynara_keys::{Kind, Metadata, Question};
 use link_ports::{HangEnd, Link};
-use live_desk::{Publisher, Seat};
+use live_desk::{Naming, Publisher, Seat};
 use live_roll::{Left, Roll, Stopped};
 use std::alloc::Global;
 use std::snapshot::Snapshot;
@@ -75,7 +75,7 @@ impl<'a, R: Wait + Clock + Drop, H: HangEnd> Hall for Locked<'a, R, H> {
 
     ghost calls = { λ hall. None };
 
-    fn enter(&mut self, end: H, seat: &mut Seat) -> Result<u64, Stopped> {
+    fn enter<J: Naming>(&mut self, end: H, seat: &mut Seat<J>) -> Result<u64, Stopped> {
         let mut roll = self.roll.lock(&self.rt);
         let call = enter_roll(&mut *roll, end, seat);
         drop(roll);
@@ -93,7 +93,7 @@ impl<'a, R: Wait + Clock + Drop, H: HangEnd> Hall for Locked<'a, R, H> {
         left
     }
 
-    fn hang(&mut self, publisher: &Publisher) {
+    fn hang<J: Naming>(&mut self, publisher: &Publisher<J>) {
         let mut roll = self.roll.lock(&self.rt);
         let call = hang_roll(&mut *roll, publisher);
         drop(roll);

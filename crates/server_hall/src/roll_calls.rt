@@ -7,7 +7,7 @@ ghost use Rattle.live_desk.specs.Seat.{with_note};
 ghost use Rattle.server_hall.specs.Tally.{IsRaised};
 
 use link_ports::HangEnd;
-use live_desk::{Publisher, Seat};
+use live_desk::{Naming, Publisher, Seat};
 use live_roll::{Left, Roll, Stopped};
 use std::marker::Model;
 
@@ -90,7 +90,11 @@ impl HangCall {
 }
 
 /// A connection enters, as `Roll::enter` says, or is refused, and its end is dropped. The call is handed out, for a hall to count.
-pub fn enter_roll<H: HangEnd>(roll: &mut Roll<H>, end: H, seat: &mut Seat) -> EnterCall
+pub fn enter_roll<H: HangEnd, J: Naming>(
+    roll: &mut Roll<H>,
+    end: H,
+    seat: &mut Seat<J>,
+) -> EnterCall
     ensures open { OnOk result (roll.old.is_stopped ≡ false) }
     ensures refused { OnErr result (IsTrue roll.old.is_stopped) }
     ensures note { IfOk result (λ note. note ≡ roll.old.note) }
@@ -128,7 +132,7 @@ pub fn leave_roll<H: HangEnd>(roll: &mut Roll<H>, seat: u32, entered: u64) -> Le
 
 /// All connections that entered before the last commit of the publisher are hung up, as `Roll::hang_all` says. The call is
 /// handed out, for a hall to note.
-pub fn hang_roll<H: HangEnd>(roll: &mut Roll<H>, publisher: &Publisher) -> HangCall
+pub fn hang_roll<H: HangEnd, J: Naming>(roll: &mut Roll<H>, publisher: &Publisher<J>) -> HangCall
     ensures commit { result ≡ last_commit 0 publisher.now }
     ensures hung { HangsTo H.used (last_commit 0 publisher.now) roll.old roll.new }
 {

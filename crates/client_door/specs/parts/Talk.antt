@@ -22,12 +22,12 @@ use Rattle.client_door.specs.Recording.{Recording, with_none_waiting, judged_in}
 use Rattle.client_door.specs.Serving.{ClientSide, Talks}
 use Rattle.client_door.specs.declared.checks.Check.{Check}
 
--- Since nothing waited these judged checks were recorded, and those wait until their replies are sent.
+-- Since nothing waited these decided checks were recorded, and those wait until their replies are sent.
 abbrev pub IsKept : Option Recording → List Judgement → List Judgement → Option Recording → Type 0
 IsKept before recorded waiting after = (old : List Judgement) → before ≡ Some (with_none_waiting old)
     → after ≡ Some (record { recorded = old ++ recorded; waiting = waiting })
 
--- what a reply judges, if it does, was noted behind what waits
+-- what a reply decides, if it does, was noted behind what waits
 abbrev pub Notes : Option Recording → List Judgement → Option Recording → Type 0
 Notes before judged after =
     ChangesTold before (λ (recording : Recording). record recording { waiting = recording.waiting ++ judged }) after

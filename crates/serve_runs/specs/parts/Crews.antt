@@ -8,6 +8,8 @@ use Rattle.link_ports.specs.Told.{IfTold}
 use Rattle.link_ports.specs.Traffic.{Traffic}
 use Rattle.link_ports.specs.LinkMarks.{LinkMarks}
 use Rattle.link_ports.specs.declared.door_kinds.DoorKind.{DoorKind}
+use Rattle.desk_state.specs.DeskState.{DeskState}
+use Rattle.live_desk.specs.History.{GoesOn}
 use Rattle.live_desk.specs.Seat.{SeatState}
 use Rattle.server_hall.specs.StopNews.{StopsTold, unasked}
 use Rattle.door_workers.specs.Visit.{Works, EndsWorking}
@@ -23,22 +25,22 @@ use Rattle.serve_runs.specs.declared.crews.Worker.{Worker}
 -- ---- stations
 
 -- what is done there beside serving
-abbrev pub duty_at : {X : Type 0} → Station X → Option X
+abbrev pub duty_at : {J X : Type 0} → Station J X → Option X
 duty_at (Clients seat duty) = Some duty
 duty_at Agents = None
 
-abbrev pub post_at : {X : Type 0} → Station X → Option SeatState
+abbrev pub post_at : {J X : Type 0} → Station J X → Option SeatState
 post_at (Clients seat duty) = Some seat
 post_at Agents = None
 
 -- a station for each seat, with the duty of the same place
-abbrev pub manned : {X : Type 0} → List SeatState → List X → List (Station X)
+abbrev pub manned : {J X : Type 0} → List SeatState → List X → List (Station J X)
 manned seats [] = []
 manned [] (duty ∷ duties) = []
 manned (seat ∷ seats) (duty ∷ duties) = Clients seat duty ∷ manned seats duties
 
 -- those, and then nine for agents
-abbrev pub stations_with : {X : Type 0} → List SeatState → List X → List (Station X)
+abbrev pub stations_with : {J X : Type 0} → List SeatState → List X → List (Station J X)
 stations_with seats duties = manned seats duties ++ replicate 9 Agents
 
 -- ---- duties
@@ -49,16 +51,16 @@ duties_in [] = []
 duties_in (None ∷ more) = duties_in more
 duties_in (Some duty ∷ more) = duty ∷ duties_in more
 
-abbrev pub duty_of : {E X : Type 0} → Worker E X → Option X
+abbrev pub duty_of : {J E X : Type 0} → Worker J E X → Option X
 duty_of worker = duty_at worker.station
 
 -- of the workers of clients, in their order
-abbrev pub duties_of : {E X : Type 0} → List (Worker E X) → List X
+abbrev pub duties_of : {J E X : Type 0} → List (Worker J E X) → List X
 duties_of crew = duties_in (map duty_of crew)
 
 -- ---- workers
 
-abbrev pub door_of : {E X : Type 0} → Worker E X → E
+abbrev pub door_of : {J E X : Type 0} → Worker J E X → E
 door_of worker = worker.door
 
 -- an `accept` of the worker found no memory, or it had no thread
@@ -66,25 +68,34 @@ abbrev pub lacked : Option WorkerEnd → Bool
 lacked (Some end) = is_lacking end
 lacked None = false
 
-abbrev pub worker_lacked : {E X : Type 0} → Worker E X → Bool
+abbrev pub worker_lacked : {J E X : Type 0} → Worker J E X → Bool
 worker_lacked worker = lacked worker.end
+
+-- what the seat has seen, where there is one, begins the states that were published
+abbrev pub HasSeenOf : List DeskState → Option SeatState → Type 0
+HasSeenOf published (Some seat) = GoesOn seat.seen published
+HasSeenOf published None = Unit {0}
+
+-- what the worker's seat has seen
+abbrev pub SawOnly : {J E X : Type 0} → List DeskState → Worker J E X → Type 0
+SawOnly published worker = HasSeenOf published (post_at worker.station)
 
 -- A door whose `accept` has failed raises the count of its net when it is closed.
 abbrev pub CountsDoor : ℕ → ℕ → ℕ → Type 0
 CountsDoor door_faults before after = door_faults ≡ next_count 0 → HasRisen before after
 
 -- a worker of this station stands at a door that was just opened for it
-pub record StandsAt {L E X : Type 0} (given_back : E → Option (List L)) (door_faults : E → ℕ) (kind : E → Option DoorKind)
-    (station : Station X) (worker : Worker E X) : Type 0 where
+pub record StandsAt {L J E X : Type 0} (given_back : E → Option (List L)) (door_faults : E → ℕ) (kind : E → Option DoorKind)
+    (station : Station J X) (worker : Worker J E X) : Type 0 where
   pub station_is : worker.station ≡ station
   pub fresh : door_faults worker.door ≡ 0
   pub unused : IfTold (given_back worker.door) (λ links. links ≡ [])
   pub is_theirs : kind worker.door ≡ Some (kind_for (post_at station))
 
-module _ {L E X : Type 0} (traffic : L → Option Traffic) (marks : L → LinkMarks) (faults : L → ℕ)
+module _ {L J E X : Type 0} (traffic : L → Option Traffic) (marks : L → LinkMarks) (faults : L → ℕ)
     (given_back : E → Option (List L)) (door_faults : E → ℕ) (goes : X → X → Type 0) where
   -- what a worker did at its station and its door, and what has become of its duty
-  abbrev pub WorksAt : WorkerEnd → Station X → Station X → E → E → StopsTold → StopsTold → Type 0
+  abbrev pub WorksAt : WorkerEnd → Station J X → Station J X → E → E → StopsTold → StopsTold → Type 0
   WorksAt end (Clients seat duty) (Clients seat_now duty_now) door door_now told told_now =
       Works (VisitsClients traffic marks faults) (EndsWorking told told_now) marks faults end seat seat_now
       (given_back door) (given_back door_now) (door_faults door) (door_faults door_now)
@@ -96,7 +107,7 @@ module _ {L E X : Type 0} (traffic : L → Option Traffic) (marks : L → LinkMa
   WorksAt end Agents (Clients seat duty) door door_now told told_now = ⊥
 
   -- a worker has ended: how, and what it did until then
-  pub record HasWorked (kind : E → Option DoorKind) (worker worker_now : Worker E X) : Type 0 where
+  pub record HasWorked (kind : E → Option DoorKind) (worker worker_now : Worker J E X) : Type 0 where
     pub end : WorkerEnd
     pub ended : worker_now.end ≡ Some end
     pub told : StopsTold

@@ -63,7 +63,7 @@ pub record Staffs {D L E : Type 0} (disk_faults : D → ℕ) (state : D → Opti
       given (given_back door) 0 (door_faults door)
   pub runs : RunsOver state moment left_since keeper keeper_now frames
   pub crew : List (EndedWorker E)
-  pub serves : AllZip (Serves traffic marks faults given_back door_faults kind) posts crew
+  pub serves : AllZip (Serves traffic marks faults given_back door_faults kind published) posts crew
   pub doors : ClosesDoors closed (door ∷ doors_of crew) closed_now
   pub memory : lacked ≡ lacks_memory (end ∷ ends_of crew)
   pub deserted : alone ≡ is_deserted (end ∷ ends_of crew)

@@ -1,5 +1,5 @@
 use denote.Param.Send.{sendable}
-use Rattle.live_desk.proofs.Sent.{seat_row_send}
+use Rattle.cases_live.proofs.Sent.{seat_row_send}
 use Rattle.cases_live.proofs.readers.over_desk.Goals as goal
 
 pub by_four-told-requires-send-W : goal.by_four-told-requires-send-W

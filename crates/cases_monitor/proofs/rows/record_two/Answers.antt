@@ -9,9 +9,9 @@ pub returns : goal.returns
 returns g c =
     let others : List RecorderState = c.pop.new.self.items in
     let before : c.args.recorders.now.items ≡ others ++ c.in_ok-recorder.recorder ∷ [] = search rules in
-    let after : c.push.new.self.items ≡ others ++ c.record_decision-2.new.self ∷ [] = search rules in
+    let after : c.push.new.self.items ≡ others ++ c.record_denied.new.recorder ∷ [] = search rules in
     subst (λ (list : List RecorderState). AllZip IsSame list c.push.new.self.items) (sym before)
     (subst (λ (list : List RecorderState). AllZip IsSame (others ++ c.in_ok-recorder.recorder ∷ []) list) (sym after)
-    (push_same others others c.in_ok-recorder.recorder c.record_decision-2.new.self (same_itself others)
-    (chain c.in_ok-recorder.recorder c.record_decision.new.self c.record_decision-2.new.self c.record_decision.ensures.same
-    c.record_decision-2.ensures.same)))
+    (push_same others others c.in_ok-recorder.recorder c.record_denied.new.recorder (same_itself others)
+    (chain c.in_ok-recorder.recorder c.allow_by_agent.new.recorder c.record_denied.new.recorder c.allow_by_agent.ensures
+    c.record_denied.ensures)))

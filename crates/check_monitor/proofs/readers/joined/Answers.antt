@@ -1,4 +1,4 @@
-use Rattle.std.proofs.Common.{rules, ap, ◌∙◌}
+use Rattle.std.proofs.Common.{ap, ◌∙◌}
 use Rattle.monitor_rule.specs.declared.knowing.View.{View}
 use Rattle.monitor_rule.proofs.Steps.{joins}
 use Rattle.check_monitor.proofs.readers.joined.Goals as goal

@@ -1,6 +1,6 @@
-use Rattle.std.proofs.Common.{◌≡◌, true}
+use Rattle.std.proofs.Common.{◌≡◌}
 use Rattle.crossbeam_queue.specs.Passes.{view, IsPassOf}
-use Rattle.check_monitor.specs.Monitor.{AreOf, with_joined_all}
+use Rattle.check_monitor.specs.Monitor.{with_joined_all}
 use Rattle.check_monitor.proofs.readers.joined.Given as goal
 
 -- the recorders so far were taken in

@@ -1,4 +1,4 @@
-use Rattle.std.proofs.Common.{rules, ◌≡◌, ◌∙◌, List, [], Option, Some, refl, sym, ap, subst}
+use Rattle.std.proofs.Common.{rules, List, [], Option, Some, refl, sym, ap, subst}
 use Rattle.check_monitor.specs.Monitor.{RecorderState}
 use Rattle.client_door.specs.Recording.{Recording, with_none_waiting}
 use Rattle.client_door.specs.Serving.{Serves, recorded_side}

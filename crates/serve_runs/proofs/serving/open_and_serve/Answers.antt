@@ -8,7 +8,7 @@ use Rattle.door_workers.specs.Visit.{Works}
 use Rattle.door_workers.specs.Administrators.{VisitsOffice, EndsOffice, office_of}
 use Rattle.serve_runs.specs.Crew.{doors_of, ends_of, is_lacking, is_alone, is_deserted}
 use Rattle.serve_runs.specs.Serving.{ClosesDoors}
-use Rattle.serve_runs.specs.parts.Crews.{duty_at, post_at, duties_in, duties_of, door_of, worker_lacked, CountsDoor}
+use Rattle.serve_runs.specs.parts.Crews.{duty_at, post_at, duties_in, duties_of, door_of, worker_lacked, CountsDoor, SawOnly}
 use Rattle.serve_runs.proofs.Closing.{closes_then, closes_again, door_failed, counts_within}
 use Rattle.serve_runs.proofs.Crewing.{all_ended, failed_all, none_alone, alone_first}
 use Rattle.serve_runs.proofs.serving.open_and_serve.Goals as goal
@@ -43,9 +43,11 @@ returns-clause-served g c =
     omega (arith, c.open.ensures.no_less, c.open_doors.ensures.no_less, c.serve-end.ensures.knocks.no_less) in
     let now = c.serve-end.new.crew in
     let written = with_items_is c.open_doors.new.crew now (search (rules, places)) in
+    let saw : AllByRecursion (SawOnly c.serve-end.new.publisher) now =
+    subst (λ list. AllByRecursion (SawOnly c.serve-end.new.publisher) list) (c.deref.ensures.value ∙ written) c.compare.ensures in
     let ended = all_ended g.N.Door.Link.Link.traffic g.N.Door.Link.Link.marks g.N.Door.Link.Link.faults g.N.Door.Door.given_back
-    g.N.Door.Door.faults g.N.Door.Door.kind g.X.ClientDuty.goes c.args.stations.items c.deref_mut.result.now now
-    (rw c.deref_mut.ensures.value c.in_default.ensures.opened) c.serve-end.ensures.workers in
+    g.N.Door.Door.faults g.N.Door.Door.kind g.X.ClientDuty.goes c.serve-end.new.publisher c.args.stations.items c.deref_mut.result.now now
+    (rw c.deref_mut.ensures.value c.in_default.ensures.opened) c.serve-end.ensures.workers saw in
     let doors = ap (λ list. map door_of list) written ∙ sym ended.doors in
     record {
       end = c.serve-end.result;
@@ -70,17 +72,17 @@ returns-clause-served g c =
           c.lacks_memory.ensures
           ∙ ap (λ lacked. is_lacking c.serve-end.result || lacked)
           (c.lacked_memory-lacked.ensures
-          ∙ (ap (λ list. list_any worker_lacked list) (c.deref.ensures.value ∙ written) ∙ sym ended.lacks));
+          ∙ (ap (λ list. list_any worker_lacked list) (c.deref-2.ensures.value ∙ written) ∙ sym ended.lacks));
       deserted = alone_first _ (is_alone c.serve-end.result) (is_deserted (ends_of ended.crew)) c.is_alone.ensures
           (none_alone g.N.Door.Link.Link.traffic g.N.Door.Link.Link.marks g.N.Door.Link.Link.faults g.N.Door.Door.given_back
-          g.N.Door.Door.faults g.N.Door.Door.kind (g.N.Dial.faults c.args.net.now) (g.N.Dial.faults c.close_doors-2.new.net)
+          g.N.Door.Door.faults g.N.Door.Door.kind c.serve-end.new.publisher (g.N.Dial.faults c.args.net.now) (g.N.Dial.faults c.close_doors-2.new.net)
           (map post_at c.args.stations.items) ended.crew ended.serves);
       failed = (
         door_failed c.serve-end.result (g.N.Door.Door.faults c.serve-end.new.door) (g.N.Dial.faults c.args.net.now)
             (g.N.Dial.faults c.serve-end.new.net) (g.N.Dial.faults c.close-2.new.self) (g.N.Dial.faults c.close_doors-2.new.net)
             no_less works.counted c.close-2.ensures.count c.close_doors-2.ensures.no_less,
         failed_all g.N.Door.Link.Link.traffic g.N.Door.Link.Link.marks g.N.Door.Link.Link.faults g.N.Door.Door.given_back
-            g.N.Door.Door.faults g.N.Door.Door.kind (g.N.Dial.faults c.args.net.now) (g.N.Dial.faults c.close_doors-2.new.net)
+            g.N.Door.Door.faults g.N.Door.Door.kind c.serve-end.new.publisher (g.N.Dial.faults c.args.net.now) (g.N.Dial.faults c.close_doors-2.new.net)
             (map post_at c.args.stations.items) ended.crew ended.serves
             (counts_within g.N.Door.Door.faults (doors_of ended.crew) (g.N.Dial.faults c.args.net.now) (g.N.Dial.faults c.close-2.new.self)
             (g.N.Dial.faults c.close_doors-2.new.net) (g.N.Dial.faults c.close_doors-2.new.net)
@@ -94,8 +96,10 @@ pub returns-clause-duties : goal.returns-clause-duties
 returns-clause-duties g c =
     let now = c.serve-end.new.crew in
     let written = with_items_is c.open_doors.new.crew now (search (rules, places)) in
+    let saw : AllByRecursion (SawOnly c.serve-end.new.publisher) now =
+    subst (λ list. AllByRecursion (SawOnly c.serve-end.new.publisher) list) (c.deref.ensures.value ∙ written) c.compare.ensures in
     let ended = all_ended g.N.Door.Link.Link.traffic g.N.Door.Link.Link.marks g.N.Door.Link.Link.faults g.N.Door.Door.given_back
-    g.N.Door.Door.faults g.N.Door.Door.kind g.X.ClientDuty.goes c.args.stations.items c.deref_mut.result.now now
-    (rw c.deref_mut.ensures.value c.in_default.ensures.opened) c.serve-end.ensures.workers in
+    g.N.Door.Door.faults g.N.Door.Door.kind g.X.ClientDuty.goes c.serve-end.new.publisher c.args.stations.items c.deref_mut.result.now now
+    (rw c.deref_mut.ensures.value c.in_default.ensures.opened) c.serve-end.ensures.workers saw in
     subst (λ list. AllZip g.X.ClientDuty.goes (duties_in (map duty_at c.args.stations.items)) list)
     (sym (c.close_doors-2.ensures.duties ∙ ap (λ list. duties_of list) written)) ended.duties

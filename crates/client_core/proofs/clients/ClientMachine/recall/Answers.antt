@@ -13,4 +13,4 @@ returns c =
     let now : does.is_ready c.args.self.now ≡ true = search rules in
     let ready = subst (λ (k : Client). does.is_ready k ≡ true) (sym c.self.view_is) now in
     subst (λ (old : Client). does.Recalls c.recall.result c.args.text.now old new) c.self.view_is
-    (recalls c.args.text.now of c.recall.new.self ready c.recall.result c.recall.ensures)
+    (recalls of c.recall.new.self ready c.args.text.now c.recall.result c.recall.ensures)

@@ -1,13 +1,15 @@
-use Rattle.std.proofs.Common.{[], ◌∷◌, refl, sym, ap, subst}
+use Rattle.std.proofs.Common.{[], ◌∷◌, Option, refl, sym, ap, subst}
 use Rattle.link_ports.specs.LinkMarks.{LinkMarks}
 use Rattle.wire_messages.specs.Stream.{Feeding}
+use Rattle.client_door.specs.Reading.{cause_at}
+use Rattle.client_door.specs.Recording.{Recording}
 use Rattle.client_door.specs.Serving.{recorded_side}
 use Rattle.client_door.specs.parts.Talk.{Stands}
 use Rattle.client_door.proofs.Ending.{ends_for_fault, sends_and_asks, sends_and_asks_for_nothing, sends_and_asks_in_vain}
 use Rattle.client_door.proofs.talking.Talk.answer_by_agent.Goals as goal
 
 pub returns-in-Err-clause-talk : goal.returns-in-Err-clause-talk
-returns-in-Err-clause-talk g c reader desk now_read is since before fits = (
+returns-in-Err-clause-talk g c reader desk now_read is tells since before fits = (
   before,
   subst (λ recorder. g.M.Records.fits recorder since before) (sym c.in-Err.ensures.unrecorded) fits,
   λ start s. ends_for_fault start
@@ -20,33 +22,36 @@ returns-in-Err-clause-talk g c reader desk now_read is since before fits = (
 )
 
 pub returns-in-Ok-tell-clause-talk : goal.returns-in-Ok-tell-clause-talk
-returns-in-Ok-tell-clause-talk g c reader desk now_read is since before fits =
-    let told = c.in_default.ensures.recorded since before fits in (
-      told.0,
-      told.1,
+returns-in-Ok-tell-clause-talk g c reader desk now_read is tells since before fits =
+    let told = c.in_default.ensures.recorded since before fits in
+    let noted = c.in-Ok-tell.ensures.noted (cause_at desk c.args.check.now.question) tells since told.0 told.1 in (
+      noted.0,
+      noted.1,
       λ start s. subst (λ (feeder : Feeding). Stands start
           (recorded_side reader (g.A.Hall.tally c.ask_agent.new.hall) (g.A.Hall.calls c.ask_agent.new.hall)
           (g.L.Link.traffic c.ask_agent.new.link) (g.L.Link.marks c.ask_agent.new.link)
-          (g.L.Link.faults c.ask_agent.new.link) told.0) feeder c.tell.new.self.outbox []) (sym c.tell.ensures.feeder)
+          (g.L.Link.faults c.ask_agent.new.link) noted.0) feeder c.tell.new.self.outbox []) (sym c.tell.ensures.feeder)
           (sends_and_asks
           (recorded_side reader (g.A.Hall.tally c.args.hall.now) (g.A.Hall.calls c.args.hall.now) (g.L.Link.traffic c.args.link.now)
           (g.L.Link.marks c.args.link.now)
           (g.L.Link.faults c.args.link.now) before)
-          (g.L.Link.traffic c.flush.new.link) (g.L.Link.marks c.flush.new.link) (g.L.Link.faults c.flush.new.link) told.0
+          (g.L.Link.traffic c.flush.new.link) (g.L.Link.marks c.flush.new.link) (g.L.Link.faults c.flush.new.link) told.0 noted.0
           (g.A.Hall.tally c.ask_agent.new.hall) (g.A.Hall.calls c.ask_agent.new.hall)
           (g.L.Link.traffic c.ask_agent.new.link) (g.L.Link.marks c.ask_agent.new.link) (g.L.Link.faults c.ask_agent.new.link)
           c.args.self.now.feeder c.args.self.now.outbox c.flush.new.self [] c.tell.new.self.outbox c.args.check.now desk c.args.commit
           c.args.kind c.args.metadata
           c.in-Ok.reply c.in_default.ensures.sent c.flush.ensures.marks c.in_default.ensures.faults told.2 c.in_default.ensures.empty
           now_read is
-          c.in-Ok.ensures.asked c.ask_agent.ensures.kept c.in-Ok.ensures.link.0 c.in-Ok.ensures.link.1 c.in-Ok-tell.ensures.put start s),
+          c.in-Ok.ensures.asked c.ask_agent.ensures.kept c.in-Ok.ensures.link.0 c.in-Ok.ensures.link.1 noted.2 c.in-Ok-tell.ensures.put
+          start s),
     )
 
 pub returns-in-Err-tell-clause-talk : goal.returns-in-Err-tell-clause-talk
-returns-in-Err-tell-clause-talk g c reader desk now_read is since before fits =
-    let told = c.in_default.ensures.recorded since before fits in (
+returns-in-Err-tell-clause-talk g c reader desk now_read is tells since before fits =
+    let told = c.in_default.ensures.recorded since before fits in
+    let kept = c.in-Err-tell.ensures.kept since told.0 told.1 in (
       told.0,
-      told.1,
+      subst (λ (recording : Option Recording). g.M.Records.fits c.tell.new.recorder since recording) kept.2 kept.1,
       λ start s. sends_and_asks_for_nothing
           (recorded_side reader (g.A.Hall.tally c.args.hall.now) (g.A.Hall.calls c.args.hall.now) (g.L.Link.traffic c.args.link.now)
           (g.L.Link.marks c.args.link.now)
@@ -56,13 +61,13 @@ returns-in-Err-tell-clause-talk g c reader desk now_read is since before fits =
           (g.L.Link.traffic c.ask_agent.new.link) (g.L.Link.marks c.ask_agent.new.link) (g.L.Link.faults c.ask_agent.new.link)
           c.args.self.now.feeder c.args.self.now.outbox c.args.check.now desk c.args.commit c.args.kind c.args.metadata
           c.in-Ok.reply c.in-Err-tell.ended c.in_default.ensures.sent c.flush.ensures.marks c.in_default.ensures.faults told.2
-          c.in-Err-tell.ensures.put.0
+          c.in-Err-tell.ensures.ended
           c.requires.side now_read is c.in-Ok.ensures.asked c.ask_agent.ensures.kept c.in-Ok.ensures.link.0 c.in-Ok.ensures.link.1
           start s,
     )
 
 pub returns-in-Err-ask_agent-clause-talk : goal.returns-in-Err-ask_agent-clause-talk
-returns-in-Err-ask_agent-clause-talk g c reader desk now_read is since before fits =
+returns-in-Err-ask_agent-clause-talk g c reader desk now_read is tells since before fits =
     let told = c.in_default.ensures.recorded since before fits in (
       told.0,
       told.1,

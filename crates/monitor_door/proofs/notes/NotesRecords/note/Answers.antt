@@ -1,14 +1,17 @@
-use Rattle.std.proofs.Common.{List, refl, sym, subst}
+use Rattle.std.proofs.Common.{◌∙◌, List, [], ◌∷◌, ◌++◌, refl, sym, ap, subst}
+use Rattle.bucket_eval.specs.declared.answers.Cause.{Cause}
 use Rattle.client_door.specs.declared.judgements.Judgement.{Judgement}
 use Rattle.monitor_door.specs.Monitoring.{HasRecorded}
 use Rattle.monitor_door.proofs.Recordings.{notes_next}
 use Rattle.monitor_door.proofs.notes.NotesRecords.note.Goals as goal
 
 pub returns-in-Ok : goal.returns-in-Ok
-returns-in-Ok g c since before fits =
+returns-in-Ok g c cause is since before fits =
     let told = notes_next since.recorder.now c.args.self.now.recorder.now c.args.self.now.noted.items c.push.new.noted.items
-    (record { question = c.args.question.now; commit = c.args.commit; allowed = c.args.allowed })
-    before c.in-Ok.ensures.pushed fits.1 in
+    (record { question = c.args.question.now; decision = c.args.decision; cause = cause })
+    before
+    (c.in-Ok.ensures.pushed ∙ ap (λ (one : Cause). c.args.self.now.noted.items
+    ++ record { question = c.args.question.now; decision = c.args.decision; cause = one } ∷ []) is) fits.1 in
     (told.0, (fits.0, told.1), told.2)
 
 pub returns-in-Err : goal.returns-in-Err

@@ -1,0 +1,4 @@
+pub mod Told
+pub mod Joining
+pub mod State
+pub mod Settling

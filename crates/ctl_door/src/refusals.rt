@@ -1,0 +1,52 @@
+// Why a service told nothing.
+
+use admin_client::AdminRefusal;
+use client_connection::{Broken, ReplyFault};
+use desk_ports::FileName;
+use std::alloc::AllocError;
+use thiserror::Error;
+use wire_messages::WireRefusal;
+
+/// Why a service told nothing.
+#[derive(Debug, Drop, Error)]
+pub enum DoorRefusal {
+    /// The dial failed, or the link before the answer was whole.
+    #[error("the service cannot be reached, or did not answer in time")]
+    Unavailable,
+    /// What came is no answer to what was asked.
+    #[error("{0}")]
+    BadReply(ReplyFault),
+    /// What came as files is not the state of a device at the commit that was told.
+    #[error("what the service told is not the state of a device")]
+    NoState,
+    /// The disk of the service failed.
+    #[error("the disk of the service failed")]
+    StoreFault,
+    /// The store of the service is damaged, at the line of this number, 0 where the file as a whole is.
+    #[error("the store of the service is damaged")]
+    StoreDamaged { file: FileName, line: u32 },
+    /// The service refused what was asked.
+    #[error("the service refused what was asked")]
+    Refused,
+    #[error("out of memory")]
+    Memory(AllocError),
+}
+
+/// What it comes to that no frame was read.
+pub(crate) fn of_broken(broken: Broken) -> DoorRefusal {
+    match broken {
+        Broken::Lost => DoorRefusal::Unavailable,
+        Broken::Wrong(WireRefusal::Memory(error)) => DoorRefusal::Memory(error),
+        Broken::Wrong(fault) => DoorRefusal::BadReply(ReplyFault::Frame(fault)),
+    }
+}
+
+/// The same of an administrator's client.
+pub(crate) fn of_client(refusal: AdminRefusal) -> DoorRefusal {
+    match refusal {
+        AdminRefusal::Unavailable => DoorRefusal::Unavailable,
+        AdminRefusal::BadReply(fault) => DoorRefusal::BadReply(fault),
+        AdminRefusal::TooLong(_) => DoorRefusal::Refused,
+        AdminRefusal::Memory(error) => DoorRefusal::Memory(error),
+    }
+}

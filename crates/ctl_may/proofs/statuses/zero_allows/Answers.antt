@@ -1,0 +1,5 @@
+use Rattle.ctl_may.proofs.Allowing.{allows}
+use Rattle.ctl_may.proofs.statuses.zero_allows.Goals as goal
+
+pub returns : goal.returns
+returns c = allows

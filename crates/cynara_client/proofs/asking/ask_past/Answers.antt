@@ -1,0 +1,45 @@
+use Rattle.std.proofs.Common.{◌≡◌, ◌<◌, ◌≤◌, None, Some, Err, refl, ap, arith}
+use Rattle.client_core.specs.Client.{with_tries}
+use Rattle.client_core.specs.Asking as does
+use Rattle.client_core.specs.declared.stages.Asking.{Asking}
+use Rattle.cynara_client.specs.parts.States.{seen}
+use Rattle.client_core.specs.Client.{forgotten}
+use Rattle.cynara_client.proofs.Putting.{past_dials, dial_due, dialled_serves, past_over}
+use Rattle.cynara_client.proofs.asking.ask_past.Goals as goal
+
+pub returns-in-Dial-clause-asked : goal.returns-in-Dial-clause-asked
+returns-in-Dial-clause-asked g c =
+    let asking : Asking = with_tries 2 (does.first_try c.args.session.now c.args.question.now c.args.simple) in
+    let base = forgotten c.args.machine.now in
+    let dials =
+    past_dials g.N.Link.Link.faults g.N.Link.Link.marks g.N.Link.Link.traffic g.N.Dial.faults g.N.Dial.dials g.N.Dial.given_back
+    c.args.session.now c.args.question.now c.args.simple c.args.machine.now c.put_and_look.new.machine c.in-Dial.ensures in
+    dialled_serves g.N.Link.Link.faults g.N.Link.Link.marks g.N.Link.Link.traffic g.N.Dial.faults g.N.Dial.dials g.N.Dial.given_back
+    asking refl base c.put_and_look.new.machine dials c.go.result.answer c.args.dial.now
+    (seen c.go.new.dial c.go.result.link c.go.new.machine)
+    (c.go.ensures.went asking
+    (dial_due g.N.Link.Link.faults g.N.Link.Link.marks g.N.Link.Link.traffic g.N.Dial.faults g.N.Dial.dials g.N.Dial.given_back
+    asking refl base c.put_and_look.new.machine dials) (omega arith) (omega arith))
+
+pub returns-in-Over-clause-asked : goal.returns-in-Over-clause-asked
+returns-in-Over-clause-asked g c =
+    (past_over g.N.Link.Link.faults g.N.Link.Link.marks g.N.Link.Link.traffic g.N.Dial.faults g.N.Dial.dials g.N.Dial.given_back
+    c.args.session.now c.args.question.now c.args.simple c.in-Over.fault c.args.machine.now c.put_and_look.new.machine c.requires c.in-Over.ensures (Err c.refusal_by.result)
+    (ap (λ r. Err r) c.refusal_by.ensures) c.args.dial.now).0
+
+pub returns-in-Over-clause-rests : goal.returns-in-Over-clause-rests
+returns-in-Over-clause-rests g c =
+    (past_over g.N.Link.Link.faults g.N.Link.Link.marks g.N.Link.Link.traffic g.N.Dial.faults g.N.Dial.dials g.N.Dial.given_back
+    c.args.session.now c.args.question.now c.args.simple c.in-Over.fault c.args.machine.now c.put_and_look.new.machine c.requires c.in-Over.ensures (Err c.refusal_by.result)
+    (ap (λ r. Err r) c.refusal_by.ensures) c.args.dial.now).1
+
+pub go-requires-clause-due : goal.go-requires-clause-due
+go-requires-clause-due g c =
+    let asking : Asking = with_tries 2 (does.first_try c.args.session.now c.args.question.now c.args.simple) in
+    let dials =
+    past_dials g.N.Link.Link.faults g.N.Link.Link.marks g.N.Link.Link.traffic g.N.Dial.faults g.N.Dial.dials g.N.Dial.given_back
+    c.args.session.now c.args.question.now c.args.simple c.args.machine.now c.put_and_look.new.machine c.in-Dial.ensures in
+    let due =
+    dial_due g.N.Link.Link.faults g.N.Link.Link.marks g.N.Link.Link.traffic g.N.Dial.faults g.N.Dial.dials g.N.Dial.given_back
+    asking refl (forgotten c.args.machine.now) c.put_and_look.new.machine dials in
+    (asking, due, omega arith, omega arith)
