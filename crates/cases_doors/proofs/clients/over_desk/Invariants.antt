@@ -1,5 +1,5 @@
 use Rattle.state_list.specs.Opening.{book_of}
-use Rattle.cases_doors.proofs.clients.conversation.Given as goal
+use Rattle.cases_doors.proofs.clients.over_desk.Given as goal
 
 -- the list that was just opened
 abbrev pub ghosts-conversation_named : goal.ghosts-conversation_named
