@@ -1,21 +1,9 @@
 // Bytes in pieces.
 use crate::hearing::put_taken;
+use crate::refusals::short_text;
 use cases_words::{Failure, frame_bytes};
-use std::alloc::{AllocError, Global};
-use wire_messages::{Feeder, Framed, Heard, WireRefusal};
-
-// The refusal in two words.
-fn short_text(alloc: Global, refusal: Option<WireRefusal>) -> Result<String, AllocError> {
-    match refusal {
-        None => String::from_str(alloc, "heard"),
-        Some(WireRefusal::TooShort(length)) => format!(in alloc; "short {length}"),
-        Some(WireRefusal::TooLong(length)) => format!(in alloc; "long {length}"),
-        Some(WireRefusal::BadOperation(number)) => format!(in alloc; "operation {number}"),
-        Some(WireRefusal::BadField(place)) => format!(in alloc; "field {place}"),
-        Some(WireRefusal::Trailing(place)) => format!(in alloc; "behind {place}"),
-        Some(WireRefusal::Memory(error)) => Err(error),
-    }
-}
+use std::alloc::Global;
+use wire_messages::{Feeder, Framed, Heard};
 
 fn feed_text(alloc: Global, feeder: &mut Feeder, piece: &[u8]) -> Result<String, Failure> {
     let answer = feeder.feed(piece);
