@@ -138,7 +138,7 @@ fn line_behind_a_stop<R: Wait + Clock + Drop, J: Naming>(
 
 /// What the calls answer where those who wait have left, and where no further agent is taken in, or want of memory.
 pub fn leavers<R: Wait + Clock>(rt: &R, alloc: Global) -> Result<String, AllocError> {
-    let roll = Mutex::new(Roll::new(alloc, 0)?);
+    let roll = Mutex::new(Roll::new(alloc, 0, 1)?);
     let questions = QuestionDesk::new(alloc);
     let mut hall = Locked::new(rt, &roll, &questions);
     let told = line_of_leavers(alloc, &mut hall);
