@@ -81,7 +81,16 @@ fn counts<R: Wait + Clock + Drop>(
     format!(in alloc; "leaves {leaves}, stops {stops}, losses {losses}").ok()
 }
 
-/// Enters, joins, asks in vain, answers in vain, leaves and enters again by a further link.
+// What the hall tells of the service: the kinds that have an agent, and how many of the workers serve.
+fn service<R: Wait + Clock + Drop>(alloc: Global, hall: &Locked<'_, R, MemEnd>) -> Option<String> {
+    let view = hall.service(alloc).ok()?;
+    let kinds = view.kinds.as_slice();
+    let served = view.served;
+    let workers = view.workers;
+    format!(in alloc; "agents {kinds:?}, {served} of {workers} serve").ok()
+}
+
+/// Tells of itself, enters, joins, asks in vain, answers in vain, leaves and enters again by a further link.
 pub fn before_a_commit<R: Wait + Clock + Drop, J: Naming>(
     alloc: Global,
     hall: &mut Locked<'_, R, MemEnd>,
@@ -89,15 +98,18 @@ pub fn before_a_commit<R: Wait + Clock + Drop, J: Naming>(
     link: &mut MemLink,
     further: &mut MemLink,
 ) -> Option<String> {
+    let empty = service(alloc, hall)?;
     let entered = enter(hall, seat, link)?;
     let joined = join_twice(alloc, hall)?;
+    let filled = service(alloc, hall)?;
     let asked = ask(alloc, hall, Kind(11), link)?;
     let answered = answer(alloc, hall)?;
     let left = leave(alloc, hall, entered)?;
+    let vacant = service(alloc, hall)?;
     let again = enter(hall, seat, further)?;
     let counted = counts(alloc, hall)?;
     format!(in alloc;
-        "enter {entered}; {joined}; {asked}; {answered}; {left}; enter {again}; {counted}"
+        "{empty}; enter {entered}; {joined}; {filled}; {asked}; {answered}; {left}; {vacant}; enter {again}; {counted}"
     ).ok()
 }
 
@@ -111,6 +123,7 @@ pub fn behind_a_commit<R: Wait + Clock + Drop, J: Naming>(
 ) -> Option<String> {
     hall.hang(publisher);
     let cleared = hall.tally().cleared();
+    let hung = service(alloc, hall)?;
     let left = leave(alloc, hall, 0)?;
     let hangs = hall.tally().hangs();
     let entered = enter(hall, seat, link)?;
@@ -118,7 +131,7 @@ pub fn behind_a_commit<R: Wait + Clock + Drop, J: Naming>(
     hall.stop();
     let up = link.is_up();
     format!(in alloc;
-        "cleared {cleared}; {left}; hangs {hangs}; enter {entered}; {counted}; stop: up {up}"
+        "cleared {cleared}; {hung}; {left}; hangs {hangs}; enter {entered}; {counted}; stop: up {up}"
     ).ok()
 }
 
