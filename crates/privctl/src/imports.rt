@@ -1,7 +1,7 @@
 // `import-cynara`.
 use crate::telling::{DONE, NOT_DONE, REFUSED, tell_wrong, write_text};
 use ctl_import::{Import, ImportFault};
-use ctl_run::run_script;
+use ctl_run::{RunFault, run_script};
 use desk_ports::Sink;
 use desk_state::Desk;
 use std::alloc::{AllocError, Global};
@@ -103,6 +103,7 @@ fn tell_fault<K: Sink>(alloc: Global, name: &[u8], fault: ImportFault, sink: &mu
 // Runs the script in memory on a device before its first command, and tells which lines that refuses.
 fn tried<K: Sink>(alloc: Global, script: &[u8], sink: &mut K) -> u8 {
     let Ok(fresh) = Desk::fresh(alloc) else {
+        sink.note("privctl: out of memory");
         return NOT_DONE;
     };
     match run_script(alloc, fresh, script) {
@@ -121,9 +122,26 @@ fn tried<K: Sink>(alloc: Global, script: &[u8], sink: &mut K) -> u8 {
                 REFUSED
             }
         }
-        Err(_) => {
+        Err(fault) => tell_fault_of_script(alloc, fault, sink),
+    }
+}
+
+// Tells why the script was not run, and answers the status.
+fn tell_fault_of_script<K: Sink>(alloc: Global, fault: RunFault, sink: &mut K) -> u8 {
+    match fault {
+        RunFault::Syntax(line) => {
+            if let Ok(text) = format!(in alloc; "privctl: line {line} of the script is outside the grammar") {
+                sink.note(text.as_str());
+            }
+            REFUSED
+        }
+        RunFault::TooLong => {
             sink.note("privctl: the script is longer than one may be");
             REFUSED
+        }
+        RunFault::Memory(_) => {
+            sink.note("privctl: out of memory");
+            NOT_DONE
         }
     }
 }
