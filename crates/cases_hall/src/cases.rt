@@ -14,6 +14,7 @@ pub enum Case {
     OnThreads,
 }
 
+/// What is called on the hall.
 #[derive(Clone, Copy)]
 pub enum HallCase {
     Conversation,
@@ -21,6 +22,7 @@ pub enum HallCase {
     Leavers,
 }
 
+/// What is called on the roll, by a service of two seats.
 #[derive(Clone, Copy)]
 pub enum RollCase {
     HungUpByACommit,
@@ -31,6 +33,7 @@ pub enum RollCase {
     DroppedWhenReady,
 }
 
+/// All cases, as they are told one after another.
 pub const CASES: [Case; 11] = [
     Case::InHall(HallCase::Conversation),
     Case::InHall(HallCase::LateComer),
