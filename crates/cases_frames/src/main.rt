@@ -1,8 +1,8 @@
-//! Cases of frames: how they are spelled, what they say and how they come. Each line of standard input is a case, and each line of the output that case with its answer behind
-//! ` => `. A line that begins with `#` says what the lines below it are about. A side is `client`, `admin` or `agent`, a door
-//! of the service, or `replies` or `agent-replies`.
+//! Cases of frames: how they are spelled, what they say and how they come. Each line of standard input is a case, and
+//! each line of the output that case with its answer behind ` => `. A line that begins with `#` says what the lines
+//! below it are about. A side is `client`, `admin` or `agent`, a door of the service, or `replies` or `agent-replies`.
 //!
-//!     right SIDE FRAME            reads and spells a frame, whole and byte by byte, cuts it at each byte and makes it longer
+//!     right SIDE FRAME            reads and spells it, whole and byte by byte, cuts it at each byte, makes it longer
 //!     slips PLACE=BYTE ..         that frame with another byte at a place
 //!     wrong SIDE BYTES            why the bytes are refused
 //!     knows SIDE                  the operations of a side
@@ -10,7 +10,7 @@
 //!     verdict FRAME               what a verdict says
 //!     pieces SIDE BYTES | BYTES   what a feeder answers to each piece
 //!     wants SIDE BYTES            what a feeder answers to pieces of what it wants
-//!     tells SIDE FRAME            the number of the operation, the commit, and whether it is spelled alike from lent parts
+//!     tells SIDE FRAME            the operation's number, the commit, and whether it is spelled alike from lent parts
 //!     judged COMMIT FRAME         what the reply says that the policy of an administrator's frame decides
 //!     long COUNT FRAME            the frame with the first of its two deletions so many times
 #![tactic(auto)]

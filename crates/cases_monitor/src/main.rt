@@ -1,5 +1,5 @@
-//! The check monitor, case by case: what is recorded, missed and handed out, and the lines that are written of it into a sink in
-//! memory, which may fail. Each line says what the calls answered, and is the same whatever the schedule.
+//! The check monitor, case by case: what is recorded, missed and handed out, and the lines that are written of it into
+//! a sink in memory, which may fail. Each line says what the calls answered, and is the same whatever the schedule.
 #![tactic(auto)]
 
 mod checks;

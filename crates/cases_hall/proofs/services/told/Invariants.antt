@@ -1,5 +1,5 @@
 use Rattle.state_list.specs.Opening.{book_of}
-use Rattle.cases_live.proofs.cases.told.Given as goal
+use Rattle.cases_hall.proofs.services.told.Given as goal
 
 -- the list that was just opened
 abbrev pub ghosts-told_named : goal.ghosts-told_named

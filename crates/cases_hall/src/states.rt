@@ -1,15 +1,22 @@
-//! States of which each answers its commit.
+//! States of which each answers its commit, and quiet links.
 
 use cynara_keys::{BucketName, Kind, Name, PolicyResult, Question};
 use desk_ports::{Bytes, FailList};
 use desk_state::{Command, Desk};
 use link_ports::MemLink;
-use live_desk::{BorrowedVerdict, Naming, Publisher, Ready};
+use live_desk::{BorrowedVerdict, Naming, Publisher, Ready, Seat};
 use std::alloc::Global;
 use std::sync::Wait;
 
 /// The kind that a state with commit 0 answers. That with commit 1 answers the next one, and so on.
 const FIRST_KIND: u16 = 1000;
+
+/// A state, what publishes it, and its seats.
+pub struct States<J: Naming> {
+    pub desk: Desk,
+    pub publisher: Publisher<J>,
+    pub seats: Vec<Seat<J>>,
+}
 
 /// Both values, if there are two.
 pub fn both<A: Drop, B: Drop>(one: Option<A>, other: Option<B>) -> Option<(A, B)> {
@@ -89,6 +96,11 @@ pub fn question(alloc: Global) -> Option<Question> {
 
 /// A link over which nothing comes.
 pub fn quiet_link(alloc: Global) -> Option<MemLink> {
+    link_closed_after(alloc, u64::MAX)
+}
+
+/// A link over which nothing comes, and that reads as closed after so many calls.
+pub fn link_closed_after(alloc: Global, closed_after: u64) -> Option<MemLink> {
     let fails = FailList::of(Vec::new(alloc));
-    MemLink::new(alloc, Bytes::new(alloc), u64::MAX, fails).ok()
+    MemLink::new(alloc, Bytes::new(alloc), closed_after, fails).ok()
 }

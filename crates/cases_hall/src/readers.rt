@@ -1,15 +1,11 @@
 //! Seats that check on threads of their own while a publisher publishes.
 
-ghost use Rattle.std.specs.Prelude.{◌≡◌};
-ghost use Rattle.state_list.specs.Opening.{book_of};
-
-use crate::states::{make_next, named_commit, publish_next, question, quiet_link};
+use crate::states::{States, named_commit, publish_next, question, quiet_link};
 use cynara_keys::Question;
 use desk_state::Desk;
 use link_ports::{Link, MemEnd};
-use live_desk::{BorrowedVerdict, Naming, Opened, Publisher, Roll, Seat, start};
-use std::alloc::{AllocError, Global};
-use std::marker::Brand;
+use live_desk::{BorrowedVerdict, Naming, Publisher, Roll, Seat};
+use std::alloc::Global;
 use std::sync::{Mutex, Wait};
 use std::thread::{Threads, join};
 
@@ -50,28 +46,21 @@ impl Watch {
 
 /// Four seats check on threads of their own, each over a connection after the other, until they are answered at the last
 /// commit, while a publisher publishes 200 states and hangs the connections up.
-pub fn four_seats<R: Wait + Threads + Sync>(rt: &R, alloc: Global) -> Result<String, AllocError> {
-    let mut desk = Desk::fresh(alloc)?;
-    let told = over_desk::<Brand, R>(rt, alloc, Opened::new(), &mut desk);
-    drop(desk);
-    told.ok_or(AllocError)
-}
-
-fn over_desk<J: Naming + Send + Sync, R: Wait + Threads + Sync>(
+pub fn on_threads<R: Wait + Threads + Sync, J: Naming + Send + Sync>(
     rt: &R,
     alloc: Global,
-    opened: Opened<Desk>,
-    desk: &mut Desk,
-) -> Option<String>
-    requires { book_of opened ≡ J.book }
-{
-    make_next(alloc, desk)?;
-    let (mut publisher, seats, roll) = start::<J, _, R>(rt, alloc, opened, desk, 4).ok()?;
-    let roll = Mutex::new(roll);
-    let told = by_four(rt, alloc, desk, &mut publisher, seats, &roll);
-    publisher.end(rt);
-    drop(roll);
-    told
+    states: &mut States<J>,
+    roll: &Mutex<Roll<MemEnd>>,
+) -> Option<String> {
+    let seats = &mut states.seats;
+    by_four(
+        rt,
+        alloc,
+        &mut states.desk,
+        &mut states.publisher,
+        seats,
+        roll,
+    )
 }
 
 // What a thread is given to watch by.
@@ -95,10 +84,9 @@ fn by_four<W: Watcher + Send + Drop, R: Wait + Threads + Sync, J: Naming>(
     alloc: Global,
     desk: &mut Desk,
     publisher: &mut Publisher<J>,
-    watchers: Vec<W>,
+    watchers: &mut Vec<W>,
     roll: &Mutex<Roll<MemEnd>>,
 ) -> Option<String> {
-    let mut watchers = watchers;
     let fourth = watchers.pop()?;
     let third = watchers.pop()?;
     let second = watchers.pop()?;
