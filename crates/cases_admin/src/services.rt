@@ -24,15 +24,18 @@ pub fn with_keeper<R: Wait, D: Disk>(
     connections: &str,
     text: &mut String,
 ) -> Result<bool, Failure> {
-    with_keeper_named::<Brand, R, D>(rt, alloc, Opened::new(), keeper, connections, text)
+    let connections = String::from_str(alloc, connections)?;
+    with_keeper_named::<Brand, R, D>(rt, alloc, Opened::new(), keeper, &connections, text)
 }
 
+// The same, over a list of states that the caller picks. The prover offers no pick for a function that takes a `&str`:
+// the connections are lent as a `String`.
 fn with_keeper_named<J: Naming, R: Wait, D: Disk>(
     rt: &R,
     alloc: Global,
     opened: Opened<Desk>,
     keeper: &mut Keeper<'_, D>,
-    connections: &str,
+    connections: &String,
     text: &mut String,
 ) -> Result<bool, Failure>
     requires { book_of opened ≡ J.book }
@@ -45,7 +48,7 @@ fn with_keeper_named<J: Naming, R: Wait, D: Disk>(
         &mut publisher,
         seats,
         roll,
-        connections,
+        connections.as_str(),
         text,
     );
     publisher.end(rt);
