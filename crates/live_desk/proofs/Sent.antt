@@ -35,7 +35,6 @@ use Rattle.left_right.proofs.part.Part.TheSendSync as part
 use Rattle.left_right.proofs.part.Deed.TheSendSync as deed
 use Rattle.left_right.specs.contracts.reader.Factory as Factory
 use Rattle.left_right.specs.contracts.reader.Reader as Reader
-use Rattle.left_right.specs.contracts.reader.Reading as Reading
 use Rattle.live_desk.specs.contracts.copies.DeskCopy as DeskCopy
 use Rattle.live_desk.specs.contracts.copies.Published as Published
 use Rattle.live_desk.specs.contracts.copies.Shown as Shown
@@ -163,12 +162,8 @@ module _ (J : RattleType) (naming : Ghosts J.Denot) (dict : Dict) where
       → IsSend (Reader.the_field (Published.the_row J naming) u64 Running.the_row Global.the_row (rule.ghosts J naming dict) heap.ghosts).row
   reader_send sync = search (sendable, crosses, factory_send, part_send, place.the_send) depth 40
 
-  reading_send : IsSync J
-      → IsSend (Reading.the_field (Published.the_row J naming) u64 Running.the_row Global.the_row (rule.ghosts J naming dict) heap.ghosts).row
-  reading_send sync = search (sendable, crosses, factory_send, part_send, place.the_send) depth 40
-
   pub seat_send : IsSend J → IsSync J → IsSend (Seat.the_field J naming).row
-  seat_send send sync = search (sendable, crosses, reader_send, reading_send, front_send) depth 40
+  seat_send send sync = search (sendable, crosses, reader_send, front_send) depth 40
 
   pub seat_row_send : IsSend J → IsSync J → IsSend (Seat.the_row J naming)
   seat_row_send send sync = as_row_send (Seat.the_field J naming) (seat_send send sync)

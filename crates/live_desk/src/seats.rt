@@ -1,4 +1,4 @@
-ghost use Rattle.std.specs.Prelude.{◌≡◌, ◌<◌, not, is_some, IsSome, IfSome, IfOk, IfErr, Some};
+ghost use Rattle.std.specs.Prelude.{◌≡◌, ◌<◌, IsSome, IfSome, IfOk, IfErr};
 ghost use Rattle.std.specs.Bool.{OnTrue};
 ghost use Rattle.live_desk.specs.History.{GoesOn};
 ghost use Rattle.live_desk.specs.Copies.{latest};
@@ -15,7 +15,6 @@ use live_roll::Seated;
 use state_list::{Front, Naming};
 use std::alloc::{AllocError, Global};
 use std::marker::Model;
-use std::mem;
 use std::sync::Wait;
 
 pub type SeatReader<J> = Reader<Published<J>, u64, Running>;
@@ -24,11 +23,10 @@ pub type SeatReading<J> = Reading<Published<J>, u64, Running>;
 
 /// What one thread reads published states by: a number, which is its place in the roll, the greatest note that the roll
 /// told it, and what it has seen.
+#[derive(Drop)]
 pub struct Seat<J: Naming> {
-    // None only while a state is read or held.
+    // None only while a state is read.
     reader: Option<SeatReader<J>>,
-    // The state that is read until it is let go, which is the last that was seen.
-    held: Option<SeatReading<J>>,
     front: Front<Desk, J>,
     number: u32,
     note: u64,
@@ -36,33 +34,14 @@ pub struct Seat<J: Naming> {
 }
 
 impl<J: Naming> Model for Seat<J> {
-    ghost use Rattle.std.specs.Prelude.{◌≡◌, ◌<◌, not, is_some, IfSome};
-    ghost use Rattle.live_desk.specs.Copies.{latest};
-    ghost use Rattle.live_desk.specs.Seat.{SeatState, HasSeen};
+    ghost use Rattle.std.specs.Prelude.{◌≡◌, ◌<◌, true, is_some};
+    ghost use Rattle.live_desk.specs.Seat.{SeatState};
 
     ghost Value = { SeatState };
 
     ghost view = { λ seat. record { number = seat.number; note = seat.note; seen = seat.front } };
 
-    ghost invariant = { λ seat. (is_some seat.reader ≡ not (is_some seat.held)) × (seat.number < 64)
-        × IfSome seat.held (λ reading. HasSeen seat.note (latest reading.part.value) seat.front) };
-}
-
-impl<J: Naming> Drop for Seat<J> {
-    fn drop(self) {
-        let Seat {
-            reader,
-            held,
-            front: _front,
-            number: _,
-            note: _,
-            scratch: _scratch,
-        } = self;
-        drop(reader);
-        if let Some(reading) = held {
-            drop(reading.leave());
-        }
-    }
+    ghost invariant = { λ seat. (is_some seat.reader ≡ true) × (seat.number < 64) };
 }
 
 impl<J: Naming> Seat<J> {
@@ -79,7 +58,6 @@ impl<J: Naming> Seat<J> {
         let scratch = Scratch::new(alloc)?;
         Ok(Seat {
             reader: Some(reader),
-            held: None,
             front,
             number,
             note: 0,
@@ -131,40 +109,11 @@ impl<J: Naming> Seat<J> {
         ensures seen { GoesOn self.old.seen self.new.seen }
         ensures told { Tells question.now self.new (λ verdict. F.post tell verdict result) }
     {
-        let told = self.check_and_hold(rt, question, tell);
-        self.let_go();
-        told
-    }
-
-    /// The same, but it goes on reading that state, so that further such checks are of the same one and take no copy
-    /// anew. The publisher waits until `let_go`: call that soon, and wait for nothing before.
-    #[tactic(auto, using(crate::proofs::Looks::seen_tells))]
-    pub fn check_and_hold<T, R: Wait, F: FnOnce(BorrowedVerdict<'_>) -> T>(
-        &mut self,
-        rt: &R,
-        question: &BorrowedQuestion<'_>,
-        tell: F,
-    ) -> T
-        requires { F.IsAlwaysCallable tell }
-        ensures same { self.new ≡ record self.old { seen = self.new.seen } }
-        ensures seen { GoesOn self.old.seen self.new.seen }
-        ensures told { Tells question.now self.new (λ verdict. F.post tell verdict result) }
-    {
-        let reader = self.reader.take();
-        let held = self.held.take();
-        let reading = held_or_newest(rt, reader, held, &mut self.front, self.note);
+        let reader = self.reader.take().unwrap();
+        let reading = newest(rt, reader, &mut self.front, self.note);
         let told = tell_of(reading.get(), &mut self.scratch, question, tell);
-        hold(&mut self.held, reading);
+        self.reader = Some(reading.leave());
         told
-    }
-
-    /// Lets go of the state that is held, if one is.
-    pub fn let_go(&mut self)
-        ensures { self.new ≡ self.old }
-    {
-        if let Some(reading) = self.held.take() {
-            self.reader = Some(reading.leave());
-        }
     }
 }
 
@@ -178,45 +127,7 @@ impl<J: Naming> Seated for Seat<J> {
     }
 
     fn tell(&mut self, note: u64) {
-        // The state that is held may be below the note.
-        let Some(reading) = self.held.take() else {
-            self.note = self.note.max(note);
-            return;
-        };
-        self.reader = Some(reading.leave());
         self.note = self.note.max(note);
-    }
-}
-
-// The state that is held, or that of the newest copy once its commit is not below the note.
-#[tactic(auto, using(crate::proofs::Looks::goes_on_all))]
-fn held_or_newest<J: Naming, R: Wait>(
-    rt: &R,
-    reader: Option<SeatReader<J>>,
-    held: Option<SeatReading<J>>,
-    front: &mut Front<Desk, J>,
-    note: u64,
-) -> SeatReading<J>
-    requires one { is_some reader ≡ not (is_some held) }
-    requires held { IfSome held (λ reading. HasSeen note (latest reading.part.value) front.old) }
-    ensures seen { GoesOn front.old front.new }
-    ensures newest { HasSeen note (latest result.part.value) front.new }
-{
-    match held {
-        Some(reading) => {
-            drop(reader);
-            return reading;
-        }
-        None => return newest(rt, reader.unwrap(), front, note),
-    }
-}
-
-// Keeps what is read.
-fn hold<J: Naming>(held: &mut Option<SeatReading<J>>, reading: SeatReading<J>)
-    ensures { held.new ≡ Some reading }
-{
-    if let Some(old) = mem::replace(held, Some(reading)) {
-        drop(old.leave());
     }
 }
 
