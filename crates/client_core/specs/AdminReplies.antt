@@ -5,6 +5,7 @@ use Rattle.wire_messages.specs.Message.{operation}
 use Rattle.wire_messages.specs.declared.messages.Framed.{Framed}
 use Rattle.wire_messages.specs.declared.messages.Message.{Message}
 use Rattle.wire_messages.specs.declared.messages.Message.TheVariants as message
+use Rattle.client_core.specs.declared.steps.Fault.{Fault}
 use Rattle.client_core.specs.declared.steps.Fault.TheVariants.{Sequence, Operation}
 use Rattle.client_core.specs.declared.wanted.Wanted.{Wanted}
 use Rattle.client_core.specs.declared.wanted.Wanted.TheVariants.{Command, Verdict, Rows, State, Service, Stop}
@@ -75,3 +76,13 @@ next_of wanted sequence rows framed =
     else (if is_last wanted rows framed.message then Whole
     else Wrong (Operation (number_of (operation framed.message)))))
     else Wrong (Sequence sequence framed.sequence)
+
+-- behind so many rows the reply is a further one; it ends the answer; or it is wrong, and this is why
+abbrev pub IsRow : Wanted → ℕ → ℕ → Framed → Type 0
+IsRow wanted sequence rows framed = next_of wanted sequence rows framed ≡ More
+
+abbrev pub IsLast : Wanted → ℕ → ℕ → Framed → Type 0
+IsLast wanted sequence rows framed = next_of wanted sequence rows framed ≡ Whole
+
+abbrev pub IsWrong : Wanted → ℕ → ℕ → Framed → Fault → Type 0
+IsWrong wanted sequence rows framed found = next_of wanted sequence rows framed ≡ Wrong found
