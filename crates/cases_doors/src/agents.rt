@@ -17,7 +17,7 @@ pub fn conversation<R: Wait>(
     link: &str,
     bytes: &str,
 ) -> Result<String, Failure> {
-    let roll: Roll<MemEnd> = Roll::new(alloc, 0)?;
+    let roll: Roll<MemEnd> = Roll::new(alloc, 0, 1)?;
     let mut hall = ListHall::new(alloc, answers_of(alloc, answers)?, roll)?;
     let mut link = CutLink::of(alloc, link, bytes)?;
     let ended = agent_loop(rt, alloc, &mut hall, &mut link);

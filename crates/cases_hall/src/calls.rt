@@ -1,24 +1,12 @@
 // Calls on the hall, and what they answer.
-use cynara_keys::{Kind, Metadata, Name, Question};
+use crate::states::question;
+use cynara_keys::{Kind, Metadata};
 use link_ports::{Link, MemEnd, MemLink};
 use live_desk::{Naming, Publisher, Seat};
 use server_hall::{Hall, Locked};
 use std::alloc::Global;
 use std::sync::Wait;
 use std::time::Clock;
-
-fn question(alloc: Global) -> Option<Question> {
-    let client = Name::read(alloc, b"c").ok()?;
-    let user = Name::read(alloc, b"u").ok()?;
-    let privilege = Name::read(alloc, b"p").ok()?;
-    Question::of(
-        alloc,
-        client.as_slice(),
-        user.as_slice(),
-        privilege.as_slice(),
-    )
-    .ok()
-}
 
 fn enter<R: Wait + Clock + Drop, J: Naming>(
     hall: &mut Locked<'_, R, MemEnd>,
@@ -81,7 +69,16 @@ fn counts<R: Wait + Clock + Drop>(
     format!(in alloc; "leaves {leaves}, stops {stops}, losses {losses}").ok()
 }
 
-/// Enters, joins, asks in vain, answers in vain, leaves and enters again by a further link.
+// What the hall tells of the service: the kinds that have an agent, and how many of the workers serve.
+fn service<R: Wait + Clock + Drop>(alloc: Global, hall: &Locked<'_, R, MemEnd>) -> Option<String> {
+    let view = hall.service(alloc).ok()?;
+    let kinds = view.kinds.as_slice();
+    let served = view.served;
+    let workers = view.workers;
+    format!(in alloc; "agents {kinds:?}, {served} of {workers} serve").ok()
+}
+
+/// Tells of itself, enters, joins, asks in vain, answers in vain, leaves and enters again by a further link.
 pub fn before_a_commit<R: Wait + Clock + Drop, J: Naming>(
     alloc: Global,
     hall: &mut Locked<'_, R, MemEnd>,
@@ -89,15 +86,18 @@ pub fn before_a_commit<R: Wait + Clock + Drop, J: Naming>(
     link: &mut MemLink,
     further: &mut MemLink,
 ) -> Option<String> {
+    let empty = service(alloc, hall)?;
     let entered = enter(hall, seat, link)?;
     let joined = join_twice(alloc, hall)?;
+    let filled = service(alloc, hall)?;
     let asked = ask(alloc, hall, Kind(11), link)?;
     let answered = answer(alloc, hall)?;
     let left = leave(alloc, hall, entered)?;
+    let vacant = service(alloc, hall)?;
     let again = enter(hall, seat, further)?;
     let counted = counts(alloc, hall)?;
     format!(in alloc;
-        "enter {entered}; {joined}; {asked}; {answered}; {left}; enter {again}; {counted}"
+        "{empty}; enter {entered}; {joined}; {filled}; {asked}; {answered}; {left}; {vacant}; enter {again}; {counted}"
     ).ok()
 }
 
@@ -111,6 +111,7 @@ pub fn behind_a_commit<R: Wait + Clock + Drop, J: Naming>(
 ) -> Option<String> {
     hall.hang(publisher);
     let cleared = hall.tally().cleared();
+    let hung = service(alloc, hall)?;
     let left = leave(alloc, hall, 0)?;
     let hangs = hall.tally().hangs();
     let entered = enter(hall, seat, link)?;
@@ -118,13 +119,13 @@ pub fn behind_a_commit<R: Wait + Clock + Drop, J: Naming>(
     hall.stop();
     let up = link.is_up();
     format!(in alloc;
-        "cleared {cleared}; {left}; hangs {hangs}; enter {entered}; {counted}; stop: up {up}"
+        "cleared {cleared}; {hung}; {left}; hangs {hangs}; enter {entered}; {counted}; stop: up {up}"
     ).ok()
 }
 
 /// A connection enters behind the publication of a state and before the hang-up: it is told the commit before, is answered at
 /// the new one, and is hung up as those are that entered before.
-pub fn between_publication_and_hang_up<R: Wait + Clock, W: Wait + Clock + Drop, J: Naming>(
+pub fn between_publication_and_hang_up<R: Wait, W: Wait + Clock + Drop, J: Naming>(
     rt: &R,
     alloc: Global,
     hall: &mut Locked<'_, W, MemEnd>,

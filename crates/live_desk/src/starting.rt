@@ -26,9 +26,9 @@ pub fn start<J: Naming, H: HangEnd, R: Wait>(
     requires most { seats ≤ 64 }
     ensures published { IfOk result (λ started. started.0 ≡ desk.now ∷ []) }
     ensures seats { IfOk result (λ started. started.1.items ≡ new_seats seats) }
-    ensures roll { IfOk result (λ started. IsNew desk.now.commit started.2) }
+    ensures roll { IfOk result (λ started. IsNew desk.now.commit seats started.2) }
 {
-    let roll = Roll::new(alloc, desk.commit())?;
+    let roll = Roll::new(alloc, desk.commit(), seats)?;
     let first = Ready::of(alloc, desk)?;
     let (publisher, unseen) = Publisher::open(rt, alloc, opened, first, seats as usize)?;
     match seats_of(rt, alloc, &publisher, &unseen, seats) {

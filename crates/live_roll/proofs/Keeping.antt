@@ -1,5 +1,5 @@
 -- What each change of the places keeps.
-use Rattle.std.proofs.Common.{◌≡◌, ℕ, max, Bool, true, false, nat_lt, List, [], ◌∷◌, ◌++◌, set, zero, suc, length, Option, Some, None, refl, sym, ◌∙◌, ap, subst, arith, get_or, ◌<◌}
+use Rattle.std.proofs.Common.{◌≡◌, ℕ, max, Bool, true, false, List, [], ◌∷◌, ◌++◌, set, zero, suc, length, Option, Some, None, refl, sym, ◌∙◌, ap, subst, arith}
 use Rattle.std.proofs.lemmas.Bool.{ltb-false}
 use Rattle.std.proofs.lemmas.List.{with_items_is}
 use Rattle.std.specs.Vec.{with_items}
@@ -7,7 +7,7 @@ use Rattle.std.specs.declared.vec.Vec.{Vec}
 use Rattle.std.specs.declared.alloc.Global.{Global}
 use Rattle.std.specs.List.{AllByRecursion}
 use Rattle.live_roll.specs.declared.entries.Entry.{Entry}
-use Rattle.live_roll.specs.Places.{IsHungUp, IsHungUpIf, IsClosed, IsCurrent, AreHungUp, AreHungBelow, is_below, IsVacant}
+use Rattle.live_roll.specs.Places.{IsHungUp, IsHungUpIf, IsClosed, IsCurrent, IsLeft, AreHungUp, AreHungBelow, is_below, IsVacant}
 use Rattle.live_roll.specs.Roll.{RollState, IsRoll}
 
 module _ {H : Type 0} where
@@ -34,6 +34,11 @@ module _ {H : Type 0} where
   closed_hung used None now is = subst (IsClosed used) (sym is) tt
   closed_hung used (Some entry) None is = absurd is
   closed_hung used (Some entry) (Some now) is = is.1
+
+  pub closed_left : (used : H → Bool) (place now : Option (Entry H)) → IsLeft used place now → IsClosed used now
+  closed_left used None now is = subst (IsClosed used) (sym is) tt
+  closed_left used (Some entry) None is = absurd is
+  closed_left used (Some entry) (Some now) is = is.1
 
   pub current_closed : (used : H → Bool) (note : ℕ) (place : Option (Entry H)) → IsClosed used place → IsCurrent used note place
   current_closed used note None is = tt
@@ -103,7 +108,7 @@ module _ {H : Type 0} where
 
   pub hung_roll : (used : H → Bool) (roll : RollState H) (commit : ℕ) (now : List (Option (Entry H))) → IsRoll used roll
       → AreHungBelow used (max roll.note commit) roll.places now
-      → IsRoll used (record { note = max roll.note commit; is_stopped = roll.is_stopped; places = now })
+      → IsRoll used (record { workers = roll.workers; note = max roll.note commit; is_stopped = roll.is_stopped; places = now })
   hung_roll used roll commit now is hung = record {
     count = count_below used (max roll.note commit) roll.places now hung ∙ is.count;
     current = current_kept used roll.note commit roll.places now is.current hung;
@@ -111,7 +116,7 @@ module _ {H : Type 0} where
   }
 
   pub stopped_roll : (used : H → Bool) (roll : RollState H) (now : List (Option (Entry H))) → IsRoll used roll
-      → AreHungUp used roll.places now → IsRoll used (record { note = roll.note; is_stopped = true; places = now })
+      → AreHungUp used roll.places now → IsRoll used (record { workers = roll.workers; note = roll.note; is_stopped = true; places = now })
   stopped_roll used roll now is hung = record {
     count = count_each used roll.places now hung ∙ is.count;
     current = current_each used roll.note now (closed_each used roll.places now hung);

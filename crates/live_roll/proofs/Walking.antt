@@ -1,6 +1,5 @@
 -- Places that are gone through one after the other.
-use Rattle.std.proofs.Common.{◌≡◌, ◌<◌, ◌+◌, ℕ, Bool, true, false, List, [], ◌∷◌, set, zero, suc, length, Option, Some, None, refl, sym, subst, arith, get_or}
-use Rattle.std.specs.List.{AllByRecursion}
+use Rattle.std.proofs.Common.{◌≡◌, ◌<◌, ◌+◌, ℕ, Bool, List, [], ◌∷◌, set, zero, suc, length, Option, refl, sym, subst, arith, get_or}
 use Rattle.live_roll.specs.declared.entries.Entry.{Entry}
 use Rattle.live_roll.specs.Places.{IsHungUp, IsHungUpIf, AreHungUp, AreHungBelow, is_below}
 

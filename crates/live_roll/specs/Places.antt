@@ -1,6 +1,6 @@
 -- The places of a roll, in each of which an end may stand, with the commit at which it entered. An end that was hung up stays
 -- in its place until the next connection comes there, so that it can be said of it that it was.
-use Rattle.std.specs.Prelude.{◌≡◌, ℕ, nat_lt, Bool, true, false, List, [], ◌∷◌, Option, Some, None, get_or, slice_set}
+use Rattle.std.specs.Prelude.{◌≡◌, ℕ, nat_lt, Bool, true, false, not, List, [], ◌∷◌, filter, length, Option, Some, None}
 use Rattle.std.specs.List.{AllByRecursion}
 use Rattle.live_roll.specs.declared.entries.Entry.{Entry}
 
@@ -9,7 +9,13 @@ module _ {H : Type 0} (used : H → Bool) where
   abbrev pub IsHungUp : Option (Entry H) → Option (Entry H) → Type 0
   IsHungUp None now = now ≡ None
   IsHungUp (Some entry) None = ⊥
-  IsHungUp (Some entry) (Some now) = (now.entered ≡ entry.entered) × (used now.end ≡ true)
+  IsHungUp (Some entry) (Some now) = (now.entered ≡ entry.entered) × (used now.end ≡ true) × (now.has_left ≡ entry.has_left)
+
+  -- the place, once its connection left: the end stands there still, and is used
+  abbrev pub IsLeft : Option (Entry H) → Option (Entry H) → Type 0
+  IsLeft None now = now ≡ None
+  IsLeft (Some entry) None = ⊥
+  IsLeft (Some entry) (Some now) = (now.entered ≡ entry.entered) × (used now.end ≡ true) × (now.has_left ≡ true)
 
   -- the place, once it was hung up if that is so, and else was left
   abbrev pub IsHungUpIf : Bool → Option (Entry H) → Option (Entry H) → Type 0
@@ -47,3 +53,12 @@ AreHungBelow used low (place ∷ places) (now ∷ more) =
 -- no end stands in any place
 abbrev pub IsVacant : {H : Type 0} → List (Option (Entry H)) → Type 0
 IsVacant places = AllByRecursion (λ place. place ≡ None) places
+
+-- a connection stands there that has not left
+abbrev pub is_served : {H : Type 0} → Option (Entry H) → Bool
+is_served None = false
+is_served (Some entry) = not entry.has_left
+
+-- in how many places such a connection stands
+abbrev pub count_served : {H : Type 0} → List (Option (Entry H)) → ℕ
+count_served places = length (filter is_served places)

@@ -1,14 +1,16 @@
 // The ends that stand in the roll.
-ghost use Rattle.std.specs.Prelude.{◌≡◌, Some};
-ghost use Rattle.live_roll.specs.Places.{is_below, IsHungUp, IsHungUpIf, IsClosed, AreHungUp, AreHungBelow};
+ghost use Rattle.std.specs.Prelude.{◌≡◌, ◌≤◌, length, Some};
+ghost use Rattle.live_roll.specs.Places.{is_below, IsHungUp, IsHungUpIf, IsLeft, IsClosed, AreHungUp, AreHungBelow};
+ghost use Rattle.live_roll.specs.Places.{is_served, count_served};
 
 use link_ports::HangEnd;
 
-/// What hangs a connection up, and the commit at which the connection entered.
+/// What hangs a connection up, the commit at which the connection entered, and whether it has left since.
 #[derive(Drop)]
 pub struct Entry<H> {
     pub end: H,
     pub entered: u64,
+    pub has_left: bool,
 }
 
 /// Hangs up what stands in a place, if anything does. It stays there.
@@ -17,6 +19,16 @@ pub fn hang_up<H: HangEnd>(place: &mut Option<Entry<H>>)
 {
     if let Some(entry) = place {
         entry.end.hang_up();
+    }
+}
+
+/// Hangs up what stands in a place, if anything does, and notes that its connection has left. It stays there.
+pub fn leave<H: HangEnd>(place: &mut Option<Entry<H>>)
+    ensures { IsLeft H.used place.old place.new }
+{
+    if let Some(entry) = place {
+        entry.end.hang_up();
+        entry.has_left = true;
     }
 }
 
@@ -67,6 +79,23 @@ fn is_below<H: HangEnd>(place: &Option<Entry<H>>, low: u64) -> bool
 {
     match place {
         Some(entry) => entry.entered < low,
+        None => false,
+    }
+}
+
+/// In how many places a connection stands that has not left.
+pub fn count_served<H>(places: &[Option<Entry<H>>]) -> usize
+    ensures count { result ≡ count_served places.now }
+    ensures bound { result ≤ length places.now }
+{
+    places.iter().filter(|place| is_served(place)).count()
+}
+
+fn is_served<H>(place: &Option<Entry<H>>) -> bool
+    ensures { result ≡ is_served place.now }
+{
+    match place {
+        Some(entry) => !entry.has_left,
         None => false,
     }
 }

@@ -1,10 +1,10 @@
-ghost use Rattle.std.specs.Prelude.{◌≡◌, ◌<◌, length, false, MatchResult, IfOk, IfErr, OnOk, OnErr};
+ghost use Rattle.std.specs.Prelude.{◌≡◌, ◌<◌, ◌≤◌, length, false, MatchResult, IfOk, IfErr, OnOk, OnErr};
 ghost use Rattle.std.specs.Bool.{IsTrue};
-ghost use Rattle.live_roll.specs.Places.{IsVacant};
+ghost use Rattle.live_roll.specs.Places.{IsVacant, count_served};
 ghost use Rattle.live_roll.specs.Roll.{IsNew, left_of, with_entry, LeavesPlace, HangsTo, StopsAll};
 
 use crate::answers::{Left, Stopped};
-use crate::entries::{Entry, enter, hang_below, hang_each, hang_up};
+use crate::entries::{Entry, count_served, enter, hang_below, hang_each, leave};
 use crate::seated::Seated;
 use link_ports::HangEnd;
 use std::alloc::{AllocError, Global};
@@ -16,8 +16,11 @@ pub const MOST_SEATS: u32 = 64;
 /// The connections that a commit has to hang up, a place for each seat, and the note: the commit at which a connection
 /// enters now. An end that was hung up stays in its place until the next connection comes there. Each end that was not
 /// entered at the note, and in a stopped roll all were.
+///
+/// The roll also keeps how many workers serve the connections, each in the place of a seat of its own.
 #[derive(Drop)]
 pub struct Roll<H: HangEnd> {
+    workers: u32,
     note: u64,
     is_stopped: bool,
     places: Vec<Option<Entry<H>>>,
@@ -28,19 +31,20 @@ impl<H: HangEnd> Model for Roll<H> {
 
     ghost Value = { RollState H };
 
-    ghost view = { λ roll. record { note = roll.note; is_stopped = roll.is_stopped; places = roll.places.items } };
+    ghost view = { λ roll. record { workers = roll.workers; note = roll.note; is_stopped = roll.is_stopped; places = roll.places.items } };
 
-    ghost invariant = { λ roll. IsRoll H.used (record { note = roll.note; is_stopped = roll.is_stopped; places = roll.places.items }) };
+    ghost invariant = { λ roll. IsRoll H.used (record { workers = roll.workers; note = roll.note; is_stopped = roll.is_stopped; places = roll.places.items }) };
 }
 
 impl<H: HangEnd> Roll<H> {
-    /// A roll with no connection, whose note is this commit.
+    /// A roll with no connection, for so many workers, whose note is this commit.
     #[tactic(auto, using(crate::proofs::Keeping::current_vacant))]
-    pub fn new(alloc: Global, note: u64) -> Result<Roll<H>, AllocError>
-        ensures { IfOk result (IsNew note) }
+    pub fn new(alloc: Global, note: u64, workers: u32) -> Result<Roll<H>, AllocError>
+        ensures { IfOk result (IsNew note workers) }
     {
         let places = vacant_places(alloc)?;
         Ok(Roll {
+            workers,
             note,
             is_stopped: false,
             places,
@@ -67,7 +71,11 @@ impl<H: HangEnd> Roll<H> {
             return Err((end, Stopped { commit: note }));
         }
         let at = seat.place() as usize;
-        let entry = Entry { end, entered: note };
+        let entry = Entry {
+            end,
+            entered: note,
+            has_left: false,
+        };
         enter(&mut self.places[at], entry);
         seat.tell(note);
         Ok(note)
@@ -81,7 +89,7 @@ impl<H: HangEnd> Roll<H> {
         ensures answer { result ≡ left_of entered self.old }
         ensures left { LeavesPlace H.used seat self.old self.new }
     {
-        hang_up(&mut self.places[seat as usize]);
+        leave(&mut self.places[seat as usize]);
         let now = self.note;
         if entered < now {
             return Left::Hung { now };
@@ -107,6 +115,22 @@ impl<H: HangEnd> Roll<H> {
     {
         hang_each(self.places.as_mut_slice());
         self.is_stopped = true;
+    }
+
+    /// How many workers serve the connections.
+    pub fn workers(&self) -> u32
+        ensures { result ≡ self.now.workers }
+    {
+        self.workers
+    }
+
+    /// How many connections have entered and not left, which is how many workers serve one now.
+    /// A connection that was hung up counts until it leaves.
+    pub fn served(&self) -> u32
+        ensures count { result ≡ count_served self.now.places }
+        ensures bound { result ≤ 64 }
+    {
+        count_served(self.places.as_slice()) as u32
     }
 
     /// The commit at which a connection enters now.

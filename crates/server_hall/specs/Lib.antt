@@ -5,3 +5,4 @@ pub mod Found
 pub mod Table
 pub mod ListHall
 pub mod StopNews
+pub mod Service

@@ -1,5 +1,5 @@
 -- What a hall counts of the calls that are made on it, and the last of each kind.
-use Rattle.std.specs.Prelude.{◌≡◌, ◌<◌, ℕ, List, [], ◌∷◌, Option, Some, None, Result, Ok, Err}
+use Rattle.std.specs.Prelude.{◌<◌, ℕ, List, [], ◌∷◌, Option, Some, None, Result, Ok, Err}
 use Rattle.desk_ports.specs.Faults.{next_count}
 use Rattle.live_roll.specs.declared.answers.Left.{Left}
 use Rattle.live_roll.specs.declared.answers.Left.TheVariants.{Still, Hung, Stopped as LeftStopped}
@@ -10,7 +10,7 @@ use Rattle.agent_table.specs.declared.refusals.RegisterRefusal.TheVariants.{Stop
 use Rattle.agent_table.specs.declared.refusals.PutRefusal.TheVariants.{Stopped as NoneIsPut}
 use Rattle.agent_table.specs.declared.table.Asked.{Asked}
 use Rattle.server_hall.specs.declared.refusals.AskRefusal.{AskRefusal}
-use Rattle.server_hall.specs.declared.refusals.AskRefusal.TheVariants.{Put, Gone, Stopped as AskStopped, Lost}
+use Rattle.server_hall.specs.declared.refusals.AskRefusal.TheVariants.{Put, Stopped as AskStopped, Lost}
 use Rattle.server_hall.specs.declared.refusals.NextRefusal.{NextRefusal}
 use Rattle.server_hall.specs.declared.refusals.NextRefusal.TheVariants.{Stopped as NextStopped}
 use Rattle.server_hall.specs.Call.{AskResult, AskMade, LeaveMade, JoinMade, NextMade, AnswerMade}

@@ -1,6 +1,6 @@
 -- The list of the calls of `ask`, `join`, `next` and `answer`, in order, where a hall tells it. One that told it may stop
 -- to; one that does not tell it never begins to.
-use Rattle.std.specs.Prelude.{◌≡◌, List, [], ◌++◌, Option, Some}
+use Rattle.std.specs.Prelude.{◌≡◌, List, ◌++◌, Option, Some}
 use Rattle.link_ports.specs.Told.{IfTold}
 use Rattle.server_hall.specs.declared.calls.HallCall.{HallCall}
 

@@ -1,4 +1,4 @@
-ghost use Rattle.std.specs.Prelude.{◌≡◌, ◌<◌, ◌∷◌, [], List, Option, false, IsTrue, IfOk, IfErr, OnErr};
+ghost use Rattle.std.specs.Prelude.{◌≡◌, ◌<◌, ◌∷◌, [], List, Option, Some, false, IsTrue, IfOk, IfErr, OnErr};
 ghost use Rattle.cynara_keys.specs.PolicyResult.{is_agent};
 ghost use Rattle.link_ports.specs.Told.{KeepsTold};
 ghost use Rattle.live_desk.specs.History.{last_commit};
@@ -7,14 +7,17 @@ ghost use Rattle.server_hall.specs.Tally.{Tally, after_enter, after_leave, IsRai
 ghost use Rattle.server_hall.specs.Tally.{after_next, after_answer, after_look, after_part, after_stop, IsNamedForItself};
 ghost use Rattle.server_hall.specs.Told.{AppendsCalls};
 ghost use Rattle.server_hall.specs.Found.{marks_after_ask, CountsAsk, marks_after_next, CountsNext};
+ghost use Rattle.agent_table.specs.Table.{KindsRise};
+ghost use Rattle.server_hall.specs.Service.{ServiceTold, told_by};
 ghost use Rattle.server_hall.specs.declared.calls.HallCall as call;
 
-use crate::{AskRefusal, NextRefusal};
+use crate::{AskRefusal, NextRefusal, ServiceView};
 use agent_table::{AnswerRefusal, Asked, RegisterRefusal, Taken};
 use cynara_keys::{Kind, Metadata, Question};
 use link_ports::{HangEnd, Link};
 use live_desk::{Naming, Publisher, Seat};
 use live_roll::{Left, Stopped};
+use std::alloc::{AllocError, Global};
 
 /// What all connections of a service share: the roll of the connections that a commit has to hang up, and the questions to
 /// agents. A call may wait. Every hall tells its tally; it may tell the list of its calls of `ask`, `join`, `next`, `answer`
@@ -28,6 +31,9 @@ pub trait Hall {
 
     /// The calls of `ask`, `join`, `next`, `answer` and `is_open`, in order, where the hall tells them.
     ghost calls: { Self → Option (List call.HallCall) };
+
+    /// What it would tell of the service now, where the hall exposes that.
+    ghost told: { Self → Option ServiceTold };
 
     /// A connection enters, in the place of the seat. The seat is told the commit at which it enters, which is answered:
     /// each commit that was acknowledged before is no higher. Refuses `Stopped`; the end is then dropped, and the seat is as
@@ -127,6 +133,13 @@ pub trait Hall {
         requires { IsTrue (is_agent kind.0) }
         ensures tally { tally self.new ≡ after_part kind (tally self.old) }
         ensures calls { calls self.new ≡ calls self.old };
+
+    /// What the service tells of itself: the kinds that have an agent, and how many workers serve clients. Changes nothing:
+    /// neither the table nor the roll, and it counts no call. Fails for want of memory alone.
+    fn service(&self, alloc: Global) -> Result<ServiceView, AllocError>
+        ensures told { (told_now : ServiceTold) → told self.now ≡ Some told_now
+            → IfOk result (λ view. told_by view ≡ told_now) }
+        ensures rising { IfOk result (λ view. KindsRise view.kinds.items) };
 
     /// The service stops: nobody enters or joins any more, and nobody waits for an answer.
     fn stop(&mut self)

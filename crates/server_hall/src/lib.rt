@@ -6,7 +6,8 @@
 //! the calls that it made. What a call does to a roll and a table is said where it is lent them.
 //!
 //! Of the locks each call takes one and makes one proved call on what stands under it, or does so again each time that there is
-//! news. What another thread made of the roll and the table meanwhile no clause says.
+//! news. `service` alone takes both, the table's first, so that it tells of one moment. What another thread made of the roll and
+//! the table meanwhile no clause says.
 #![tactic(auto)]
 
 mod calls;
@@ -19,6 +20,7 @@ mod roll_calls;
 mod stop_news;
 mod table_calls;
 mod tallies;
+mod views;
 mod waiting;
 
 pub use calls::{AnswerCall, AskCall, HallCall, JoinCall, LookCall, NextCall, PartCall};
@@ -31,3 +33,4 @@ pub use roll_calls::{EnterCall, HangCall, LeaveCall, enter_roll, hang_roll, leav
 pub use stop_news::StopNews;
 pub use table_calls::{Awaited, await_answer, give_next, put_question, withdraw_question};
 pub use tallies::HallTally;
+pub use views::{ServiceView, view_of};

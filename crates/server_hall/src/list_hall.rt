@@ -1,4 +1,4 @@
-ghost use Rattle.std.specs.Prelude.{◌≡◌, ◌<◌, ◌∷◌, [], false, IfOk, IfErr, OnErr};
+ghost use Rattle.std.specs.Prelude.{◌≡◌, ◌<◌, ◌∷◌, [], Some, false, IfOk, IfErr, OnErr};
 ghost use Rattle.link_ports.specs.Told.{KeepsTold};
 ghost use Rattle.live_roll.specs.Roll.{with_entry, LeavesPlace, HangsTo, StopsAll};
 ghost use Rattle.live_desk.specs.History.{last_commit};
@@ -8,14 +8,17 @@ ghost use Rattle.server_hall.specs.Tally.{after_next, after_answer, after_part, 
 ghost use Rattle.server_hall.specs.Told.{AppendsCalls};
 ghost use Rattle.server_hall.specs.Found.{marks_after_ask, CountsAsk, IsOfTheTable, marks_after_next, CountsNext, IsOfTheQueue};
 ghost use Rattle.server_hall.specs.ListHall.{IsNewHall};
+ghost use Rattle.agent_table.specs.Table.{KindsRise};
+ghost use Rattle.server_hall.specs.Service.{told_by, service_of};
 ghost use Rattle.server_hall.specs.declared.calls.HallCall as call;
 
 use crate::calls::{AnswerCall, AskCall, HallCall, JoinCall, NextCall};
 use crate::list_answers::HallAnswer;
 use crate::roll_calls::{enter_roll, hang_roll, leave_roll};
 use crate::tallies::HallTally;
+use crate::views::{ServiceView, view_of};
 use crate::{AskRefusal, Hall, NextRefusal};
-use agent_table::{AnswerRefusal, Asked, PutRefusal, RegisterRefusal, Taken};
+use agent_table::{AnswerRefusal, Asked, PutRefusal, Questions, RegisterRefusal, Taken};
 use cynara_keys::{Kind, Metadata, Question};
 use link_ports::{HangEnd, Link};
 use live_desk::{Naming, Publisher, Seat};
@@ -28,11 +31,12 @@ use std::snapshot::Snapshot;
 /// of these calls takes the next one. Where that is an answer to another call, or none is left, the list counts as used up
 /// from then on: such a call counts a stop and answers `Stopped`, `answer` refuses, and no question is open. It tells its
 /// calls until then. `ask` and `next` look first, once, whether the link is up. Where it is not they take no answer, and
-/// refuse `Withdrawn` of number 0 and `Left`.
+/// refuse `Withdrawn` of number 0 and `Left`. `service` tells of the roll and of a table that no other call touches.
 #[derive(Drop)]
 pub struct ListHall<H: HangEnd> {
     // The next one is the last.
     answers: Vec<HallAnswer>,
+    table: Questions,
     roll: Roll<H>,
     tally: HallTally,
     // None once the answers are used up.
@@ -47,6 +51,7 @@ impl<H: HangEnd> Model for ListHall<H> {
 
     ghost view = { λ hall. record {
       left = hall.answers.items;
+      table = hall.table;
       roll = hall.roll;
       tally = hall.tally;
       calls = option_map (λ calls. calls.items) hall.calls;
@@ -54,8 +59,9 @@ impl<H: HangEnd> Model for ListHall<H> {
 }
 
 impl<H: HangEnd> ListHall<H> {
-    /// A hall with this roll, and these answers in turn. Takes room for as many calls. An answer `Put` of the table's
-    /// `Stopped` stands for `Stopped`, and so do `Withdrawn` and `Left`, which no link gets that is up.
+    /// A hall with this roll, a table with no agent, and these answers in turn. Takes room for as many calls. An answer
+    /// `Put` of the table's `Stopped` stands for `Stopped`, and so do `Withdrawn` and `Left`, which no link gets that is
+    /// up.
     pub fn new(
         alloc: Global,
         answers: Vec<HallAnswer>,
@@ -68,10 +74,20 @@ impl<H: HangEnd> ListHall<H> {
         answers.reverse();
         Ok(ListHall {
             answers,
+            table: Questions::new(alloc),
             roll,
             tally: HallTally::new(),
             calls: Some(calls),
         })
+    }
+
+    /// The same hall with this table, of whose agents `service` tells.
+    pub fn with_table(self, table: Questions) -> ListHall<H>
+        ensures { result ≡ record self { table = table } }
+    {
+        let mut hall = self;
+        hall.table = table;
+        hall
     }
 
     /// What it counts, and its last calls.
@@ -280,6 +296,8 @@ impl<H: HangEnd> Hall for ListHall<H> {
 
     ghost calls = { λ hall. hall.calls };
 
+    ghost told = { λ hall. Some (service_of hall.table hall.roll) };
+
     fn enter<J: Naming>(&mut self, end: H, seat: &mut Seat<J>) -> Result<u64, Stopped>
         requires { H.used end ≡ false }
         ensures tally { self.new.tally ≡ after_enter result self.old.tally }
@@ -378,6 +396,13 @@ impl<H: HangEnd> Hall for ListHall<H> {
 
     fn part(&mut self, kind: Kind) {
         self.tally.count_part(kind);
+    }
+
+    fn service(&self, alloc: Global) -> Result<ServiceView, AllocError>
+        ensures told { IfOk result (λ view. told_by view ≡ service_of self.now.table self.now.roll) }
+        ensures rising { IfOk result (λ view. KindsRise view.kinds.items) }
+    {
+        view_of(alloc, &self.table, &self.roll)
     }
 
     fn stop(&mut self)

@@ -3,6 +3,7 @@ ghost use Rattle.server_hall.specs.Tally.{no_calls};
 
 use crate::roll_calls::{enter_roll, hang_roll, leave_roll};
 use crate::tallies::HallTally;
+use crate::views::{ServiceView, view_under};
 use crate::waiting::{ask_at, next_at};
 use crate::{AskRefusal, Hall, NextRefusal};
 use agent_table::{AnswerRefusal, Asked, Questions, RegisterRefusal, Taken};
@@ -10,7 +11,7 @@ use cynara_keys::{Kind, Metadata, Question};
 use link_ports::{HangEnd, Link};
 use live_desk::{Naming, Publisher, Seat};
 use live_roll::{Left, Roll, Stopped};
-use std::alloc::Global;
+use std::alloc::{AllocError, Global};
 use std::snapshot::Snapshot;
 use std::sync::{Condvar, Mutex, Wait};
 use std::time::Clock;
@@ -74,6 +75,9 @@ impl<'a, R: Wait + Clock + Drop, H: HangEnd> Hall for Locked<'a, R, H> {
     ghost tally = { λ hall. hall.tally };
 
     ghost calls = { λ hall. None };
+
+    // What stands under the locks no clause exposes. `view_under` says what is told of it while they are held.
+    ghost told = { λ hall. None };
 
     fn enter<J: Naming>(&mut self, end: H, seat: &mut Seat<J>) -> Result<u64, Stopped> {
         let mut roll = self.roll.lock(&self.rt);
@@ -147,6 +151,13 @@ impl<'a, R: Wait + Clock + Drop, H: HangEnd> Hall for Locked<'a, R, H> {
         self.questions.table.lock(&self.rt).drop_agent(kind);
         self.questions.news.notify_all();
         self.tally.count_part(kind);
+    }
+
+    fn service(&self, alloc: Global) -> Result<ServiceView, AllocError> {
+        let (table, roll, view) = view_under(&self.rt, alloc, self.questions, self.roll);
+        drop(roll);
+        drop(table);
+        view
     }
 
     fn stop(&mut self) {
