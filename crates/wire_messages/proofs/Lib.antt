@@ -15,4 +15,5 @@ pub mod Wanting
 pub mod Lending
 pub mod Behind
 pub mod LentChecks
+pub mod VisibleLanes
 pub mod Templates

@@ -12,6 +12,7 @@ use Rattle.wire_messages.specs.declared.messages.Message.TheVariants.{AgentFull,
 use Rattle.wire_messages.specs.declared.messages.Message.TheVariants.{StoreFault, StoreDamaged, Registered, KindTaken}
 use Rattle.wire_messages.specs.declared.messages.Message.TheVariants.{AgentQuestion, UnknownNumber, AgentWithdrawn}
 use Rattle.wire_messages.specs.declared.messages.Message.TheVariants.{ReadState, StateFile, StateEnd}
+use Rattle.wire_messages.specs.declared.messages.Message.TheVariants.{ReadService, AgentHere, ServiceEnd}
 use Rattle.wire_messages.specs.declared.operations.Operation.{Operation}
 use Rattle.wire_messages.specs.declared.operations.Operation.TheVariants as op
 use Rattle.wire_messages.specs.Left.{IsBytes, Left, Reading, ◌>>=◌}
@@ -96,6 +97,8 @@ message_takes op.Convert =
     says op.Convert (λ x. Convert x.0 x.1) (field.ident ⊗ flag)
     (pair_exact field.ident flag ident_exact flag_exact) (λ x good. (refl, refl, good))
 message_takes op.ReadState = says op.ReadState (λ none. ReadState) nothing nothing_exact (λ x good. (refl, refl, good))
+message_takes op.ReadService =
+    says op.ReadService (λ none. ReadService) nothing nothing_exact (λ x good. (refl, refl, good))
 message_takes op.Register = says op.Register Register field.agent_kind agent_kind_exact (λ x good. (refl, refl, good))
 message_takes op.AgentAnswer =
     says op.AgentAnswer (λ x. AgentAnswer x.0 x.1) ((number w32) ⊗ flag)
@@ -134,6 +137,10 @@ message_takes op.StateFile =
     says op.StateFile (λ x. StateFile x.0 x.1) (field.file_name ⊗ field.file_part)
     (pair_exact field.file_name field.file_part file_name_exact file_part_exact) (λ x good. (refl, refl, good))
 message_takes op.StateEnd = says op.StateEnd StateEnd (number w64) exact64 (λ x good. (refl, refl, good))
+message_takes op.AgentHere = says op.AgentHere AgentHere field.kind kind_exact (λ x good. (refl, refl, good))
+message_takes op.ServiceEnd =
+    says op.ServiceEnd (λ x. ServiceEnd x.0 x.1) ((number w32) ⊗ (number w32))
+    (pair_exact (number w32) (number w32) exact32 exact32) (λ x good. (refl, refl, good))
 message_takes op.Registered = says op.Registered Registered field.kind kind_exact (λ x good. (refl, refl, good))
 message_takes op.KindTaken = says op.KindTaken KindTaken field.kind kind_exact (λ x good. (refl, refl, good))
 message_takes op.AgentQuestion =
@@ -191,6 +198,7 @@ message_again (Convert name hybrid) end rest good =
     again (λ x. Convert x.0 x.1) (field.ident ⊗ flag) (pair_exact field.ident flag ident_exact flag_exact) end rest
     (name, hybrid) good
 message_again ReadState end rest good = again (λ none. ReadState) nothing nothing_exact end rest tt good
+message_again ReadService end rest good = again (λ none. ReadService) nothing nothing_exact end rest tt good
 message_again (Register kind) end rest good = again Register field.agent_kind agent_kind_exact end rest kind good
 message_again (AgentAnswer asked allowed) end rest good =
     again (λ x. AgentAnswer x.0 x.1) ((number w32) ⊗ flag) (pair_exact (number w32) flag exact32 flag_exact) end rest
@@ -228,6 +236,10 @@ message_again (StateFile name bytes) end rest good =
     again (λ x. StateFile x.0 x.1) (field.file_name ⊗ field.file_part)
     (pair_exact field.file_name field.file_part file_name_exact file_part_exact) end rest (name, bytes) good
 message_again (StateEnd commit) end rest good = again StateEnd (number w64) exact64 end rest commit good
+message_again (AgentHere kind) end rest good = again AgentHere field.kind kind_exact end rest kind good
+message_again (ServiceEnd workers served) end rest good =
+    again (λ x. ServiceEnd x.0 x.1) ((number w32) ⊗ (number w32)) (pair_exact (number w32) (number w32) exact32 exact32)
+    end rest (workers, served) good
 message_again (Registered kind) end rest good = again Registered field.kind kind_exact end rest kind good
 message_again (KindTaken kind) end rest good = again KindTaken field.kind kind_exact end rest kind good
 message_again (AgentQuestion asked question result) end rest good =

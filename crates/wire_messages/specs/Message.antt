@@ -12,6 +12,7 @@ use Rattle.wire_messages.specs.declared.messages.Message.TheVariants.{AgentFull,
 use Rattle.wire_messages.specs.declared.messages.Message.TheVariants.{StoreFault, StoreDamaged, Registered, KindTaken}
 use Rattle.wire_messages.specs.declared.messages.Message.TheVariants.{AgentQuestion, UnknownNumber, AgentWithdrawn}
 use Rattle.wire_messages.specs.declared.messages.Message.TheVariants.{ReadState, StateFile, StateEnd}
+use Rattle.wire_messages.specs.declared.messages.Message.TheVariants.{ReadService, AgentHere, ServiceEnd}
 use Rattle.wire_messages.specs.declared.operations.Operation.{Operation}
 use Rattle.wire_messages.specs.declared.operations.Operation.TheVariants as op
 use Rattle.wire_messages.specs.Left.{Left, Reading}
@@ -38,6 +39,7 @@ operation Stop = op.Stop
 operation (InstallHybrid install) = op.InstallHybrid
 operation (Convert name hybrid) = op.Convert
 operation ReadState = op.ReadState
+operation ReadService = op.ReadService
 operation (Register kind) = op.Register
 operation (AgentAnswer asked allowed) = op.AgentAnswer
 operation (Judged verdict) = op.Judged
@@ -54,6 +56,8 @@ operation StoreFault = op.StoreFault
 operation (StoreDamaged file line) = op.StoreDamaged
 operation (StateFile name bytes) = op.StateFile
 operation (StateEnd commit) = op.StateEnd
+operation (AgentHere kind) = op.AgentHere
+operation (ServiceEnd workers served) = op.ServiceEnd
 operation (Registered kind) = op.Registered
 operation (KindTaken kind) = op.KindTaken
 operation (AgentQuestion asked question result) = op.AgentQuestion
@@ -81,6 +85,7 @@ fields Stop = nothing.spelled tt
 fields (InstallHybrid install) = (field.install true).spelled install
 fields (Convert name hybrid) = (field.ident ⊗ flag).spelled (name, hybrid)
 fields ReadState = nothing.spelled tt
+fields ReadService = nothing.spelled tt
 fields (Register kind) = field.agent_kind.spelled kind
 fields (AgentAnswer asked allowed) = (number w32 ⊗ flag).spelled (asked, allowed)
 fields (Judged verdict) = field.verdict.spelled verdict
@@ -98,6 +103,8 @@ fields StoreFault = nothing.spelled tt
 fields (StoreDamaged file line) = (field.file_name ⊗ number w32).spelled (file, line)
 fields (StateFile name bytes) = (field.file_name ⊗ field.file_part).spelled (name, bytes)
 fields (StateEnd commit) = (number w64).spelled commit
+fields (AgentHere kind) = field.kind.spelled kind
+fields (ServiceEnd workers served) = (number w32 ⊗ number w32).spelled (workers, served)
 fields (Registered kind) = field.kind.spelled kind
 fields (KindTaken kind) = field.kind.spelled kind
 fields (AgentQuestion asked question result) =
@@ -125,6 +132,7 @@ read op.Stop = made (λ none. Stop) nothing
 read op.InstallHybrid = made InstallHybrid (field.install true)
 read op.Convert = made (λ x. Convert x.0 x.1) (field.ident ⊗ flag)
 read op.ReadState = made (λ none. ReadState) nothing
+read op.ReadService = made (λ none. ReadService) nothing
 read op.Register = made Register field.agent_kind
 read op.AgentAnswer = made (λ x. AgentAnswer x.0 x.1) (number w32 ⊗ flag)
 read op.Judged = made Judged field.verdict
@@ -141,6 +149,8 @@ read op.StoreFault = made (λ none. StoreFault) nothing
 read op.StoreDamaged = made (λ x. StoreDamaged x.0 x.1) (field.file_name ⊗ number w32)
 read op.StateFile = made (λ x. StateFile x.0 x.1) (field.file_name ⊗ field.file_part)
 read op.StateEnd = made StateEnd (number w64)
+read op.AgentHere = made AgentHere field.kind
+read op.ServiceEnd = made (λ x. ServiceEnd x.0 x.1) (number w32 ⊗ number w32)
 read op.Registered = made Registered field.kind
 read op.KindTaken = made KindTaken field.kind
 read op.AgentQuestion = made (λ x. AgentQuestion x.0 x.1.0 x.1.1) (number w32 ⊗ (field.question ⊗ field.ruling))

@@ -12,6 +12,7 @@ use Rattle.wire_messages.specs.declared.operations.Operation.TheVariants.{NoAgen
 use Rattle.wire_messages.specs.declared.operations.Operation.TheVariants.{ListRow, ListEnd, StoreFault, StoreDamaged}
 use Rattle.wire_messages.specs.declared.operations.Operation.TheVariants.{Registered, KindTaken, AgentQuestion}
 use Rattle.wire_messages.specs.declared.operations.Operation.TheVariants.{UnknownNumber, AgentWithdrawn, ReadState, StateFile, StateEnd}
+use Rattle.wire_messages.specs.declared.operations.Operation.TheVariants.{ReadService, AgentHere, ServiceEnd}
 
 abbrev pub number_of : Operation → ℕ
 number_of Check = 0x01
@@ -32,6 +33,7 @@ number_of Stop = 0x1C
 number_of InstallHybrid = 0x1D
 number_of Convert = 0x1E
 number_of ReadState = 0x1F
+number_of ReadService = 0x30
 number_of Register = 0x20
 number_of AgentAnswer = 0x21
 number_of Judged = 0x81
@@ -48,6 +50,8 @@ number_of StoreFault = 0x95
 number_of StoreDamaged = 0x96
 number_of StateFile = 0x97
 number_of StateEnd = 0x98
+number_of AgentHere = 0x99
+number_of ServiceEnd = 0x9A
 number_of Registered = 0xA0
 number_of KindTaken = 0xA1
 number_of AgentQuestion = 0xA2
@@ -59,11 +63,11 @@ abbrev pub known_at : Heard → List Operation
 known_at AtClient = Check ∷ SimpleCheck ∷ []
 known_at AtAdmin =
     SetBucket ∷ RemoveBucket ∷ SetPolicies ∷ Erase ∷ Layout ∷ SetTemplate ∷ UserSet ∷ UserRemove ∷ Install ∷ Uninstall
-    ∷ Listing ∷ AdminCheck ∷ Stop ∷ InstallHybrid ∷ Convert ∷ ReadState ∷ []
+    ∷ Listing ∷ AdminCheck ∷ Stop ∷ InstallHybrid ∷ Convert ∷ ReadState ∷ ReadService ∷ []
 known_at AtAgent = Register ∷ AgentAnswer ∷ []
 known_at Replies =
     Judged ∷ FromAgent ∷ NotResolved ∷ NoAgent ∷ AgentGone ∷ AgentFull ∷ Done ∷ Refused ∷ ListRow ∷ ListEnd ∷ StoreFault
-    ∷ StoreDamaged ∷ StateFile ∷ StateEnd ∷ []
+    ∷ StoreDamaged ∷ StateFile ∷ StateEnd ∷ AgentHere ∷ ServiceEnd ∷ []
 known_at AgentReplies = Registered ∷ KindTaken ∷ AgentQuestion ∷ UnknownNumber ∷ AgentWithdrawn ∷ []
 
 -- the operation of a number at a side, if the side knows it

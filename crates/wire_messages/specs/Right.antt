@@ -36,6 +36,7 @@ use Rattle.wire_messages.specs.declared.messages.Message.TheVariants.{AgentFull,
 use Rattle.wire_messages.specs.declared.messages.Message.TheVariants.{StoreFault, StoreDamaged, Registered, KindTaken}
 use Rattle.wire_messages.specs.declared.messages.Message.TheVariants.{AgentQuestion, UnknownNumber, AgentWithdrawn}
 use Rattle.wire_messages.specs.declared.messages.Message.TheVariants.{ReadState, StateFile, StateEnd}
+use Rattle.wire_messages.specs.declared.messages.Message.TheVariants.{ReadService, AgentHere, ServiceEnd}
 use Rattle.wire_messages.specs.Limits.{most_part_bytes}
 use Rattle.wire_messages.specs.Field.{is_field_text, is_ident, is_file_text, is_most, comes_after}
 
@@ -184,6 +185,7 @@ IsRight Stop = Unit {0}
 IsRight (InstallHybrid install) = IsInstall true install
 IsRight (Convert name hybrid) = IsIdent name × Unit {0}
 IsRight ReadState = Unit {0}
+IsRight ReadService = Unit {0}
 IsRight (Register kind) = IsKind kind × (is_agent kind.0 ≡ true)
 IsRight (AgentAnswer asked allowed) = IsNumber4 asked × Unit {0}
 IsRight (Judged verdict) = IsRightVerdict verdict
@@ -200,6 +202,8 @@ IsRight StoreFault = Unit {0}
 IsRight (StoreDamaged file line) = (is_file_text file ≡ true) × IsNumber4 line
 IsRight (StateFile name bytes) = (is_file_text name ≡ true) × (length bytes ≤ most_part_bytes)
 IsRight (StateEnd commit) = IsNumber8 commit
+IsRight (AgentHere kind) = IsKind kind
+IsRight (ServiceEnd workers served) = IsNumber4 workers × IsNumber4 served
 IsRight (Registered kind) = IsKind kind
 IsRight (KindTaken kind) = IsKind kind
 IsRight (AgentQuestion asked question result) = IsNumber4 asked × (IsQuestion question × IsRuling result)

@@ -2,3 +2,4 @@ pub mod Feeding
 pub mod FiveTexts
 pub mod LentCheck
 pub mod Packed
+pub mod Visible

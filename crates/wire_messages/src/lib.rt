@@ -21,6 +21,7 @@ mod list_writers;
 mod message_readers;
 mod message_writers;
 mod messages;
+mod name_texts;
 mod operations;
 mod readers;
 mod refusal_readers;

@@ -39,6 +39,7 @@ pub fn message(
         Operation::InstallHybrid => install_hybrid(alloc, fields),
         Operation::Convert => convert(alloc, fields),
         Operation::ReadState => Ok(Message::ReadState),
+        Operation::ReadService => Ok(Message::ReadService),
         Operation::Register => register(fields),
         Operation::AgentAnswer => agent_answer(fields),
         Operation::Judged => judged(alloc, fields),
@@ -55,6 +56,8 @@ pub fn message(
         Operation::StoreDamaged => store_damaged(alloc, fields),
         Operation::StateFile => state_file(alloc, fields),
         Operation::StateEnd => state_end(fields),
+        Operation::AgentHere => agent_here(fields),
+        Operation::ServiceEnd => service_end(fields),
         Operation::Registered => registered(fields),
         Operation::KindTaken => kind_taken(fields),
         Operation::AgentQuestion => agent_question(alloc, fields),
@@ -301,6 +304,21 @@ fn state_end(fields: &mut Fields) -> Result<Message, WireRefusal>
 {
     let commit = fields.number8()?;
     Ok(Message::StateEnd { commit })
+}
+
+fn agent_here(fields: &mut Fields) -> Result<Message, WireRefusal>
+    ensures { Gives result fields.new (message.read Operation.AgentHere fields.old) }
+{
+    let kind = kind(fields)?;
+    Ok(Message::AgentHere { kind })
+}
+
+fn service_end(fields: &mut Fields) -> Result<Message, WireRefusal>
+    ensures { Gives result fields.new (message.read Operation.ServiceEnd fields.old) }
+{
+    let workers = fields.number4()?;
+    let served = fields.number4()?;
+    Ok(Message::ServiceEnd { workers, served })
 }
 
 fn registered(fields: &mut Fields) -> Result<Message, WireRefusal>

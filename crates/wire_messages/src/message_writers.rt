@@ -37,6 +37,7 @@ pub fn operation(message: &Message) -> Operation
         Message::InstallHybrid { .. } => Operation::InstallHybrid,
         Message::Convert { .. } => Operation::Convert,
         Message::ReadState => Operation::ReadState,
+        Message::ReadService => Operation::ReadService,
         Message::Register { .. } => Operation::Register,
         Message::AgentAnswer { .. } => Operation::AgentAnswer,
         Message::Judged { .. } => Operation::Judged,
@@ -53,6 +54,8 @@ pub fn operation(message: &Message) -> Operation
         Message::StoreDamaged { .. } => Operation::StoreDamaged,
         Message::StateFile { .. } => Operation::StateFile,
         Message::StateEnd { .. } => Operation::StateEnd,
+        Message::AgentHere { .. } => Operation::AgentHere,
+        Message::ServiceEnd { .. } => Operation::ServiceEnd,
         Message::Registered { .. } => Operation::Registered,
         Message::KindTaken { .. } => Operation::KindTaken,
         Message::AgentQuestion { .. } => Operation::AgentQuestion,
@@ -119,6 +122,7 @@ pub fn put_fields(out: &mut Bytes, message: &Message) -> Result<(), AllocError>
             put_flag(out, *hybrid)
         }
         Message::ReadState => Ok(()),
+        Message::ReadService => Ok(()),
         Message::Register { kind } => put_kind(out, *kind),
         Message::AgentAnswer { number, allowed } => {
             put4(out, *number)?;
@@ -155,6 +159,11 @@ pub fn put_fields(out: &mut Bytes, message: &Message) -> Result<(), AllocError>
             put_part(out, bytes.as_slice())
         }
         Message::StateEnd { commit } => put8(out, *commit),
+        Message::AgentHere { kind } => put_kind(out, *kind),
+        Message::ServiceEnd { workers, served } => {
+            put4(out, *workers)?;
+            put4(out, *served)
+        }
         Message::Registered { kind } => put_kind(out, *kind),
         Message::KindTaken { kind } => put_kind(out, *kind),
         Message::AgentQuestion {

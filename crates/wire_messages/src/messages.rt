@@ -73,6 +73,8 @@ pub enum Message {
     },
     /// An administrator asks for the whole policy state.
     ReadState,
+    /// An administrator asks which agents are there, and how many workers there are for clients.
+    ReadService,
     /// An agent says what kind it answers.
     Register {
         kind: Kind,
@@ -147,6 +149,16 @@ pub enum Message {
     /// The end of the policy state that was asked for, and the commit that it is of.
     StateEnd {
         commit: u64,
+    },
+    /// An agent of the kind is there.
+    AgentHere {
+        kind: Kind,
+    },
+    /// The end of the agents that are there: how many workers for clients have begun, and how many of these serve a
+    /// connection now.
+    ServiceEnd {
+        workers: u32,
+        served: u32,
     },
     /// The agent is registered.
     Registered {

@@ -37,6 +37,7 @@ pub enum Operation {
     InstallHybrid,
     Convert,
     ReadState,
+    ReadService,
     Register,
     AgentAnswer,
     Judged,
@@ -53,6 +54,8 @@ pub enum Operation {
     StoreDamaged,
     StateFile,
     StateEnd,
+    AgentHere,
+    ServiceEnd,
     Registered,
     KindTaken,
     AgentQuestion,
@@ -97,6 +100,7 @@ impl Operation {
             Operation::InstallHybrid => 0x1D,
             Operation::Convert => 0x1E,
             Operation::ReadState => 0x1F,
+            Operation::ReadService => 0x30,
             Operation::Register => 0x20,
             Operation::AgentAnswer => 0x21,
             Operation::Judged => 0x81,
@@ -113,6 +117,8 @@ impl Operation {
             Operation::StoreDamaged => 0x96,
             Operation::StateFile => 0x97,
             Operation::StateEnd => 0x98,
+            Operation::AgentHere => 0x99,
+            Operation::ServiceEnd => 0x9A,
             Operation::Registered => 0xA0,
             Operation::KindTaken => 0xA1,
             Operation::AgentQuestion => 0xA2,
@@ -152,6 +158,7 @@ fn at_admin(number: u8) -> Option<Operation>
         0x1D => Some(Operation::InstallHybrid),
         0x1E => Some(Operation::Convert),
         0x1F => Some(Operation::ReadState),
+        0x30 => Some(Operation::ReadService),
         _ => None,
     }
 }
@@ -184,6 +191,8 @@ fn reply(number: u8) -> Option<Operation>
         0x96 => Some(Operation::StoreDamaged),
         0x97 => Some(Operation::StateFile),
         0x98 => Some(Operation::StateEnd),
+        0x99 => Some(Operation::AgentHere),
+        0x9A => Some(Operation::ServiceEnd),
         _ => None,
     }
 }

@@ -10,12 +10,12 @@ ghost use Rattle.wire_messages.specs.Field as field;
 use crate::WireRefusal;
 use crate::fields::Fields;
 use crate::limits::MOST_PART_BYTES;
+use crate::name_texts::is_name;
 use crate::verdicts::BorrowedRuling;
 use app_registry::{Ident, IdentRefusal, Scope, UserType};
 use cynara_keys::{
     BucketName, BucketNameRefusal, Filter, FilterField, Key, Kind, Metadata, MetadataRefusal, Name,
     NameRefusal, Policy, PolicyResult, Question, field_fault, is_bucket_name, is_metadata,
-    name_fault,
 };
 use desk_ports::{Bytes, FileName, FileNameRefusal};
 use rule_templates::{Template, TemplateRefusal};
@@ -68,7 +68,7 @@ pub fn name_text<'a>(fields: &mut Fields<'a>) -> Result<&'a [u8], WireRefusal>
 {
     let place = fields.place();
     let text = fields.text()?;
-    if name_fault(text).is_some() {
+    if !is_name(text) {
         return Err(WireRefusal::BadField(place));
     }
     Ok(text)
