@@ -1,5 +1,5 @@
 -- Replies that are taken one after the other.
-use Rattle.std.proofs.Common.{◌≡◌, ◌∙◌, ◌+◌, ◌<◌, ℕ, suc, Bool, true, false, ◌&&◌, cond, ltb, eqb, List, [], ◌∷◌, ◌++◌, length, map, Option, Some, Result, Ok, Err, refl, ap, subst, append_assoc, arith}
+use Rattle.std.proofs.Common.{◌≡◌, ◌∙◌, ◌+◌, ◌<◌, ◌≤◌, ℕ, suc, Bool, true, false, ◌&&◌, cond, ltb, eqb, List, [], ◌∷◌, ◌++◌, length, map, Option, Some, Result, Ok, Err, refl, ap, subst, append_assoc, arith}
 use Rattle.std.proofs.lemmas.Bool.Decides.{nat_tests}
 use Rattle.link_ports.specs.Traffic.{Traffic, with_received}
 use Rattle.std.specs.declared.alloc.AllocError.{AllocError}
@@ -15,7 +15,7 @@ use Rattle.client_connection.proofs.Sizes.{whole_within}
 use Rattle.client_connection.specs.declared.faults.Broken.{Broken}
 use Rattle.client_connection.specs.declared.faults.Broken.TheVariants.{Lost, Wrong}
 use Rattle.client_connection.specs.declared.faults.ReplyFault.{ReplyFault}
-use Rattle.admin_client.specs.Replies.{is_list_row, is_row, is_last, next_of, AreRows}
+use Rattle.admin_client.specs.Replies.{is_list_row, is_state_part, is_agent_here, is_row, is_last, next_of, AreRows}
 use Rattle.admin_client.specs.Answers.{TookBytes, IsWhole, IsBad, IsRefused, refusal_of}
 use Rattle.admin_client.specs.declared.wanted.Wanted.{Wanted}
 use Rattle.admin_client.specs.declared.wanted.Wanted.TheVariants as wanted
@@ -35,17 +35,19 @@ by_tests true false true w v is = cc
 by_tests true false false w v is = cc
 by_tests false b c w v is = cc
 
-below : (n : ℕ) → ltb n 65536 ≡ true → n < 65536
-below n is = grind (arith, nat_tests)
+below : (n most : ℕ) → ltb n most ≡ true → most ≤ 1048576 → n < 1048576
+below n most is few = grind (arith, nat_tests)
 
-row_below : (wanted : Wanted) (n : ℕ) (reply : Message) → is_row wanted n reply ≡ true → n < 65536
-row_below wanted.Rows n reply is = below n (and_right (is_list_row reply) (ltb n 65536) is)
+row_below : (wanted : Wanted) (n : ℕ) (reply : Message) → is_row wanted n reply ≡ true → n < 1048576
+row_below wanted.Rows n reply is = below n 65536 (and_right (is_list_row reply) (ltb n 65536) is) (omega arith)
+row_below wanted.State n reply is = below n 1048576 (and_right (is_state_part reply) (ltb n 1048576) is) (omega arith)
+row_below wanted.Service n reply is = below n 65536 (and_right (is_agent_here reply) (ltb n 65536) is) (omega arith)
 row_below wanted.Command n reply is = cc
 row_below wanted.Verdict n reply is = cc
 row_below wanted.Stop n reply is = cc
 
 -- a further row is not beyond the last one
-pub more_rows : (wanted : Wanted) (sequence n : ℕ) (framed : Framed) → next_of wanted sequence n framed ≡ next.More → n < 65536
+pub more_rows : (wanted : Wanted) (sequence n : ℕ) (framed : Framed) → next_of wanted sequence n framed ≡ next.More → n < 1048576
 more_rows wanted sequence n framed is =
     row_below wanted n framed.message
     (by_tests (eqb framed.sequence sequence) (is_row wanted n framed.message) (is_last wanted n framed.message) _ _ is)

@@ -17,4 +17,4 @@ invariant-loop-framed g l =
     × ((g.L.Link.marks l.link).ends ≡ (g.L.Link.marks l.fn.link).ends)
 
 abbrev pub decreases-loop-framed : goal.decreases-loop-framed
-decreases-loop-framed g l = 65537 - length l.replies.items
+decreases-loop-framed g l = 1048577 - length l.replies.items
