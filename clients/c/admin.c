@@ -1,6 +1,7 @@
 /* Administrators: installers and settings. */
 #include "end.h"
 #include "fields.h"
+#include "texts.h"
 
 #include <errno.h>
 #include <stdlib.h>
@@ -85,7 +86,7 @@ static enum privilege_error read_answer(struct privilege_admin *admin, uint8_t c
     bool is_refused = said->operation == REFUSED;
     refusal->rule = is_refused ? said->rule : 0;
     refusal->value = is_refused ? said->value : said->number;
-    end_put(refusal->text, sizeof refusal->text, &said->text);
+    text_put(refusal->text, sizeof refusal->text, &said->text);
     return is_refused ? PRIVILEGE_REFUSED : PRIVILEGE_STORE_DAMAGED;
 }
 
@@ -154,9 +155,9 @@ static uint8_t rows(
     struct end *end, uint8_t code, void (*each)(const struct privilege_row *, void *), void *context) {
     while (code == PRIVILEGE_CORE_ROW) {
         struct privilege_row row;
-        end_put_key(&row.key, &end->said);
+        text_put_key(&row.key, &end->said);
         row.result = end->said.kind;
-        end_put(row.metadata, sizeof row.metadata, &end->said.metadata);
+        text_put(row.metadata, sizeof row.metadata, &end->said.metadata);
         each(&row, context);
         /* Each row has the time of a call: a list may be long. */
         link_begin(&end->link, end->link.limit);
@@ -192,10 +193,10 @@ enum privilege_error privilege_admin_check(struct privilege_admin *admin, const 
         const struct privilege_core_said *said = &admin->end.said;
         verdict->commit = said->commit;
         verdict->result = said->kind;
-        end_put(verdict->metadata, sizeof verdict->metadata, &said->metadata);
-        end_put(verdict->bucket, sizeof verdict->bucket, &said->text);
+        text_put(verdict->metadata, sizeof verdict->metadata, &said->metadata);
+        text_put(verdict->bucket, sizeof verdict->bucket, &said->text);
         verdict->has_key = said->has_key;
-        if (said->has_key) end_put_key(&verdict->key, said);
+        if (said->has_key) text_put_key(&verdict->key, said);
     }
     end_give(&admin->end);
     return error;

@@ -1,5 +1,6 @@
 /* Agents: programs that ask the user. */
 #include "end.h"
+#include "texts.h"
 
 #include <errno.h>
 #include <stdlib.h>
@@ -90,8 +91,8 @@ static void give(struct privilege_agent *agent, struct privilege_question *quest
     if (!question) return;
     question->number = said->number;
     question->kind = said->kind;
-    end_put_key(&question->key, said);
-    end_put(question->metadata, sizeof question->metadata, &said->metadata);
+    text_put_key(&question->key, said);
+    text_put(question->metadata, sizeof question->metadata, &said->metadata);
 }
 
 enum privilege_error privilege_agent_next(

@@ -1,5 +1,6 @@
 /* Who asks: launchers and daemons. */
 #include "end.h"
+#include "texts.h"
 
 #include <errno.h>
 #include <stdlib.h>
@@ -56,10 +57,10 @@ static void fill(struct privilege_verdict *verdict, uint8_t code, const struct p
     if (code != PRIVILEGE_CORE_ANSWER) return;
     if (said->allowed) verdict->result = PRIVILEGE_ALLOW;
     if (said->operation != 0x81) return;
-    end_put(verdict->metadata, sizeof verdict->metadata, &said->metadata);
-    end_put(verdict->bucket, sizeof verdict->bucket, &said->text);
+    text_put(verdict->metadata, sizeof verdict->metadata, &said->metadata);
+    text_put(verdict->bucket, sizeof verdict->bucket, &said->text);
     verdict->has_key = said->has_key;
-    if (said->has_key) end_put_key(&verdict->key, said);
+    if (said->has_key) text_put_key(&verdict->key, said);
 }
 
 /* Ends a call with what the code says. */
@@ -81,15 +82,15 @@ static bool read_texts(struct question *question) {
 
 /* What is kept for the question, where the connection stands: PRIVILEGE_CORE_ANSWER with what it says. */
 static uint8_t recall(struct end *end, const struct question *question) {
-    uint8_t text[MOST_TEXT];
+    char text[MOST_TEXT];
     size_t length = 0;
     for (int at = 0; at < 4; at++) {
         if (question->count[at] > 255) return PRIVILEGE_CORE_IDLE;
         if (at) text[length++] = ' ';
-        memcpy(text + length, question->text[at], question->count[at]);
+        copy_bytes(text + length, question->text[at], question->count[at]);
         length += question->count[at];
     }
-    return privilege_core_client_recall(&end->core, text, length, &end->said);
+    return privilege_core_client_recall(&end->core, (const uint8_t *)text, length, &end->said);
 }
 
 /* Asks the core. A kept answer costs no more than a look at the connection. */
@@ -117,7 +118,10 @@ static enum privilege_error ask(
         end_give(end);
         return PRIVILEGE_BUSY;
     }
-    return conclude(client, end_drive(end, begin(end, question, simple), waits), verdict);
+    uint8_t code = begin(end, question, simple);
+    /* Behind a kept answer nothing is to be done. */
+    if (code != PRIVILEGE_CORE_ANSWER) code = end_drive(end, code, waits);
+    return conclude(client, code, verdict);
 }
 
 enum privilege_error privilege_check(struct privilege *client, const char *name, const char *session,

@@ -175,18 +175,6 @@ enum privilege_error end_error(const struct end *end, uint8_t code) {
     }
 }
 
-void end_put(char *to, size_t room, const struct privilege_core_text *text) {
-    size_t count = text->count < room ? text->count : room - 1;
-    memcpy(to, text->bytes, count);
-    to[count] = 0;
-}
-
-void end_put_key(struct privilege_key *key, const struct privilege_core_said *said) {
-    end_put(key->client, sizeof key->client, &said->client);
-    end_put(key->user, sizeof key->user, &said->user);
-    end_put(key->privilege, sizeof key->privilege, &said->privilege);
-}
-
 void end_deny(struct privilege_verdict *verdict) {
     verdict->commit = 0;
     verdict->number = 0;

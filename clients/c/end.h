@@ -47,9 +47,6 @@ void end_leave(struct end *end);
 /* What a code means to the caller. */
 enum privilege_error end_error(const struct end *end, uint8_t code);
 
-/* Puts a text, and a null byte behind it, into a place of so many bytes. */
-void end_put(char *to, size_t room, const struct privilege_core_text *text);
-void end_put_key(struct privilege_key *key, const struct privilege_core_said *said);
 /* The verdict that denies, of no commit. */
 void end_deny(struct privilege_verdict *verdict);
 

@@ -414,7 +414,7 @@ def whole_frame(heard):
 
 def serve(service, link):
     """How a connection ends."""
-    heard = b""
+    heard, has_stopped = b"", False
     try:
         while True:
             whole = whole_frame(heard)
@@ -426,12 +426,14 @@ def serve(service, link):
                 continue
             heard = heard[len(whole) :]
             step = step_of(whole[6], whole[7:])
+            has_stopped = step == ("stop",)
             for operation, fields in service.answer(step):
                 link.send(frame(int.from_bytes(whole[4:6], "big"), operation, fields))
-            if step == ("stop",):
+            if has_stopped:
                 raise Ended("stopped")
     except LinkFailed:
-        return "link"
+        # A stop that was made ends its connection as one, whether or not its reply could be sent.
+        return "stopped" if has_stopped else "link"
     except Ended as ended:
         return str(ended)
 

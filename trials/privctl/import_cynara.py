@@ -22,7 +22,7 @@ import program
 PROGRAM = pathlib.Path(os.environ.get("PROGRAM", program.PROGRAM)).resolve()
 PRIVCTL = pathlib.Path(os.environ.get("PRIVCTL", program.TOP / "crates/privctl/out/privctl")).resolve()
 DENY, NONE, BUCKET, ALLOW = 0, 1, 0xFFFE, 0xFFFF
-NAMES = ["MAIN", "MANIFESTS", "ADMIN", "USER_TYPE_NORMAL", "PRIVACY_MANAGER", "a-b", "x" * 64, "y" * 70, "cynara_MAIN", "Z"]
+NAMES = ["MAIN", "MANIFESTS", "ADMIN", "USER_TYPE_NORMAL", "PRIVACY_MANAGER", "a-b", "x" * 64, "y" * 70, "w" * 66, "cynara_MAIN", "cynara_1", "cynara_2", "cynara_3", "Z"]
 CLIENTS = ["User::Pkg::app", "User", "c"]
 USERS = ["5001", "0"]
 PRIVILEGES = ["http://tizen.org/privilege/camera", "p"]

@@ -1,11 +1,12 @@
 #!/usr/bin/env python3
 """Random databases of buckets, with what a model of nested evaluation answers from them, for `eval_cases`, which finds each answer by
-`plain`, by an index and in the form that lends its texts, and says so where these differ.
+`plain`, by an index, in the form that lends its texts, and by an index made of the last one, and says so where these differ.
 
     trials/try random_databases 1000 1      a thousand databases from the seed 1, by the program of `trials/cases`, built by `rt try`
 
 The databases are deep, wide, or both; NONE stands at every level, keys and results tie, wildcards stand in each place, and questions
-have names that no policy has, and names stand on both sides of the wildcard. The model shares no code with the crates: it is the
+have names that no policy has, and names stand on both sides of the wildcard. Each database is changed four times, in single buckets:
+policies, fallbacks, buckets that come and go; it is asked behind each change. The model shares no code with the crates: it is the
 recursive minimum, with the answers of buckets kept.
 Prints the first lines that differ, and `N databases, M questions, K differences`; the status is 0 where there is none."""
 import pathlib
@@ -95,20 +96,59 @@ def database_lines(chance):
     def word():
         return "*" if chance.random() < 0.5 else chance.choice(names)
 
-    for place, bucket in enumerate(buckets):
-        for _ in range(chance.randrange(0, 30 if wide else 8)):
-            key = (word(), word(), word())
-            below = buckets[place + 1:]
-            result = f"bucket:{chance.choice(below)}" if below and chance.random() < 0.45 else result_of(chance)
-            device.policies[bucket][key] = result
-            lines.append((f"set {bucket} {' '.join(key)} {result}", "done"))
+    def set_policy(place):
+        bucket = buckets[place]
+        key = (word(), word(), word())
+        below = buckets[place + 1:]
+        result = f"bucket:{chance.choice(below)}" if below and chance.random() < 0.45 else result_of(chance)
+        device.policies[bucket][key] = result
+        lines.append((f"set {bucket} {' '.join(key)} {result}", "done"))
+
+    def ask(count):
+        for _ in range(count):
+            question = tuple(chance.choice(asked) for _ in range(3))
+            lines.append((f"check {' '.join(question)}", device.text(".", question)))
+            bucket = chance.choice(buckets)
+            lines.append((f"from {bucket} {' '.join(question)}", device.text(bucket, question)))
+            lines.append((f"flat {bucket} {' '.join(question)}", device.text(bucket, question, deep=False)))
+
+    def change():
+        """One change, of one bucket but where it goes."""
+        roll = chance.random()
+        if roll < 0.15:
+            fallback = fallback_of(chance, False)
+            bucket = f"b{len(device.policies)}{chance.choice('xyz')}"
+            place = chance.randrange(1, len(buckets) + 1)
+            if bucket not in device.policies:
+                device.policies[bucket] = {}
+                buckets.insert(place, bucket)
+            device.fallbacks[bucket] = fallback
+            lines.append((f"bucket {bucket} {fallback}", "done"))
+        elif roll < 0.3 and len(buckets) > 1:
+            bucket = buckets.pop(chance.randrange(1, len(buckets)))
+            del device.policies[bucket], device.fallbacks[bucket]
+            for policies in device.policies.values():
+                for key in [key for key, result in policies.items() if result == f"bucket:{bucket}"]:
+                    del policies[key]
+            lines.append((f"gone {bucket}", "done"))
+        elif roll < 0.45:
+            bucket = chance.choice(buckets)
+            device.fallbacks[bucket] = fallback_of(chance, bucket == ".")
+            lines.append((f"bucket {bucket} {device.fallbacks[bucket]}", "done"))
+        else:
+            if chance.random() < 0.5:
+                names.append(f"n{chance.randrange(1000)}")
+                asked.append(names[-1])
+            set_policy(chance.randrange(len(buckets)))
+
     asked = [*names, "stranger"]
-    for _ in range(6):
-        question = tuple(chance.choice(asked) for _ in range(3))
-        lines.append((f"check {' '.join(question)}", device.text(".", question)))
-        bucket = chance.choice(buckets)
-        lines.append((f"from {bucket} {' '.join(question)}", device.text(bucket, question)))
-        lines.append((f"flat {bucket} {' '.join(question)}", device.text(bucket, question, deep=False)))
+    for place in range(len(buckets)):
+        for _ in range(chance.randrange(0, 30 if wide else 8)):
+            set_policy(place)
+    ask(6)
+    for _ in range(4):
+        change()
+        ask(3)
     return lines
 
 
@@ -141,7 +181,7 @@ def main():
         lines += batch
         given += told([line for line, _ in batch])
     wanted = [f"{line} = {answer}" for line, answer in lines]
-    questions = sum(not line.startswith(("fresh", "bucket", "set")) for line, _ in lines)
+    questions = sum(not line.startswith(("fresh", "bucket", "set", "gone")) for line, _ in lines)
     wrong = [pair for pair in zip(wanted, given) if pair[0] != pair[1]]
     differences = len(wrong) + abs(len(wanted) - len(given))
     for want, got in wrong[:5]:

@@ -1,91 +1,72 @@
 -- Replies that are taken one after the other.
-use Rattle.std.proofs.Common.{◌≡◌, ◌∙◌, ◌+◌, ◌<◌, ◌≤◌, ℕ, suc, Bool, true, false, ◌&&◌, cond, ltb, eqb, List, [], ◌∷◌, ◌++◌, length, map, Option, Some, Result, Ok, Err, refl, ap, subst, append_assoc, arith}
-use Rattle.std.proofs.lemmas.Bool.Decides.{nat_tests}
+use Rattle.std.proofs.Common.{◌≡◌, ◌∙◌, ◌+◌, ◌<◌, ℕ, suc, List, [], ◌∷◌, ◌++◌, length, map, Option, Some, Ok, Err, refl, sym, ap, subst, append_assoc, arith, inl, inr}
 use Rattle.link_ports.specs.Traffic.{Traffic, with_received}
 use Rattle.std.specs.declared.alloc.AllocError.{AllocError}
 use Rattle.wire_messages.proofs.Streams.{hears_more, hears_then}
-use Rattle.wire_messages.specs.Stream.{Feeding, Hears, unfed}
+use Rattle.wire_messages.specs.Operation.{number_of}
+use Rattle.wire_messages.specs.Message.{operation}
+use Rattle.wire_messages.specs.Stream.{Hears}
 use Rattle.wire_messages.specs.declared.messages.Framed.{Framed}
 use Rattle.wire_messages.specs.declared.messages.Message.{Message}
-use Rattle.wire_messages.specs.declared.operations.Heard.{Heard}
 use Rattle.wire_messages.specs.declared.operations.Heard.TheVariants.{Replies}
+use Rattle.wire_messages.specs.declared.refusals.WireRefusal.{WireRefusal}
 use Rattle.wire_messages.specs.declared.refusals.WireRefusal.TheVariants.{TooShort, TooLong, BadOperation, BadField, Trailing, Memory}
 use Rattle.client_connection.specs.Reading.{IsRead, Receives}
+use Rattle.client_connection.specs.Coming.{Comes}
+use Rattle.client_connection.proofs.Receiving.{received_nothing}
 use Rattle.client_connection.proofs.Sizes.{whole_within}
-use Rattle.client_connection.specs.declared.faults.Broken.{Broken}
 use Rattle.client_connection.specs.declared.faults.Broken.TheVariants.{Lost, Wrong}
 use Rattle.client_connection.specs.declared.faults.ReplyFault.{ReplyFault}
-use Rattle.admin_client.specs.Replies.{is_list_row, is_state_part, is_agent_here, is_row, is_last, next_of, AreRows}
-use Rattle.admin_client.specs.Answers.{TookBytes, IsWhole, IsBad, IsRefused, refusal_of}
-use Rattle.admin_client.specs.declared.wanted.Wanted.{Wanted}
-use Rattle.admin_client.specs.declared.wanted.Wanted.TheVariants as wanted
-use Rattle.admin_client.specs.declared.wanted.Next.TheVariants as next
+use Rattle.client_connection.specs.declared.faults.ReplyFault.TheVariants as reply_fault
+use Rattle.client_core.specs.Listening.{unheard}
+use Rattle.client_core.specs.Hearing.{fault_by}
+use Rattle.client_core.specs.AdminCalls.{AreRows}
+use Rattle.client_core.specs.AdminReplies.{IsRow, IsLast, IsWrong}
+use Rattle.client_core.specs.Admin.{Admin, cut, with_row}
+use Rattle.client_core.proofs.Staging.{more_rows, IsFor, wrong_for}
+use Rattle.client_core.specs.declared.stages.Exchange.{Exchange}
+use Rattle.client_core.specs.declared.stages.AdminStage.TheVariants as stage
+use Rattle.client_core.specs.declared.steps.Step.{Step}
+use Rattle.client_core.specs.declared.steps.Step.TheVariants as step
+use Rattle.client_core.specs.declared.steps.Fault.{Fault}
+use Rattle.client_core.specs.declared.steps.Fault.TheVariants as fault
+use Rattle.client_core.specs.declared.wanted.Wanted.{Wanted}
+use Rattle.admin_client.specs.Answers.{TookBytes, IsWhole, IsBad, IsRefused, IfUnavailable, IsNoAge, refusal_of}
+use Rattle.admin_client.specs.parts.Talking.{Follows, Hears as HearsOn, Answers, Leaves}
+use Rattle.admin_client.specs.declared.refusals.AdminRefusal.{AdminRefusal}
 use Rattle.admin_client.specs.declared.refusals.AdminRefusal.TheVariants as refusal
 
 -- ---- rows
 
-and_right : (a b : Bool) → (a && b) ≡ true → b ≡ true
-and_right true b is = is
-and_right false b is = cc
+abbrev messages : List Framed → List Message
+messages rows = map (λ (framed : Framed). framed.message) rows
 
-by_tests : (a b c : Bool) (w v : ReplyFault) → cond a (cond b next.More (cond c next.Whole (next.Wrong w))) (next.Wrong v) ≡ next.More
-    → b ≡ true
-by_tests true true c w v is = refl
-by_tests true false true w v is = cc
-by_tests true false false w v is = cc
-by_tests false b c w v is = cc
-
-below : (n most : ℕ) → ltb n most ≡ true → most ≤ 1048576 → n < 1048576
-below n most is few = grind (arith, nat_tests)
-
-row_below : (wanted : Wanted) (n : ℕ) (reply : Message) → is_row wanted n reply ≡ true → n < 1048576
-row_below wanted.Rows n reply is = below n 65536 (and_right (is_list_row reply) (ltb n 65536) is) (omega arith)
-row_below wanted.State n reply is = below n 1048576 (and_right (is_state_part reply) (ltb n 1048576) is) (omega arith)
-row_below wanted.Service n reply is = below n 65536 (and_right (is_agent_here reply) (ltb n 65536) is) (omega arith)
-row_below wanted.Command n reply is = cc
-row_below wanted.Verdict n reply is = cc
-row_below wanted.Stop n reply is = cc
-
--- a further row is not beyond the last one
-pub more_rows : (wanted : Wanted) (sequence n : ℕ) (framed : Framed) → next_of wanted sequence n framed ≡ next.More → n < 1048576
-more_rows wanted sequence n framed is =
-    row_below wanted n framed.message
-    (by_tests (eqb framed.sequence sequence) (is_row wanted n framed.message) (is_last wanted n framed.message) _ _ is)
-
-pub mapped_more : (rows : List Framed) (framed : Framed)
-    → map (λ (framed : Framed). framed.message) (rows ++ framed ∷ []) ≡ map (λ (framed : Framed). framed.message) rows ++ framed.message ∷ []
+mapped_more : (rows : List Framed) (framed : Framed) → messages (rows ++ framed ∷ []) ≡ messages rows ++ framed.message ∷ []
 mapped_more [] framed = refl
-mapped_more (row ∷ rows) framed = ap (λ messages. row.message ∷ messages) (mapped_more rows framed)
+mapped_more (row ∷ rows) framed = ap (λ (ms : List Message). row.message ∷ ms) (mapped_more rows framed)
 
-rows_length : (rows : List Framed) → length (map (λ (framed : Framed). framed.message) rows) ≡ length rows
+rows_length : (rows : List Framed) → length (messages rows) ≡ length rows
 rows_length [] = refl
 rows_length (row ∷ rows) = ap suc (rows_length rows)
 
--- as many rows as messages
-pub rows_count : (n : ℕ) (items : List Message) (rows : List Framed) → n ≡ length items
-    → items ≡ map (λ (framed : Framed). framed.message) rows → n ≡ length rows
-rows_count n items rows count are = count ∙ (ap length are ∙ rows_length rows)
+length_more : (rows : List Framed) (framed : Framed) → length (rows ++ framed ∷ []) ≡ length rows + 1
+length_more [] framed = refl
+length_more (row ∷ rows) framed = let on = length_more rows framed in omega (arith, on)
 
 -- one more row
-pub one_more : (wanted : Wanted) (sequence before n : ℕ) (rows : List Framed) (framed : Framed) → n ≡ before + length rows
-    → AreRows wanted sequence before rows → next_of wanted sequence n framed ≡ next.More
+one_more : (wanted : Wanted) (sequence before n : ℕ) (rows : List Framed) (framed : Framed) → n ≡ before + length rows
+    → AreRows wanted sequence before rows → IsRow wanted sequence n framed
     → AreRows wanted sequence before (rows ++ framed ∷ [])
 one_more wanted sequence before n [] framed place rows more =
     let here : n ≡ before = omega (arith, place) in
-    (subst (λ (n : ℕ). next_of wanted sequence n framed ≡ next.More) here more, tt)
+    (subst (λ (n : ℕ). IsRow wanted sequence n framed) here more, tt)
 one_more wanted sequence before n (row ∷ rows) framed place are more =
     (are.0, one_more wanted sequence (suc before) n rows framed (omega (arith, place)) are.1 more)
 
 -- ---- what was taken
 
--- a feeder that hears replies
-pub as_replies : (feeder : Feeding) (result : Result Framed Broken) (start end : Option Traffic) → feeder ≡ unfed Replies
-    → Receives feeder.heard result start end → Receives Replies result start end
-as_replies feeder result start end is =
-    subst (λ (heard : Heard). Receives heard result start end) (ap (λ (feeder : Feeding). feeder.heard) is)
-
 -- one more reply was taken
-pub took_more : (rows : List Framed) (framed : Framed) (start between end : Option Traffic)
+took_more : (rows : List Framed) (framed : Framed) (start between end : Option Traffic)
     → TookBytes (λ bytes. Hears Replies bytes rows []) start between → Receives Replies (Ok framed) between end
     → TookBytes (λ bytes. Hears Replies bytes (rows ++ framed ∷ []) []) start end
 took_more rows framed start between end one two before told =
@@ -97,55 +78,81 @@ took_more rows framed start between end one two before told =
       then.2 ∙ ap (λ bytes. Some (record before { received = bytes })) (append_assoc before.received first.0 then.0),
     )
 
--- the bytes behind rows are no reply
-refused_behind : (wanted : Wanted) (sequence : ℕ) (rows : List Framed) (bytes behind : List ℕ) (broken : Broken)
-    → AreRows wanted sequence 0 rows → Hears Replies bytes rows behind → IsRead Replies (Err broken) behind
-    → IsRefused wanted sequence (refusal_of broken) bytes
-refused_behind wanted sequence rows bytes behind Lost are heard read =
-    (behind, record { rows = rows; heard = heard; are_rows = are }, read)
-refused_behind wanted sequence rows bytes behind (Wrong (TooShort n)) are heard read =
+-- the bytes behind rows are no frame
+refused_behind : (wanted : Wanted) (sequence : ℕ) (rows : List Framed) (bytes behind : List ℕ) (wrong : WireRefusal)
+    → AreRows wanted sequence 0 rows → Hears Replies bytes rows behind → IsRead Replies (Err (Wrong wrong)) behind
+    → IsRefused wanted sequence (refusal_of (fault_by wrong)) bytes
+refused_behind wanted sequence rows bytes behind (TooShort n) are heard read =
     IsBad.no_frame (TooShort n) behind refl (record { rows = rows; heard = heard; are_rows = are }) read
-refused_behind wanted sequence rows bytes behind (Wrong (TooLong n)) are heard read =
+refused_behind wanted sequence rows bytes behind (TooLong n) are heard read =
     IsBad.no_frame (TooLong n) behind refl (record { rows = rows; heard = heard; are_rows = are }) read
-refused_behind wanted sequence rows bytes behind (Wrong (BadOperation n)) are heard read =
+refused_behind wanted sequence rows bytes behind (BadOperation n) are heard read =
     IsBad.no_frame (BadOperation n) behind refl (record { rows = rows; heard = heard; are_rows = are }) read
-refused_behind wanted sequence rows bytes behind (Wrong (BadField n)) are heard read =
+refused_behind wanted sequence rows bytes behind (BadField n) are heard read =
     IsBad.no_frame (BadField n) behind refl (record { rows = rows; heard = heard; are_rows = are }) read
-refused_behind wanted sequence rows bytes behind (Wrong (Trailing n)) are heard read =
+refused_behind wanted sequence rows bytes behind (Trailing n) are heard read =
     IsBad.no_frame (Trailing n) behind refl (record { rows = rows; heard = heard; are_rows = are }) read
-refused_behind wanted sequence rows bytes behind (Wrong (Memory error)) are heard read =
+refused_behind wanted sequence rows bytes behind (Memory error) are heard read =
     (behind, record { rows = rows; heard = heard; are_rows = are }, read.within)
 
-pub refused_read : (wanted : Wanted) (sequence : ℕ) (rows : List Framed) (broken : Broken) (start between end : Option Traffic)
+refused_read : (wanted : Wanted) (sequence : ℕ) (rows : List Framed) (wrong : WireRefusal) (start between end : Option Traffic)
     → AreRows wanted sequence 0 rows → TookBytes (λ bytes. Hears Replies bytes rows []) start between
-    → Receives Replies (Err broken) between end
-    → TookBytes (IsRefused wanted sequence (refusal_of broken)) start end
-refused_read wanted sequence rows broken start between end are one two before told =
+    → Receives Replies (Err (Wrong wrong)) between end
+    → TookBytes (IsRefused wanted sequence (refusal_of (fault_by wrong))) start end
+refused_read wanted sequence rows wrong start between end are one two before told =
     let first = one before told in
     let then = two (with_received first.0 before) first.2 in (
       first.0 ++ then.0,
-      refused_behind wanted sequence rows (first.0 ++ then.0) then.0 broken are
+      refused_behind wanted sequence rows (first.0 ++ then.0) then.0 wrong are
           (hears_more Replies first.0 then.0 rows [] first.1) then.1,
       then.2 ∙ ap (λ bytes. Some (record before { received = bytes })) (append_assoc before.received first.0 then.0),
     )
 
+-- the link was lost behind them
+refused_lost : (wanted : Wanted) (sequence : ℕ) (rows : List Framed) (start between end : Option Traffic)
+    → AreRows wanted sequence 0 rows → TookBytes (λ bytes. Hears Replies bytes rows []) start between
+    → Receives Replies (Err Lost) between end
+    → TookBytes (IsRefused wanted sequence refusal.Unavailable) start end
+refused_lost wanted sequence rows start between end are one two before told =
+    let first = one before told in
+    let then = two (with_received first.0 before) first.2 in (
+      first.0 ++ then.0,
+      (then.0, record { rows = rows; heard = hears_more Replies first.0 then.0 rows [] first.1; are_rows = are }, then.1),
+      then.2 ∙ ap (λ bytes. Some (record before { received = bytes })) (append_assoc before.received first.0 then.0),
+    )
+
+-- ---- a reply that is wrong there
+
+-- what it is told as
+record IsTold (found : Fault) : Type 0 where
+  as_fault : ReplyFault
+  is : refusal_of found ≡ refusal.BadReply as_fault
+  no_age : IsNoAge found
+
+told_for : (sequence : ℕ) (framed : Framed) (found : Fault) → IsFor sequence framed found → IsTold found
+told_for sequence framed found (inl is) =
+    subst IsTold (sym is) (record { as_fault = reply_fault.Sequence sequence framed.sequence; is = refl; no_age = tt })
+told_for sequence framed found (inr is) =
+    subst IsTold (sym is) (record { as_fault = reply_fault.Operation (number_of (operation framed.message)); is = refl; no_age = tt })
+
+told_as : (wanted : Wanted) (sequence n : ℕ) (framed : Framed) (found : Fault) → IsWrong wanted sequence n framed found → IsTold found
+told_as wanted sequence n framed found is = told_for sequence framed found (wrong_for sequence framed found wanted n is)
+
 -- the reply is a wrong one
-pub refused_reply : (wanted : Wanted) (sequence n : ℕ) (rows : List Framed) (framed : Framed) (fault : ReplyFault) (start end : Option Traffic)
-    → n ≡ length rows → AreRows wanted sequence 0 rows → next_of wanted sequence n framed ≡ next.Wrong fault
+refused_reply : (wanted : Wanted) (sequence : ℕ) (rows : List Framed) (framed : Framed) (found : Fault) (start end : Option Traffic)
+    → AreRows wanted sequence 0 rows → IsWrong wanted sequence (length rows) framed found → (told : IsTold found)
     → TookBytes (λ bytes. Hears Replies bytes (rows ++ framed ∷ []) []) start end
-    → TookBytes (IsRefused wanted sequence (refusal.BadReply fault)) start end
-refused_reply wanted sequence n rows framed fault start end place are wrong took before told =
-    let all = took before told in
-    let here = subst (λ (n : ℕ). next_of wanted sequence n framed ≡ next.Wrong fault) place wrong in
-    (all.0, IsBad.no_answer rows framed all.1 are here, all.2)
+    → TookBytes (IsRefused wanted sequence (refusal.BadReply told.as_fault)) start end
+refused_reply wanted sequence rows framed found start end are wrong told took before is_told =
+    let all = took before is_told in (all.0, IsBad.no_answer rows framed found all.1 are wrong told.is, all.2)
 
 -- it is the last one
-pub whole_reply : (wanted : Wanted) (sequence n : ℕ) (rows : List Framed) (framed : Framed) (replies : List Message)
-    (start end : Option Traffic) → n ≡ length rows → AreRows wanted sequence 0 rows → next_of wanted sequence n framed ≡ next.Whole
-    → replies ≡ map (λ (framed : Framed). framed.message) (rows ++ framed ∷ [])
+whole_reply : (wanted : Wanted) (sequence : ℕ) (rows : List Framed) (framed : Framed) (replies : List Message)
+    (start end : Option Traffic) → AreRows wanted sequence 0 rows → IsLast wanted sequence (length rows) framed
+    → replies ≡ messages (rows ++ framed ∷ [])
     → TookBytes (λ bytes. Hears Replies bytes (rows ++ framed ∷ []) []) start end
     → TookBytes (IsWhole wanted sequence replies) start end
-whole_reply wanted sequence n rows framed replies start end place are whole all took before told =
+whole_reply wanted sequence rows framed replies start end are whole all took before told =
     let bytes = took before told in (
       bytes.0,
       record {
@@ -153,14 +160,14 @@ whole_reply wanted sequence n rows framed replies start end place are whole all 
         last = framed;
         heard = bytes.1;
         are_rows = are;
-        whole = subst (λ (n : ℕ). next_of wanted sequence n framed ≡ next.Whole) place whole;
+        whole = whole;
         are_all = all;
       },
       bytes.2,
     )
 
 -- no memory was found for a reply that was read
-pub refused_memory : (wanted : Wanted) (sequence : ℕ) (rows : List Framed) (framed : Framed) (error : AllocError) (start between end : Option Traffic)
+refused_memory : (wanted : Wanted) (sequence : ℕ) (rows : List Framed) (framed : Framed) (error : AllocError) (start between end : Option Traffic)
     → AreRows wanted sequence 0 rows → TookBytes (λ bytes. Hears Replies bytes rows []) start between
     → Receives Replies (Ok framed) between end
     → TookBytes (IsRefused wanted sequence (refusal.Memory error)) start end
@@ -175,3 +182,287 @@ refused_memory wanted sequence rows framed error start between end are one two b
       ),
       then.2 ∙ ap (λ bytes. Some (record before { received = bytes })) (append_assoc before.received first.0 then.0),
     )
+
+-- ---- what a step says
+
+row_is : (m n : Message) → step.Row m ≡ step.Row n → n ≡ m
+row_is m n is = cc
+
+reply_is : (m n : Message) → step.Reply m ≡ step.Reply n → n ≡ m
+reply_is m n is = cc
+
+over_is : (f g : Fault) → step.Over f ≡ step.Over g → f ≡ g
+over_is f g is = cc
+
+row_reply : {X : Type 0} (m n : Message) → step.Row m ≡ step.Reply n → X
+row_reply m n is = cc
+
+reply_row : {X : Type 0} (m n : Message) → step.Reply m ≡ step.Row n → X
+reply_row m n is = cc
+
+row_over : {X : Type 0} (m : Message) (f : Fault) → step.Row m ≡ step.Over f → X
+row_over m f is = cc
+
+reply_over : {X : Type 0} (m : Message) (f : Fault) → step.Reply m ≡ step.Over f → X
+reply_over m f is = cc
+
+over_row : {X : Type 0} (f : Fault) (m : Message) → step.Over f ≡ step.Row m → X
+over_row f m is = cc
+
+over_reply : {X : Type 0} (f : Fault) (m : Message) → step.Over f ≡ step.Reply m → X
+over_reply f m is = cc
+
+-- ---- reply by reply
+
+abbrev pub at_row : Exchange → ℕ → Exchange
+at_row exchange n = record exchange { rows = n }
+
+abbrev pub behind : Admin → Exchange → ℕ → Admin
+behind old exchange n = record old { stage = stage.Waiting (at_row exchange n) (unheard Replies) }
+
+-- what is known before each reply: those that were taken are rows, and no byte behind them was
+pub record AreTaken (start now : Option Traffic) (old machine : Admin) (items : List Message) : Type 0 where
+  pub exchange : Exchange
+  pub was : old.stage ≡ stage.Waiting exchange (unheard Replies)
+  pub rows : List Framed
+  pub is : machine ≡ behind old exchange (length rows)
+  pub are_items : items ≡ messages rows
+  pub are_rows : AreRows exchange.wanted exchange.sequence 0 rows
+  pub took : TookBytes (λ bytes. Hears Replies bytes rows []) start now
+
+-- before the first one
+pub none_taken : (start : Option Traffic) (old : Admin) (exchange : Exchange) → old.stage ≡ stage.Waiting exchange (unheard Replies)
+    → exchange.rows ≡ 0 → AreTaken start start old old []
+none_taken start old exchange was first = record {
+  exchange = exchange;
+  was = was;
+  rows = [];
+  is = λ i. record old { stage = (was ∙ ap (λ (n : ℕ). stage.Waiting (at_row exchange n) (unheard Replies)) first) i };
+  are_items = refl;
+  are_rows = tt;
+  took = λ before told. ([], refl, received_nothing start before told);
+}
+
+-- the machine waits for a further one
+pub waits_on : (start now : Option Traffic) (old machine : Admin) (items : List Message) → AreTaken start now old machine items
+    → (exchange : Exchange) × (machine.stage ≡ stage.Waiting exchange (unheard Replies))
+waits_on start now old machine items taken =
+    (at_row taken.exchange (length taken.rows), ap (λ (c : Admin). c.stage) taken.is)
+
+-- so many were taken
+pub taken_length : (start now : Option Traffic) (old machine : Admin) (items : List Message) (taken : AreTaken start now old machine items)
+    → length items ≡ length taken.rows
+taken_length start now old machine items taken = ap length taken.are_items ∙ rows_length taken.rows
+
+same_exchange : (one other : Exchange) → stage.Waiting one (unheard Replies) ≡ stage.Waiting other (unheard Replies) → one ≡ other
+same_exchange one other is = cc
+
+module _ (start mid end : Option Traffic) (trouble : Type 0) (old machine new : Admin) (items : List Message)
+    (taken : AreTaken start mid old machine items) where
+  abbrev there : Exchange
+  there = at_row taken.exchange (length taken.rows)
+
+  abbrev Heard : Step → Type 0
+  Heard answer = HearsOn (λ result. Receives Replies result mid end) trouble there answer machine new
+
+  abbrev pub Known : Step → Type 0
+  Known answer = (exchange : Exchange) → machine.stage ≡ stage.Waiting exchange (unheard Replies)
+      → HearsOn (λ result. Receives Replies result mid end) trouble exchange answer machine new
+
+  heard_at : (answer : Step) → Known answer → Heard answer
+  heard_at answer known = known there (ap (λ (c : Admin). c.stage) taken.is)
+
+  -- a further row
+  record IsFurther (m : Message) : Type 0 where
+    framed : Framed
+    message_is : framed.message ≡ m
+    more : IsRow taken.exchange.wanted taken.exchange.sequence (length taken.rows) framed
+    read : Receives Replies (Ok framed) mid end
+    now : new ≡ record machine { stage = stage.Waiting (with_row there) (unheard Replies) }
+
+  row_at : (m : Message) (framed : Framed) → Receives Replies (Ok framed) mid end → Follows there framed (step.Row m) machine new
+      → IsFurther m
+  row_at m framed read (Follows.row is a n) =
+      record { framed = framed; message_is = row_is m framed.message a; more = is; read = read; now = n }
+  row_at m framed read (Follows.last is a n) = row_reply m framed.message a
+  row_at m framed read (Follows.wrong found is a n) = row_over m found a
+
+  row : (m : Message) → Heard (step.Row m) → IsFurther m
+  row m (Comes.whole framed read d) = row_at m framed read d
+  row m (Comes.bad wrong read d) = row_over m (fault_by wrong) d.0
+  row m (Comes.cut read d) = row_over m fault.Unavailable d.1
+
+  taken_row : (m : Message) (all : List Message) → all ≡ items ++ m ∷ [] → IsFurther m → AreTaken start end old new all
+  taken_row m all put r = record {
+    exchange = taken.exchange;
+    was = taken.was;
+    rows = taken.rows ++ r.framed ∷ [];
+    is =
+        r.now
+        ∙ (ap (λ (c : Admin). record c { stage = stage.Waiting (with_row there) (unheard Replies) }) taken.is
+        ∙ ap (λ (n : ℕ). behind old taken.exchange n) (sym (length_more taken.rows r.framed)));
+    are_items =
+        put
+        ∙ (ap (λ (n : Message). items ++ n ∷ []) (sym r.message_is)
+        ∙ (ap (λ (ms : List Message). ms ++ r.framed.message ∷ []) taken.are_items ∙ sym (mapped_more taken.rows r.framed)));
+    are_rows =
+        one_more taken.exchange.wanted taken.exchange.sequence 0 (length taken.rows) taken.rows r.framed (omega arith) taken.are_rows r.more;
+    took = took_more taken.rows r.framed start mid end taken.took r.read;
+  }
+
+  -- it stands behind the others, which are fewer than the most
+  pub one_taken : (m : Message) (all : List Message) → all ≡ items ++ m ∷ [] → Known (step.Row m) → AreTaken start end old new all
+  one_taken m all put known = taken_row m all put (row m (heard_at (step.Row m) known))
+
+  pub fewer : (m : Message) → Known (step.Row m) → length items < 65536
+  fewer m known =
+      let r = row m (heard_at (step.Row m) known) in
+      let few : length taken.rows < 65536 = more_rows taken.exchange.wanted taken.exchange.sequence (length taken.rows) r.framed r.more in
+      let same = taken_length start mid old machine items taken in
+      omega (arith, few, same)
+
+  -- the exchange is the one that began
+  same : (exchange : Exchange) → old.stage ≡ stage.Waiting exchange (unheard Replies) → taken.exchange ≡ exchange
+  same exchange was = same_exchange taken.exchange exchange (sym taken.was ∙ was)
+
+  -- no memory was found for the row
+  pub row_without_room : (m : Message) (error : AllocError) → Known (step.Row m) → (after : Admin) → after ≡ cut new
+      → Leaves trouble (Err (refusal.Memory error)) old after
+  row_without_room m error known after left =
+      let r = row m (heard_at (step.Row m) known) in
+      (left ∙ (ap cut r.now ∙ ap cut taken.is), tt)
+
+  pub row_refused : (m : Message) (error : AllocError) → Known (step.Row m) → (exchange : Exchange)
+      → old.stage ≡ stage.Waiting exchange (unheard Replies)
+      → Answers exchange.wanted exchange.sequence (Err (refusal.Memory error)) start end
+  row_refused m error known exchange was =
+      let r = row m (heard_at (step.Row m) known) in
+      subst (λ (e : Exchange). Answers e.wanted e.sequence (Err (refusal.Memory error)) start end) (same exchange was)
+      (refused_memory taken.exchange.wanted taken.exchange.sequence taken.rows r.framed error start mid end taken.are_rows taken.took r.read)
+
+  -- the last reply
+  record IsEnd (m : Message) : Type 0 where
+    framed : Framed
+    message_is : framed.message ≡ m
+    whole : IsLast taken.exchange.wanted taken.exchange.sequence (length taken.rows) framed
+    read : Receives Replies (Ok framed) mid end
+    now : new ≡ record machine { stage = stage.Idle }
+
+  last_at : (m : Message) (framed : Framed) → Receives Replies (Ok framed) mid end → Follows there framed (step.Reply m) machine new
+      → IsEnd m
+  last_at m framed read (Follows.row is a n) = reply_row m framed.message a
+  last_at m framed read (Follows.last is a n) =
+      record { framed = framed; message_is = reply_is m framed.message a; whole = is; read = read; now = n }
+  last_at m framed read (Follows.wrong found is a n) = reply_over m found a
+
+  last : (m : Message) → Heard (step.Reply m) → IsEnd m
+  last m (Comes.whole framed read d) = last_at m framed read d
+  last m (Comes.bad wrong read d) = reply_over m (fault_by wrong) d.0
+  last m (Comes.cut read d) = reply_over m fault.Unavailable d.1
+
+  pub last_leaves : (m : Message) (all : List Message) → Known (step.Reply m) → Leaves trouble (Ok all) old new
+  last_leaves m all known =
+      let l = last m (heard_at (step.Reply m) known) in
+      l.now ∙ ap (λ (c : Admin). record c { stage = stage.Idle }) taken.is
+
+  pub last_answers : (m : Message) (all : List Message) → all ≡ items ++ m ∷ [] → Known (step.Reply m) → (exchange : Exchange)
+      → old.stage ≡ stage.Waiting exchange (unheard Replies)
+      → Answers exchange.wanted exchange.sequence (Ok all) start end
+  last_answers m all put known exchange was =
+      let l = last m (heard_at (step.Reply m) known) in
+      let are_all : all ≡ messages (taken.rows ++ l.framed ∷ []) =
+      put
+      ∙ (ap (λ (n : Message). items ++ n ∷ []) (sym l.message_is)
+      ∙ (ap (λ (ms : List Message). ms ++ l.framed.message ∷ []) taken.are_items ∙ sym (mapped_more taken.rows l.framed))) in
+      subst (λ (e : Exchange). Answers e.wanted e.sequence (Ok all) start end) (same exchange was)
+      (whole_reply taken.exchange.wanted taken.exchange.sequence taken.rows l.framed all start end taken.are_rows l.whole are_all
+      (took_more taken.rows l.framed start mid end taken.took l.read))
+
+  pub last_without_room : (m : Message) (error : AllocError) → Known (step.Reply m) → (after : Admin) → after ≡ cut new
+      → Leaves trouble (Err (refusal.Memory error)) old after
+  last_without_room m error known after left =
+      let l = last m (heard_at (step.Reply m) known) in
+      (left ∙ (ap cut l.now ∙ ap cut taken.is), tt)
+
+  pub last_refused : (m : Message) (error : AllocError) → Known (step.Reply m) → (exchange : Exchange)
+      → old.stage ≡ stage.Waiting exchange (unheard Replies)
+      → Answers exchange.wanted exchange.sequence (Err (refusal.Memory error)) start end
+  last_refused m error known exchange was =
+      let l = last m (heard_at (step.Reply m) known) in
+      subst (λ (e : Exchange). Answers e.wanted e.sequence (Err (refusal.Memory error)) start end) (same exchange was)
+      (refused_memory taken.exchange.wanted taken.exchange.sequence taken.rows l.framed error start mid end taken.are_rows taken.took l.read)
+
+  -- there is no answer
+  pub record IsOver (found : Fault) : Type 0 where
+    pub no_age : IsNoAge found
+    pub now : new ≡ cut machine
+    pub lost : IfUnavailable (refusal_of found) trouble
+    pub refused : TookBytes (IsRefused taken.exchange.wanted taken.exchange.sequence (refusal_of found)) start end
+
+  if_told : (found : Fault) (told : IsTold found) → IfUnavailable (refusal_of found) trouble
+  if_told found told = subst (λ (r : AdminRefusal). IfUnavailable r trouble) (sym told.is) tt
+
+  over_at : (found : Fault) (framed : Framed) → Receives Replies (Ok framed) mid end
+      → Follows there framed (step.Over found) machine new → IsOver found
+  over_at found framed read (Follows.row is a n) = over_row found framed.message a
+  over_at found framed read (Follows.last is a n) = over_reply found framed.message a
+  over_at found framed read (Follows.wrong other is a n) =
+      let told = told_as taken.exchange.wanted taken.exchange.sequence (length taken.rows) framed other is in
+      subst IsOver (sym (over_is found other a)) (record {
+        no_age = told.no_age;
+        now = n;
+        lost = if_told other told;
+        refused =
+            subst (λ (r : AdminRefusal). TookBytes (IsRefused taken.exchange.wanted taken.exchange.sequence r) start end) (sym told.is)
+            (refused_reply taken.exchange.wanted taken.exchange.sequence taken.rows framed other start end taken.are_rows is told
+            (took_more taken.rows framed start mid end taken.took read));
+      })
+
+  no_age_by : (wrong : WireRefusal) → IsNoAge (fault_by wrong)
+  no_age_by (TooShort n) = tt
+  no_age_by (TooLong n) = tt
+  no_age_by (BadOperation n) = tt
+  no_age_by (BadField n) = tt
+  no_age_by (Trailing n) = tt
+  no_age_by (Memory error) = tt
+
+  if_wrong : (wrong : WireRefusal) → IfUnavailable (refusal_of (fault_by wrong)) trouble
+  if_wrong (TooShort n) = tt
+  if_wrong (TooLong n) = tt
+  if_wrong (BadOperation n) = tt
+  if_wrong (BadField n) = tt
+  if_wrong (Trailing n) = tt
+  if_wrong (Memory error) = tt
+
+  over : (found : Fault) → Heard (step.Over found) → IsOver found
+  over found (Comes.whole framed read d) = over_at found framed read d
+  over found (Comes.bad wrong read d) =
+      subst IsOver (sym (over_is found (fault_by wrong) d.0)) (record {
+        no_age = no_age_by wrong;
+        now = d.1;
+        lost = if_wrong wrong;
+        refused = refused_read taken.exchange.wanted taken.exchange.sequence taken.rows wrong start mid end taken.are_rows taken.took read;
+      })
+  over found (Comes.cut read d) =
+      subst IsOver (sym (over_is found fault.Unavailable d.1)) (record {
+        no_age = tt;
+        now = d.2;
+        lost = d.0;
+        refused = refused_lost taken.exchange.wanted taken.exchange.sequence taken.rows start mid end taken.are_rows taken.took read;
+      })
+
+  pub over_no_age : (found : Fault) → Known (step.Over found) → IsNoAge found
+  over_no_age found known = (over found (heard_at (step.Over found) known)).no_age
+
+  pub over_leaves : (found : Fault) → Known (step.Over found) → (said : AdminRefusal) → said ≡ refusal_of found
+      → Leaves trouble (Err said) old new
+  over_leaves found known said is =
+      let o = over found (heard_at (step.Over found) known) in
+      (o.now ∙ ap cut taken.is, subst (λ (r : AdminRefusal). IfUnavailable r trouble) (sym is) o.lost)
+
+  pub over_answers : (found : Fault) → Known (step.Over found) → (said : AdminRefusal) → said ≡ refusal_of found → (exchange : Exchange)
+      → old.stage ≡ stage.Waiting exchange (unheard Replies) → Answers exchange.wanted exchange.sequence (Err said) start end
+  over_answers found known said is exchange was =
+      let o = over found (heard_at (step.Over found) known) in
+      subst (λ (e : Exchange). Answers e.wanted e.sequence (Err said) start end) (same exchange was)
+      (subst (λ (r : AdminRefusal). TookBytes (IsRefused taken.exchange.wanted taken.exchange.sequence r) start end) (sym is) o.refused)

@@ -1,4 +1,3 @@
-pub mod Replies
 pub mod Answers
-pub mod Taking
 pub mod Sending
+pub mod parts

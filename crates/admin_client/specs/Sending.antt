@@ -14,7 +14,7 @@ use Rattle.wire_messages.specs.declared.messages.Message.{Message}
 use Rattle.wire_messages.specs.declared.refusals.EncodeRefusal.TheVariants.{TooLong as TooLongFor}
 use Rattle.client_connection.specs.Giving.{GivesBack, GivesBackAny}
 use Rattle.client_connection.specs.Asking.{IsBase}
-use Rattle.admin_client.specs.Replies.{wanted_of}
+use Rattle.client_core.specs.AdminReplies.{wanted_of}
 use Rattle.admin_client.specs.Answers.{IsWhole, IsRefused, IfUnavailable}
 use Rattle.admin_client.specs.declared.refusals.AdminRefusal.{AdminRefusal}
 use Rattle.admin_client.specs.declared.refusals.AdminRefusal.TheVariants.{Unavailable, TooLong, Memory}

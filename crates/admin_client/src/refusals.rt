@@ -1,4 +1,8 @@
+ghost use Rattle.std.specs.Prelude.{◌≡◌};
+ghost use Rattle.admin_client.specs.Answers as words;
+
 use client_connection::ReplyFault;
+use client_core::Fault;
 use std::alloc::AllocError;
 use thiserror::Error;
 
@@ -15,4 +19,19 @@ pub enum AdminRefusal {
     TooLong(u64),
     #[error("out of memory")]
     Memory(AllocError),
+}
+
+// What it comes to that the machine has no answer. It is told of no commit, so no reply is too old.
+pub(crate) fn refusal_of(fault: Fault) -> AdminRefusal
+    requires { words.IsNoAge fault }
+    ensures { result ≡ words.refusal_of fault }
+{
+    match fault {
+        Fault::Unavailable => AdminRefusal::Unavailable,
+        Fault::Older { .. } => unreachable!(),
+        Fault::Frame(refusal) => AdminRefusal::BadReply(ReplyFault::Frame(refusal)),
+        Fault::Sequence { sent, got } => AdminRefusal::BadReply(ReplyFault::Sequence { sent, got }),
+        Fault::Operation(operation) => AdminRefusal::BadReply(ReplyFault::Operation(operation)),
+        Fault::Memory(error) => AdminRefusal::Memory(error),
+    }
 }

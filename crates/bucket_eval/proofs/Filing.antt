@@ -5,7 +5,6 @@ use Rattle.std.proofs.Math.ListN.{set}
 use Rattle.std.specs.Option.{option_map}
 use Rattle.std.proofs.lemmas.Bool.{cases_eq}
 use Rattle.std.proofs.lemmas.Option.{get_or_from_slice_get, same_Some, slice_get_within}
-use Rattle.cynara_keys.specs.declared.keys.Policy.{Policy}
 use Rattle.bucket_store.specs.Bucket.{Bucket}
 use Rattle.bucket_eval.specs.Evaluation.{Outcome}
 use Rattle.bucket_eval.specs.declared.deciding.Asking.{Asking}
@@ -14,7 +13,7 @@ use Rattle.bucket_eval.specs.declared.sheets.Filed.{Filed}
 use Rattle.bucket_eval.specs.declared.sheets.Sheet.{Sheet}
 use Rattle.bucket_eval.specs.parts.Deciding.{Fits, IsKnown, IsReady, IsRight, answer_of}
 use Rattle.bucket_eval.specs.parts.Numbers.{mark_of}
-use Rattle.bucket_eval.specs.parts.Shapes.{FitsAt, shape_of, sought}
+use Rattle.bucket_eval.specs.parts.Shapes.{sought}
 use Rattle.bucket_eval.specs.parts.Sheets.{IsFiled, IsGap, IsSheetOf, PointsTo, TargetsAt, filed_in, places_by}
 use Rattle.bucket_eval.specs.parts.Slots.{Spot, none_or, outcome_of_spot, spot_of}
 use Rattle.bucket_eval.proofs.ByShape.{FitsAt-found, FitsAt-other}

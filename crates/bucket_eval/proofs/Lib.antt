@@ -12,6 +12,7 @@ mod Depth
 mod Root
 mod Marks
 mod Tabling
+mod Staying
 mod Kept
 mod Known
 mod Settled

@@ -1,5 +1,5 @@
 -- Policies by the marks of their keys.
-use Rattle.std.proofs.Common.{◌≡◌, ℕ, ◌<◌, ◌%◌, ◌==◌, Bool, true, false, cond, nat_lt, nat_le, List, [], ◌∷◌, zero, suc, length}
+use Rattle.std.proofs.Common.{◌≡◌, ℕ, ◌<◌, ◌%◌, ◌==◌, Bool, true, false, cond, nat_lt, nat_le, List, [], ◌∷◌, zero, suc}
 use Rattle.std.proofs.Common.{slice_get, get_or, option_and_then, Option, None, Some, Ok, is_some, refl, sym, ap, ◌∙◌}
 use Rattle.std.proofs.Common.{subst, arith, ◌≢◌}
 use Rattle.std.proofs.Math.Seq.{get_or-append_seam}

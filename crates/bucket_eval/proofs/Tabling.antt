@@ -4,7 +4,7 @@ use Rattle.std.proofs.Common.{nat_lt, slice_get, option_and_then, Option, None, 
 use Rattle.std.specs.List.{position, position_or_len}
 use Rattle.std.specs.Option.{option_map}
 use Rattle.std.proofs.Math.ListN.{set}
-use Rattle.std.proofs.lemmas.Bool.{cases_eq, cases_lt, lt-ltb, le-ltb, eqb-true, eq-eqb, false≢true, ne_eqb}
+use Rattle.std.proofs.lemmas.Bool.{cases_eq, cases_lt, eqb-true, eq-eqb, false≢true, ne_eqb}
 use Rattle.std.proofs.lemmas.List.{length-map}
 use Rattle.std.proofs.lemmas.Option.{same_Some, slice_get-map, slice_get_within}
 use Rattle.cynara_keys.specs.PolicyResult.{Ruling}
@@ -19,7 +19,7 @@ use Rattle.bucket_eval.specs.declared.sheets.Marked.{Marked}
 use Rattle.bucket_eval.specs.declared.sheets.Sheet.{Sheet}
 use Rattle.bucket_eval.specs.parts.Numbers.{HasMark, IsMarked, IsTable, IsTableTo, KeepsNumbers, if_small, mark_of, number_of}
 use Rattle.bucket_eval.specs.parts.Shapes.{shape_of}
-use Rattle.bucket_eval.specs.parts.Sheets.{AreFiled, AreNext, AreSheets, AreSheetsOf, EachIsSheet, IsFiled, IsGap, IsNextOf, IsShaped, IsShapedTo, IsSheetOf, PointsTo, TargetIs, TargetsAt, filed_in, first_or, is_behind, places_by}
+use Rattle.bucket_eval.specs.parts.Sheets.{AreFiled, AreNext, AreSheets, AreSheetsOf, EachIsSheet, IsFiled, IsGap, IsNextOf, IsShaped, IsShapedTo, IsSheetAt, IsSheetOf, PointsTo, TargetIs, TargetsAt, filed_in, first_or, is_behind, places_by}
 use Rattle.bucket_eval.proofs.Buckets.{policies_of-at}
 use Rattle.bucket_eval.proofs.Known.{get-set-other}
 use Rattle.bucket_eval.proofs.Marks.{mark-kept}
@@ -158,9 +158,9 @@ get-past (y ∷ xs) x zero past = absurd (omega arith)
 get-past (y ∷ xs) x (suc k) past = get-past xs x k (omega arith)
 
 pub sheets-more : (names : List (List ℕ)) (buckets : List Bucket) (sheets : List Sheet) (sheet : Sheet) (at : ℕ)
-    (bucket : Bucket) → EachIsSheet names buckets sheets → at ≡ length sheets → slice_get buckets at ≡ Some bucket
-    → IsSheetOf names buckets bucket sheet → EachIsSheet names buckets (sheets ++ sheet ∷ [])
-sheets-more names buckets sheets sheet at bucket are here there is = λ k other own other_there own_there.
+    → EachIsSheet names buckets sheets → at ≡ length sheets → IsSheetAt names buckets at sheet
+    → EachIsSheet names buckets (sheets ++ sheet ∷ [])
+sheets-more names buckets sheets sheet at are here is = λ k other own other_there own_there.
     elim (cases_lt k at) [
       | inl before ↦
           are k other own other_there (sym (get-append sheets sheet k (omega (arith, before, here))) ∙ own_there)
@@ -169,10 +169,9 @@ sheets-more names buckets sheets sheet at bucket are here there is = λ k other 
             (let no : None ≡ Some own = sym (get-past sheets sheet k (omega (arith, past, here))) ∙ own_there in cc)
         | inr upto ↦
             (let at_k : k ≡ at = omega arith in
-            let same : bucket ≡ other = same_Some _ _ (sym there ∙ ap (slice_get buckets) (sym at_k) ∙ other_there) in
             let made : sheet ≡ own = same_Some _ _ (sym (get-last sheets sheet k (at_k ∙ here)) ∙ own_there) in
-            subst (λ (b : Bucket). IsSheetOf names buckets b own) same
-            (subst (λ (s : Sheet). IsSheetOf names buckets bucket s) made is))
+            subst (λ (s : Sheet). IsSheetOf names buckets other s) made
+            (is other (ap (slice_get buckets) (sym at_k) ∙ other_there)))
       ]
     ]
 
@@ -205,6 +204,10 @@ module _ (old new : List (List ℕ)) (kept : KeepsNumbers old new) where
     gaps = is.gaps;
     fallback = is.fallback;
   }
+
+  pub sheet-at-kept : (buckets : List Bucket) (at : ℕ) (sheet : Sheet) → IsSheetAt old buckets at sheet
+      → IsSheetAt new buckets at sheet
+  sheet-at-kept buckets at sheet is = λ bucket there. sheet-kept buckets bucket sheet (is bucket there)
 
   pub sheets-kept : (buckets : List Bucket) (sheets : List Sheet) → EachIsSheet old buckets sheets
       → EachIsSheet new buckets sheets
@@ -252,6 +255,28 @@ twin-of buckets others at bucket kept other_kept same there =
       fallback = ap (λ (h : Heading). h.fallback) twin.2;
     }
 
+-- a bucket with the same policies and the same fallback, in a list of buckets where targets have the same places
+module _ (buckets others : List Bucket)
+    (targets : (policy : Policy) (at : Option ℕ) → TargetsAt buckets policy at → TargetsAt others policy at) where
+  filed-moved : (policies : List Policy) (one : Filed) → IsFiled buckets policies one → IsFiled others policies one
+  filed-moved policies one is = record {
+    policy = is.policy;
+    there = is.there;
+    kind = is.kind;
+    shape = is.shape;
+    target = targets is.policy _ is.target;
+  }
+
+  pub sheet-moved : (names : List (List ℕ)) (bucket twin : Bucket) (sheet : Sheet) → twin.policies ≡ bucket.policies
+      → twin.fallback ≡ bucket.fallback → IsSheetOf names buckets twin sheet → IsSheetOf names others bucket sheet
+  sheet-moved names bucket twin sheet policies fallback is = record {
+    marked = subst (λ list. IsTable names list (places_by (filed_in sheet))) policies is.marked;
+    filed = subst (λ list. AreFiled others list (filed_in sheet)) policies
+        (λ mark one there. filed-moved twin.policies one (is.filed mark one there));
+    gaps = subst (λ list. (from to : ℕ) → slice_get sheet.next from ≡ Some to → IsGap list from to) policies is.gaps;
+    fallback = is.fallback ∙ ap (λ (ruling : Ruling). ruling.kind) fallback;
+  }
+
 module _ (database : Database) (buckets others : List Bucket) (kept : IsKept buckets) (other_kept : IsKept others)
     (same : database_of buckets ≡ database_of others) where
   targets-same : (policy : Policy) (at : Option ℕ) → TargetsAt buckets policy at → TargetsAt others policy at
@@ -260,24 +285,9 @@ module _ (database : Database) (buckets others : List Bucket) (kept : IsKept buc
       let twin = twin-of others buckets at is.bucket other_kept kept (sym same) is.there in
       record { points = is.points; bucket = twin.other; there = twin.there; name = twin.name ∙ is.name }
 
-  filed-same : (policies : List Policy) (one : Filed) → IsFiled buckets policies one → IsFiled others policies one
-  filed-same policies one is = record {
-    policy = is.policy;
-    there = is.there;
-    kind = is.kind;
-    shape = is.shape;
-    target = targets-same is.policy _ is.target;
-  }
-
   sheet-same : (names : List (List ℕ)) (bucket twin : Bucket) (sheet : Sheet) → twin.policies ≡ bucket.policies
       → twin.fallback ≡ bucket.fallback → IsSheetOf names buckets twin sheet → IsSheetOf names others bucket sheet
-  sheet-same names bucket twin sheet policies fallback is = record {
-    marked = subst (λ list. IsTable names list (places_by (filed_in sheet))) policies is.marked;
-    filed = subst (λ list. AreFiled others list (filed_in sheet)) policies
-        (λ mark one there. filed-same twin.policies one (is.filed mark one there));
-    gaps = subst (λ list. (from to : ℕ) → slice_get sheet.next from ≡ Some to → IsGap list from to) policies is.gaps;
-    fallback = is.fallback ∙ ap (λ (ruling : Ruling). ruling.kind) fallback;
-  }
+  sheet-same = sheet-moved buckets others targets-same
 
 pub sheets-of-database : (names : List (List ℕ)) (database : Database) (buckets : List Bucket) (sheets : List Sheet)
     → database_of buckets ≡ database → IsKept buckets → AreSheets names buckets sheets

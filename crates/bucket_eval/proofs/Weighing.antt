@@ -1,14 +1,13 @@
 -- What a bucket answers, by the contributions of its policies that were weighed.
-use Rattle.std.proofs.Common.{◌≡◌, ℕ, ◌+◌, ◌<◌, ◌≤◌, ◌==◌, Bool, true, false, cond, zero, suc, List, [], ◌∷◌, length, slice_get}
-use Rattle.std.proofs.Common.{get_or, nat_lt, Option, None, Some, option_and_then, is_some, refl, sym, ap, ◌∙◌, subst, arith, inl, inr}
+use Rattle.std.proofs.Common.{◌≡◌, ℕ, ◌+◌, ◌<◌, ◌≤◌, Bool, true, false, cond, suc, List, [], ◌∷◌, length, slice_get}
+use Rattle.std.proofs.Common.{get_or, Option, None, Some, option_and_then, refl, sym, ap, ◌∙◌, subst, arith, inl, inr}
 use Rattle.std.specs.List.{filter_map, cons_option}
 use Rattle.std.specs.List.Sorted.{IsStrictlySortedBy}
 use Rattle.std.specs.Option.{option_map}
 use Rattle.std.specs.Ordering.{is_gt}
-use Rattle.std.proofs.lemmas.Bool.{cases_lt, lt-ltb, le-ltb, ne_eqb, eq-eqb}
-use Rattle.std.proofs.lemmas.Option.{same_Some}
-use Rattle.cynara_keys.specs.Key.{Key, Question, key_matches}
-use Rattle.cynara_keys.specs.Minimum.{first_least, lesser}
+use Rattle.std.proofs.lemmas.Bool.{cases_lt, lt-ltb, le-ltb, ne_eqb}
+use Rattle.cynara_keys.specs.Key.{Key, key_matches}
+use Rattle.cynara_keys.specs.Minimum.{first_least}
 use Rattle.cynara_keys.specs.PolicyResult.{none}
 use Rattle.cynara_keys.specs.declared.keys.Policy.{Policy}
 use Rattle.bucket_store.specs.Bucket.{Bucket}
@@ -16,16 +15,15 @@ use Rattle.bucket_store.specs.Database.{database_of}
 use Rattle.bucket_store.specs.Order.{policy_cmp}
 use Rattle.bucket_store.specs.Walk.{points, target}
 use Rattle.bucket_store.specs.WellFormed.{IsKept}
-use Rattle.bucket_eval.specs.Evaluation.{Outcome, Contribution, answer_within, contribution_cmp, counted, decided, fallback_of, outcome_of}
+use Rattle.bucket_eval.specs.Evaluation.{Outcome, Contribution, contribution_cmp, counted, decided, fallback_of, outcome_of}
 use Rattle.bucket_eval.specs.declared.deciding.Asking.{Asking}
 use Rattle.bucket_eval.specs.declared.deciding.Known.{Known}
 use Rattle.bucket_eval.specs.declared.deciding.Weighed.{Weighed}
-use Rattle.bucket_eval.specs.declared.sheets.Filed.{Filed}
 use Rattle.bucket_eval.specs.parts.Buckets.{combined, outcome_in}
-use Rattle.bucket_eval.specs.parts.Deciding.{Fits, IsBestOf, IsKnown, IsLeast, IsWeighed, answer_of, offers_of, outcome_followed, outcome_known}
+use Rattle.bucket_eval.specs.parts.Deciding.{IsBestOf, IsKnown, IsLeast, IsWeighed, answer_of, offers_of, outcome_followed}
 use Rattle.bucket_eval.specs.parts.Shapes.{FitsAt, below_shape, in_shape, shape_of}
 use Rattle.bucket_eval.specs.parts.Sheets.{IsGap}
-use Rattle.bucket_eval.specs.parts.Slots.{Spot, outcome_of_spot, spot_of}
+use Rattle.bucket_eval.specs.parts.Slots.{outcome_of_spot, spot_of}
 use Rattle.bucket_eval.proofs.Best.{min-after, min-before}
 use Rattle.bucket_eval.proofs.Buckets.{fallback_of-at}
 use Rattle.bucket_eval.proofs.ByShape.{least-below-first, least-below-last, least-below-more, least-of-none, least-of-one}

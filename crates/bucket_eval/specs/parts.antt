@@ -7,4 +7,5 @@ pub mod Numbers
 pub mod Shapes
 pub mod Sheets
 pub mod Slots
+pub mod Stays
 pub mod Windows

@@ -12,6 +12,7 @@ ghost use Rattle.bucket_eval.specs.parts.Slots.{spot_of};
 
 use crate::answers::Found;
 use crate::shapes::SHAPES;
+use crate::shared_sheets::{SharedSheet, shared_at};
 use crate::sheets::{Filed, Sheet};
 use crate::slots::{Slot, bucket_at, policy_at};
 use bucket_store::Bucket;
@@ -35,7 +36,7 @@ pub struct Weighed {
 #[derive(Clone, Copy)]
 pub struct Asking<'a> {
     pub buckets: &'a [Bucket],
-    pub sheets: &'a [Sheet],
+    pub sheets: &'a [SharedSheet],
     pub question: &'a BorrowedQuestion<'a>,
     pub marks: &'a [Option<u64>],
 }
@@ -258,7 +259,7 @@ fn sheet_at<'a>(asking: &Asking<'a>, at: usize) -> &'a Sheet
     requires there { at < length asking.now.buckets.now }
     ensures { slice_get asking.now.sheets.now at ≡ Some result.now }
 {
-    &asking.sheets[at]
+    shared_at(asking.sheets, at).sheet()
 }
 
 // The bucket's fallback.

@@ -7,8 +7,9 @@ ghost use Rattle.bucket_eval.specs.Lent.{outcome_lent};
 ghost use Rattle.bucket_eval.specs.Root.{root_answer, root_outcome};
 ghost use Rattle.bucket_eval.specs.parts.Buckets.{outcome_at};
 ghost use Rattle.bucket_eval.specs.parts.Deciding.{IsRight, answer_of};
-ghost use Rattle.bucket_eval.specs.parts.Numbers.{number_of};
-ghost use Rattle.bucket_eval.specs.parts.Sheets.{AreSheets};
+ghost use Rattle.bucket_eval.specs.parts.Numbers.{KeepsNumbers, number_of};
+ghost use Rattle.bucket_eval.specs.parts.Sheets.{AreSheets, AreSheetsOf, IsSheetAt};
+ghost use Rattle.bucket_eval.specs.parts.Stays.{AreNamedAlike};
 
 use crate::answers::{Answer, Found};
 use crate::deciding::{Asking, Known, decided};
@@ -16,8 +17,10 @@ use crate::evaluations::plain_borrowed;
 use crate::lending::{BorrowedAnswer, lend};
 use crate::names::Names;
 use crate::numbers::{marks_of, numbers_of};
+use crate::shared_sheets::{SharedSheet, shared_at};
 use crate::sheets::Sheet;
 use crate::slots::bucket_at;
+use crate::stays::{are_named_alike, stayed};
 use bucket_store::{Bucket, Database};
 use cynara_keys::{BorrowedQuestion, Question};
 use std::alloc::{AllocError, Global};
@@ -34,7 +37,7 @@ pub struct Index {
     // The number of the wildcard.
     star: Option<u64>,
     // None where a key has no mark.
-    sheets: Option<Vec<Sheet>>,
+    sheets: Option<Vec<SharedSheet>>,
 }
 
 impl Model for Index {
@@ -80,8 +83,54 @@ impl Index {
     pub fn build(alloc: Global, database: &Database) -> Result<Index, AllocError>
         ensures { IfOk result (λ index. index ≡ database.now) }
     {
-        let mut names = Names::new(alloc);
+        let mut names = Names::new(alloc)?;
         let sheets = sheets_of(alloc, &mut names, database.buckets())?;
+        let settled = names.settled(alloc)?;
+        Index::of(database, settled, sheets)
+    }
+
+    /// The index of this database, as `build` makes it, where most of it is as in this index's database. Takes over the
+    /// tables of the buckets that stayed, where no bucket came or went.
+    pub fn build_next(&self, alloc: Global, database: &Database) -> Result<Index, AllocError>
+        ensures { IfOk result (λ index. index ≡ database.now) }
+    {
+        let taken = self.taken_over(alloc, database)?;
+        let Some(index) = taken else {
+            return Index::build(alloc, database);
+        };
+        Ok(index)
+    }
+
+    // The same, where no bucket came or went, each key has a mark, and few names are new.
+    fn taken_over(&self, alloc: Global, database: &Database) -> Result<Option<Index>, AllocError>
+        ensures { IfOk result (λ index. IfSome index (λ index. index ≡ database.now)) }
+    {
+        let Some(sheets) = &self.sheets else {
+            return Ok(None);
+        };
+        let before = self.database.buckets();
+        let buckets = database.buckets();
+        if !are_named_alike(before, buckets) {
+            return Ok(None);
+        }
+        let mut names = self.names.again()?;
+        let made = next_sheets(alloc, &mut names, before, sheets.as_slice(), buckets)?;
+        let Some(next) = made else {
+            return Ok(None);
+        };
+        let index = Index::of(database, names, Some(next))?;
+        Ok(Some(index))
+    }
+
+    // The index of this database by its sheets, and the names that they are made by.
+    fn of(
+        database: &Database,
+        names: Names,
+        sheets: Option<Vec<SharedSheet>>,
+    ) -> Result<Index, AllocError>
+        requires { IfSome sheets (λ sheets. AreSheetsOf names database.now sheets.items) }
+        ensures { IfOk result (λ index. index ≡ database.now) }
+    {
         let star = names.number(b"*");
         let database = database.copy()?;
         Ok(Index {
@@ -145,17 +194,88 @@ fn sheets_of(
     alloc: Global,
     names: &mut Names,
     buckets: &[Bucket],
-) -> Result<Option<Vec<Sheet>>, AllocError>
+) -> Result<Option<Vec<SharedSheet>>, AllocError>
     requires { IsKept buckets.now }
     ensures { IfOk result (λ sheets. IfSome sheets (λ sheets. AreSheets names.new buckets.now sheets.items)) }
 {
     let mut sheets = Vec::with_capacity(alloc, buckets.len())?;
     for at in 0..buckets.len() {
-        let made = Sheet::of(alloc, names, buckets, at, bucket_at(buckets, at))?;
+        let made = sheet_of(alloc, names, buckets, at)?;
         let Some(sheet) = made else {
             return Ok(None);
         };
         sheets.push(sheet)?;
     }
     Ok(Some(sheets))
+}
+
+// The sheet of the bucket at the place.
+fn sheet_of(
+    alloc: Global,
+    names: &mut Names,
+    buckets: &[Bucket],
+    at: usize,
+) -> Result<Option<SharedSheet>, AllocError>
+    requires kept { IsKept buckets.now }
+    requires there { at < length buckets.now }
+    ensures sheet { IfOk result (λ sheet. IfSome sheet (IsSheetAt names.new buckets.now at)) }
+    ensures kept { IfOk result (λ sheet. KeepsNumbers names.old names.new) }
+{
+    let made = Sheet::of(alloc, names, buckets, at, bucket_at(buckets, at))?;
+    let Some(sheet) = made else {
+        return Ok(None);
+    };
+    let shared = SharedSheet::of(alloc, sheet)?;
+    Ok(Some(shared))
+}
+
+// The sheets of the buckets in turn, where those of the buckets before are known, which are named alike; unless a key has
+// no mark, or there are too many new names.
+fn next_sheets(
+    alloc: Global,
+    names: &mut Names,
+    before: &[Bucket],
+    sheets: &[SharedSheet],
+    buckets: &[Bucket],
+) -> Result<Option<Vec<SharedSheet>>, AllocError>
+    requires kept { IsKept buckets.now }
+    requires alike { AreNamedAlike before.now buckets.now }
+    requires sheets { AreSheets names.old before.now sheets.now }
+    ensures { IfOk result (λ next. IfSome next (λ next. AreSheets names.new buckets.now next.items)) }
+{
+    let mut next = Vec::with_capacity(alloc, buckets.len())?;
+    for at in 0..buckets.len() {
+        let made = next_sheet(alloc, names, before, sheets, buckets, at)?;
+        let Some(sheet) = made else {
+            return Ok(None);
+        };
+        if names.is_long() {
+            return Ok(None);
+        }
+        next.push(sheet)?;
+    }
+    Ok(Some(next))
+}
+
+// The sheet of the bucket at the place: that of the bucket before where it stayed.
+fn next_sheet(
+    alloc: Global,
+    names: &mut Names,
+    before: &[Bucket],
+    sheets: &[SharedSheet],
+    buckets: &[Bucket],
+    at: usize,
+) -> Result<Option<SharedSheet>, AllocError>
+    requires kept { IsKept buckets.now }
+    requires there { at < length buckets.now }
+    requires alike { AreNamedAlike before.now buckets.now }
+    requires sheets { AreSheets names.old before.now sheets.now }
+    ensures sheet { IfOk result (λ sheet. IfSome sheet (IsSheetAt names.new buckets.now at)) }
+    ensures kept { IfOk result (λ sheet. KeepsNumbers names.old names.new) }
+{
+    if !stayed(bucket_at(before, at), bucket_at(buckets, at)) {
+        return sheet_of(alloc, names, buckets, at);
+    }
+    let sheet = shared_at(sheets, at).share()?;
+    Ok(Some(sheet))
 }

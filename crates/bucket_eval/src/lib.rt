@@ -22,8 +22,10 @@ mod nested;
 mod numbers;
 mod settling;
 mod shapes;
+mod shared_sheets;
 mod sheets;
 mod slots;
+mod stays;
 mod windows;
 
 pub use answers::{Answer, Cause, Found, Row, Verdict};

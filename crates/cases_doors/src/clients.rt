@@ -11,7 +11,7 @@ use desk_state::Desk;
 use link_ports::{MemEnd, OpenGate};
 use live_desk::{Naming, Opened, Seat, start};
 use live_roll::Roll;
-use server_hall::ListHall;
+use server_hall::{HallAnswer, ListHall};
 use std::alloc::Global;
 use std::marker::Brand;
 use std::sync::Wait;
@@ -25,23 +25,37 @@ pub fn conversation<R: Wait>(
     link: &str,
     bytes: &str,
 ) -> Result<String, Failure> {
-    conversation_named::<Brand, R>(rt, alloc, Opened::new(), policies, answers, link, bytes)
+    let desk = desk_of(alloc, policies)?;
+    over_desk(rt, alloc, &desk, answers, link, bytes)
 }
 
+fn over_desk<R: Wait>(
+    rt: &R,
+    alloc: Global,
+    desk: &Desk,
+    answers: &str,
+    link: &str,
+    bytes: &str,
+) -> Result<String, Failure> {
+    let answers = answers_of(alloc, answers)?;
+    let mut link = CutLink::of(alloc, link, bytes)?;
+    conversation_named::<Brand, R>(rt, alloc, Opened::new(), desk, answers, &mut link)
+}
+
+// The same, over a list of states that the caller picks. The prover offers no pick for a function that takes a `&str`,
+// so this one takes what was read of the words.
 fn conversation_named<J: Naming, R: Wait>(
     rt: &R,
     alloc: Global,
     opened: Opened<Desk>,
-    policies: &str,
-    answers: &str,
-    link: &str,
-    bytes: &str,
+    desk: &Desk,
+    answers: Vec<HallAnswer>,
+    link: &mut CutLink,
 ) -> Result<String, Failure>
     requires { book_of opened ≡ J.book }
 {
-    let desk = desk_of(alloc, policies)?;
-    let (publisher, seats, roll) = start::<J, _, R>(rt, alloc, opened, &desk, 1)?;
-    let told = with_seats(rt, alloc, seats, roll, answers, link, bytes);
+    let (publisher, seats, roll) = start::<J, _, R>(rt, alloc, opened, desk, 1)?;
+    let told = with_seats(rt, alloc, seats, roll, answers, link);
     publisher.end(rt);
     told
 }
@@ -51,12 +65,11 @@ fn with_seats<R: Wait, J: Naming>(
     alloc: Global,
     mut seats: Vec<Seat<J>>,
     roll: Roll<MemEnd>,
-    answers: &str,
-    link: &str,
-    bytes: &str,
+    answers: Vec<HallAnswer>,
+    link: &mut CutLink,
 ) -> Result<String, Failure> {
     match seats.pop() {
-        Some(mut seat) => with_seat(rt, alloc, &mut seat, roll, answers, link, bytes),
+        Some(mut seat) => with_seat(rt, alloc, &mut seat, roll, answers, link),
         None => Err(Failure::Refused),
     }
 }
@@ -66,12 +79,10 @@ fn with_seat<R: Wait, J: Naming>(
     alloc: Global,
     seat: &mut Seat<J>,
     roll: Roll<MemEnd>,
-    answers: &str,
-    link: &str,
-    bytes: &str,
+    answers: Vec<HallAnswer>,
+    link: &mut CutLink,
 ) -> Result<String, Failure> {
-    let mut hall = ListHall::new(alloc, answers_of(alloc, answers)?, roll)?;
-    let mut link = CutLink::of(alloc, link, bytes)?;
-    let ended = client_loop(rt, alloc, seat, &mut hall, &mut link, &OpenGate);
+    let mut hall = ListHall::new(alloc, answers, roll)?;
+    let ended = client_loop(rt, alloc, seat, &mut hall, link, &OpenGate);
     shown(alloc, &ended, link.sent(), &hall)
 }

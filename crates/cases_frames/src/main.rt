@@ -1,16 +1,31 @@
-//! Cases of frames. Each line of standard input is a case, and each line of the output that case with its answer behind
-//! ` => `. A line that begins with `#` says what the lines below it are about. A side is `client`, `admin` or `agent`, a door
-//! of the service, or `replies` or `agent-replies`.
+//! Cases of frames: how they are spelled, what they say and how they come. Each line of standard input is a case, and
+//! each line of the output that case with its answer behind ` => `. A line that begins with `#` says what the lines
+//! below it are about. A side is `client`, `admin` or `agent`, a door of the service, or `replies` or `agent-replies`.
 //!
-//!     right SIDE FRAME     reads and spells a frame, whole and byte by byte, cuts it at each byte and makes it longer
-//!     slips PLACE=BYTE ..  that frame with another byte at a place
-//!     wrong SIDE BYTES     why the bytes are refused
-//!     knows SIDE           the operations of a side
+//!     right SIDE FRAME            reads and spells it, whole and byte by byte, cuts it at each byte, makes it longer
+//!     slips PLACE=BYTE ..         that frame with another byte at a place
+//!     wrong SIDE BYTES            why the bytes are refused
+//!     knows SIDE                  the operations of a side
+//!     show SIDE FRAME             what the message says
+//!     verdict FRAME               what a verdict says
+//!     pieces SIDE BYTES | BYTES   what a feeder answers to each piece
+//!     wants SIDE BYTES            what a feeder answers to pieces of what it wants
+//!     tells SIDE FRAME            the operation's number, the commit, and whether it is spelled alike from lent parts
+//!     judged COMMIT FRAME         what the reply says that the policy of an administrator's frame decides
+//!     long COUNT FRAME            the frame with the first of its two deletions so many times
 #![tactic(auto)]
 
+mod carried;
 mod hearing;
+mod lent;
+mod long_frames;
+mod meanings;
+mod pieces;
+mod refusals;
 mod right_frames;
+mod sayings;
 mod sides;
+mod slips;
 mod wrong_frames;
 
 use cases_words::{Failure, first_word, frame_bytes};
@@ -44,7 +59,7 @@ fn answer(alloc: Global, last: &mut Last, line: &str) -> Result<String, Failure>
         return right(alloc, last, rest);
     }
     if word == "slips" {
-        return right_frames::slips(alloc, last.heard, &last.frame, rest);
+        return slips::slips(alloc, last.heard, &last.frame, rest);
     }
     if word == "wrong" {
         return wrong(alloc, rest);
@@ -53,7 +68,7 @@ fn answer(alloc: Global, last: &mut Last, line: &str) -> Result<String, Failure>
         let (heard, _) = first_side(rest)?;
         return wrong_frames::known(alloc, heard);
     }
-    Err(Failure::Words)
+    sayings::answer(alloc, word, rest)
 }
 
 // The answer, or why there is none.

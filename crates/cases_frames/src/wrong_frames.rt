@@ -1,5 +1,5 @@
 // What a side refuses.
-use crate::hearing::refusal;
+use crate::refusals::refusal;
 use cases_words::Failure;
 use std::alloc::Global;
 use wire_messages::{Heard, Operation, WireRefusal};

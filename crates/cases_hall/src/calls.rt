@@ -1,24 +1,12 @@
 // Calls on the hall, and what they answer.
-use cynara_keys::{Kind, Metadata, Name, Question};
+use crate::states::question;
+use cynara_keys::{Kind, Metadata};
 use link_ports::{Link, MemEnd, MemLink};
 use live_desk::{Naming, Publisher, Seat};
 use server_hall::{Hall, Locked};
 use std::alloc::Global;
 use std::sync::Wait;
 use std::time::Clock;
-
-fn question(alloc: Global) -> Option<Question> {
-    let client = Name::read(alloc, b"c").ok()?;
-    let user = Name::read(alloc, b"u").ok()?;
-    let privilege = Name::read(alloc, b"p").ok()?;
-    Question::of(
-        alloc,
-        client.as_slice(),
-        user.as_slice(),
-        privilege.as_slice(),
-    )
-    .ok()
-}
 
 fn enter<R: Wait + Clock + Drop, J: Naming>(
     hall: &mut Locked<'_, R, MemEnd>,
@@ -137,7 +125,7 @@ pub fn behind_a_commit<R: Wait + Clock + Drop, J: Naming>(
 
 /// A connection enters behind the publication of a state and before the hang-up: it is told the commit before, is answered at
 /// the new one, and is hung up as those are that entered before.
-pub fn between_publication_and_hang_up<R: Wait + Clock, W: Wait + Clock + Drop, J: Naming>(
+pub fn between_publication_and_hang_up<R: Wait, W: Wait + Clock + Drop, J: Naming>(
     rt: &R,
     alloc: Global,
     hall: &mut Locked<'_, W, MemEnd>,

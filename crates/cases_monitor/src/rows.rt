@@ -1,14 +1,13 @@
-//! The cases on one thread.
+//! What recorders put and miss, and what is handed out and left, on one thread.
 ghost use Rattle.std.specs.Prelude.{◌≡◌, ◌++◌, ◌∷◌, [], IfSome};
 ghost use Rattle.std.specs.List.{AllZip};
 ghost use Rattle.check_monitor.specs.Monitor.{AreAll, IsSame};
-ghost use Rattle.cases_monitor_words.specs.Cases.{IsSameReader};
+ghost use Rattle.cases_monitor.specs.Cases.{IsSameReader};
 
-use cases_monitor_words::{
-    allow_by_agent, count_left, fill_all, missed_in_all, place, question, record_denied, take,
-};
+use crate::checks::{place, question};
+use crate::recording::{count_left, fill_all, missed_in_all, record_denied, take};
 use check_monitor::{MOST_ROOM, MOST_WORKERS, Reader, Recorded, Recorder, open};
-use cynara_keys::{Question, Short};
+use cynara_keys::Question;
 use std::alloc::{AllocError, Global};
 use std::sync::Wait;
 
@@ -90,7 +89,7 @@ fn put_back(recorders: &mut Vec<Recorder>, first: Recorder, second: Recorder) ->
     Some(())
 }
 
-#[tactic(auto, using(cases_monitor_words::proofs::Same::chain))]
+#[tactic(auto, using(crate::proofs::Same::chain))]
 fn turns<R: Wait>(
     rt: &R,
     alloc: Global,
@@ -138,65 +137,6 @@ pub fn nothing_recorded<R: Wait>(rt: &R, alloc: Global) -> Result<String, AllocE
     let mut settled = reader.settle(rt, recorders);
     let left = place(alloc, settled.next(rt))?;
     format!(in alloc; "nothing: handed out {taken}; left {left}")
-}
-
-/// What an entry says.
-pub fn an_entry_by_its_names<R: Wait>(rt: &R, alloc: Global) -> Result<String, AllocError> {
-    let (recorders, reader) = open(alloc, 1, 4)?;
-    entry_told(rt, alloc, recorders, reader).ok_or(AllocError)
-}
-
-fn entry_told<R: Wait>(
-    rt: &R,
-    alloc: Global,
-    recorders: Vec<Recorder>,
-    reader: Reader,
-) -> Option<String>
-    requires { AreAll reader.queue reader.made recorders.items }
-{
-    let (mut recorders, mut reader) = (recorders, reader);
-    record_two(rt, alloc, &mut recorders)?;
-    let told = told_of_two(rt, alloc, &mut reader)?;
-    let mut settled = reader.settle(rt, recorders);
-    let left = place(alloc, settled.next(rt)).ok()?;
-    format!(in alloc; "{told}; left {left}").ok()
-}
-
-// The last recorder records two checks.
-fn record_two<R: Wait>(rt: &R, alloc: Global, recorders: &mut Vec<Recorder>) -> Option<()>
-    ensures { IfSome result (λ done. AllZip IsSame recorders.old.items recorders.new.items) }
-{
-    let asked = question(alloc, b"app", b"5001", b"camera")?;
-    let mut recorder = recorders.pop()?;
-    allow_by_agent(rt, &mut recorder, &asked, 7, 5);
-    record_denied(rt, &mut recorder, &asked, 8);
-    recorders.push(recorder).ok()?;
-    Some(())
-}
-
-#[tactic(auto, using(cases_monitor_words::proofs::Same::reader_chain))]
-fn told_of_two<R: Wait>(rt: &R, alloc: Global, reader: &mut Reader) -> Option<String>
-    ensures { IsSameReader reader.old reader.new }
-{
-    let allowed = take(rt, reader)?;
-    let denied = take(rt, reader)?;
-    format!(in alloc;
-        "an entry: {:?}, {:?}, {:?}; {} at {} by {:?}, then {} at {} by {:?}",
-        text(&allowed.client)?,
-        text(&allowed.user)?,
-        text(&allowed.privilege)?,
-        allowed.allowed,
-        allowed.commit,
-        allowed.agent,
-        denied.allowed,
-        denied.commit,
-        denied.agent
-    )
-    .ok()
-}
-
-fn text(name: &Short) -> Option<&str> {
-    std::str::from_utf8(name.as_slice()).ok()
 }
 
 /// As many workers and as much room as there may be.

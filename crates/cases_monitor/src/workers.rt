@@ -1,10 +1,14 @@
 //! Workers that record on threads of their own while a reader takes what they put.
 ghost use Rattle.std.specs.List.{AllZip};
 ghost use Rattle.check_monitor.specs.Monitor.{AreAll, IsSame};
-ghost use Rattle.cases_monitor_words.specs.Cases.{IsSameReader};
+ghost use Rattle.cases_monitor.specs.Cases.{IsSameReader};
 
-use cases_monitor_words::{fill, question, take};
-use check_monitor::{Entry, MOST_ROOM, Reader, Recorder, open};
+use crate::checks::question;
+use crate::recording::{fill, take};
+use crate::shifts::{
+    Shift, Tally, four, in_all, made_by, missed_by, not_adding_up, not_handed_out,
+};
+use check_monitor::{MOST_ROOM, Reader, Recorder, open};
 use cynara_keys::Question;
 use std::alloc::{AllocError, Global};
 use std::sync::Wait;
@@ -18,34 +22,6 @@ const FEW: u64 = 1_000;
 
 /// The room for few.
 const NARROW: u32 = 64;
-
-// How many entries of each worker were handed out, and how many had another number than that count.
-#[derive(Clone, Copy)]
-struct Tally {
-    counts: [u64; 4],
-    wrong: u64,
-}
-
-impl Tally {
-    fn note(&mut self, entry: &Entry) {
-        let Some(count) = self.counts.get_mut(entry.worker as usize) else {
-            self.wrong = self.wrong.saturating_add(1);
-            return;
-        };
-        if entry.number != *count {
-            self.wrong = self.wrong.saturating_add(1);
-        }
-        *count = count.saturating_add(1);
-    }
-}
-
-// What came of the checks of four workers: how many each put and missed, and what was handed out.
-#[derive(Clone, Copy)]
-struct Shift {
-    made: [u64; 4],
-    missed: [u64; 4],
-    tally: Tally,
-}
 
 /// Four workers record 2,000 checks each into a queue with room for 64, while the reader takes entries; the rest is handed
 /// out once they have ended. Each check of a worker was handed out once, in its order, or missed; and the first 64 that
@@ -102,63 +78,6 @@ fn by_four<R: Wait + Threads + Sync>(
     }
 }
 
-// How many entries each worker put.
-fn made_by(recorders: &[Recorder]) -> [u64; 4] {
-    let mut made = [0; 4];
-    for recorder in recorders {
-        if let Some(count) = made.get_mut(recorder.worker() as usize) {
-            *count = recorder.made();
-        }
-    }
-    made
-}
-
-// How many checks of each worker were missed.
-fn missed_by(recorders: &[Recorder]) -> [u64; 4] {
-    let mut missed = [0; 4];
-    for recorder in recorders {
-        if let Some(count) = missed.get_mut(recorder.worker() as usize) {
-            *count = recorder.missed();
-        }
-    }
-    missed
-}
-
-// How many workers' checks are not those that were put and those that were missed.
-fn not_adding_up(shift: &Shift, checks: u64) -> u64 {
-    let mut wrong = 0u64;
-    for worker in 0..4 {
-        if shift.made[worker].saturating_add(shift.missed[worker]) != checks {
-            wrong = wrong.saturating_add(1);
-        }
-    }
-    wrong
-}
-
-// How many workers put other than was handed out.
-fn not_handed_out(shift: &Shift) -> u64 {
-    let mut wrong = 0u64;
-    for worker in 0..4 {
-        if shift.tally.counts[worker] != shift.made[worker] {
-            wrong = wrong.saturating_add(1);
-        }
-    }
-    wrong
-}
-
-fn in_all(counts: [u64; 4]) -> u64 {
-    let [first, second, third, fourth] = counts;
-    first
-        .saturating_add(second)
-        .saturating_add(third)
-        .saturating_add(fourth)
-}
-
-fn four(alloc: Global, counts: [u64; 4]) -> Result<String, AllocError> {
-    let [first, second, third, fourth] = counts;
-    format!(in alloc; "{first} {second} {third} {fourth}")
-}
-
 // The recorders record on threads, while the reader takes on this one.
 fn record_and_take<R: Wait + Threads + Sync>(
     rt: &R,
@@ -196,7 +115,7 @@ fn fill_on_threads<R: Wait + Threads + Sync>(
 }
 
 // Takes entries so often as one worker records.
-#[tactic(auto, using(cases_monitor_words::proofs::Same::reader_chain))]
+#[tactic(auto, using(crate::proofs::Same::reader_chain))]
 fn take_some<R: Wait>(rt: &R, reader: &mut Reader, tally: &mut Tally, turns: u64)
     ensures { IsSameReader reader.old reader.new }
 {

@@ -1,25 +1,26 @@
 -- What a call does from a stage does not hang on the stage, where another one is set.
 use Rattle.std.proofs.Common.{◌≡◌, ◌≤◌, ◌<◌, ◌∙◌, ℕ, Bool, true, false, List, [], ◌∷◌, ◌++◌, length, Option, Some, None, refl, ap, arith, inl, inr}
 use Rattle.std.proofs.lemmas.Bool.Decides.{nat_tests}
-use Rattle.std.specs.Prelude.{nat_lt, nat_le, ◌==◌, ◌&&◌, if◌then◌else◌}
+use Rattle.std.specs.Prelude.{◌⊎◌, nat_lt, nat_le, ◌==◌, ◌&&◌, if◌then◌else◌}
 use Rattle.answer_cache.specs.Cache.{Cache}
 use Rattle.bucket_eval.specs.declared.answers.Verdict.{Verdict}
 use Rattle.wire_messages.specs.Stream.{Hears, BeginsWrong, IsOpen, wanted}
+use Rattle.wire_messages.specs.declared.operations.Heard.TheVariants.{Replies}
 use Rattle.wire_messages.specs.declared.refusals.WireRefusal.{WireRefusal}
 use Rattle.wire_messages.specs.declared.messages.Framed.{Framed}
 use Rattle.wire_messages.specs.declared.messages.Message.{Message}
-use Rattle.client_core.specs.Listening.{Listening, is_fit}
+use Rattle.client_core.specs.Listening.{Listening, unheard, is_fit}
 use Rattle.client_core.specs.Client.{Client, forgotten, raised}
 use Rattle.client_core.specs.Hearing.{HearsPiece, fault_by}
 use Rattle.client_core.specs.Asking as asking_does
-use Rattle.client_core.specs.Admin.{Admin}
+use Rattle.client_core.specs.Admin.{Admin, cut, with_row}
 use Rattle.client_core.specs.Agent.{Agent, First, Turn}
 use Rattle.client_core.specs.Agent as agent_does
 use Rattle.cynara_keys.specs.declared.results.Kind.{Kind}
 use Rattle.client_core.specs.declared.stages.Open.{Open}
 use Rattle.client_core.specs.declared.stages.AgentStage.{AgentStage}
 use Rattle.client_core.specs.Admin as admin_does
-use Rattle.client_core.specs.AdminReplies.{next_of, is_row, is_last, is_list_row}
+use Rattle.client_core.specs.AdminReplies.{next_of, is_row, is_last, is_list_row, is_state_part, is_agent_here, IsRow, IsLast, IsWrong}
 use Rattle.client_core.specs.declared.ears.Piece.{Piece}
 use Rattle.client_core.specs.declared.ears.Piece.TheVariants as piece
 use Rattle.client_core.specs.declared.stages.Asking.{Asking}
@@ -27,12 +28,13 @@ use Rattle.client_core.specs.declared.stages.Exchange.{Exchange}
 use Rattle.client_core.specs.declared.stages.Stage.{Stage}
 use Rattle.client_core.specs.declared.stages.Stage.TheVariants as stage
 use Rattle.client_core.specs.declared.stages.AdminStage.{AdminStage}
+use Rattle.client_core.specs.declared.stages.AdminStage.TheVariants as admin_stage
 use Rattle.client_core.specs.declared.steps.Step.{Step}
 use Rattle.client_core.specs.declared.steps.Step.TheVariants as step
 use Rattle.client_core.specs.declared.steps.Fault.{Fault}
 use Rattle.client_core.specs.declared.steps.Fault.TheVariants.{Sequence, Operation}
 use Rattle.client_core.specs.declared.wanted.Wanted.{Wanted}
-use Rattle.client_core.specs.declared.wanted.Wanted.TheVariants.{Command, Verdict as WantedVerdict, Rows, Stop}
+use Rattle.client_core.specs.declared.wanted.Wanted.TheVariants.{Command, Verdict as WantedVerdict, Rows, State, Service, Stop}
 use Rattle.wire_messages.specs.Operation.{number_of}
 use Rattle.wire_messages.specs.Message.{operation}
 use Rattle.client_core.specs.declared.wanted.Next.{Next}
@@ -120,6 +122,39 @@ module _ (sequence : ℕ) (frame : List ℕ) (is_linked : Bool) (s t : AdminStag
       → admin_does.HearsReply exchange ear bytes answer (admin sequence frame is_linked t) new
   admin_reply ear bytes d = (d.0, d.1, admin_hears d.0 d.2)
 
+-- what an administrator hears of a piece: the reply goes on, it is whole, or it is wrong
+module _ {X : Type 0} (exchange : Exchange) (ear : Listening) (bytes : List ℕ) (answer : Step) (old new : Admin)
+    (more : (after : Listening) → after ≡ record ear { bytes = ear.bytes ++ bytes } → IsOpen ear.side (ear.bytes ++ bytes)
+    → answer ≡ step.Wait → new ≡ record old { stage = admin_stage.Waiting exchange after } → X)
+    (whole : (framed : Framed) → Hears ear.side (ear.bytes ++ bytes) (framed ∷ []) []
+    → admin_does.Concludes exchange framed answer old new → X)
+    (bad : (refusal : WireRefusal) → BeginsWrong ear.side (ear.bytes ++ bytes) refusal → answer ≡ step.Over (fault_by refusal)
+    → new ≡ cut old → X) where
+  admin_piece_at : (came : Piece) → HearsPiece came ear bytes → admin_does.hears came exchange answer old new → X
+  admin_piece_at (piece.More after) heard d = more after heard.0 heard.1 d.0 d.1
+  admin_piece_at (piece.Whole framed) heard d = whole framed heard d
+  admin_piece_at (piece.Wrong refusal) heard d = bad refusal heard d.0 d.1
+
+  pub admin_by_piece : admin_does.HearsReply exchange ear bytes answer old new → X
+  admin_by_piece d = admin_piece_at d.0 d.1 d.2
+
+-- by what follows from a reply
+module _ {X : Type 0} (exchange : Exchange) (framed : Framed) (answer : Step) (old new : Admin)
+    (row : IsRow exchange.wanted exchange.sequence exchange.rows framed → answer ≡ step.Row framed.message
+    → new ≡ record old { stage = admin_stage.Waiting (with_row exchange) (unheard Replies) } → X)
+    (last : IsLast exchange.wanted exchange.sequence exchange.rows framed → answer ≡ step.Reply framed.message
+    → new ≡ record old { stage = admin_stage.Idle } → X)
+    (wrong : (found : Fault) → IsWrong exchange.wanted exchange.sequence exchange.rows framed found → answer ≡ step.Over found
+    → new ≡ cut old → X) where
+  reply_at : (follows : Next) → next_of exchange.wanted exchange.sequence exchange.rows framed ≡ follows
+      → admin_does.concludes follows exchange framed answer old new → X
+  reply_at next.More is d = row is d.0 d.1
+  reply_at next.Whole is d = last is d.0 d.1
+  reply_at (next.Wrong found) is d = wrong found is d.0 d.1
+
+  pub admin_by_reply : admin_does.Concludes exchange framed answer old new → X
+  admin_by_reply d = reply_at (next_of exchange.wanted exchange.sequence exchange.rows framed) refl d
+
 abbrev pub agent : Kind → List ℕ → AgentStage → Agent
 agent kind frame stage = record { kind = kind; frame = frame; stage = stage }
 
@@ -159,14 +194,37 @@ module _ (kind : Kind) (frame : List ℕ) (s t : AgentStage) (answer : Step) (ne
         → agent_does.HearsNext asked ear bytes answer (agent kind frame t) new
     same_next ear bytes d = (d.0, d.1, next_hears d.0 d.2)
 
+-- ---- wrong replies
+
+module _ (sequence : ℕ) (framed : Framed) (found : Fault) where
+  abbrev pub IsFor : Type 0
+  IsFor = (found ≡ Sequence sequence framed.sequence) ⊎ (found ≡ Operation (number_of (operation framed.message)))
+
+  wrong_if : (same is_more ends : Bool)
+      → (if same then
+      (if is_more then next.More else (if ends then next.Whole else next.Wrong (Operation (number_of (operation framed.message)))))
+      else next.Wrong (Sequence sequence framed.sequence)) ≡ next.Wrong found
+      → IsFor
+  wrong_if true true ends is = cc
+  wrong_if true false true is = cc
+  wrong_if true false false is = inr cc
+  wrong_if false is_more ends is = inl cc
+
+  -- it is for the number, or else for the operation
+  pub wrong_for : (wanted : Wanted) (rows : ℕ) → IsWrong wanted sequence rows framed found → IsFor
+  wrong_for wanted rows is =
+      wrong_if (framed.sequence == sequence) (is_row wanted rows framed.message) (is_last wanted rows framed.message) is
+
 -- ---- rows
 
 and_right : (a b : Bool) → (a && b) ≡ true → b ≡ true
 and_right true b is = is
 and_right false b is = cc
 
-row_below : (wanted : Wanted) (rows : ℕ) (reply : Message) → is_row wanted rows reply ≡ true → rows < 65536
+row_below : (wanted : Wanted) (rows : ℕ) (reply : Message) → is_row wanted rows reply ≡ true → rows < 1048576
 row_below Rows rows reply is = let below = and_right (is_list_row reply) (nat_lt rows 65536) is in grind (arith, below)
+row_below State rows reply is = let below = and_right (is_state_part reply) (nat_lt rows 1048576) is in grind (arith, below)
+row_below Service rows reply is = let below = and_right (is_agent_here reply) (nat_lt rows 65536) is in grind (arith, below)
 row_below Command rows reply is = cc
 row_below WantedVerdict rows reply is = cc
 row_below Stop rows reply is = cc
@@ -175,13 +233,13 @@ more_if : (same is_more ends : Bool) (wanted : Wanted) (sequence rows : ℕ) (fr
     → (if same then
     (if is_more then next.More else (if ends then next.Whole else next.Wrong (Operation (number_of (operation framed.message)))))
     else next.Wrong (Sequence sequence framed.sequence)) ≡ next.More
-    → rows < 65536
+    → rows < 1048576
 more_if true true ends wanted sequence rows framed row is = row_below wanted rows framed.message row
 more_if true false true wanted sequence rows framed row is = cc
 more_if true false false wanted sequence rows framed row is = cc
 more_if false is_more ends wanted sequence rows framed row is = cc
 
 -- behind a further row there were fewer than may be
-pub more_rows : (wanted : Wanted) (sequence rows : ℕ) (framed : Framed) → next_of wanted sequence rows framed ≡ next.More → rows < 65536
+pub more_rows : (wanted : Wanted) (sequence rows : ℕ) (framed : Framed) → next_of wanted sequence rows framed ≡ next.More → rows < 1048576
 more_rows wanted sequence rows framed is =
     more_if (framed.sequence == sequence) (is_row wanted rows framed.message) (is_last wanted rows framed.message) wanted sequence rows framed refl is

@@ -4,8 +4,8 @@ ghost use Rattle.ctl_import.specs.Rows as word;
 
 use crate::faults::ImportFault;
 use crate::fields::{field_before, ruling_in};
-use crate::names::{given_name, is_free};
-use cynara_keys::Kind;
+use crate::names::{is_free, with_name, with_number};
+use cynara_keys::{Kind, is_bucket_name};
 use desk_ports::Bytes;
 use std::alloc::{AllocError, Global};
 use text_lines::split_line;
@@ -26,7 +26,7 @@ impl Heading {
     }
 }
 
-/// The buckets of `buckets`.
+/// The buckets of `buckets`, the root among them.
 pub(crate) fn headings_in(alloc: Global, text: &[u8]) -> Result<Vec<Heading>, ImportFault> {
     let mut headings = Vec::new(alloc);
     let mut number = 0u32;
@@ -38,6 +38,9 @@ pub(crate) fn headings_in(alloc: Global, text: &[u8]) -> Result<Vec<Heading>, Im
             None => return Err(ImportFault::Line(number)),
         }
         rest = behind;
+    }
+    if !has_bucket(&headings, b"") {
+        return Err(ImportFault::NoRoot);
     }
     give_names(alloc, &mut headings)?;
     Ok(headings)
@@ -72,20 +75,55 @@ fn bytes_of(alloc: Global, text: &[u8]) -> Result<Bytes, AllocError> {
 // Gives each bucket a name of its own whose name a script may not have.
 fn give_names(alloc: Global, headings: &mut [Heading]) -> Result<(), AllocError> {
     for place in 0..headings.len() {
-        if is_free(headings[place].name.as_slice()) {
-            continue;
+        if let Some(given) = other_name(alloc, headings, place)? {
+            headings[place].given = given;
         }
-        let usual = given_name(alloc, headings[place].name.as_slice(), place as u64, false)?;
-        let is_taken = has_bucket(headings, usual.as_slice());
-        let given = given_name(
-            alloc,
-            headings[place].name.as_slice(),
-            place as u64,
-            is_taken,
-        )?;
-        headings[place].given = given;
     }
     Ok(())
+}
+
+// Another name for the bucket at this place, where a script may not have its own.
+fn other_name(
+    alloc: Global,
+    headings: &[Heading],
+    place: usize,
+) -> Result<Option<Bytes>, AllocError> {
+    let Some(heading) = headings.get(place) else {
+        return Ok(None);
+    };
+    if is_free(heading.name.as_slice()) {
+        return Ok(None);
+    }
+    let name = name_to_give(alloc, headings, heading.name.as_slice(), place as u64)?;
+    Ok(Some(name))
+}
+
+// `cynara_` before this name, where that is a name which no bucket has or was given; and else before the first number, from this
+// one on, with which it is.
+fn name_to_give(
+    alloc: Global,
+    headings: &[Heading],
+    name: &[u8],
+    first: u64,
+) -> Result<Bytes, AllocError> {
+    let usual = with_name(alloc, name)?;
+    if is_bucket_name(usual.as_slice()) && !is_taken(headings, usual.as_slice()) {
+        return Ok(usual);
+    }
+    for number in first..u64::MAX {
+        let given = with_number(alloc, number)?;
+        if !is_taken(headings, given.as_slice()) {
+            return Ok(given);
+        }
+    }
+    // There are fewer buckets than numbers, so nobody comes here.
+    Err(AllocError)
+}
+
+// Whether a bucket has this name in the data base, or was given it.
+fn is_taken(headings: &[Heading], name: &[u8]) -> bool {
+    headings.iter().any(|heading| heading.name.as_slice() == name
+        || heading.given.as_slice() == name)
 }
 
 /// Whether a bucket has this name in the data base.

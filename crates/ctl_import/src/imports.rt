@@ -60,7 +60,7 @@ fn put_heading(out: &mut Bytes, heading: &Heading) -> Result<(), AllocError> {
         put_json(out, front_of(heading.name.as_slice()))?;
         put(out, " is ")?;
         out.append(heading.given.as_slice())?;
-        put(out, " here, since its name is reserved or too long\n")?;
+        put(out, " here, since a device may not have its name\n")?;
     }
     let ruling = Ruling {
         kind: heading.kind,

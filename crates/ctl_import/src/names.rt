@@ -26,21 +26,18 @@ pub(crate) fn is_free(name: &[u8]) -> bool {
     is_bucket_name(name) && !RESERVED.contains(&name)
 }
 
-/// The name that a bucket gets whose own is not free: `cynara_` before its own, or before its number where that is none
-/// or taken.
-pub(crate) fn given_name(
-    alloc: Global,
-    name: &[u8],
-    number: u64,
-    is_taken: bool,
-) -> Result<Bytes, AllocError> {
+/// `cynara_` and the name.
+pub(crate) fn with_name(alloc: Global, name: &[u8]) -> Result<Bytes, AllocError> {
     let mut given = Bytes::new(alloc);
     put(&mut given, FRONT)?;
     given.append(name)?;
-    if is_taken || !is_bucket_name(given.as_slice()) {
-        given.clear();
-        put(&mut given, FRONT)?;
-        put_number(&mut given, number)?;
-    }
+    Ok(given)
+}
+
+/// `cynara_` and the number.
+pub(crate) fn with_number(alloc: Global, number: u64) -> Result<Bytes, AllocError> {
+    let mut given = Bytes::new(alloc);
+    put(&mut given, FRONT)?;
+    put_number(&mut given, number)?;
     Ok(given)
 }

@@ -19,6 +19,7 @@ use Rattle.bucket_store.specs.contracts.buckets.Bucket as Bucket
 use Rattle.bucket_store.specs.contracts.databases.Database as Database
 use Rattle.bucket_eval.specs.contracts.indexes.Index as Index
 use Rattle.bucket_eval.specs.contracts.names.Names as Names
+use Rattle.bucket_eval.specs.contracts.shared_sheets.SharedSheet as SharedSheet
 use Rattle.bucket_eval.specs.contracts.sheets.Filed as Filed
 use Rattle.bucket_eval.specs.contracts.sheets.Sheet as Sheet
 use Rattle.atomic_table.proofs.shared.Seat.TheSendSync as place
@@ -110,11 +111,17 @@ sheet_send = search (sendable, crosses, maps.crosses, filed_send) depth 40
 sheet_sync : IsSync (Sheet.the_field).row
 sheet_sync = search (sendable, crosses, maps.crosses, filed_sync) depth 40
 
+shared_sheet_send : IsSend (SharedSheet.the_field).row
+shared_sheet_send = search (sendable, crosses, sheet_send, sheet_sync) depth 40
+
+shared_sheet_sync : IsSync (SharedSheet.the_field).row
+shared_sheet_sync = search (sendable, crosses, sheet_send, sheet_sync) depth 40
+
 index_send : IsSend (Index.the_field).row
-index_send = search (sendable, crosses, database_send, names_send, sheet_send) depth 40
+index_send = search (sendable, crosses, database_send, names_send, shared_sheet_send) depth 40
 
 index_sync : IsSync (Index.the_field).row
-index_sync = search (sendable, crosses, database_sync, names_sync, sheet_sync) depth 40
+index_sync = search (sendable, crosses, database_sync, names_sync, shared_sheet_sync) depth 40
 
 -- the copies
 copy_send : IsSend (DeskCopy.the_field).row
@@ -163,7 +170,7 @@ module _ (J : RattleType) (naming : Ghosts J.Denot) (dict : Dict) where
 
   pub publisher_send : IsSend J → IsSync J → IsSend (Publisher.the_field J naming (absorb.ghosts J naming dict) (rule.ghosts J naming dict)).row
   publisher_send send sync =
-      search (sendable, crosses, factory_send, part_send, place.the_send, deed.the_send, published_row_send, shown_send, front_send, book_send) depth 40
+      search (sendable, crosses, factory_send, part_send, place.the_send, deed.the_send, published_row_send, shown_send, copy_send, copy_sync, front_send, book_send) depth 40
 
   pub publisher_row_send : IsSend J → IsSync J → IsSend (Publisher.the_row J naming (absorb.ghosts J naming dict) (rule.ghosts J naming dict))
   publisher_row_send send sync = as_row_send (Publisher.the_field J naming (absorb.ghosts J naming dict) (rule.ghosts J naming dict)) (publisher_send send sync)

@@ -52,6 +52,18 @@ impl DeskCopy {
         })
     }
 
+    /// What answers the checks of the next state, of which most is as in this one. Takes over what stayed.
+    pub fn next(&self, alloc: Global, desk: &Desk) -> Result<DeskCopy, AllocError>
+        ensures { IfOk result (λ copy. copy ≡ desk.now) }
+    {
+        let index = self.index.build_next(alloc, desk.database())?;
+        Ok(DeskCopy {
+            commit: desk.commit(),
+            index,
+            state: Snapshot::of(desk),
+        })
+    }
+
     /// The commit of the state.
     pub fn commit(&self) -> u64
         ensures { result ≡ self.now.commit }

@@ -24,6 +24,8 @@ pub type DeskWriter<J> = Writer<Published<J>, Shown<J>, u64, Running>;
 #[derive(Drop)]
 pub struct Ready {
     copy: Arc<DeskCopy>,
+    // The same copy for its second owner, the publisher: of it the next one is made.
+    kept: Arc<DeskCopy>,
 }
 
 impl Model for Ready {
@@ -41,8 +43,16 @@ impl Ready {
         ensures { IfOk result (λ ready. ready ≡ desk.now) }
     {
         let copy = DeskCopy::of(alloc, desk)?;
+        Ready::of_copy(alloc, copy)
+    }
+
+    // The state of this copy.
+    fn of_copy(alloc: Global, copy: DeskCopy) -> Result<Ready, AllocError>
+        ensures { IfOk result (λ ready. ready ≡ copy) }
+    {
         let copy = Arc::new(alloc, copy)?;
-        Ok(Ready { copy })
+        let kept = Arc::try_clone(&copy)?;
+        Ok(Ready { copy, kept })
     }
 
     /// The commit of the state.
@@ -65,6 +75,8 @@ where
     book: Book<Desk, J>,
     front: Front<Desk, J>,
     commit: u64,
+    // The last copy that was published. The next one takes over what stays of it.
+    last: Arc<DeskCopy>,
 }
 
 impl<J: Naming> Model for Publisher<J>
@@ -104,7 +116,7 @@ impl<J: Naming> Publisher<J> {
     {
         let (book, unseen) = opened.named::<J>();
         let commit = first.commit();
-        let Ready { copy } = first;
+        let Ready { copy, kept } = first;
         let Some(front) = book.put_behind(&unseen, copy.state()) else {
             return Err(AllocError);
         };
@@ -122,16 +134,19 @@ impl<J: Naming> Publisher<J> {
             book,
             front,
             commit,
+            last: kept,
         };
         Ok((publisher, unseen))
     }
 
     /// The state, made ready to be published. Changes nothing that a seat sees. Takes all memory that publishing needs.
+    /// Takes over what stays of the last state that was published.
     pub fn prepare(&mut self, desk: &Desk) -> Result<Ready, AllocError>
         ensures ready { IfOk result (λ ready. ready ≡ desk.now) }
         ensures kept { self.new ≡ self.old }
     {
-        Ready::of(self.alloc, desk)
+        let copy = self.last.next(self.alloc, desk)?;
+        Ready::of_copy(self.alloc, copy)
     }
 
     /// Shows the state to the seats, and answers its commit, which is above the last one. Waits for those that still
@@ -144,7 +159,7 @@ impl<J: Naming> Publisher<J> {
         ensures kept { OnErr result (self.new ≡ self.old) }
     {
         let commit = ready.commit();
-        let Ready { copy } = ready;
+        let Ready { copy, kept } = ready;
         let Some(front) = self.book.put_behind(&self.front, copy.state()) else {
             return Err(AllocError);
         };
@@ -156,6 +171,7 @@ impl<J: Naming> Publisher<J> {
         );
         self.front = front;
         self.commit = commit;
+        self.last = kept;
         Ok(commit)
     }
 
@@ -193,6 +209,7 @@ impl<J: Naming> Publisher<J> {
             book: _book,
             front: _front,
             commit: _,
+            last: _last,
         } = self;
         drop(writer.take(rt));
     }

@@ -70,13 +70,14 @@ fn state_in<R: Files<File = File> + Clock + AllocGlobal + Clone + Drop, K: Sink>
             tell_failure(alloc, &disk, sink);
             None
         }
-        Err(CopyRefusal::Damaged { file, .. }) => {
-            tell_wrong(
-                alloc,
-                "not as a commit leaves it: the file",
-                file.as_slice(),
-                sink,
-            );
+        Err(CopyRefusal::NoStore) => {
+            tell_wrong(alloc, "there is no store in", folder.as_bytes(), sink);
+            None
+        }
+        Err(CopyRefusal::Damaged { file, line }) => {
+            if let Ok(text) = format!(in alloc; "the store is damaged: line {line} of the file") {
+                tell_wrong(alloc, text.as_str(), file.as_slice(), sink);
+            }
             None
         }
         Err(CopyRefusal::Memory(_)) => {

@@ -4,7 +4,7 @@ ghost use Rattle.std.specs.Prelude.{◌≡◌, true};
 use crate::devices::state_at;
 use crate::questions::question_of;
 use crate::services::{net_within, tell_refusal};
-use crate::telling::{DONE, NOT_DONE, WRONG_WORDS, written};
+use crate::telling::{DONE, NOT_DONE, written};
 use ctl_door::{Settled, settled_state};
 use ctl_text::{put, put_number};
 use ctl_views::explain;
@@ -21,8 +21,9 @@ pub(crate) fn explain_question<K: Sink>(
     at: At<'_>,
     sink: &mut K,
 ) -> u8 {
-    let Some(question) = question_of(alloc, asked, sink) else {
-        return WRONG_WORDS;
+    let question = match question_of(alloc, asked, sink) {
+        Ok(question) => question,
+        Err(status) => return status,
     };
     match at {
         At::Service { seconds } => explain_service(rt, alloc, &question, seconds, sink),

@@ -2,7 +2,7 @@
 use crate::devices::{state_at, state_over};
 use crate::questions::{name_of, uid_of};
 use crate::services::{net_within, tell_refusal};
-use crate::telling::{DONE, NOT_DONE, REFUSED, WRONG_WORDS, write_text, written};
+use crate::telling::{DONE, NOT_DONE, REFUSED, WRONG_WORDS, tell_wrong, write_text, written};
 use ctl_door::{Obeyed, obey};
 use ctl_text::{put, put_number};
 use ctl_words::{At, LevelWords};
@@ -21,8 +21,9 @@ pub(crate) fn get_levels<K: Sink>(
     at: At<'_>,
     sink: &mut K,
 ) -> u8 {
-    let Some(user) = uid_of(alloc, user, sink) else {
-        return WRONG_WORDS;
+    let user = match uid_of(alloc, user, sink) {
+        Ok(user) => user,
+        Err(status) => return status,
     };
     match state_at(rt, alloc, at, sink) {
         Some(desk) => written(list_levels(alloc, &desk, user), DONE, sink),
@@ -52,8 +53,9 @@ pub(crate) fn set_level<K: Sink>(
     seconds: u32,
     sink: &mut K,
 ) -> u8 {
-    let Some(request) = request_of(alloc, words, sink) else {
-        return WRONG_WORDS;
+    let request = match request_of(alloc, words, sink) {
+        Ok(request) => request,
+        Err(status) => return status,
     };
     let Some(mut net) = net_within(rt, seconds) else {
         return NOT_DONE;
@@ -67,11 +69,16 @@ pub(crate) fn set_level<K: Sink>(
     }
 }
 
-fn request_of<K: Sink>(alloc: Global, words: LevelWords<'_>, sink: &mut K) -> Option<LevelRequest> {
+// What the words ask for. Else a person is told which word is wrong, and the status is that of it.
+fn request_of<K: Sink>(
+    alloc: Global,
+    words: LevelWords<'_>,
+    sink: &mut K,
+) -> Result<LevelRequest, u8> {
     let user = uid_of(alloc, words.user, sink)?;
     let client = name_of(alloc, words.client, sink)?;
     let privilege = name_of(alloc, words.privilege, sink)?;
-    let level = Level::of_word(words.level.as_bytes())?;
+    let level = level_of(alloc, words.level, sink)?;
     let (caller, by) = match words.by {
         Some(administrator) => {
             let caller = uid_of(alloc, administrator, sink)?;
@@ -79,13 +86,23 @@ fn request_of<K: Sink>(alloc: Global, words: LevelWords<'_>, sink: &mut K) -> Op
         }
         None => (user, Setter::Own),
     };
-    Some(LevelRequest {
+    Ok(LevelRequest {
         caller,
         by,
         client,
         privilege,
         level,
     })
+}
+
+fn level_of<K: Sink>(alloc: Global, word: &str, sink: &mut K) -> Result<Level, u8> {
+    match Level::of_word(word.as_bytes()) {
+        Some(level) => Ok(level),
+        None => {
+            tell_wrong(alloc, "no level:", word.as_bytes(), sink);
+            Err(WRONG_WORDS)
+        }
+    }
 }
 
 fn tell_level_refusal<K: Sink>(alloc: Global, refusal: LevelRefusal, sink: &mut K) -> u8 {

@@ -34,11 +34,22 @@ fn run_on_host(rt: &HostRuntime) -> Result<u8, AllocError> {
     let mut sink = OutputSink::over(rt.stdout(), rt.stderr());
     match read_order(rt.alloc(), &words) {
         Ok(order) => Ok(run_order(rt, rt.alloc(), order, &mut sink)),
-        Err(Unread::Shown(text)) => Ok(write_text(text.as_bytes(), DONE, &mut sink)),
+        Err(Unread::Shown(text)) => {
+            Ok(write_text(text.as_bytes(), status_of_help(&words), &mut sink))
+        }
         Err(Unread::Wrong(text)) => {
             tell_lines(rt.alloc(), text.as_str(), &mut sink);
             Ok(WRONG_WORDS)
         }
         Err(Unread::Memory(error)) => Err(error),
+    }
+}
+
+// The status of a run that shows the help or the version. Behind `may` the word that asks for it may have been meant as
+// a name, and nobody was asked: so it is not 0, which stands for a service that allows.
+fn status_of_help(words: &[String]) -> u8 {
+    match words.first() {
+        Some(word) if word.as_str() == "may" => NOT_DONE,
+        _ => DONE,
     }
 }

@@ -1,7 +1,7 @@
 // `may`.
 use crate::questions::question_of;
 use crate::services::{net_within, tell_failure};
-use crate::telling::{NOT_DONE, WRONG_WORDS};
+use crate::telling::NOT_DONE;
 use ctl_may::{NOT_ASKED, Telling, may};
 use ctl_words::{Asked, Style};
 use desk_ports::Sink;
@@ -16,8 +16,9 @@ pub(crate) fn ask_service<K: Sink>(
     seconds: u32,
     sink: &mut K,
 ) -> u8 {
-    let Some(question) = question_of(alloc, asked, sink) else {
-        return WRONG_WORDS;
+    let question = match question_of(alloc, asked, sink) {
+        Ok(question) => question,
+        Err(status) => return status,
     };
     let Some(mut net) = net_within(rt, seconds) else {
         return NOT_DONE;

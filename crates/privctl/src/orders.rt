@@ -8,7 +8,7 @@ use crate::mays::ask_service;
 use crate::plans::{export, plan_file};
 use crate::questions::name_of;
 use crate::services::{net_within, tell_refusal};
-use crate::telling::{DONE, NOT_DONE, WRONG_WORDS, write_text, written};
+use crate::telling::{DONE, NOT_DONE, write_text, written};
 use ctl_door::{DoorRefusal, answers, service_seen};
 use ctl_views::{
     list_apps, list_buckets, list_packages, list_service, list_status, list_users, list_who,
@@ -139,13 +139,14 @@ fn who<K: Sink>(
     at: At<'_>,
     sink: &mut K,
 ) -> u8 {
-    let Some(privilege) = name_of(alloc, privilege, sink) else {
-        return WRONG_WORDS;
+    let privilege = match name_of(alloc, privilege, sink) {
+        Ok(privilege) => privilege,
+        Err(status) => return status,
     };
     let only = match user {
         Some(user) => match name_of(alloc, user, sink) {
-            Some(user) => Some(user),
-            None => return WRONG_WORDS,
+            Ok(user) => Some(user),
+            Err(status) => return status,
         },
         None => None,
     };

@@ -4,6 +4,7 @@ ghost use Rattle.monitor_journal.specs.declared.writing.Writing.TheVariants.{Goe
 
 use check_monitor::Reader;
 use desk_ports::{Bytes, Sink};
+use door_workers::Notes;
 use monitor_journal::{Writing, hand_on};
 use serve_runs::{Chore, Turn};
 use std::alloc::Global;
@@ -13,18 +14,20 @@ use std::time::Clock;
 /// Behind a turn that wrote so many bytes more lines may wait than one turn writes.
 const MUCH: usize = 16_384;
 
-/// The reader of what was recorded, how the writing stands, the sink that takes the lines, and room for them.
+/// The reader of what was recorded, how the writing stands, the sink that takes the lines, room for them, and whom a person
+/// is told by that no further line is written.
 #[derive(Drop)]
-pub(crate) struct Journal<'k, K: Sink> {
+pub(crate) struct Journal<'k, K: Sink, T: Notes> {
     pub reader: Reader,
     pub room: Bytes,
     pub writing: Writing,
     pub sink: &'k mut K,
+    pub notes: &'k T,
 }
 
-impl<'k, K: Sink> Journal<'k, K> {
+impl<'k, K: Sink, T: Notes> Journal<'k, K, T> {
     /// Nothing was written. Takes no memory.
-    pub fn new(alloc: Global, reader: Reader, sink: &'k mut K) -> Journal<'k, K>
+    pub fn new(alloc: Global, reader: Reader, sink: &'k mut K, notes: &'k T) -> Journal<'k, K, T>
         ensures reader { result.reader ≡ reader }
         ensures writing { result.writing ≡ GoesOn }
         ensures sink { result.sink.now ≡ sink.old }
@@ -35,6 +38,7 @@ impl<'k, K: Sink> Journal<'k, K> {
             room: Bytes::new(alloc),
             writing: Writing::GoesOn,
             sink,
+            notes,
         }
     }
 
@@ -56,7 +60,7 @@ impl<'k, K: Sink> Journal<'k, K> {
 }
 
 /// In each turn what was recorded is written, at most 1,024 lines.
-impl<'k, K: Sink> Chore for Journal<'k, K> {
+impl<'k, K: Sink, T: Notes> Chore for Journal<'k, K, T> {
     ghost use Rattle.std.specs.Prelude.{◌≡◌, refl};
     ghost use Rattle.std.proofs.Common.{◌∙◌};
     ghost use Rattle.run_endings.specs.Outside.{sink_seen};
@@ -68,13 +72,9 @@ impl<'k, K: Sink> Chore for Journal<'k, K> {
         (sink_seen K.taken K.faults new.sink.now) };
 
     fn turn<R: Wait + Clock>(&mut self, rt: &R) -> Turn {
-        self.writing = hand_on(
-            rt,
-            &mut self.room,
-            self.writing,
-            &mut self.reader,
-            self.sink,
-        );
+        let before = self.writing;
+        self.writing = hand_on(rt, &mut self.room, before, &mut self.reader, self.sink);
+        note_end(self.notes, before, self.writing);
         turn_of(self.room.len())
     }
 
@@ -82,6 +82,19 @@ impl<'k, K: Sink> Chore for Journal<'k, K> {
 
     ghost goes_further = { λ first between last some more one then.
         (then.0 ∙ one.0, journals_then some more _ _ _ _ _ _ _ _ _ one.1 then.1) };
+}
+
+// Tells a person that no further line is written, at the turn from which on it is so.
+fn note_end<T: Notes>(notes: &T, before: Writing, now: Writing) {
+    match (before, now) {
+        (Writing::GoesOn, Writing::SinkFailed) => {
+            notes.note("privilege: cannot write standard output: no further check is written");
+        }
+        (Writing::GoesOn, Writing::OutOfMemory) => {
+            notes.note("privilege: out of memory: no further check is written");
+        }
+        _ => {}
+    }
 }
 
 // What a turn met that wrote so many bytes.

@@ -145,7 +145,7 @@ where
     ensures untouched { IfErr result (λ ending. sink.new ≡ sink.old) }
 {
     let telling = TellingGate::new(rt, gate, alarm, notes);
-    let mut journal = Journal::new(alloc, reader, sink);
+    let mut journal = Journal::new(alloc, reader, sink, notes);
     let run = run_service(
         rt,
         alloc,

@@ -1,5 +1,5 @@
 -- What is known of the buckets' answers while a question is answered by sheets.
-use Rattle.std.specs.Prelude.{◌≡◌, ◌<◌, ◌≤◌, ℕ, Bool, true, ◌==◌, ◌||◌, List, length, Option, None, Some, is_some, slice_get, if◌then◌else◌}
+use Rattle.std.specs.Prelude.{◌≡◌, ◌≤◌, ℕ, Bool, true, ◌==◌, ◌||◌, List, length, Option, None, Some, is_some, slice_get, if◌then◌else◌}
 use Rattle.std.specs.Prelude.{option_and_then}
 use Rattle.std.specs.Ordering.{is_gt}
 use Rattle.std.specs.List.{filter_map}

@@ -11,7 +11,7 @@ use Rattle.bucket_eval.specs.declared.sheets.Draft.{Draft}
 use Rattle.bucket_eval.specs.declared.sheets.Filed.{Filed}
 use Rattle.bucket_eval.specs.declared.sheets.Marked.{Marked}
 use Rattle.bucket_eval.specs.declared.sheets.Sheet.{Sheet}
-use Rattle.bucket_eval.specs.parts.Numbers.{IsTable, IsTableTo}
+use Rattle.bucket_eval.specs.parts.Numbers.{IsTable}
 use Rattle.bucket_eval.specs.parts.Shapes.{shape_of}
 use Rattle.bucket_eval.specs.parts.Slots.{none_or}
 
@@ -98,6 +98,11 @@ pub record IsSheetOf (names : List (List ℕ)) (buckets : List Bucket) (bucket :
   pub filed : AreFiled buckets bucket.policies (filed_in sheet)
   pub gaps : (from to : ℕ) → slice_get sheet.next from ≡ Some to → IsGap bucket.policies from to
   pub fallback : sheet.fallback ≡ bucket.fallback.kind
+
+-- the same of the bucket at a place
+abbrev pub IsSheetAt : List (List ℕ) → List Bucket → ℕ → Sheet → Type 0
+IsSheetAt names buckets at sheet =
+    (bucket : Bucket) → slice_get buckets at ≡ Some bucket → IsSheetOf names buckets bucket sheet
 
 -- each sheet is that of the bucket at its place
 abbrev pub EachIsSheet : List (List ℕ) → List Bucket → List Sheet → Type 0

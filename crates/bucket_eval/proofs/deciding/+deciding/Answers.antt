@@ -1,15 +1,12 @@
-use Rattle.std.proofs.Common.{◌≡◌, ◌+◌, ◌-◌, ◌<◌, ◌≤◌, ℕ, suc, List, [], length, slice_get, get_or, Option, Some, None, false, refl, sym, ap, ◌∙◌, subst, arith}
+use Rattle.std.proofs.Common.{◌≡◌, ◌+◌, ◌-◌, suc, [], None, false, refl, sym, ap, ◌∙◌, subst, arith}
 use Rattle.std.proofs.lemmas.Option.{get_or_from_slice_get, same_Some, slice_get_within}
 use Rattle.cynara_keys.specs.declared.keys.Policy.{Policy}
 use Rattle.bucket_store.specs.Bucket.{Bucket}
 use Rattle.bucket_store.specs.Database.{Placed, database_of}
 use Rattle.bucket_store.specs.Walk.{points}
-use Rattle.bucket_eval.specs.declared.deciding.Asking.{Asking}
-use Rattle.bucket_eval.specs.declared.deciding.Known.{Known}
-use Rattle.bucket_eval.specs.parts.Deciding.{AnswersAt, EndsAt, Fits, IsKnown, IsLeast, IsReady, IsRight, answer_of, outcome_followed}
+use Rattle.bucket_eval.specs.parts.Deciding.{Fits, IsKnown, IsLeast, answer_of, outcome_followed}
 use Rattle.bucket_eval.specs.parts.Ends.{EndsWithin}
-use Rattle.bucket_eval.specs.parts.Sheets.{IsFiled, IsGap, PointsTo, TargetsAt}
-use Rattle.bucket_eval.specs.parts.Slots.{none_or}
+use Rattle.bucket_eval.specs.parts.Sheets.{TargetsAt}
 use Rattle.bucket_eval.proofs.Depth.{ends-below, step-of}
 use Rattle.bucket_eval.proofs.Filing.{gap-at, points-at}
 use Rattle.bucket_eval.proofs.Kept.{rising-at}

@@ -1,5 +1,4 @@
-use Rattle.std.proofs.Common.{Some, refl, sym, ◌∙◌, subst}
-use Rattle.bucket_eval.specs.Evaluation.{Contribution}
+use Rattle.std.proofs.Common.{refl, sym, ◌∙◌, subst}
 use Rattle.bucket_eval.specs.parts.Deciding.{IsLeast}
 use Rattle.bucket_eval.proofs.Weighing.{lesser-after, lesser-before}
 use Rattle.bucket_eval.proofs.deciding.lesser.Goals as goal

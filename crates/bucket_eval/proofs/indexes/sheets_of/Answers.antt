@@ -1,6 +1,6 @@
 use Rattle.std.proofs.Common.{◌≡◌, ◌++◌, ◌∷◌, [], List, Option, Some, IfSome, length, sym, ap, subst, arith, rules, length-append}
 use Rattle.bucket_eval.specs.declared.sheets.Sheet.{Sheet}
-use Rattle.bucket_eval.specs.parts.Sheets.{EachIsSheet, IsSheetOf}
+use Rattle.bucket_eval.specs.parts.Sheets.{EachIsSheet, IsSheetAt}
 use Rattle.bucket_eval.proofs.Tabling.{sheets-kept, sheets-more}
 use Rattle.bucket_eval.proofs.indexes.sheets_of.Goals as goal
 
@@ -12,14 +12,14 @@ pub loop-at-preserved : goal.loop-at-preserved
 loop-at-preserved c =
     let pushed : c.push.new.self.items ≡ c.loop-at.sheets.items ++ c.in-Some.sheet ∷ [] = search rules in
     let at = c.loop-at.invariant.count in
+    let names = c.sheet_of.new.names in
     record {
-      each = subst (EachIsSheet c.of.new.names c.args.buckets.now) (sym pushed)
-          (sheets-more c.of.new.names c.args.buckets.now c.loop-at.sheets.items c.in-Some.sheet c.loop-at.at
-          c.bucket_at.result.now
-          (sheets-kept c.loop-at.names c.of.new.names c.in_ok-made.ensures.kept c.args.buckets.now
-          c.loop-at.sheets.items c.loop-at.invariant.each)
-          at c.bucket_at.ensures
-          (if-made (IsSheetOf c.of.new.names c.args.buckets.now c.bucket_at.result.now) c.in_ok-made.made c.in-Some.sheet
+      each = subst (EachIsSheet names c.args.buckets.now) (sym pushed)
+          (sheets-more names c.args.buckets.now c.loop-at.sheets.items c.in-Some.sheet c.loop-at.at
+          (sheets-kept c.loop-at.names names c.in_ok-made.ensures.kept c.args.buckets.now c.loop-at.sheets.items
+          c.loop-at.invariant.each)
+          at
+          (if-made (IsSheetAt names c.args.buckets.now c.loop-at.at) c.in_ok-made.made c.in-Some.sheet
           c.in_ok-made.ensures.sheet c.in-Some.is));
       count = (let more = length-append c.loop-at.sheets.items (c.in-Some.sheet ∷ []) in
           let new = ap (λ (sheets : List Sheet). length sheets) pushed in

@@ -1,4 +1,4 @@
-use Rattle.std.proofs.Common.{◌+◌, Some, sym, ap, ◌∙◌, arith}
+use Rattle.std.proofs.Common.{◌+◌, Some, ap, ◌∙◌, arith}
 use Rattle.bucket_eval.proofs.Tabling.{next-behind}
 use Rattle.bucket_eval.proofs.sheets.next_from.Goals as goal
 

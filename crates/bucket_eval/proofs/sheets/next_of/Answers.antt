@@ -1,4 +1,4 @@
-use Rattle.std.proofs.Common.{◌+◌, ◌-◌, arith}
+use Rattle.std.proofs.Common.{◌-◌, arith}
 use Rattle.bucket_eval.proofs.Tabling.{next-more}
 use Rattle.bucket_eval.proofs.sheets.next_of.Goals as goal
 

@@ -1,5 +1,5 @@
 use Rattle.std.proofs.Common.{rules}
-use Rattle.cases_monitor_words.proofs.Same.{two_same}
+use Rattle.cases_monitor.proofs.Same.{two_same}
 use Rattle.cases_monitor.proofs.rows.record_in_turn.Goals as goal
 
 pub returns-clause-recorders : goal.returns-clause-recorders

@@ -1,7 +1,7 @@
 use Rattle.std.proofs.Common.{rules}
 use Rattle.std.specs.List.{AllZip}
 use Rattle.check_monitor.specs.Monitor.{IsSame}
-use Rattle.cases_monitor_words.proofs.Same.{all_still}
+use Rattle.cases_monitor.proofs.Same.{all_still}
 use Rattle.cases_monitor.proofs.rows.two_record.Goals as goal
 
 pub left_of_three-requires : goal.left_of_three-requires

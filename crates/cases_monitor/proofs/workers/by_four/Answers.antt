@@ -1,7 +1,7 @@
 use Rattle.std.proofs.Common.{rules}
 use Rattle.std.specs.List.{AllZip}
 use Rattle.check_monitor.specs.Monitor.{IsSame}
-use Rattle.cases_monitor_words.proofs.Same.{all_still, written_over}
+use Rattle.cases_monitor.proofs.Same.{all_still, written_over}
 use Rattle.cases_monitor.proofs.workers.by_four.Goals as goal
 
 pub settled-tally-requires : goal.settled-tally-requires

@@ -1,5 +1,5 @@
 use Rattle.std.proofs.Common.{rules}
-use Rattle.cases_monitor_words.proofs.Same.{zip_each, went}
+use Rattle.cases_monitor.proofs.Same.{zip_each, went}
 use Rattle.cases_monitor.proofs.workers.fill_on_threads.Goals as goal
 
 pub returns : goal.returns

@@ -1,4 +1,4 @@
-use Rattle.cases_monitor_words.specs.Cases.{IsSameReader}
+use Rattle.cases_monitor.specs.Cases.{IsSameReader}
 use Rattle.cases_monitor.proofs.workers.take_some.Given as goal
 
 abbrev pub invariant-loop : goal.invariant-loop

@@ -1,4 +1,4 @@
-use Rattle.std.proofs.Common.{Some, is_some, sym, ap, ◌∙◌}
+use Rattle.std.proofs.Common.{is_some, sym, ap, ◌∙◌}
 use Rattle.std.proofs.lemmas.Option.{same_Some}
 use Rattle.bucket_store.specs.Database.{Database}
 use Rattle.bucket_eval.specs.Found.{outcome_at}

@@ -1,6 +1,5 @@
-use Rattle.std.proofs.Common.{◌≡◌, ◌<◌, ℕ, length, slice_get, Option, Some, sym, ap, ◌∙◌, subst, IfSome}
-use Rattle.bucket_store.specs.Database.{Database, root}
-use Rattle.bucket_eval.specs.Evaluation.{answer}
+use Rattle.std.proofs.Common.{◌≡◌, Option, Some, sym, ap, ◌∙◌, subst, IfSome}
+use Rattle.bucket_store.specs.Database.{Database}
 use Rattle.bucket_eval.specs.Found.{outcome_at as outcome_found}
 use Rattle.bucket_eval.specs.Root.{root_outcome}
 use Rattle.bucket_eval.specs.parts.Sheets.{AreSheets, AreSheetsOf}
