@@ -10,7 +10,7 @@ use Rattle.cynara_keys.specs.Key.{Question}
 use Rattle.wire_messages.specs.declared.messages.Message.{Message}
 use Rattle.wire_messages.specs.declared.messages.Message.TheVariants as message
 use Rattle.client_connection.specs.Giving.{GivesBackAny}
-use Rattle.admin_client.specs.Sending.{State, Kept, with_dial, Sends}
+use Rattle.admin_client.specs.Sending.{State, with_dial, Sends}
 use Rattle.admin_client.specs.declared.refusals.AdminRefusal.{AdminRefusal}
 use Rattle.admin_client.specs.declared.refusals.AdminRefusal.TheVariants as admin
 use Rattle.ctl_door.specs.declared.refusals.DoorRefusal.{DoorRefusal}
