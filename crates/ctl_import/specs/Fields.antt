@@ -1,6 +1,5 @@
 -- Fields of a line of a data base, with a semicolon behind each but the last.
-use Rattle.std.specs.Prelude.{◌≡◌, ℕ, List, ◌∷◌, ◌++◌}
-use Rattle.cynara_keys.specs.declared.results.Kind.{Kind}
+use Rattle.std.specs.Prelude.{ℕ, List, ◌∷◌, ◌++◌}
 use Rattle.ctl_import.specs.declared.fields.Ruling.{Ruling}
 use Rattle.ctl_import.specs.declared.policies.Row.{Row}
 

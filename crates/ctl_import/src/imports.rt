@@ -1,4 +1,8 @@
 // The script.
+ghost use Rattle.std.specs.Prelude.{IfOk, OnOk};
+ghost use Rattle.ctl_import.specs.Rows as word;
+ghost use Rattle.ctl_import.specs.LeftOut.{TellsLeftOut, IsLeftOut};
+
 use crate::faults::ImportFault;
 use crate::fields::Ruling;
 use crate::headings::{Heading, headings_in};
@@ -18,6 +22,7 @@ const MOST_SHOWN_BYTES: usize = 1_000;
 /// A script that grows bucket by bucket.
 #[derive(Drop)]
 pub struct Import {
+    alloc: Global,
     headings: Vec<Heading>,
     text: Bytes,
 }
@@ -31,7 +36,11 @@ impl Import {
         for heading in &headings {
             put_heading(&mut text, heading)?;
         }
-        Ok(Import { headings, text })
+        Ok(Import {
+            alloc,
+            headings,
+            text,
+        })
     }
 
     /// The buckets, in the order of their lines.
@@ -44,7 +53,7 @@ impl Import {
         let Some(heading) = self.headings.get(place) else {
             return Ok(());
         };
-        put_policies(&mut self.text, heading, &self.headings, file)
+        put_policies(self.alloc, &mut self.text, heading, &self.headings, file)
     }
 
     /// The script so far.
@@ -97,6 +106,7 @@ fn is_fallback(heading: &Heading, ruling: &Ruling<'_>) -> bool {
 
 // The policies of a file, so many in one command.
 fn put_policies(
+    alloc: Global,
     out: &mut Bytes,
     heading: &Heading,
     headings: &[Heading],
@@ -110,7 +120,7 @@ fn put_policies(
         let Some(row) = row_in(line) else {
             return Err(ImportFault::Line(number));
         };
-        count = put_policy(out, heading, headings, &row, line, number, count)?;
+        count = put_policy(alloc, out, heading, headings, &row, line, number, count)?;
         rest = behind;
     }
     if count > 0 {
@@ -121,6 +131,7 @@ fn put_policies(
 
 // A policy, behind so many of its command, or why it is left out. How many the command has then.
 fn put_policy(
+    alloc: Global,
     out: &mut Bytes,
     heading: &Heading,
     headings: &[Heading],
@@ -128,9 +139,11 @@ fn put_policy(
     line: &[u8],
     number: u32,
     count: u32,
-) -> Result<u32, AllocError> {
+) -> Result<u32, AllocError>
+    ensures told { IfOk result (λ more. IsLeftOut (word.reason_against headings.now row.now) count more out.old out.new) }
+{
     if let Some(reason) = reason_against(row, headings) {
-        put_left_out(out, heading, line, number, reason)?;
+        put_left_out(alloc, out, heading, line, number, reason)?;
         return Ok(count);
     }
     if count == 0 {
@@ -159,20 +172,39 @@ fn put_loss(out: &mut Bytes, row: &Row<'_>) -> Result<(), AllocError> {
     put(out, " of the next policy\n")
 }
 
+// Tells in a comment that a policy is left out, and why.
 fn put_left_out(
+    alloc: Global,
     out: &mut Bytes,
     heading: &Heading,
     line: &[u8],
     number: u32,
     reason: Reason,
-) -> Result<(), AllocError> {
-    put(out, "# left out: line ")?;
-    put_number(out, u64::from(number))?;
-    put(out, " of ")?;
-    put_json_name(out, heading)?;
-    put(out, ": ")?;
-    put_json(out, front_of(line))?;
-    put(out, text_of(reason))
+) -> Result<(), AllocError>
+    ensures { OnOk result (TellsLeftOut out.old out.new) }
+{
+    let policy = policy_left_out(alloc, heading, line, number, reason)?;
+    put(out, "# left out: ")?;
+    out.append(policy.as_slice())
+}
+
+// The policy of a line, and the reason.
+fn policy_left_out(
+    alloc: Global,
+    heading: &Heading,
+    line: &[u8],
+    number: u32,
+    reason: Reason,
+) -> Result<Bytes, AllocError> {
+    let mut out = Bytes::new(alloc);
+    put(&mut out, "line ")?;
+    put_number(&mut out, u64::from(number))?;
+    put(&mut out, " of ")?;
+    put_json_name(&mut out, heading)?;
+    put(&mut out, ": ")?;
+    put_json(&mut out, front_of(line))?;
+    put(&mut out, text_of(reason))?;
+    Ok(out)
 }
 
 // As much of a line as a comment shows.

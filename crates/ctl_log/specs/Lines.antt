@@ -1,6 +1,5 @@
 -- Lines of a log: words, with one space between two.
 use Rattle.std.specs.Prelude.{◌≡◌, ℕ, List, ◌∷◌, ◌++◌, Option, Some, None, codes}
-use Rattle.ctl_log.specs.declared.entries.Cause.{Cause}
 use Rattle.ctl_log.specs.declared.entries.Decider.{Decider}
 use Rattle.ctl_log.specs.declared.entries.Decision.{Decision}
 use Rattle.ctl_log.specs.declared.entries.Entry.{Entry}

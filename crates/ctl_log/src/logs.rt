@@ -1,4 +1,7 @@
 // The log as a whole.
+ghost use Rattle.std.specs.Prelude.{◌≡◌, OnOk};
+ghost use Rattle.ctl_log.specs.Wanting as word;
+
 use crate::entries::LogLine;
 use crate::objects::put_object;
 use crate::reading::read_line;
@@ -87,19 +90,36 @@ fn put_line(
     wanted: &Wanted<'_>,
     is_json: bool,
     bytes: &[u8],
-) -> Result<(), AllocError> {
+) -> Result<(), AllocError>
+    ensures { OnOk result (word.Writes wanted.now is_json bytes.now out.old out.new) }
+{
     let line = read_line(bytes);
-    if !is_wanted(wanted, &line) {
+    put_read(out, wanted, is_json, &line, bytes)
+}
+
+// Writes what was read of these bytes, where it is wanted.
+fn put_read(
+    out: &mut Bytes,
+    wanted: &Wanted<'_>,
+    is_json: bool,
+    line: &LogLine<'_>,
+    bytes: &[u8],
+) -> Result<(), AllocError>
+    ensures { OnOk result (word.IsWritten (word.is_wanted wanted.now line.now) is_json bytes.now out.old out.new) }
+{
+    if !is_wanted(wanted, line) {
         return Ok(());
     }
     if is_json {
-        return put_object(out, &line, bytes);
+        return put_object(out, line, bytes);
     }
     out.append(bytes)?;
     out.append(b"\n")
 }
 
-fn is_wanted(wanted: &Wanted<'_>, line: &LogLine<'_>) -> bool {
+fn is_wanted(wanted: &Wanted<'_>, line: &LogLine<'_>) -> bool
+    ensures { result ≡ word.is_wanted wanted.now line.now }
+{
     match line {
         LogLine::Check(entry) => wanted.takes(entry),
         LogLine::Missed { .. } => true,
