@@ -170,12 +170,12 @@ class Running:
         return self.take_answer(connection)
 
     def give(self, connection):
-        """An agent to whom nothing was given is not listened to: that it left shows at its next question."""
+        """An agent to whom nothing was given is not listened to, but that it left is noticed."""
         if self.stopped:
             return self.end(connection, "stopped")
         waiting = self.put.get(connection.kind, [])
         if not waiting:
-            return False
+            return False if connection.open else self.end(connection, "closed")
         number, _, question, result = waiting[0]
         connection.given = number
         fields = n4(number) + b"".join(map(text, question)) + result_fields(result)
@@ -218,9 +218,13 @@ class Running:
         return True
 
     def stop(self):
-        """Clients are hung up, the administrator has its answer; an agent of whom a frame is awaited is waited for."""
+        """Clients are hung up, the administrator has its answer, and an agent is told of a question that waits no more; one
+        of whom the registration is awaited is waited for."""
         self.stopped = True
         for connection in list(self.working):
+            if connection.given is not None:
+                connection.sent += frame(connection.given % 65536, 0xA4, n4(connection.given))
+                connection.given = None
             if connection.door != "agent" or connection.kind is not None and connection.given is None:
                 self.end(connection, "stopped")
         for connection in self.waiting:

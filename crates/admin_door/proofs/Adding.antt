@@ -9,7 +9,7 @@ use Rattle.live_desk.specs.History.{last_commit}
 use Rattle.server_hall.specs.Tally.{Tally}
 use Rattle.wire_messages.specs.Commands.{command_of}
 use Rattle.wire_messages.specs.declared.messages.Message.{Message}
-use Rattle.wire_messages.specs.declared.messages.Message.TheVariants.{Done, Listing, AdminCheck, Stop, ReadState}
+use Rattle.wire_messages.specs.declared.messages.Message.TheVariants.{Done, Listing, AdminCheck, Stop, ReadState, ReadService}
 use Rattle.door_frames.specs.declared.endings.Ended.{Ended}
 use Rattle.admin_door.specs.Side.{AdminSide, with_kept, with_shown, with_fault, with_stop}
 use Rattle.admin_door.specs.Settling.{IsFound, Settles, IsHungFor, Unsettles}
@@ -179,6 +179,7 @@ question-none : (message : Message) (old now : AdminSide) (replies : List Messag
 question-none (Listing bucket filter) old now replies (is, told) = still old now is
 question-none (AdminCheck bucket recursive question) old now replies (is, told) = still old now is
 question-none ReadState old now replies (is, told) = still old now is
+question-none ReadService old now replies (is, told) = still old now is
 question-none Stop old now replies (is, told) = stops-none old now is
 question-none other old now replies answers = absurd answers
 

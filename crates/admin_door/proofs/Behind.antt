@@ -12,7 +12,7 @@ use Rattle.desk_keeper.proofs.Keeping.{standing-kept}
 use Rattle.live_desk.specs.History.{last_commit}
 use Rattle.wire_messages.specs.Commands.{command_of}
 use Rattle.wire_messages.specs.declared.messages.Message.{Message}
-use Rattle.wire_messages.specs.declared.messages.Message.TheVariants.{Listing, AdminCheck, Stop, ReadState}
+use Rattle.wire_messages.specs.declared.messages.Message.TheVariants.{Listing, AdminCheck, Stop, ReadState, ReadService}
 use Rattle.admin_door.specs.Side.{AdminSide, with_kept, with_shown, with_fault}
 use Rattle.admin_door.specs.Settling.{IsFound, Settles, Unsettles}
 use Rattle.admin_door.specs.Answering.{Commits, LacksMemory, IsUnanswered, Obeys, AnswersUnsettled, AnswersQuestion, AnswersBy, RefusesBy}
@@ -191,6 +191,7 @@ module _ (before : DiskState) (touched : IsTouchedOnly before) (exchange : Excha
     question-desk (Listing bucket filter) now replies (is, told) = ap (λ (side : AdminSide). side.desk) is
     question-desk (AdminCheck bucket recursive question) now replies (is, told) = ap (λ (side : AdminSide). side.desk) is
     question-desk ReadState now replies (is, told) = ap (λ (side : AdminSide). side.desk) is
+    question-desk ReadService now replies (is, told) = ap (λ (side : AdminSide). side.desk) is
     question-desk Stop now replies (is, told) = ap (λ (side : AdminSide). side.desk) is
     question-desk other now replies answers = absurd answers
 

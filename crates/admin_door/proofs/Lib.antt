@@ -1,5 +1,6 @@
 pub mod Finding
 pub mod Parting
+pub mod ServiceTelling
 pub mod Showing
 pub mod Answering
 pub mod Adding

@@ -12,7 +12,7 @@ use Rattle.desk_keeper.proofs.Keeping.{standing-kept}
 use Rattle.live_desk.specs.History.{last_commit}
 use Rattle.wire_messages.specs.Commands.{command_of}
 use Rattle.wire_messages.specs.declared.messages.Message.{Message}
-use Rattle.wire_messages.specs.declared.messages.Message.TheVariants.{Listing, AdminCheck, Stop, ReadState}
+use Rattle.wire_messages.specs.declared.messages.Message.TheVariants.{Listing, AdminCheck, Stop, ReadState, ReadService}
 use Rattle.door_frames.specs.declared.endings.Ended.{Ended}
 use Rattle.admin_door.specs.Side.{AdminSide, with_shown}
 use Rattle.admin_door.specs.Settling.{IsFound, Settles, Unsettles}
@@ -195,6 +195,7 @@ module _ (before : DiskState) (last : DeskState) (first : List DeskState) (all :
       question-holds (Listing bucket filter) now replies not_done (is, answered) = rests old now not_done h is
       question-holds (AdminCheck bucket recursive question) now replies not_done (is, answered) = rests old now not_done h is
       question-holds ReadState now replies not_done (is, answered) = rests old now not_done h is
+      question-holds ReadService now replies not_done (is, answered) = rests old now not_done h is
       question-holds Stop now replies not_done (is, answered) =
           subst (λ (side : AdminSide). Holds before last first all behind side) (sym is) (still old.desk old.published not_done h)
       question-holds other now replies not_done answers = absurd answers

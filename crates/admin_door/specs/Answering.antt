@@ -8,11 +8,12 @@ use Rattle.desk_state.specs.declared.refusals.Refusal.{Refusal}
 use Rattle.wire_messages.specs.Commands.{command_of}
 use Rattle.wire_messages.specs.declared.messages.Message.{Message}
 use Rattle.wire_messages.specs.declared.messages.Message.TheVariants.{Refused, Listing, AdminCheck, Stop, StoreFault, StoreDamaged}
-use Rattle.wire_messages.specs.declared.messages.Message.TheVariants.{ReadState}
+use Rattle.wire_messages.specs.declared.messages.Message.TheVariants.{ReadState, ReadService}
 use Rattle.door_frames.specs.declared.endings.Ended.{Ended}
 use Rattle.door_frames.specs.declared.endings.Ended.TheVariants.{Memory}
 use Rattle.admin_door.specs.Side.{AdminSide, with_kept, with_shown, with_fault, with_stop}
 use Rattle.admin_door.specs.State.{AreState}
+use Rattle.admin_door.specs.Service.{IsService}
 use Rattle.admin_door.specs.Reply.{list_replies, check_replies, done_replies, stop_replies}
 use Rattle.admin_door.specs.Settling.{Settles, Unsettles}
 use Rattle.admin_door.specs.declared.settling.Unsettled.{Unsettled}
@@ -80,6 +81,7 @@ AnswersQuestion (Listing bucket filter) old now replies = (now ≡ old) × (repl
 AnswersQuestion (AdminCheck bucket recursive question) old now replies =
     (now ≡ old) × (replies ≡ check_replies old.desk bucket recursive question)
 AnswersQuestion ReadState old now replies = (now ≡ old) × AreState old.desk replies
+AnswersQuestion ReadService old now replies = (now ≡ old) × IsService replies
 AnswersQuestion Stop old now replies = (now ≡ with_stop old) × (replies ≡ stop_replies old.desk)
 AnswersQuestion other old now replies = ⊥
 

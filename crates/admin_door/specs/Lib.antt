@@ -1,6 +1,7 @@
 pub mod Side
 pub mod Reply
 pub mod State
+pub mod Service
 pub mod Settling
 pub mod Answering
 pub mod Adding

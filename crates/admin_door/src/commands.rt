@@ -21,11 +21,13 @@ ghost use Rattle.admin_door.specs.Side.{side_of, decided_of};
 ghost use Rattle.admin_door.specs.Settling.{IsHungFor, TellsDamage};
 ghost use Rattle.admin_door.specs.Answering.{Answers, Refuses, AnswersQuestion, Obeys, IsUnanswered, Commits};
 ghost use Rattle.admin_door.specs.Answering.{LacksMemory, AnswersUnsettled};
+ghost use Rattle.admin_door.specs.Service.{TellsService};
 ghost use Rattle.admin_door.specs.parts.Asking.{IsNoCommand};
 ghost use Rattle.admin_door.specs.parts.Showing.{Shows, IsUnshown};
 
 use crate::publishing::show;
 use crate::questions::{check_replies, list_replies, one};
+use crate::services::service_replies;
 use crate::settling::{Unsettled, settle};
 use crate::states::state_replies;
 use desk_keeper::{Keeper, PreparedCommit};
@@ -63,6 +65,7 @@ pub fn answer_command<R: Wait, D: Disk, A: Hall, J: Naming>(
         (side_of D.faults keeper.new publisher.new (A.tally hall.new) (A.calls hall.new)) }
     ensures acknowledged { IfOk result (λ replies. Acknowledges message.now
         (side_of D.faults keeper.new publisher.new (A.tally hall.new) (A.calls hall.new)) replies.items) }
+    ensures service { IfOk result (λ replies. TellsService message.now (A.told hall.old) replies.items) }
 
     // What a stop at any moment of the call may leave in the folder, and what the folder keeps behind the call.
     ensures stops { WhereTold (D.state (disk_of keeper.old)) (λ before.
@@ -101,6 +104,7 @@ fn answer<R: Wait, D: Disk, A: Hall, J: Naming>(
         (Refuses (D.state (disk_of keeper.old)) message.now
         (side_of D.faults keeper.old publisher.old (A.tally hall.old) (A.calls hall.old))
         (side_of D.faults keeper.new publisher.new (A.tally hall.new) (A.calls hall.new))) }
+    ensures service { IfOk result (λ replies. TellsService message.now (A.told hall.old) replies.items) }
     ensures stops { WhereTold (D.state (disk_of keeper.old)) (λ before.
         KeepsKnown (decided_of keeper.old) keeper.old.desk (held_of keeper.old) before
         → LeavesOnly D.moment D.left_since (disk_of keeper.old) (disk_of keeper.new) (StandsBy (words.command_of message.now) before)) }
@@ -134,6 +138,7 @@ fn answer_question<D: Disk, A: Hall>(
         (side_of D.faults keeper.now published (A.tally hall.new) (A.calls hall.new)) replies.items)
         (λ ended. (ended ≡ Memory) × (side_of D.faults keeper.now published (A.tally hall.new) (A.calls hall.new)
         ≡ side_of D.faults keeper.now published (A.tally hall.old) (A.calls hall.old))) }
+    ensures service { IfOk result (λ replies. TellsService message.now (A.told hall.old) replies.items) }
 {
     match message {
         Message::Listing { bucket, filter } => list_replies(alloc, keeper.desk(), bucket, filter),
@@ -143,6 +148,7 @@ fn answer_question<D: Disk, A: Hall>(
             question,
         } => check_replies(alloc, keeper.desk(), bucket, *recursive, question),
         Message::ReadState => state_replies(alloc, keeper.desk()),
+        Message::ReadService => service_replies(alloc, hall),
         Message::Stop => stop(alloc, keeper.desk().commit(), hall),
         _ => unreachable!(),
     }

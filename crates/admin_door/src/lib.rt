@@ -10,6 +10,7 @@ mod commands;
 mod laws;
 mod publishing;
 mod questions;
+mod services;
 mod settling;
 mod states;
 

@@ -20,7 +20,7 @@ use Rattle.cynara_keys.specs.declared.results.Kind.{Kind}
 use Rattle.client_core.specs.declared.stages.Open.{Open}
 use Rattle.client_core.specs.declared.stages.AgentStage.{AgentStage}
 use Rattle.client_core.specs.Admin as admin_does
-use Rattle.client_core.specs.AdminReplies.{next_of, is_row, is_last, is_list_row, IsRow, IsLast, IsWrong}
+use Rattle.client_core.specs.AdminReplies.{next_of, is_row, is_last, is_list_row, is_state_part, is_agent_here, IsRow, IsLast, IsWrong}
 use Rattle.client_core.specs.declared.ears.Piece.{Piece}
 use Rattle.client_core.specs.declared.ears.Piece.TheVariants as piece
 use Rattle.client_core.specs.declared.stages.Asking.{Asking}
@@ -34,7 +34,7 @@ use Rattle.client_core.specs.declared.steps.Step.TheVariants as step
 use Rattle.client_core.specs.declared.steps.Fault.{Fault}
 use Rattle.client_core.specs.declared.steps.Fault.TheVariants.{Sequence, Operation}
 use Rattle.client_core.specs.declared.wanted.Wanted.{Wanted}
-use Rattle.client_core.specs.declared.wanted.Wanted.TheVariants.{Command, Verdict as WantedVerdict, Rows, Stop}
+use Rattle.client_core.specs.declared.wanted.Wanted.TheVariants.{Command, Verdict as WantedVerdict, Rows, State, Service, Stop}
 use Rattle.wire_messages.specs.Operation.{number_of}
 use Rattle.wire_messages.specs.Message.{operation}
 use Rattle.client_core.specs.declared.wanted.Next.{Next}
@@ -221,8 +221,10 @@ and_right : (a b : Bool) → (a && b) ≡ true → b ≡ true
 and_right true b is = is
 and_right false b is = cc
 
-row_below : (wanted : Wanted) (rows : ℕ) (reply : Message) → is_row wanted rows reply ≡ true → rows < 65536
+row_below : (wanted : Wanted) (rows : ℕ) (reply : Message) → is_row wanted rows reply ≡ true → rows < 1048576
 row_below Rows rows reply is = let below = and_right (is_list_row reply) (nat_lt rows 65536) is in grind (arith, below)
+row_below State rows reply is = let below = and_right (is_state_part reply) (nat_lt rows 1048576) is in grind (arith, below)
+row_below Service rows reply is = let below = and_right (is_agent_here reply) (nat_lt rows 65536) is in grind (arith, below)
 row_below Command rows reply is = cc
 row_below WantedVerdict rows reply is = cc
 row_below Stop rows reply is = cc
@@ -231,13 +233,13 @@ more_if : (same is_more ends : Bool) (wanted : Wanted) (sequence rows : ℕ) (fr
     → (if same then
     (if is_more then next.More else (if ends then next.Whole else next.Wrong (Operation (number_of (operation framed.message)))))
     else next.Wrong (Sequence sequence framed.sequence)) ≡ next.More
-    → rows < 65536
+    → rows < 1048576
 more_if true true ends wanted sequence rows framed row is = row_below wanted rows framed.message row
 more_if true false true wanted sequence rows framed row is = cc
 more_if true false false wanted sequence rows framed row is = cc
 more_if false is_more ends wanted sequence rows framed row is = cc
 
 -- behind a further row there were fewer than may be
-pub more_rows : (wanted : Wanted) (sequence rows : ℕ) (framed : Framed) → next_of wanted sequence rows framed ≡ next.More → rows < 65536
+pub more_rows : (wanted : Wanted) (sequence rows : ℕ) (framed : Framed) → next_of wanted sequence rows framed ≡ next.More → rows < 1048576
 more_rows wanted sequence rows framed is =
     more_if (framed.sequence == sequence) (is_row wanted rows framed.message) (is_last wanted rows framed.message) wanted sequence rows framed refl is

@@ -157,7 +157,8 @@ impl AdminMachine {
     }
 
     /// These bytes came: some, and no more than are wanted. `Wait` where the reply is not whole with them; `Row` with one
-    /// policy of a list; `Reply` with the last reply to the message; or `Over`.
+    /// policy of a list, part of a policy state, or agent that is there; `Reply` with the last reply to the message; or
+    /// `Over`.
     pub fn came(&mut self, piece: &[u8]) -> Step
         ensures { does.Comes piece.now result self.old self.new }
     {

@@ -5,8 +5,11 @@ ghost use Rattle.client_core.specs.AdminReplies as words;
 use crate::steps::Fault;
 use wire_messages::{Framed, Message};
 
-/// The most rows of a list: there are no more policies.
+/// The most rows of a list, and the most agents: there are no more policies, and no more kinds.
 const MOST_ROWS: u32 = 65536;
+
+/// The most parts of a policy state. A state of the greatest size has fewer.
+const MOST_PARTS: u32 = 1_048_576;
 
 /// What kind of answer a message is to have.
 #[derive(Clone, Copy)]
@@ -17,6 +20,10 @@ pub(crate) enum Wanted {
     Verdict,
     /// Rows and their count, or a refusal.
     Rows,
+    /// The files of a policy state in parts, and then its commit.
+    State,
+    /// The agents that are there, and then how many workers there are.
+    Service,
     /// That the service stops.
     Stop,
 }
@@ -35,6 +42,8 @@ pub(crate) fn wanted_of(message: &Message) -> Wanted
 {
     match message {
         Message::Listing { .. } => Wanted::Rows,
+        Message::ReadState => Wanted::State,
+        Message::ReadService => Wanted::Service,
         Message::AdminCheck { .. } => Wanted::Verdict,
         Message::Stop => Wanted::Stop,
         _ => Wanted::Command,
@@ -69,6 +78,14 @@ fn is_row(wanted: Wanted, rows: u32, reply: &Message) -> bool
             Message::ListRow { .. } => rows < MOST_ROWS,
             _ => false,
         },
+        Wanted::State => match reply {
+            Message::StateFile { .. } => rows < MOST_PARTS,
+            _ => false,
+        },
+        Wanted::Service => match reply {
+            Message::AgentHere { .. } => rows < MOST_ROWS,
+            _ => false,
+        },
         _ => false,
     }
 }
@@ -81,6 +98,14 @@ fn is_last(wanted: Wanted, rows: u32, reply: &Message) -> bool
         Wanted::Rows => match reply {
             Message::ListEnd { count } => *count == rows,
             Message::Refused { .. } => rows == 0,
+            _ => false,
+        },
+        Wanted::State => match reply {
+            Message::StateEnd { .. } => true,
+            _ => false,
+        },
+        Wanted::Service => match reply {
+            Message::ServiceEnd { .. } => true,
             _ => false,
         },
         Wanted::Verdict => match reply {

@@ -6,6 +6,8 @@ use std::alloc::AllocError;
 pub enum ImportFault {
     /// The line of this number, from 1, has not as many fields as it must, or its kind is no number.
     Line(u32),
+    /// `buckets` has no line of the root, whose name is empty. Cynara always writes it, so the file was cut.
+    NoRoot,
     Memory(AllocError),
 }
 

@@ -26,7 +26,7 @@ impl Heading {
     }
 }
 
-/// The buckets of `buckets`.
+/// The buckets of `buckets`, the root among them.
 pub(crate) fn headings_in(alloc: Global, text: &[u8]) -> Result<Vec<Heading>, ImportFault> {
     let mut headings = Vec::new(alloc);
     let mut number = 0u32;
@@ -38,6 +38,9 @@ pub(crate) fn headings_in(alloc: Global, text: &[u8]) -> Result<Vec<Heading>, Im
             None => return Err(ImportFault::Line(number)),
         }
         rest = behind;
+    }
+    if !has_bucket(&headings, b"") {
+        return Err(ImportFault::NoRoot);
     }
     give_names(alloc, &mut headings)?;
     Ok(headings)

@@ -1,7 +1,7 @@
 // `import-cynara`.
-use crate::telling::{DONE, NOT_DONE, REFUSED, tell_wrong, write_text};
+use crate::telling::{DONE, NOT_DONE, REFUSED, tell_unread, tell_wrong, write_text};
 use ctl_import::{Import, ImportFault};
-use ctl_run::{RunFault, run_script};
+use ctl_run::{RefusedLine, RunFault, run_script};
 use desk_ports::Sink;
 use desk_state::Desk;
 use std::alloc::{AllocError, Global};
@@ -69,12 +69,24 @@ fn file_in<K: Sink>(
         tell_wrong(alloc, "cannot read", name, sink);
         return None;
     };
+    if !is_plain_file(rt, path.as_str()) {
+        tell_wrong(alloc, "there is no plain file", path.as_bytes(), sink);
+        return None;
+    }
     match fs::read(rt, path.as_str()) {
         Ok(bytes) => Some(bytes),
-        Err(_) => {
-            tell_wrong(alloc, "cannot read", path.as_bytes(), sink);
+        Err(error) => {
+            tell_unread(alloc, path.as_bytes(), &error, sink);
             None
         }
+    }
+}
+
+// Whether the path leads to a plain file: a pipe would be waited for.
+fn is_plain_file(rt: &HostRuntime, path: &str) -> bool {
+    match fs::metadata(rt, path) {
+        Ok(found) => found.is_file(),
+        Err(_) => false,
     }
 }
 
@@ -95,6 +107,14 @@ fn tell_fault<K: Sink>(alloc: Global, name: &[u8], fault: ImportFault, sink: &mu
                 tell_wrong(alloc, text.as_str(), name, sink);
             }
         }
+        ImportFault::NoRoot => {
+            tell_wrong(
+                alloc,
+                "not as Cynara writes it: no line of the root in",
+                name,
+                sink,
+            );
+        }
         ImportFault::Memory(_) => sink.note("privctl: out of memory"),
     }
     NOT_DONE
@@ -109,12 +129,7 @@ fn tried<K: Sink>(alloc: Global, script: &[u8], sink: &mut K) -> u8 {
     match run_script(alloc, fresh, script) {
         Ok(ran) => {
             for refused in &ran.refused {
-                tell_wrong(
-                    alloc,
-                    "a device would answer:",
-                    refused.answer.as_slice(),
-                    sink,
-                );
+                tell_refused(alloc, refused, sink);
             }
             if ran.refused.is_empty() {
                 DONE
@@ -126,11 +141,25 @@ fn tried<K: Sink>(alloc: Global, script: &[u8], sink: &mut K) -> u8 {
     }
 }
 
+// Tells what a device would answer to a line.
+fn tell_refused<K: Sink>(alloc: Global, refused: &RefusedLine, sink: &mut K) {
+    let answer = refused.answer.as_slice();
+    let answer = match answer.strip_suffix(b"\n") {
+        Some(answer) => answer,
+        None => answer,
+    };
+    if let Ok(text) = format!(in alloc; "to line {} a device would answer:", refused.line) {
+        tell_wrong(alloc, text.as_str(), answer, sink);
+    }
+}
+
 // Tells why the script was not run, and answers the status.
 fn tell_fault_of_script<K: Sink>(alloc: Global, fault: RunFault, sink: &mut K) -> u8 {
     match fault {
         RunFault::Syntax(line) => {
-            if let Ok(text) = format!(in alloc; "privctl: line {line} of the script is outside the grammar") {
+            if let Ok(text) = format!(in alloc;
+                "privctl: line {line} of the script is outside the grammar"
+            ) {
                 sink.note(text.as_str());
             }
             REFUSED

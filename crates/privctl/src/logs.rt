@@ -1,5 +1,5 @@
 // `log`.
-use crate::telling::{DONE, NOT_DONE, WRONG_WORDS, tell_wrong};
+use crate::telling::{DONE, NOT_DONE, WRONG_WORDS, tell_unread, tell_wrong};
 use ctl_log::{LogEnd, Wanted, is_time_front, pass_on};
 use ctl_words::LogWords;
 use desk_ports::{Sink, Source};
@@ -50,8 +50,9 @@ pub(crate) fn read_log<K: Sink>(
         let mut source = InputSource::over(rt.stdin());
         return pass(alloc, words, &mut source, sink);
     };
-    let Ok(file) = File::open(rt, path) else {
-        return tell_wrong(alloc, "cannot read", path.as_bytes(), sink);
+    let file = match File::open(rt, path) {
+        Ok(file) => file,
+        Err(error) => return tell_unread(alloc, path.as_bytes(), &error, sink),
     };
     if !words.follow {
         let mut source = InputSource::over(file);

@@ -1,5 +1,5 @@
 // `export` and `plan`.
-use crate::telling::{DONE, NOT_DONE, REFUSED, WRONG_WORDS, tell_wrong, write_text};
+use crate::telling::{DONE, NOT_DONE, REFUSED, WRONG_WORDS, tell_unread, write_text};
 use ctl_run::RunFault;
 use ctl_scripts::{ExportRefusal, checked_script, plan};
 use desk_ports::Sink;
@@ -33,8 +33,9 @@ pub(crate) fn plan_file<K: Sink>(
     path: &str,
     sink: &mut K,
 ) -> u8 {
-    let Ok(script) = fs::read(rt, path) else {
-        return tell_wrong(alloc, "cannot read", path.as_bytes(), sink);
+    let script = match fs::read(rt, path) {
+        Ok(script) => script,
+        Err(error) => return tell_unread(alloc, path.as_bytes(), &error, sink),
     };
     match plan(alloc, desk, &script) {
         Ok(plan) => {

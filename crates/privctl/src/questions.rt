@@ -40,8 +40,10 @@ pub(crate) fn name_of<K: Sink>(alloc: Global, word: &str, sink: &mut K) -> Resul
     match Name::read(alloc, word.as_bytes()) {
         Ok(name) => Ok(name),
         Err(NameRefusal::Memory(_)) => Err(without_memory(sink)),
-        Err(_) => {
-            tell_wrong(alloc, "no name:", word.as_bytes(), sink);
+        Err(refusal) => {
+            if let Ok(text) = format!(in alloc; "no name, since {refusal}:") {
+                tell_wrong(alloc, text.as_str(), word.as_bytes(), sink);
+            }
             Err(WRONG_WORDS)
         }
     }

@@ -1,6 +1,7 @@
 // What is written, and the status of a run.
 use desk_ports::{Bytes, Sink, shown_bytes, write_all};
 use std::alloc::{AllocError, Global};
+use std::io;
 
 /// The status of a run that did its work.
 pub(crate) const DONE: u8 = 0;
@@ -17,11 +18,14 @@ pub(crate) const WRONG_WORDS: u8 = 4;
 /// The most bytes of a line that a person is told.
 const MOST_TOLD_BYTES: usize = 400;
 
-/// Writes the text, and answers the status; where it was not taken, `NOT_DONE`.
+/// Writes the text, and answers the status; where it was not taken, a person is told, and it is `NOT_DONE`.
 pub(crate) fn write_text<K: Sink>(text: &[u8], status: u8, sink: &mut K) -> u8 {
     match write_all(sink, text) {
         Ok(()) => status,
-        Err(_) => NOT_DONE,
+        Err(_) => {
+            sink.note("privctl: cannot write standard output");
+            NOT_DONE
+        }
     }
 }
 
@@ -38,6 +42,21 @@ pub(crate) fn tell_lines<K: Sink>(alloc: Global, text: &str, sink: &mut K) {
 pub(crate) fn tell_wrong<K: Sink>(alloc: Global, text: &str, bytes: &[u8], sink: &mut K) -> u8 {
     if let Ok(shown) = shown_bytes(alloc, bytes, MOST_TOLD_BYTES) {
         if let Ok(line) = format!(in alloc; "privctl: {text} {shown}") {
+            sink.note(line.as_str());
+        }
+    }
+    NOT_DONE
+}
+
+/// Tells a person why the file of this path cannot be read, and answers `NOT_DONE`.
+pub(crate) fn tell_unread<K: Sink>(
+    alloc: Global,
+    path: &[u8],
+    error: &io::Error,
+    sink: &mut K,
+) -> u8 {
+    if let Ok(shown) = shown_bytes(alloc, path, MOST_TOLD_BYTES) {
+        if let Ok(line) = format!(in alloc; "privctl: cannot read {shown}: {error}") {
             sink.note(line.as_str());
         }
     }

@@ -6,6 +6,7 @@ use Rattle.desk_keeper.specs.Keeper.{disk_of}
 use Rattle.admin_door.specs.Side.{side_of}
 use Rattle.admin_door.proofs.Answering.{either-way, answers-other, refuses-by}
 use Rattle.admin_door.specs.Stops.{StandsBy}
+use Rattle.admin_door.proofs.ServiceTelling.{asks_nothing}
 use Rattle.admin_door.proofs.Stopping.{rests-as, stands-by}
 use Rattle.admin_door.proofs.commands.answer.Goals as goal
 
@@ -40,3 +41,9 @@ returns-in-Err-clause-stops g c before told known =
     let disk = disk_of c.args.keeper.now in
     stands-by g.D.Disk.moment g.D.Disk.left_since disk disk (command_of c.args.message.now) before
     (rests-as g.D.Disk.moment g.D.Disk.left_since disk before (λ left was. g.met.D.Disk.only_now disk left before told was))
+
+-- who sends a command asks nothing of the service
+pub returns-in-Ok-Some-clause-service : goal.returns-in-Ok-Some-clause-service
+returns-in-Ok-Some-clause-service g c =
+    asks_nothing (λ replies. replies.items) c.args.message.now (g.A.Hall.told c.args.hall.now) c.in-Ok-Some.command c.obey.result
+    (sym (sym c.in-Ok-Some.field-0-is ∙ c.in-Ok-Some.ensures))

@@ -41,20 +41,31 @@ fn with_keeper<D: Disk, R: Threads + Wait + Sync + Clock>(
     keeper: &mut Keeper<'_, D>,
     steps: &str,
 ) -> Result<String, Failure> {
-    with_keeper_named::<Brand, D, R>(rt, alloc, Opened::new(), keeper, steps)
+    let steps = String::from_str(alloc, steps)?;
+    with_keeper_named::<Brand, D, R>(rt, alloc, Opened::new(), keeper, &steps)
 }
 
+// The same, over a list of states that the caller picks. The prover offers no pick for a function that takes a `&str`:
+// the steps are lent as a `String`.
 fn with_keeper_named<J: Naming + Send + Sync, D: Disk, R: Threads + Wait + Sync + Clock>(
     rt: &R,
     alloc: Global,
     opened: Opened<Desk>,
     keeper: &mut Keeper<'_, D>,
-    steps: &str,
+    steps: &String,
 ) -> Result<String, Failure>
     requires { book_of opened ≡ J.book }
 {
     let (mut publisher, seats, roll) = start::<J, _, R>(rt, alloc, opened, keeper.desk(), 2)?;
-    let told = with_seats(rt, alloc, keeper, &mut publisher, seats, roll, steps);
+    let told = with_seats(
+        rt,
+        alloc,
+        keeper,
+        &mut publisher,
+        seats,
+        roll,
+        steps.as_str(),
+    );
     publisher.end(rt);
     told
 }
