@@ -314,10 +314,10 @@ module _ (start mid end : Option Traffic) (trouble : Type 0) (old machine new : 
   pub one_taken : (m : Message) (all : List Message) → all ≡ items ++ m ∷ [] → Known (step.Row m) → AreTaken start end old new all
   one_taken m all put known = taken_row m all put (row m (heard_at (step.Row m) known))
 
-  pub fewer : (m : Message) → Known (step.Row m) → length items < 65536
+  pub fewer : (m : Message) → Known (step.Row m) → length items < 1048576
   fewer m known =
       let r = row m (heard_at (step.Row m) known) in
-      let few : length taken.rows < 65536 = more_rows taken.exchange.wanted taken.exchange.sequence (length taken.rows) r.framed r.more in
+      let few : length taken.rows < 1048576 = more_rows taken.exchange.wanted taken.exchange.sequence (length taken.rows) r.framed r.more in
       let same = taken_length start mid old machine items taken in
       omega (arith, few, same)
 

@@ -1,2 +1,4 @@
 mod Joining
 mod Taking
+mod Seeing
+mod Sent

@@ -18,7 +18,7 @@ as_replies feeder result start end is =
     subst (λ (heard : Heard). Receives heard result start end) (ap (λ (feeder : Feeding). feeder.heard) is)
 
 -- the frames of parts, and one more frame
-took_frame : (frames : List Framed) (framed : Framed) (start between end : Option Traffic)
+pub took_frame : (frames : List Framed) (framed : Framed) (start between end : Option Traffic)
     → TookBytes (λ bytes. Hears Replies bytes frames []) start between → Receives Replies (Ok framed) between end
     → TookBytes (λ bytes. Hears Replies bytes (frames ++ framed ∷ []) []) start end
 took_frame frames framed start between end one two before told =

@@ -2,7 +2,7 @@
 ghost use Rattle.std.specs.Prelude.{◌≡◌, [], ◌∷◌, ◌++◌, IfOk, OnOk};
 ghost use Rattle.ctl_door.specs.Told.{IsPart, Tells, TookState};
 
-use crate::refusals::{DoorRefusal, of_broken};
+use crate::refusals::{DoorRefusal, damaged, of_broken};
 use client_connection::{ReplyFault, read_frame};
 use desk_ports::{Bytes, FileName};
 use link_ports::Link;
@@ -58,8 +58,8 @@ pub(crate) fn read_parts<L: Link>(alloc: Global, link: &mut L) -> Result<Parts, 
     Err(DoorRefusal::NoState)
 }
 
-// A value of any type is handed on here, and not gone through variant by variant.
-fn push<T: Drop>(list: &mut Vec<T>, value: T) -> Result<(), DoorRefusal>
+/// Puts the value behind the list. A value of any type is handed on here, and not gone through variant by variant.
+pub(crate) fn push<T: Drop>(list: &mut Vec<T>, value: T) -> Result<(), DoorRefusal>
     ensures { OnOk result (list.new.items ≡ list.old.items ++ value ∷ []) }
 {
     match list.push(value) {
@@ -106,14 +106,11 @@ fn told_part(name: &FileName, bytes: &Bytes) -> Told
     }
 }
 
-// Why a message tells no state.
-fn refusal_in(message: &Message) -> DoorRefusal {
+/// Why a message is no part of what was asked for.
+pub(crate) fn refusal_in(message: &Message) -> DoorRefusal {
     match message {
         Message::StoreFault => DoorRefusal::StoreFault,
-        Message::StoreDamaged { file, line } => match file.copy() {
-            Ok(file) => DoorRefusal::StoreDamaged { file, line: *line },
-            Err(error) => DoorRefusal::Memory(error),
-        },
+        Message::StoreDamaged { file, line } => damaged(file, *line),
         other => DoorRefusal::BadReply(ReplyFault::Operation(other.operation())),
     }
 }

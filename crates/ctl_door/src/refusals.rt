@@ -1,4 +1,6 @@
 // Why a service told nothing.
+ghost use Rattle.std.specs.Prelude.{◌≡◌};
+ghost use Rattle.ctl_door.specs.Replies.{refusal_of, IsDamage};
 
 use admin_client::AdminRefusal;
 use client_connection::{Broken, ReplyFault};
@@ -25,9 +27,12 @@ pub enum DoorRefusal {
     /// The store of the service is damaged, at the line of this number, 0 where the file as a whole is.
     #[error("the store of the service is damaged")]
     StoreDamaged { file: FileName, line: u32 },
-    /// The service refused what was asked.
+    /// The service refused what was asked, or it was more than a frame holds.
     #[error("the service refused what was asked")]
     Refused,
+    /// The service ended the connection in place of a reply.
+    #[error("the service does not know what was asked, and ended the connection")]
+    NotKnown,
     #[error("out of memory")]
     Memory(AllocError),
 }
@@ -42,11 +47,23 @@ pub(crate) fn of_broken(broken: Broken) -> DoorRefusal {
 }
 
 /// The same of an administrator's client.
-pub(crate) fn of_client(refusal: AdminRefusal) -> DoorRefusal {
+pub(crate) fn of_client(refusal: AdminRefusal) -> DoorRefusal
+    ensures { result ≡ refusal_of refusal }
+{
     match refusal {
         AdminRefusal::Unavailable => DoorRefusal::Unavailable,
         AdminRefusal::BadReply(fault) => DoorRefusal::BadReply(fault),
         AdminRefusal::TooLong(_) => DoorRefusal::Refused,
         AdminRefusal::Memory(error) => DoorRefusal::Memory(error),
+    }
+}
+
+/// The store of the service is damaged at this line of the file, for whose name memory may be wanting.
+pub(crate) fn damaged(file: &FileName, line: u32) -> DoorRefusal
+    ensures { IsDamage file.now line result }
+{
+    match file.copy() {
+        Ok(file) => DoorRefusal::StoreDamaged { file, line },
+        Err(error) => DoorRefusal::Memory(error),
     }
 }

@@ -11,5 +11,5 @@ mod who;
 
 pub use explanation::explain;
 pub use listings::{list_apps, list_buckets, list_packages, list_users};
-pub use statuses::list_status;
+pub use statuses::{list_service, list_status};
 pub use who::list_who;

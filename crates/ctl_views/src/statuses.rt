@@ -2,6 +2,7 @@
 use app_registry::Install;
 use bucket_store::Bucket;
 use ctl_text::{put, put_number};
+use cynara_keys::Kind;
 use desk_ports::Bytes;
 use desk_state::Desk;
 use std::alloc::{AllocError, Global};
@@ -18,6 +19,40 @@ pub fn list_status(alloc: Global, desk: &Desk) -> Result<Bytes, AllocError> {
     put_count(&mut out, "buckets ", buckets.len() as u64)?;
     put_count(&mut out, "policies ", count_policies(buckets))?;
     Ok(out)
+}
+
+/// The kinds of the agents that are there, and how many of the workers of clients serve a connection: a line each.
+pub fn list_service(
+    alloc: Global,
+    kinds: &[Kind],
+    workers: u32,
+    served: u32,
+) -> Result<Bytes, AllocError> {
+    let mut out = Bytes::new(alloc);
+    put(&mut out, "agents: ")?;
+    put_kinds(&mut out, kinds)?;
+    put(&mut out, "\nclient workers: ")?;
+    put_number(&mut out, u64::from(served))?;
+    put(&mut out, " of ")?;
+    put_number(&mut out, u64::from(workers))?;
+    put(&mut out, " serve a connection\n")?;
+    Ok(out)
+}
+
+// The numbers of the kinds, or `none`.
+fn put_kinds(out: &mut Bytes, kinds: &[Kind]) -> Result<(), AllocError> {
+    if kinds.is_empty() {
+        return put(out, "none");
+    }
+    let mut is_first = true;
+    for kind in kinds {
+        if !is_first {
+            put(out, ", ")?;
+        }
+        is_first = false;
+        put_number(out, u64::from(kind.0))?;
+    }
+    Ok(())
 }
 
 fn put_count(out: &mut Bytes, name: &str, count: u64) -> Result<(), AllocError> {

@@ -7,6 +7,7 @@ use ctl_words::At;
 use desk_ports::Sink;
 use desk_state::Desk;
 use folder_disk::FolderDisk;
+use socket_net::SocketNet;
 use std::alloc::Global;
 use std::fs::{self, File};
 use std::rt::{Clock, Files};
@@ -28,10 +29,19 @@ pub(crate) fn state_at<K: Sink>(
 // The policy state of the service.
 fn state_of<K: Sink>(rt: &HostRuntime, alloc: Global, seconds: u32, sink: &mut K) -> Option<Desk> {
     let mut net = net_within(rt, seconds)?;
-    match state_of_service(alloc, &mut net) {
+    state_over(alloc, &mut net, sink)
+}
+
+/// The policy state of the service behind these sockets. `None` where it told none, which a person was told.
+pub(crate) fn state_over<K: Sink>(
+    alloc: Global,
+    net: &mut SocketNet<HostRuntime>,
+    sink: &mut K,
+) -> Option<Desk> {
+    match state_of_service(alloc, net) {
         Ok(desk) => Some(desk),
         Err(refusal) => {
-            tell_refusal(alloc, &refusal, &net, sink);
+            tell_refusal(alloc, &refusal, net, sink);
             None
         }
     }

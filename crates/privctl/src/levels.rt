@@ -1,5 +1,5 @@
 // `level set` and `level get`.
-use crate::devices::state_at;
+use crate::devices::{state_at, state_over};
 use crate::questions::{name_of, uid_of};
 use crate::services::{net_within, tell_refusal};
 use crate::telling::{DONE, NOT_DONE, REFUSED, WRONG_WORDS, tell_wrong, write_text, written};
@@ -10,6 +10,7 @@ use desk_ports::{Bytes, Sink};
 use desk_state::{Command, Desk};
 use level_requests::{Level, LevelRequest, Setter};
 use policy_levels::{LevelRefusal, level_command, levels_of};
+use socket_net::SocketNet;
 use std::alloc::{AllocError, Global};
 
 /// Lists the levels that the user has set.
@@ -56,12 +57,14 @@ pub(crate) fn set_level<K: Sink>(
         Ok(request) => request,
         Err(status) => return status,
     };
-    let at = At::Service { seconds };
-    let Some(desk) = state_at(rt, alloc, at, sink) else {
+    let Some(mut net) = net_within(rt, seconds) else {
+        return NOT_DONE;
+    };
+    let Some(desk) = state_over(alloc, &mut net, sink) else {
         return NOT_DONE;
     };
     match level_command(alloc, &desk, &request) {
-        Ok(command) => send(rt, alloc, &command, seconds, sink),
+        Ok(command) => send(alloc, &command, &mut net, sink),
         Err(refusal) => tell_level_refusal(alloc, refusal, sink),
     }
 }
@@ -114,20 +117,16 @@ fn tell_level_refusal<K: Sink>(alloc: Global, refusal: LevelRefusal, sink: &mut 
 
 // Sends the command, and tells what became of it.
 fn send<K: Sink>(
-    rt: &HostRuntime,
     alloc: Global,
     command: &Command,
-    seconds: u32,
+    net: &mut SocketNet<HostRuntime>,
     sink: &mut K,
 ) -> u8 {
-    let Some(mut net) = net_within(rt, seconds) else {
-        return NOT_DONE;
-    };
-    match obey(alloc, command, &mut net) {
+    match obey(alloc, command, net) {
         Ok(Obeyed::Done { commit }) => written(done_text(alloc, commit), DONE, sink),
         Ok(Obeyed::Refused { answer }) => write_text(answer.as_slice(), REFUSED, sink),
         Err(refusal) => {
-            tell_refusal(alloc, &refusal, &net, sink);
+            tell_refusal(alloc, &refusal, net, sink);
             NOT_DONE
         }
     }

@@ -1,5 +1,5 @@
 // What each order does.
-use crate::devices::state_at;
+use crate::devices::{state_at, state_over};
 use crate::explaining::explain_question;
 use crate::imports::import_folder;
 use crate::levels::{get_levels, set_level};
@@ -9,11 +9,14 @@ use crate::plans::{export, plan_file};
 use crate::questions::name_of;
 use crate::services::{net_within, tell_refusal};
 use crate::telling::{DONE, NOT_DONE, write_text, written};
-use ctl_door::answers;
-use ctl_views::{list_apps, list_buckets, list_packages, list_status, list_users, list_who};
+use ctl_door::{DoorRefusal, answers, service_seen};
+use ctl_views::{
+    list_apps, list_buckets, list_packages, list_service, list_status, list_users, list_who,
+};
 use ctl_words::{At, Order, Subject};
 use desk_ports::{Bytes, Sink};
 use desk_state::Desk;
+use socket_net::SocketNet;
 use std::alloc::{AllocError, Global};
 
 /// Runs the order, and answers the status.
@@ -58,15 +61,12 @@ fn list<K: Sink>(
     at: At<'_>,
     sink: &mut K,
 ) -> u8 {
-    let Some(desk) = state_at(rt, alloc, at, sink) else {
-        return NOT_DONE;
-    };
-    let status = written(listing(alloc, &desk, subject), DONE, sink);
     match (subject, at) {
-        (Subject::Status, At::Service { seconds }) if status == DONE => {
-            test_service(rt, alloc, seconds, sink)
-        }
-        _ => status,
+        (Subject::Status, At::Service { seconds }) => status_of(rt, alloc, seconds, sink),
+        _ => match state_at(rt, alloc, at, sink) {
+            Some(desk) => written(listing(alloc, &desk, subject), DONE, sink),
+            None => NOT_DONE,
+        },
     }
 }
 
@@ -80,15 +80,52 @@ fn listing(alloc: Global, desk: &Desk, subject: Subject) -> Result<Bytes, AllocE
     }
 }
 
-// Tells whether the service answers a check and a listing: the status is 0 only then.
-fn test_service<K: Sink>(rt: &HostRuntime, alloc: Global, seconds: u32, sink: &mut K) -> u8 {
+// Tells what there is of each at the service, and whether it answers. All of it is asked within the seconds.
+fn status_of<K: Sink>(rt: &HostRuntime, alloc: Global, seconds: u32, sink: &mut K) -> u8 {
     let Some(mut net) = net_within(rt, seconds) else {
         return NOT_DONE;
     };
-    match answers(alloc, &mut net) {
+    let Some(desk) = state_over(alloc, &mut net, sink) else {
+        return NOT_DONE;
+    };
+    let status = written(list_status(alloc, &desk), DONE, sink);
+    if status != DONE {
+        return status;
+    }
+    let status = tell_service(alloc, &mut net, sink);
+    if status != DONE {
+        return status;
+    }
+    test_service(alloc, &mut net, sink)
+}
+
+// Tells what the service says of itself, or that it doesn't tell it: one that is older ends the connection at the question.
+fn tell_service<K: Sink>(alloc: Global, net: &mut SocketNet<HostRuntime>, sink: &mut K) -> u8 {
+    match service_seen(alloc, net) {
+        Ok(seen) => {
+            let text = list_service(alloc, seen.kinds.as_slice(), seen.workers, seen.served);
+            written(text, DONE, sink)
+        }
+        Err(DoorRefusal::NotKnown) => {
+            write_text(
+                b"agents and client workers: not told by this service\n",
+                DONE,
+                sink,
+            )
+        }
+        Err(refusal) => {
+            tell_refusal(alloc, &refusal, net, sink);
+            NOT_DONE
+        }
+    }
+}
+
+// Tells whether the service answers a check and a listing: the status is 0 only then.
+fn test_service<K: Sink>(alloc: Global, net: &mut SocketNet<HostRuntime>, sink: &mut K) -> u8 {
+    match answers(alloc, net) {
         Ok(()) => write_text(b"answers checks and listings\n", DONE, sink),
         Err(refusal) => {
-            tell_refusal(alloc, &refusal, &net, sink);
+            tell_refusal(alloc, &refusal, net, sink);
             NOT_DONE
         }
     }

@@ -1,6 +1,6 @@
 // How long a peer may keep a worker of a service, and so others waiting.
 //
-// The limits hold for links that came in at a door; a link that was dialled waits for ever, but where its net has a limit.
+// The limits hold for links that came in at a door; a link that was dialled waits for ever, but where its net has a deadline.
 // Each time is judged by the clock, and given in milliseconds.
 
 /// From the first bytes of a frame until the whole of it is there. A program of the same machine sends a frame in one
@@ -24,6 +24,9 @@ pub const MOST_OF_SILENCE: u64 = 60_000;
 
 /// How long an `accept` pauses after an error that passes by itself, as want of descriptors.
 pub const ACCEPT_PAUSE: u64 = 100;
+
+/// How long a dial that has a deadline pauses before it looks again whether the queue of connections has room.
+pub const CONNECT_PAUSE: u64 = 5;
 
 /// How long an `accept` or a read waits before it looks around again. Each look of each worker takes the processor a few
 /// microseconds, so that all workers of an idle service together take less than a thousandth of one.

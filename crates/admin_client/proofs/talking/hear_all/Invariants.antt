@@ -8,4 +8,4 @@ invariant-replies g l =
     × ((g.L.Link.marks l.link).ends ≡ (g.L.Link.marks l.fn.link).ends)
 
 abbrev pub decreases-replies : goal.decreases-replies
-decreases-replies g l = 65537 - length l.replies.items
+decreases-replies g l = 1048577 - length l.replies.items
