@@ -168,6 +168,7 @@ FIELDS = {
         0x1D: install,
         0x1E: each(text(is_ident), flag),
         0x1F: each(),
+        0x30: each(),
     },
     "agent": {0x20: number(2, lambda kind: 2 <= kind <= 65533), 0x21: each(number(4), flag)},
     "replies": {
@@ -185,6 +186,8 @@ FIELDS = {
         0x96: each(text(is_file_name), number(4)),
         0x97: each(text(is_file_name), part),
         0x98: number(8),
+        0x99: number(2),
+        0x9A: each(number(4), number(4)),
     },
     "agent-replies": {0xA0: number(2), 0xA1: number(2), 0xA2: each(number(4), names, result), 0xA3: number(4), 0xA4: number(4)},
 }
